@@ -1,0 +1,9 @@
+//! Streams of bytes that may fail: a source that is read, a sink that is written, and what their contracts
+//! tell of bytes and faults.
+#![tactic(auto)]
+
+mod refusal;
+mod stream;
+
+pub use refusal::{Failed, Memory};
+pub use stream::{Sink, Source};
