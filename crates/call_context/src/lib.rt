@@ -1,0 +1,14 @@
+//! What an analysis speaks of: places of a program under their contexts, units of work, and what a unit shows.
+#![tactic(auto)]
+
+mod few;
+mod node;
+mod plain;
+mod sequence;
+mod shown;
+
+pub use few::Few;
+pub use node::{Calls, Frame, Node, Unit};
+pub use plain::{Vs16, Vs8};
+pub use sequence::Sequence;
+pub use shown::{Cause, InstrBytes, Item, Set, Space};

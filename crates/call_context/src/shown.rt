@@ -1,0 +1,100 @@
+//! What a unit of work shows of the program, and where it stops short.
+
+ghost use Rattle.std.specs.Prelude.{◌≡◌, ◌≤◌, ◌<◌, ◌++◌, ◌∷◌, [], length};
+
+use crate::plain::{Vs16, Vs8};
+
+use arrayvec::ArrayVec;
+use std::marker::Model;
+
+/// A space of addresses.
+#[derive(Clone, Copy, Debug, PartialEq, Eq, Hash)]
+pub enum Space {
+    /// The one memory of an MSP430.
+    Mem,
+    /// The internal RAM of an MCS-51.
+    Ram,
+    /// The special function registers of an MCS-51.
+    Sfr,
+    /// The external RAM of an MCS-51.
+    Xram,
+    /// The code memory of an MCS-51.
+    Code,
+}
+
+/// Why a site is left open.
+#[derive(Clone, Copy, Debug, PartialEq, Eq, Hash)]
+pub enum Cause {
+    /// No instruction stands there.
+    Fetch,
+    /// A jump, call or return whose target set has more values than the limit.
+    Targets(Vs16),
+    /// A store whose set of addresses has one of the image.
+    Store(Vs16),
+    /// The analysis of the instruction isn't built yet.
+    Unbuilt,
+}
+
+/// A value set of either width.
+#[derive(Clone, Copy, Debug, PartialEq, Eq, Hash)]
+pub enum Set {
+    /// Of bytes.
+    B(Vs8),
+    /// Of words.
+    W(Vs16),
+}
+
+/// The bytes of one instruction, at most 6.
+#[derive(Drop)]
+pub struct InstrBytes {
+    bytes: ArrayVec<u8, 6>,
+}
+
+impl Model for InstrBytes {
+    ghost use Rattle.std.specs.Prelude.{List, ℕ};
+
+    ghost Value = { List ℕ };
+
+    ghost view = { λ b. b.bytes.items };
+}
+
+impl InstrBytes {
+    /// The instruction of these bytes.
+    pub fn new(bytes: ArrayVec<u8, 6>) -> Self
+        ensures { result ≡ bytes.items }
+    {
+        InstrBytes { bytes }
+    }
+
+    /// The bytes in order of address.
+    pub fn as_slice(&self) -> &[u8]
+        ensures { result.now ≡ self.now }
+    {
+        self.bytes.as_slice()
+    }
+}
+
+/// What a step of the program does.
+#[derive(Drop)]
+pub enum Item {
+    /// An instruction runs.
+    Instr { pc: u16, bytes: InstrBytes },
+    /// Control goes from one address to another.
+    Edge { from: u16, to: u16 },
+    /// Memory is read or written, `size` bytes at one of the addresses.
+    Access {
+        pc: u16,
+        space: Space,
+        write: bool,
+        size: u8,
+        at: Set,
+    },
+    /// The stack pointer has one of the values.
+    Stack { pc: u16, at: Set },
+}
+
+impl Default for Item {
+    fn default() -> Self {
+        Item::Edge { from: 0, to: 0 }
+    }
+}
