@@ -1,0 +1,65 @@
+-- The lines of a report, without their line feeds.
+use Rattle.std.specs.Prelude.{ℕ, Bool, ◌==◌, List, [], ◌∷◌, ◌++◌, codes, if◌then◌else◌}
+use Rattle.std.specs.List.{flat_map}
+use Rattle.call_context.specs.declared.plain.Vs8.{Vs8}
+use Rattle.call_context.specs.declared.plain.Vs8.TheVariants as bytes
+use Rattle.call_context.specs.declared.plain.Vs16.{Vs16}
+use Rattle.call_context.specs.declared.plain.Vs16.TheVariants as words
+use Rattle.call_context.specs.declared.shown.Set.{Set}
+use Rattle.call_context.specs.declared.shown.Set.TheVariants.{B, W}
+use Rattle.call_context.specs.declared.shown.Space.{Space}
+use Rattle.call_context.specs.declared.shown.Space.TheVariants.{Mem, Ram, Sfr, Xram, Code}
+use Rattle.call_context.specs.declared.shown.Cause.{Cause}
+use Rattle.call_context.specs.declared.shown.Cause.TheVariants.{Fetch, Targets, Store, Unbuilt}
+use Rattle.call_context.specs.declared.shown.Item.{Item}
+use Rattle.call_context.specs.declared.shown.Item.TheVariants.{Instr, Edge, Access, Stack}
+use Rattle.chip_law.specs.Digits.{hex}
+
+-- numbers with commas between them
+abbrev pub comma_list : ℕ → List ℕ → List ℕ
+comma_list digits [] = []
+comma_list digits (x ∷ xs) = hex digits x ++ flat_map (λ y. 44 ∷ hex digits y) xs
+
+-- a star for all numbers, the numbers of a list, or base, stride and count
+abbrev pub word_set_text : Vs16 → List ℕ
+word_set_text (words.Listed values) = comma_list 4 values
+word_set_text words.Even = codes "0000/2/8000"
+word_set_text words.Any = codes "*"
+
+abbrev pub byte_set_text : Vs8 → List ℕ
+byte_set_text (bytes.Listed values) = comma_list 2 values
+byte_set_text bytes.Any = codes "*"
+
+abbrev pub set_text : Set → List ℕ
+set_text (B values) = byte_set_text values
+set_text (W values) = word_set_text values
+
+abbrev pub space_text : Space → List ℕ
+space_text Mem = codes "mem"
+space_text Ram = codes "ram"
+space_text Sfr = codes "sfr"
+space_text Xram = codes "xram"
+space_text Code = codes "code"
+
+-- r1, r2, w1 or w2: read or written, and the number of bytes
+abbrev pub kind_text : Bool → ℕ → List ℕ
+kind_text write size = (if write then 119 else 114) ∷ (if size == 1 then 49 else 50) ∷ []
+
+-- two digits for each byte
+abbrev pub bytes_text : List ℕ → List ℕ
+bytes_text bytes = flat_map (hex 2) bytes
+
+-- the line of an item, where an instruction at a place has this text
+abbrev pub item_line_of : (ℕ → List ℕ → List ℕ) → Item → List ℕ
+item_line_of text (Instr pc bytes) = codes "I " ++ hex 4 pc ++ codes " " ++ bytes_text bytes ++ codes " " ++ text pc bytes
+item_line_of text (Edge origin target) = codes "E " ++ hex 4 origin ++ codes " " ++ hex 4 target
+item_line_of text (Access pc space write size at) =
+    codes "M " ++ hex 4 pc ++ codes " " ++ space_text space ++ codes " " ++ kind_text write size ++ codes " " ++ set_text at
+item_line_of text (Stack pc at) = codes "S " ++ hex 4 pc ++ codes " " ++ set_text at
+
+-- the line of an open at a place
+abbrev pub open_line_of : ℕ → Cause → List ℕ
+open_line_of pc Fetch = codes "O " ++ hex 4 pc ++ codes " Fetch"
+open_line_of pc (Targets values) = codes "O " ++ hex 4 pc ++ codes " Targets " ++ word_set_text values
+open_line_of pc (Store values) = codes "O " ++ hex 4 pc ++ codes " Store " ++ word_set_text values
+open_line_of pc Unbuilt = codes "O " ++ hex 4 pc ++ codes " Unbuilt"

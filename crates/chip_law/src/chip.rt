@@ -1,0 +1,74 @@
+//! The traits of a chip.
+
+ghost use Rattle.std.specs.Prelude.{◌≡◌, ℕ, List, Option, is_some};
+
+use arrayvec::ArrayString;
+use call_context::{Cause, Frame, Item, Node, Sequence, Unit};
+use std::alloc::Global;
+use vsa_io::Memory;
+
+/// What the work of a unit gives.
+#[derive(Drop)]
+pub struct Work<A> {
+    /// What the unit shows.
+    pub items: Sequence<Item>,
+    /// The states that it leaves, each at its node.
+    pub posts: Sequence<(Node, A)>,
+    /// The interrupt frames whose return it waits for.
+    pub waits: Sequence<Frame>,
+    /// The sites that it leaves open, each with its cause.
+    pub opens: Sequence<(u16, Cause)>,
+}
+
+/// A chip as an analysis sees it: over abstract states, each of which stands for many states of the chip.
+pub trait Chip {
+    /// An abstract state.
+    type Abs: Drop;
+
+    /// One state of the chip itself.
+    type State;
+
+    /// The node and the abstract state that each run begins in.
+    fn start(&self, alloc: Global) -> Result<(Node, Self::Abs), Memory>;
+
+    /// The work of a unit over its input states. A unit that returns from an interrupt has the state of its
+    /// exit as a second input.
+    fn work(
+        &self,
+        alloc: Global,
+        unit: &Unit,
+        at: &Self::Abs,
+        exit: Option<&Self::Abs>,
+    ) -> Result<Work<Self::Abs>, Memory>;
+
+    /// An equal state.
+    fn copy(&self, alloc: Global, a: &Self::Abs) -> Result<Self::Abs, Memory>;
+
+    /// A state that stands for all that either stands for.
+    fn join(&self, alloc: Global, held: &Self::Abs, new: &Self::Abs) -> Result<Self::Abs, Memory>;
+
+    /// Such a state that grows in few steps: to marks of the program, or where `coarse` to whole classes.
+    fn widen(
+        &self,
+        alloc: Global,
+        held: &Self::Abs,
+        new: &Self::Abs,
+        coarse: bool,
+    ) -> Result<Self::Abs, Memory>;
+
+    /// The state that stands for all that may stand at the node.
+    fn top(&self, alloc: Global, node: &Node) -> Result<Self::Abs, Memory>;
+
+    /// Whether all that `new` stands for stands under `held`, found part by part.
+    fn within(&self, new: &Self::Abs, held: &Self::Abs) -> bool;
+}
+
+/// A chip whose instructions have a text.
+pub trait ChipText: Chip {
+    /// The text of the instruction of these bytes at an address.
+    ghost text_of: { Self → ℕ → List ℕ → List ℕ };
+
+    /// The text of the instruction of these bytes at an address, at most 40 characters.
+    fn instr_text(&self, pc: u16, bytes: &[u8]) -> ArrayString<40>
+        ensures { result.bytes ≡ text_of self.now pc bytes.now };
+}

@@ -1,0 +1,184 @@
+//! The lines of a report, one for each item and open.
+
+ghost use Rattle.std.specs.Prelude.{◌≡◌, ◌++◌, ◌∷◌, codes, IfOk, OnOk, OnErr};
+ghost use Rattle.chip_law.specs.Digits.{hex};
+ghost use Rattle.chip_law.specs.Line.{word_set_text, byte_set_text, set_text, item_line_of, open_line_of, bytes_text, space_text, kind_text, comma_list};
+
+use crate::chip::ChipText;
+use crate::digits::{hex_byte, hex_word};
+use call_context::{Cause, Item, Set, Space, Vs8, Vs16};
+use std::alloc::{AllocError, Global};
+use vsa_io::Memory;
+
+/// Adds words with commas between them.
+fn push_words(line: &mut Vec<u8>, words: &[u16]) -> Result<(), AllocError>
+    ensures { OnOk result (line.new.items ≡ line.old.items ++ comma_list 4 words.now) }
+{
+    let [first, rest @ ..] = words else {
+        return Ok(());
+    };
+    line.extend_from_slice(&hex_word(*first))?;
+    for word in rest {
+        line.push(b',')?;
+        line.extend_from_slice(&hex_word(*word))?;
+    }
+    Ok(())
+}
+
+/// Adds the low bytes of numbers with commas between them.
+fn push_bytes(line: &mut Vec<u8>, values: &[u16]) -> Result<(), AllocError>
+    ensures { OnOk result (line.new.items ≡ line.old.items ++ comma_list 2 values.now) }
+{
+    let [first, rest @ ..] = values else {
+        return Ok(());
+    };
+    line.extend_from_slice(&hex_byte((*first % 256) as u8))?;
+    for value in rest {
+        line.push(b',')?;
+        line.extend_from_slice(&hex_byte((*value % 256) as u8))?;
+    }
+    Ok(())
+}
+
+/// Adds the text of a set of words.
+fn push_word_set(line: &mut Vec<u8>, values: &Vs16) -> Result<(), AllocError>
+    ensures { OnOk result (line.new.items ≡ line.old.items ++ word_set_text values.now) }
+{
+    match values {
+        Vs16::Listed(few) => push_words(line, few.as_slice()),
+        Vs16::Even => line.extend_from_slice(b"0000/2/8000"),
+        Vs16::Any => line.extend_from_slice(b"*"),
+    }
+}
+
+/// Adds the text of a set.
+fn push_set(line: &mut Vec<u8>, values: &Set) -> Result<(), AllocError>
+    ensures { OnOk result (line.new.items ≡ line.old.items ++ set_text values.now) }
+{
+    match values {
+        Set::W(words) => push_word_set(line, words),
+        Set::B(Vs8::Listed(few)) => push_bytes(line, few.as_slice()),
+        Set::B(Vs8::Any) => line.extend_from_slice(b"*"),
+    }
+}
+
+/// The name of a space of addresses.
+fn space_name(space: Space) -> &'static [u8]
+    ensures { result.now ≡ space_text space }
+{
+    match space {
+        Space::Mem => b"mem",
+        Space::Ram => b"ram",
+        Space::Sfr => b"sfr",
+        Space::Xram => b"xram",
+        Space::Code => b"code",
+    }
+}
+
+/// A letter, a space and an address, as each line begins.
+fn line_at(alloc: Global, letter: u8, pc: u16) -> Result<Vec<u8>, AllocError>
+    ensures { IfOk result (λ line. line.items ≡ letter ∷ 32 ∷ hex 4 pc) }
+{
+    let mut line = Vec::new(alloc);
+    line.push(letter)?;
+    line.push(b' ')?;
+    line.extend_from_slice(&hex_word(pc))?;
+    Ok(line)
+}
+
+fn instr_line<C: ChipText>(
+    alloc: Global,
+    chip: &C,
+    pc: u16,
+    bytes: &[u8],
+) -> Result<Vec<u8>, AllocError>
+    ensures { IfOk result (λ line. line.items ≡ codes "I " ++ hex 4 pc ++ codes " " ++ bytes_text bytes.now ++ codes " " ++ C.text_of chip.now pc bytes.now) }
+{
+    let mut line = line_at(alloc, b'I', pc)?;
+    line.push(b' ')?;
+    for byte in bytes {
+        line.extend_from_slice(&hex_byte(*byte))?;
+    }
+    line.push(b' ')?;
+    let text = chip.instr_text(pc, bytes);
+    line.extend_from_slice(text.as_str().as_bytes())?;
+    Ok(line)
+}
+
+/// The line of an item, without its line feed.
+pub fn item_line<C: ChipText>(alloc: Global, chip: &C, item: &Item) -> Result<Vec<u8>, Memory>
+    ensures { IfOk result (λ line. line.items ≡ item_line_of (C.text_of chip.now) item.now) }
+{
+    match item {
+        Item::Instr { pc, bytes } => Ok(instr_line(alloc, chip, *pc, bytes.as_slice())?),
+        Item::Edge { from, to } => {
+            let mut line = line_at(alloc, b'E', *from)?;
+            line.push(b' ')?;
+            line.extend_from_slice(&hex_word(*to))?;
+            Ok(line)
+        }
+        Item::Access {
+            pc,
+            space,
+            write,
+            size,
+            at,
+        } => {
+            let mut line = line_at(alloc, b'M', *pc)?;
+            line.push(b' ')?;
+            line.extend_from_slice(space_name(*space))?;
+            line.push(b' ')?;
+            line.push(if *write { b'w' } else { b'r' })?;
+            line.push(if *size == 1 { b'1' } else { b'2' })?;
+            line.push(b' ')?;
+            push_set(&mut line, at)?;
+            Ok(line)
+        }
+        Item::Stack { pc, at } => {
+            let mut line = line_at(alloc, b'S', *pc)?;
+            line.push(b' ')?;
+            push_set(&mut line, at)?;
+            Ok(line)
+        }
+    }
+}
+
+/// The line of an open, without its line feed.
+pub fn open_line(alloc: Global, pc: u16, cause: &Cause) -> Result<Vec<u8>, Memory>
+    ensures { IfOk result (λ line. line.items ≡ open_line_of pc cause.now) }
+{
+    let mut line = line_at(alloc, b'O', pc)?;
+    match cause {
+        Cause::Fetch => line.extend_from_slice(b" Fetch")?,
+        Cause::Targets(values) => {
+            line.extend_from_slice(b" Targets ")?;
+            push_word_set(&mut line, values)?;
+        }
+        Cause::Store(values) => {
+            line.extend_from_slice(b" Store ")?;
+            push_word_set(&mut line, values)?;
+        }
+        Cause::Unbuilt => line.extend_from_slice(b" Unbuilt")?,
+    }
+    Ok(line)
+}
+
+/// Appends the line of an item. A refusal appends nothing.
+pub fn put_item<C: ChipText>(chip: &C, item: &Item, out: &mut Vec<u8>) -> Result<(), Memory>
+    ensures appended { OnOk result (out.new.items ≡ out.old.items ++ item_line_of (C.text_of chip.now) item.now) }
+    ensures refused { OnErr result (out.new.items ≡ out.old.items) }
+{
+    let line = item_line(*out.allocator(), chip, item)?;
+    out.extend_from_slice(line.as_slice())?;
+    Ok(())
+}
+
+/// Appends the line of an open. A refusal appends nothing.
+pub fn put_open(pc: u16, cause: &Cause, out: &mut Vec<u8>) -> Result<(), Memory>
+    ensures appended { OnOk result (out.new.items ≡ out.old.items ++ open_line_of pc cause.now) }
+    ensures refused { OnErr result (out.new.items ≡ out.old.items) }
+{
+    let line = open_line(*out.allocator(), pc, cause)?;
+    out.extend_from_slice(line.as_slice())?;
+    Ok(())
+}
