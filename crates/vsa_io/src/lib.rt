@@ -6,4 +6,4 @@ mod refusal;
 mod stream;
 
 pub use refusal::{Failed, Memory};
-pub use stream::{Sink, Source};
+pub use stream::{Sink, Source, write_all};
