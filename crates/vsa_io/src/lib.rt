@@ -3,7 +3,9 @@
 #![tactic(auto)]
 
 mod refusal;
+mod standard;
 mod stream;
 
 pub use refusal::{Failed, Memory};
+pub use standard::{StdinSource, StdoutSink};
 pub use stream::{Sink, Source, write_all};
