@@ -2,10 +2,12 @@
 //! tell of bytes and faults.
 #![tactic(auto)]
 
+mod memory_sources;
 mod refusal;
 mod standard;
 mod stream;
 
+pub use memory_sources::{CleanSource, MemSource};
 pub use refusal::{Failed, Memory};
 pub use standard::{StdinSource, StdoutSink};
 pub use stream::{Sink, Source, write_all};
