@@ -2,11 +2,13 @@
 //! tell of bytes and faults.
 #![tactic(auto)]
 
+mod memory_sinks;
 mod memory_sources;
 mod refusal;
 mod standard;
 mod stream;
 
+pub use memory_sinks::{CleanSink, MemSink};
 pub use memory_sources::{CleanSource, MemSource};
 pub use refusal::{Failed, Memory};
 pub use standard::{StdinSource, StdoutSink};
