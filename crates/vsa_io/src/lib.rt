@@ -13,3 +13,6 @@ pub use memory_sources::{CleanSource, MemSource};
 pub use refusal::{Failed, Memory};
 pub use standard::{StdinSource, StdoutSink};
 pub use stream::{Sink, Source, write_all};
+
+#[cfg(test)]
+mod tests;
