@@ -1,8 +1,8 @@
-//! Sources in memory.
+//! Sources in memory, for tests and for callers that know what a stream is to do.
 
-ghost use Rattle.std.specs.Prelude.{◌≡◌, ◌≤◌, ◌<◌, ◌++◌, [], length, take, drop, Some, IfOk, OnOk, OnErr, is_ok, is_err, min, false};
+ghost use Rattle.std.specs.Prelude.{◌≡◌, ◌≤◌, ◌<◌, ◌++◌, length, take, drop, Some, IfOk, OnOk, OnErr, IsOk, is_err};
 ghost use Rattle.vsa_io.specs.Count.{one_more};
-ghost use Rattle.vsa_io.specs.Fakes.{CleanFeed, MemFeed, is_failing, count_of};
+ghost use Rattle.vsa_io.specs.Fakes.{count_of, is_failing};
 ghost use Rattle.vsa_io.specs.Stream.{HasRisen, Takes, IsAtEnd};
 
 use crate::refusal::Failed;
@@ -20,7 +20,7 @@ fn give(left: &[u8], piece: usize, buffer: &mut [u8]) -> usize
     count
 }
 
-/// A source in memory that never fails.
+/// A source in memory that never fails. A call gives the least of a piece, the buffer's length and what is left.
 #[derive(Drop)]
 pub struct CleanSource {
     bytes: Vec<u8>,
@@ -60,10 +60,14 @@ impl Source for CleanSource {
 
     fn read(&mut self, buffer: &mut [u8]) -> Result<usize, Failed>
         requires { 0 < length buffer.old }
-        ensures succeeds { is_err result ≡ false }
+
+        // What the call does, exactly.
+        ensures succeeds { IsOk result }
         ensures count { IfOk result (λ n. n ≡ count_of self.old.piece (length buffer.old) self.old.left) }
         ensures filled { IfOk result (λ n. buffer.new ≡ take n self.old.left ++ drop n buffer.old) }
         ensures after { IfOk result (λ n. self.new ≡ record self.old { left = drop n self.old.left }) }
+
+        // What each source keeps.
         ensures fits { IfOk result (λ n. n ≤ length buffer.old) }
         ensures taken { IfOk result (λ n. Takes (Some self.old.left) n buffer.new (Some self.new.left)) }
         ensures end { IfOk result (λ n. n ≡ 0 → IsAtEnd (Some self.old.left)) }
@@ -74,39 +78,44 @@ impl Source for CleanSource {
     }
 }
 
-/// A source in memory that fails at the calls whose numbers are given.
+/// A source in memory that fails at the calls whose numbers are given, and else gives as a `CleanSource` does.
 #[derive(Drop)]
 pub struct MemSource {
-    bytes: Vec<u8>,
-    position: usize,
-    piece: usize,
+    source: CleanSource,
     calls: u64,
     failing: Vec<u64>,
     faults: u64,
 }
 
 impl Model for MemSource {
-    ghost use Rattle.std.specs.Prelude.{◌≤◌, ◌<◌, length, drop};
-    ghost use Rattle.vsa_io.specs.Fakes.{MemFeed};
+    ghost use Rattle.vsa_io.specs.Fakes.{CleanFeed, MemFeed};
 
     ghost Value = { MemFeed };
 
-    ghost view = { λ s. record { left = drop s.position s.bytes.items; piece = s.piece; calls = s.calls; failing = s.failing.items; faults = s.faults } };
-
-    ghost invariant = { λ s. (s.position ≤ length s.bytes.items) × (0 < s.piece) };
+    ghost view = { λ s. record {
+      left = s.source.left;
+      piece = s.source.piece;
+      calls = s.calls;
+      failing = s.failing.items;
+      faults = s.faults;
+    } };
 }
 
 impl MemSource {
     /// A source of these bytes that gives at most `piece` of them a call, and fails at the calls whose numbers,
-    /// counted from 1, are in `failing`.
+    /// counted from 1, are in `failing`. The number of a call stays at `u64::MAX` once it stands there.
     pub fn new(bytes: Vec<u8>, piece: usize, failing: Vec<u64>) -> MemSource
         requires { 0 < piece }
-        ensures { result ≡ record { left = bytes.items; piece = piece; calls = 0; failing = failing.items; faults = 0 } }
+        ensures { result ≡ record {
+          left = bytes.items;
+          piece = piece;
+          calls = 0;
+          failing = failing.items;
+          faults = 0;
+        } }
     {
         MemSource {
-            bytes,
-            position: 0,
-            piece,
+            source: CleanSource::new(bytes, piece),
             calls: 0,
             failing,
             faults: 0,
@@ -121,12 +130,22 @@ impl Source for MemSource {
 
     fn read(&mut self, buffer: &mut [u8]) -> Result<usize, Failed>
         requires { 0 < length buffer.old }
+
+        // What the call does, exactly.
         ensures fails { is_err result ≡ is_failing self.old.failing self.old.calls }
         ensures count { IfOk result (λ n. n ≡ count_of self.old.piece (length buffer.old) self.old.left) }
         ensures filled { IfOk result (λ n. buffer.new ≡ take n self.old.left ++ drop n buffer.old) }
-        ensures after { IfOk result (λ n. self.new ≡ record self.old { left = drop n self.old.left; calls = one_more self.old.calls }) }
-        ensures after_failure { OnErr result (self.new ≡ record self.old { calls = one_more self.old.calls; faults = one_more self.old.faults }) }
+        ensures after { IfOk result (λ n. self.new ≡ record self.old {
+          left = drop n self.old.left;
+          calls = one_more self.old.calls;
+        }) }
+        ensures after_failure { OnErr result (self.new ≡ record self.old {
+          calls = one_more self.old.calls;
+          faults = one_more self.old.faults;
+        }) }
         ensures untouched { OnErr result (buffer.new ≡ buffer.old) }
+
+        // What each source keeps.
         ensures fits { IfOk result (λ n. n ≤ length buffer.old) }
         ensures taken { IfOk result (λ n. Takes (Some self.old.left) n buffer.new (Some self.new.left)) }
         ensures end { IfOk result (λ n. n ≡ 0 → IsAtEnd (Some self.old.left)) }
@@ -140,8 +159,6 @@ impl Source for MemSource {
             self.faults = self.faults.saturating_add(1);
             return Err(Failed);
         }
-        let count = give(&self.bytes[self.position..], self.piece, buffer);
-        self.position += count;
-        Ok(count)
+        self.source.read(buffer)
     }
 }
