@@ -1,1 +1,3 @@
+pub mod Count
+pub mod Fakes
 pub mod Stream

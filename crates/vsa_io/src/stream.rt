@@ -1,7 +1,7 @@
-//! The traits of streams.
+//! The traits of streams, and writing a whole piece.
 
 ghost use Rattle.std.specs.Prelude.{◌≡◌, ℕ, ◌≤◌, ◌<◌, length, take, List, Option, IfOk, OnOk, OnErr};
-ghost use Rattle.vsa_io.specs.Stream.{HasRisen, Takes, IsAtEnd, appended};
+ghost use Rattle.vsa_io.specs.Stream.{HasRisen, Takes, IsAtEnd, appended, AppendsPrefix};
 
 use crate::refusal::Failed;
 
@@ -47,4 +47,24 @@ pub trait Sink {
         ensures quiet { IfOk result (λ n. 0 < n → faults self.new ≡ faults self.old) }
         ensures nothing_to_do { length bytes.now ≡ 0 → OnOk result (faults self.new ≡ faults self.old) }
         ensures never_falls { faults self.old ≤ faults self.new };
+}
+
+/// Writes all of the bytes, in as many calls of the sink as it takes. At the first fault a front of them is
+/// written, perhaps none, and nothing more is tried.
+pub fn write_all<K: Sink>(sink: &mut K, bytes: &[u8]) -> Result<(), Failed>
+    ensures written { OnOk result (K.held sink.new ≡ appended (K.held sink.old) bytes.now) }
+    ensures quiet { OnOk result (K.faults sink.new ≡ K.faults sink.old) }
+    ensures prefix { OnErr result (AppendsPrefix (K.held sink.old) bytes.now (K.held sink.new)) }
+    ensures cause { OnErr result (HasRisen (K.faults sink.old) (K.faults sink.new)) }
+    ensures never_falls { K.faults sink.old ≤ K.faults sink.new }
+{
+    let mut written = 0;
+    while written < bytes.len() {
+        let count = sink.write(&bytes[written..])?;
+        if count == 0 {
+            return Err(Failed);
+        }
+        written += count;
+    }
+    Ok(())
 }
