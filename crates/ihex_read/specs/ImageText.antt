@@ -1,0 +1,133 @@
+-- What image a text denotes, and which of its lines is the first at fault.
+use Rattle.std.specs.Prelude.{◌≡◌, ℕ, ◌+◌, ◌%◌, ◌<◌, ◌≤◌, ◌==◌, ◌↔◌, nat_lt, nat_le, Bool, true, false, not, ◌&&◌, ◌||◌, List, [], ◌∷◌, ◌++◌, length, take, drop, sum, slice_index, Option, None, Some, All, Contains, find}
+use Rattle.std.specs.List.{slice_index_or, list_any, list_all}
+use Rattle.hex.specs.Hex.{is_hex_digit}
+use Rattle.ihex_read.specs.declared.rule_set.Rules.{Rules}
+use Rattle.ihex_read.specs.declared.rule_set.Rules.TheVariants.{Msp430, Mcs51}
+use Rattle.ihex_read.specs.declared.rule_set.Tail.{Tail}
+use Rattle.ihex_read.specs.declared.rule_set.Tail.TheVariants.{Blank, Second}
+use Rattle.ihex_read.specs.declared.fault.HexFault.{HexFault}
+use Rattle.ihex_read.specs.declared.fault.HexFault.TheVariants.{NoColon, BadDigit, BadLength, BadSum, BadType, BadTypeLength, OutOfRange, Clash, Misplaced, NoEnd, Trailing, NoReset}
+use Rattle.ihex_read.specs.Image.{byte_at}
+use Rattle.ihex_read.specs.Lines.{lines_of}
+use Rattle.ihex_read.specs.Record.{record_of, length_of, offset_of, type_of, data_of, is_length_of_type, base_behind, placed_by}
+
+-- RAM stands from an even address to an odd one above it, behind the peripherals
+abbrev pub IsRamRange : Rules → Type 0
+IsRamRange (Msp430 lo hi) = (lo % 2 ≡ 0) × (hi % 2 ≡ 1) × (512 ≤ lo) × (lo < hi)
+IsRamRange Mcs51 = Unit {0}
+
+-- the base behind lines: that of the last record of type 02 or 04, else the one in front of them
+abbrev pub base_from : ℕ → List (List ℕ) → ℕ
+base_from base [] = base
+base_from base (line ∷ lines) = base_from (base_behind base (record_of line)) lines
+
+-- what the data records of lines place, each under the base in front of it
+abbrev pub placed_from : ℕ → List (List ℕ) → List (ℕ × ℕ)
+placed_from base [] = []
+placed_from base (line ∷ lines) = placed_by base (record_of line) ++ placed_from (base_behind base (record_of line)) lines
+
+-- the base is 0 at first
+abbrev pub base_of : List (List ℕ) → ℕ
+base_of lines = base_from 0 lines
+
+abbrev pub placed_of : List (List ℕ) → List (ℕ × ℕ)
+placed_of lines = placed_from 0 lines
+
+-- some data record of the lines places the byte at the address
+abbrev pub Places : List (List ℕ) → ℕ → ℕ → Type 0
+Places lines at value = Contains (placed_of lines) (at, value)
+
+-- another byte than this one was placed at its address
+abbrev pub clashes : List (ℕ × ℕ) → ℕ × ℕ → Bool
+clashes placed byte = list_any (λ other. (other.0 == byte.0) && not (other.1 == byte.1)) placed
+
+abbrev pub has_byte : List (ℕ × ℕ) → ℕ → Bool
+has_byte placed at = list_any (λ byte. byte.0 == at) placed
+
+-- the MSP430 has peripherals below 0200h, and its RAM holds nothing of an image
+abbrev pub is_misplaced : Rules → ℕ → Bool
+is_misplaced (Msp430 lo hi) at = nat_lt at 512 || (nat_le lo at && nat_le at hi)
+is_misplaced Mcs51 at = false
+
+-- the MSP430 starts at the word at FFFEh
+abbrev pub lacks_reset : Rules → List (ℕ × ℕ) → Bool
+lacks_reset (Msp430 lo hi) placed = not (has_byte placed 65534 && has_byte placed 65535)
+lacks_reset Mcs51 placed = false
+
+abbrev pub is_end : List ℕ → Bool
+is_end line = type_of (record_of line) == 1
+
+-- whether a line that isn't blank has a fault, behind the lines in front of it
+abbrev pub has : Rules → List (List ℕ) → List ℕ → HexFault → Bool
+has rules before line NoColon = not (slice_index line 0 == 58)
+has rules before line BadDigit = not (list_all is_hex_digit (drop 1 line))
+has rules before line BadLength = let bytes = record_of line in
+    (length line % 2 == 0) || nat_lt (length bytes) 5 || not (length_of bytes + 5 == length bytes)
+has rules before line BadSum = not (sum (record_of line) % 256 == 0)
+has rules before line BadType = nat_lt 5 (type_of (record_of line))
+has rules before line BadTypeLength =
+    let bytes = record_of line in not (is_length_of_type (type_of bytes) (length_of bytes))
+-- an offset + i above FFFFh makes an address above FFFFh, under any base
+has rules before line OutOfRange = list_any (λ byte. nat_lt 65535 byte.0) (placed_by (base_of before) (record_of line))
+has rules before line Clash = list_any (clashes (placed_of before)) (placed_by (base_of before) (record_of line))
+has rules before line Misplaced =
+    list_any (λ byte. is_misplaced rules byte.0) (placed_by (base_of before) (record_of line))
+has rules before line NoReset = is_end line && lacks_reset rules (placed_of before)
+-- these two are faults of the whole text
+has rules before line NoEnd = false
+has rules before line Trailing = false
+
+-- the faults of one line in the order in which they are told
+abbrev pub line_faults : List HexFault
+line_faults =
+    NoColon ∷ BadDigit ∷ BadLength ∷ BadSum ∷ BadType ∷ BadTypeLength ∷ OutOfRange ∷ Clash ∷ Misplaced ∷ NoReset ∷ []
+
+-- the fault of a line behind the lines in front of it; a blank line has none
+abbrev pub fault_of : Rules → List (List ℕ) → List ℕ → Option HexFault
+fault_of rules before [] = None
+fault_of rules before (b ∷ bytes) = find (has rules before (b ∷ bytes)) line_faults
+
+-- no line is at fault behind those in front of it, and none is an end record
+abbrev pub IsOpen : Rules → List (List ℕ) → Type 0
+IsOpen rules lines = (k : ℕ) → k < length lines →
+    (fault_of rules (take k lines) (slice_index_or lines k []) ≡ None) × (is_end (slice_index_or lines k []) ≡ false)
+
+-- the lines are these, an end record's line, and those behind it
+pub record Ends (rules : Rules) (lines before : List (List ℕ)) (line : List ℕ) (behind : List (List ℕ)) : Type 0 where
+  pub whole : lines ≡ before ++ line ∷ behind
+  pub open_before : IsOpen rules before
+  pub accepted : fault_of rules before line ≡ None
+  pub ends : is_end line ≡ true
+
+-- the image has the bytes that the lines place, and no others
+pub record IsImage (image : List (Option ℕ)) (lines : List (List ℕ)) : Type 0 where
+  pub size : length image ≡ 65536
+  pub bytes : (at value : ℕ) → (byte_at image at ≡ Some value) ↔ Places lines at value
+
+-- where no second text is expected, each line behind the end record's is blank; else they are none of the text
+abbrev pub IsTail : Tail → List (List ℕ) → Type 0
+IsTail Blank behind = All (λ line. line ≡ []) behind
+IsTail Second behind = Unit {0}
+
+abbrev pub Denotes : Rules → Tail → List (List ℕ) → List (Option ℕ) → Type 0
+Denotes rules tail lines image = (before : List (List ℕ)) × (line : List ℕ) × (behind : List (List ℕ))
+    × Ends rules lines before line behind × IsTail tail behind × IsImage image before
+
+-- the first faulty line, counted from 1, and its fault
+pub data FirstFault (rules : Rules) (tail : Tail) (lines : List (List ℕ)) : ℕ → HexFault → Type 0 where
+  -- a line up to the end record's has a fault of its own
+  of_line : (before : List (List ℕ)) (line : List ℕ) (behind : List (List ℕ)) (fault : HexFault)
+      → lines ≡ before ++ line ∷ behind → IsOpen rules before → fault_of rules before line ≡ Some fault
+      → FirstFault rules tail lines (length before + 1) fault
+  -- no line is an end record
+  no_end : IsOpen rules lines → FirstFault rules tail lines (length lines + 1) NoEnd
+  -- a line behind the end record's isn't blank, where it must be
+  trailing : (before : List (List ℕ)) (line : List ℕ) (blank : List (List ℕ)) (more : List ℕ) (behind : List (List ℕ))
+      → Ends rules lines before line (blank ++ more ∷ behind) → All (λ line. line ≡ []) blank → (more ≡ [] → ⊥)
+      → tail ≡ Blank → FirstFault rules tail lines (length before + 1 + length blank + 1) Trailing
+
+-- the whole text denotes the image, by records of type 00 and 01 alone
+pub record IsPlainImage (rules : Rules) (text : List ℕ) (image : List (Option ℕ)) : Type 0 where
+  pub denoted : Denotes rules Blank (lines_of text) image
+  pub plain : All (λ line. type_of (record_of line) ≤ 1) (lines_of text)

@@ -1,0 +1,31 @@
+//! A memory image: a byte or none at each of the 65,536 addresses.
+
+ghost use Rattle.std.specs.Prelude.{◌≡◌};
+ghost use Rattle.ihex_read.specs.Image.{byte_at};
+
+use std::marker::Model;
+
+/// The bytes of a program at their addresses. Contracts see what stands at each of the 65,536 addresses, in order.
+#[derive(Debug, Drop)]
+pub struct Image {
+    bytes: Vec<Option<u8>>,
+}
+
+impl Model for Image {
+    ghost use Rattle.std.specs.Prelude.{◌≡◌, ℕ, List, Option, length};
+
+    ghost Value = { List (Option ℕ) };
+
+    ghost view = { λ a. a.bytes.items };
+
+    ghost invariant = { λ a. length a.bytes.items ≡ 65536 };
+}
+
+impl Image {
+    /// The byte at an address, where the image has one.
+    pub fn byte(&self, at: u16) -> Option<u8>
+        ensures { result ≡ byte_at self.now at }
+    {
+        self.bytes[usize::from(at)]
+    }
+}
