@@ -60,10 +60,15 @@ impl Model for InstrBytes {
 
 impl InstrBytes {
     /// The instruction of these bytes.
-    pub fn new(bytes: ArrayVec<u8, 6>) -> Self
-        ensures { result ≡ bytes.items }
+    pub fn from_slice(bytes: &[u8]) -> Self
+        requires { length bytes.now ≤ 6 }
+        ensures { result ≡ bytes.now }
     {
-        InstrBytes { bytes }
+        let mut all = ArrayVec::new();
+        for byte in bytes {
+            all.push(*byte);
+        }
+        InstrBytes { bytes: all }
     }
 
     /// The bytes in order of address.

@@ -1,0 +1,13 @@
+//! The top call: from words and an input to a report.
+#![tactic(auto)]
+
+mod fixpoint;
+mod input;
+mod msp430;
+mod outcome;
+mod report;
+mod top;
+mod words;
+
+pub use outcome::{Gate, NoGate, Outcome, Status};
+pub use top::vsa;

@@ -1,0 +1,7 @@
+//! The MSP430 as an analysis sees it, with its first instructions.
+
+mod chip;
+mod instr;
+mod state;
+
+pub use chip::Msp430;
