@@ -1,3 +1,4 @@
 pub mod Count
 pub mod Fakes
+pub mod Pieces
 pub mod Stream
