@@ -1,5 +1,5 @@
 -- What the program answers to its words and its input.
-use Rattle.std.specs.Prelude.{◌≡◌, ℕ, ◌≤◌, ◌<◌, Option, None, Some, List, [], ◌∷◌, ◌++◌, length, map, codes, IfSome, string_bytes}
+use Rattle.std.specs.Prelude.{◌≡◌, ◌⊎◌, ℕ, ◌≤◌, Option, None, Some, List, [], ◌∷◌, ◌++◌, length, map, codes, IfSome, string_bytes}
 use Rattle.std.specs.declared.string.String.{String}
 use Rattle.std.specs.declared.alloc.Global.{Global}
 use Rattle.ihex_read.specs.declared.rule_set.Rules.{Rules}
@@ -34,23 +34,40 @@ usage_line = codes "USAGE\n"
 abbrev pub bad_line : List ℕ
 bad_line = codes "BAD\n"
 
--- A call that was cut short wrote a front of its answer, where the answer is a refusal.
-abbrev pub IsCutShort : List (String Global) → Option (List ℕ) → (before after : Option (List ℕ)) → Type 0
-IsCutShort words input before after =
-    (¬ IsReading words → AppendsPrefix before usage_line after)
-    × (IsReading words → IfSome input (λ text. LacksImage text → AppendsPrefix before bad_line after))
+-- What words that aren't a reading get, and what is then held behind what was. A call that was cut short wrote a
+-- front of its answer, perhaps nothing.
+abbrev pub AnswersUsage : Status → (before after : Option (List ℕ)) → Type 0
+AnswersUsage status.Usage before after = after ≡ appended before usage_line
+AnswersUsage status.WriteFault before after = AppendsPrefix before usage_line after
+AnswersUsage status.Memory before after = AppendsPrefix before usage_line after
+AnswersUsage status.Done before after = ⊥
+AnswersUsage status.Open before after = ⊥
+AnswersUsage status.BadImage before after = ⊥
+AnswersUsage status.BadCert before after = ⊥
+AnswersUsage status.ReadFault before after = ⊥
+AnswersUsage status.TooLong before after = ⊥
+AnswersUsage status.Wild before after = ⊥
+AnswersUsage status.NeedChoice before after = ⊥
 
--- When each status is answered to words and an input, where it is told, and what is then held behind what was.
-abbrev pub Answers : Status → List (String Global) → Option (List ℕ) → (before after : Option (List ℕ)) → Type 0
-Answers status.Done words input before after = IsReading words × IfSome input HasImage
-Answers status.Open words input before after = IsReading words × IfSome input HasImage
-Answers status.Usage words input before after = ¬ IsReading words × (after ≡ appended before usage_line)
-Answers status.BadImage words input before after = IsReading words × IfSome input LacksImage × (after ≡ appended before bad_line)
-Answers status.ReadFault words input before after = IsReading words × (after ≡ before)
-Answers status.WriteFault words input before after = IsCutShort words input before after
-Answers status.Memory words input before after = IsCutShort words input before after
+-- what words that are a reading get for an input, where it is told
+abbrev pub AnswersInput : Status → Option (List ℕ) → (before after : Option (List ℕ)) → Type 0
+AnswersInput status.Done input before after = IfSome input HasImage
+AnswersInput status.Open input before after = IfSome input HasImage
+AnswersInput status.BadImage input before after = IfSome input LacksImage × (after ≡ appended before bad_line)
+AnswersInput status.ReadFault input before after = after ≡ before
+AnswersInput status.WriteFault input before after = IfSome input (λ text. LacksImage text → AppendsPrefix before bad_line after)
+AnswersInput status.Memory input before after = IfSome input (λ text. LacksImage text → AppendsPrefix before bad_line after)
+AnswersInput status.Usage input before after = ⊥
 -- none of these comes yet
-Answers status.BadCert words input before after = ⊥
-Answers status.TooLong words input before after = ⊥
-Answers status.Wild words input before after = ⊥
-Answers status.NeedChoice words input before after = ⊥
+AnswersInput status.BadCert input before after = ⊥
+AnswersInput status.TooLong input before after = ⊥
+AnswersInput status.Wild input before after = ⊥
+AnswersInput status.NeedChoice input before after = ⊥
+
+-- a status that tells a fault, or want of memory, in place of the answer
+abbrev pub IsCutShort : Status → Type 0
+IsCutShort answered = (answered ≡ status.ReadFault) ⊎ (answered ≡ status.WriteFault) ⊎ (answered ≡ status.Memory)
+
+-- a status that an image gets
+abbrev pub IsOfImage : Status → Type 0
+IsOfImage answered = (answered ≡ status.Done) ⊎ (answered ≡ status.Open) ⊎ (answered ≡ status.WriteFault)

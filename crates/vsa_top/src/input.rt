@@ -2,10 +2,11 @@
 
 ghost use Rattle.std.specs.Prelude.{◌≡◌, ◌<◌, ◌≤◌, length, IfOk, IfErr, OnErr, OnOk, IfSome, MatchOption};
 ghost use Rattle.vsa_io.specs.Stream.{HasRisen};
-ghost use Rattle.vsa_top.specs.Answer.{text_limit};
+ghost use Rattle.vsa_top.specs.Answer.{text_limit, HasImage, LacksImage, rules as the_rules};
 
-use std::alloc::{AllocError, Global};
-use vsa_io::{Failed, Source};
+use ihex_read::{Image, Rules, image_of};
+use std::alloc::Global;
+use vsa_io::{Memory, Source};
 
 /// The longest image text in bytes.
 pub const TEXT_LIMIT: usize = 4_194_304;
@@ -39,4 +40,24 @@ pub fn read_text<S: Source>(alloc: Global, source: &mut S) -> Result<Option<Vec<
             .map_err(|_| ReadError::Memory)?;
     }
     Ok(None)
+}
+
+/// The image that a source's text denotes, where it denotes one within the limit.
+pub fn image_in<S: Source>(
+    alloc: Global,
+    source: &mut S,
+    rules: Rules,
+) -> Result<Option<Image>, ReadError>
+    requires { rules ≡ the_rules }
+    ensures found { IfOk result (λ found. MatchOption found (IfSome (S.left source.old) LacksImage) (λ _. IfSome (S.left source.old) HasImage)) }
+    ensures cause { IfErr result (λ e. e ≡ ReadError.Failed → HasRisen (S.faults source.old) (S.faults source.new)) }
+    ensures quiet { OnOk result (S.faults source.new ≡ S.faults source.old) }
+{
+    let Some(text) = read_text(alloc, source)? else {
+        return Ok(None);
+    };
+    match image_of(alloc, text.as_slice(), rules) {
+        Ok(image) => Ok(image),
+        Err(Memory) => Err(ReadError::Memory),
+    }
 }

@@ -11,3 +11,6 @@ mod words;
 
 pub use outcome::{Gate, NoGate, Outcome, Status};
 pub use top::vsa;
+
+#[cfg(test)]
+mod tests;

@@ -1,24 +1,26 @@
 //! The top call.
 
-ghost use Rattle.std.specs.Prelude.{◌≡◌, ◌≢◌, ◌⊎◌, ◌≤◌, OnErr};
+ghost use Rattle.std.specs.Prelude.{◌≡◌, ◌≢◌, [], IfOk, OnOk, ◌⊎◌, ◌≤◌, OnErr};
 ghost use Rattle.vsa_io.specs.Stream.{HasRisen, AppendsPrefix, appended};
-ghost use Rattle.vsa_top.specs.Answer.{Answers};
+ghost use Rattle.vsa_top.specs.Answer.{rules as the_rules, IsReading, AnswersUsage, AnswersInput, IsCutShort, IsOfImage};
 
 use crate::fixpoint::fixpoint_alone;
-use crate::input::{ReadError, read_text};
+use crate::input::{ReadError, image_in};
 use crate::msp430::Msp430;
 use crate::outcome::{Gate, Outcome, Status};
 use crate::report::report_of;
 use crate::words::is_reading;
 
-use ihex_read::{Rules, image_of};
+use ihex_read::Rules;
 use std::alloc::Global;
 use std::sync::Wait;
 use std::thread::Threads;
 use vsa_io::{Memory, Sink, Source, write_all};
 
 /// The rules of an MSP430 with its RAM from 0200h to 09FFh.
-fn rules() -> Rules {
+fn rules() -> Rules
+    ensures { result ≡ the_rules }
+{
     Rules::Msp430 {
         lo: 0x0200,
         hi: 0x09FF,
@@ -27,10 +29,11 @@ fn rules() -> Rules {
 
 /// Writes a text, and answers the status that goes with it.
 fn answer<K: Sink>(sink: &mut K, text: &[u8], status: Status) -> Status
+    requires { status ≢ Status.WriteFault }
     ensures answered { (result ≡ status) ⊎ (result ≡ Status.WriteFault) }
-    ensures written { result ≢ Status.WriteFault → K.held sink.new ≡ appended (K.held sink.old) text.now }
+    ensures written { result ≡ status → K.held sink.new ≡ appended (K.held sink.old) text.now }
     ensures prefix { AppendsPrefix (K.held sink.old) text.now (K.held sink.new) }
-    ensures quiet { result ≢ Status.WriteFault → K.faults sink.new ≡ K.faults sink.old }
+    ensures quiet { result ≡ status → K.faults sink.new ≡ K.faults sink.old }
     ensures cause { result ≡ Status.WriteFault → HasRisen (K.faults sink.old) (K.faults sink.new) }
     ensures never_falls { K.faults sink.old ≤ K.faults sink.new }
 {
@@ -42,7 +45,8 @@ fn answer<K: Sink>(sink: &mut K, text: &[u8], status: Status) -> Status
 
 /// An outcome without events.
 fn without_journal(alloc: Global, status: Status) -> Outcome
-    ensures { result.status ≡ status }
+    ensures status { result.status ≡ status }
+    ensures journal { result.journal.items ≡ [] }
 {
     Outcome {
         status,
@@ -51,7 +55,11 @@ fn without_journal(alloc: Global, status: Status) -> Outcome
 }
 
 /// Analyses a program, and writes the report.
-fn analyse_image<K: Sink>(alloc: Global, chip: &Msp430, sink: &mut K) -> Result<Outcome, Memory> {
+fn analyse_image<K: Sink>(alloc: Global, chip: &Msp430, sink: &mut K) -> Result<Outcome, Memory>
+    ensures answered { IfOk result (λ outcome. IsOfImage outcome.status) }
+    ensures cause { IfOk result (λ outcome. outcome.status ≡ Status.WriteFault → HasRisen (K.faults sink.old) (K.faults sink.new)) }
+    ensures quiet { IfOk result (λ outcome. outcome.status ≢ Status.WriteFault → K.faults sink.new ≡ K.faults sink.old) }
+{
     let book = fixpoint_alone(alloc, chip)?;
     let report = report_of(alloc, chip, &book)?;
     let status = if report.is_closed {
@@ -65,23 +73,21 @@ fn analyse_image<K: Sink>(alloc: Global, chip: &Msp430, sink: &mut K) -> Result<
 }
 
 /// Reads an image text, analyses it, and writes the report.
-fn analyse<S: Source, K: Sink>(alloc: Global, source: &mut S, sink: &mut K) -> Outcome {
-    let text = match read_text(alloc, source) {
-        Ok(text) => text,
-        Err(ReadError::Failed) => return without_journal(alloc, Status::ReadFault),
-        Err(ReadError::Memory) => return without_journal(alloc, Status::Memory),
-    };
-    let image = match text {
-        Some(text) => image_of(alloc, text.as_slice(), rules()),
-        None => Ok(None),
-    };
-    match image {
+fn analyse<S: Source, K: Sink>(alloc: Global, source: &mut S, sink: &mut K) -> Outcome
+    ensures answer { AnswersInput result.status (S.left source.old) (K.held sink.old) (K.held sink.new) }
+    ensures read_fault { result.status ≡ Status.ReadFault → HasRisen (S.faults source.old) (S.faults source.new) }
+    ensures write_fault { result.status ≡ Status.WriteFault → HasRisen (K.faults sink.old) (K.faults sink.new) }
+    ensures quiet_source { ¬ IsCutShort result.status → S.faults source.new ≡ S.faults source.old }
+    ensures quiet_sink { ¬ IsCutShort result.status → K.faults sink.new ≡ K.faults sink.old }
+{
+    match image_in(alloc, source, rules()) {
         Ok(Some(image)) => match analyse_image(alloc, &Msp430::new(image), sink) {
             Ok(outcome) => outcome,
             Err(Memory) => without_journal(alloc, Status::Memory),
         },
         Ok(None) => without_journal(alloc, answer(sink, b"BAD\n", Status::BadImage)),
-        Err(Memory) => without_journal(alloc, Status::Memory),
+        Err(ReadError::Failed) => without_journal(alloc, Status::ReadFault),
+        Err(ReadError::Memory) => without_journal(alloc, Status::Memory),
     }
 }
 
@@ -93,7 +99,18 @@ pub fn vsa<R: Threads + Wait + Sync, S: Source, K: Sink, G: Gate>(
     source: &mut S,
     sink: &mut K,
     _gate: &G,
-) -> Outcome {
+) -> Outcome
+    // Words that aren't a reading are refused, and no others.
+    ensures usage { ¬ IsReading words.now → AnswersUsage result.status (K.held sink.old) (K.held sink.new) }
+    // An input that is no image text within the limit is refused, and no other.
+    ensures answer { IsReading words.now → AnswersInput result.status (S.left source.old) (K.held sink.old) (K.held sink.new) }
+
+    // A fault is told only where its count rose, and a status that tells none is given only where none did.
+    ensures read_fault { result.status ≡ Status.ReadFault → HasRisen (S.faults source.old) (S.faults source.new) }
+    ensures write_fault { result.status ≡ Status.WriteFault → HasRisen (K.faults sink.old) (K.faults sink.new) }
+    ensures quiet_source { ¬ IsCutShort result.status → S.faults source.new ≡ S.faults source.old }
+    ensures quiet_sink { ¬ IsCutShort result.status → K.faults sink.new ≡ K.faults sink.old }
+{
     if is_reading(words) {
         analyse(alloc, source, sink)
     } else {

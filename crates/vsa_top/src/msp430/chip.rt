@@ -25,15 +25,15 @@ impl Msp430 {
         Msp430 { image }
     }
 
-    /// The word at an address, where the image has both its bytes.
-    fn word(&self, at: u16) -> Option<[u8; 2]> {
-        Some([self.image.byte(at)?, self.image.byte(at.wrapping_add(1))?])
+    /// The low and the high byte of the word at an address, where the image has both.
+    fn word(&self, at: u16) -> Option<(u8, u8)> {
+        Some((self.image.byte(at)?, self.image.byte(at.wrapping_add(1))?))
     }
 
     /// Where the program starts: the word at FFFEh without bit 0.
     fn reset(&self) -> u16 {
         match self.word(0xFFFE) {
-            Some([low, high]) => word_from(low - low % 2, high),
+            Some((low, high)) => word_from(low - low % 2, high),
             None => 0,
         }
     }
@@ -42,9 +42,9 @@ impl Msp430 {
     fn fetch(&self, pc: u16) -> Result<(Instr, InstrBytes), Cause>
         ensures { IfOk result (λ found. IsInstr found.0) }
     {
-        let [low, high] = self.word(pc).ok_or(Cause::Fetch)?;
+        let (low, high) = self.word(pc).ok_or(Cause::Fetch)?;
         if is_move_word(word_from(low, high)) {
-            let [value_low, value_high] = self.word(pc.wrapping_add(2)).ok_or(Cause::Fetch)?;
+            let (value_low, value_high) = self.word(pc.wrapping_add(2)).ok_or(Cause::Fetch)?;
             let bytes = [low, high, value_low, value_high];
             let instr = Instr::from_bytes(&bytes).ok_or(Cause::Unbuilt)?;
             return Ok((instr, InstrBytes::from_slice(&bytes)));
@@ -93,8 +93,7 @@ impl Msp430 {
 
 /// The node that each run begins in.
 fn start_node(reset: u16) -> Node {
-    let calls = Calls::new();
-    Node::At(reset, calls, Frame::Base)
+    Node::At(reset, Calls::new(), Frame::Base)
 }
 
 /// A work that gives nothing.
@@ -113,8 +112,7 @@ impl Chip for Msp430 {
     type State = ChipState;
 
     fn start(&self, _alloc: Global) -> Result<(Node, State), Memory> {
-        let state = State::unknown();
-        Ok((start_node(self.reset()), state))
+        Ok((start_node(self.reset()), State::unknown()))
     }
 
     fn work(
