@@ -4,7 +4,9 @@
 
 mod address_map;
 mod fault;
+mod placing;
 mod plain;
+mod record;
 mod rule_set;
 
 pub use address_map::Image;
