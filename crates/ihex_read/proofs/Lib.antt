@@ -1,2 +1,3 @@
 pub mod AloneLemmas
 pub mod Digits
+pub mod PlacingLemmas

@@ -1,7 +1,8 @@
 //! Data bytes at their addresses: whether they may be placed, and the writing of them. An image is a slice of what
 //! stands at each address, and the bytes stand from one address on.
 
-ghost use Rattle.std.specs.Prelude.{◌≡◌, ◌+◌, ◌≤◌, ◌^◌, ◌<◌, length};
+ghost use Rattle.std.specs.Prelude.{◌≡◌, ◌+◌, ◌≤◌, ◌^◌, ◌<◌, nat_lt, max, min, length};
+ghost use Rattle.std.specs.Bool.{OnFalse};
 ghost use Rattle.std.specs.List.{list_any, enumerate_from};
 ghost use Rattle.ihex_read.specs.ImageText.{is_misplaced};
 ghost use Rattle.ihex_read.specs.Loading.{is_outside, is_taken, is_resettable, written};
@@ -14,7 +15,8 @@ pub const END_OF_MEMORY: usize = 65536;
 /// Whether some of the bytes stands above FFFFh.
 pub fn overruns(start: usize, bytes: &[u8]) -> bool
     requires { start < 2 ^ 33 }
-    ensures { result ≡ list_any is_outside (enumerate_from start bytes.now) }
+    ensures some { result ≡ list_any is_outside (enumerate_from start bytes.now) }
+    ensures fits { OnFalse result (0 < length bytes.now → start + length bytes.now ≤ END_OF_MEMORY) }
 {
     !bytes.is_empty() && start + bytes.len() > END_OF_MEMORY
 }
@@ -42,10 +44,18 @@ pub fn is_barred(rules: Rules, start: usize, bytes: &[u8]) -> bool
     match rules {
         Rules::Msp430 { lo, hi } => {
             let end = start + bytes.len();
-            start < end && (start < 0x200 || (start <= usize::from(hi) && usize::from(lo) < end))
+            start < end && (start < 0x200 || overlaps(start, end, usize::from(lo), usize::from(hi)))
         }
         Rules::Mcs51 => false,
     }
+}
+
+/// Whether an address from `start` on in front of `end` is one from `low` to `high`.
+fn overlaps(start: usize, end: usize, low: usize, high: usize) -> bool
+    requires { high < 2 ^ 16 }
+    ensures { result ≡ nat_lt (max start low) (min end (high + 1)) }
+{
+    start.max(low) < end.min(high + 1)
 }
 
 /// Writes the bytes.
