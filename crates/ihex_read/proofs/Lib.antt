@@ -1,3 +1,5 @@
 pub mod AloneLemmas
 pub mod Digits
 pub mod PlacingLemmas
+pub mod WrittenLemmas
+pub mod MadeLemmas
