@@ -3,3 +3,5 @@ pub mod Digits
 pub mod PlacingLemmas
 pub mod WrittenLemmas
 pub mod MadeLemmas
+pub mod LinesLemmas
+pub mod TextLemmas

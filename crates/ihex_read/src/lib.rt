@@ -4,6 +4,7 @@
 
 mod address_map;
 mod fault;
+mod lines;
 mod loading;
 mod placing;
 mod plain;
