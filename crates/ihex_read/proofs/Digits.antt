@@ -1,10 +1,10 @@
 -- Hexadecimal digits and the bytes that they give, beside what `hex` decodes.
-use Rattle.std.proofs.Common.{◌≡◌, ℕ, ◌+◌, ◌*◌, ◌/◌, ◌%◌, ◌<◌, ◌≤◌, ◌⊎◌, inl, inr, Bool, true, false, List, [], ◌∷◌, length, get_or, refl, sym, ◌∙◌, ap, arith}
+use Rattle.std.proofs.Common.{◌≡◌, ℕ, ◌+◌, ◌*◌, ◌/◌, true, List, [], ◌∷◌, length, refl, sym, ◌∙◌, ap, arith}
 use Rattle.std.specs.Prelude.{Option, Result, Ok, Err, Some, None, unwrap_or, MatchResult, is_ok}
 use Rattle.std.specs.List.{list_all}
 use Rattle.std.specs.Cmp.{both_ways}
 use Rattle.std.proofs.lemmas.List.Sums.{AllPass-from_list_all, list_all-from_AllPass}
-use Rattle.hex.specs.Hex.{hex_digit_value, is_hex_digit, digit_or_error, value_at, pair_value, decode_pairs, decode_sized, decode_of, ◌>>=◌}
+use Rattle.hex.specs.Hex.{hex_digit_value, is_hex_digit, digit_or_error, value_at, pair_value, decode_pairs, decode_sized, ◌>>=◌}
 use Rattle.hex.specs.declared.error.FromHexError.{FromHexError}
 use Rattle.hex.proofs.HexLemmas.{IsOk-decode_sized, decode_sized-twice, decode_of-even}
 use Rattle.ihex_read.specs.Record.{bytes_of}

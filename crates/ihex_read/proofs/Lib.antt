@@ -5,3 +5,4 @@ pub mod WrittenLemmas
 pub mod MadeLemmas
 pub mod LinesLemmas
 pub mod TextLemmas
+pub mod PlainLemmas

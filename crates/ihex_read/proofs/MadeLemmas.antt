@@ -1,6 +1,6 @@
 -- What one line more makes, and its fault, told by the base and the image.
 use Rattle.std.proofs.Common.{◌≡◌, ℕ, ◌+◌, ◌<◌, ◌≤◌, Bool, true, false, List, [], ◌∷◌, ◌++◌, length, refl, sym, ◌∙◌, ap, subst, append_assoc, arith}
-use Rattle.std.specs.Prelude.{◌==◌, ◌&&◌, not, if◌then◌else◌, Option, None, Some, is_some, find, nat_lt, Result, Ok, Err, OnOk}
+use Rattle.std.specs.Prelude.{◌==◌, ◌&&◌, not, if◌then◌else◌, Option, None, Some, find, nat_lt, Result, Ok, Err, OnOk}
 use Rattle.std.specs.List.{list_any, enumerate_from}
 use Rattle.std.specs.Option.{option_or}
 use Rattle.std.specs.Result.{result_err}
@@ -13,8 +13,8 @@ use Rattle.ihex_read.specs.declared.rule_set.Rules.{Rules}
 use Rattle.ihex_read.specs.declared.rule_set.Rules.TheVariants.{Msp430, Mcs51}
 use Rattle.ihex_read.specs.Alone.{alone_fault}
 use Rattle.ihex_read.specs.Image.{byte_at}
-use Rattle.ihex_read.specs.ImageText.{base_from, base_of, placed_from, placed_of, clashes, has_byte, is_misplaced, lacks_reset, is_end, has, alone_faults, placing_faults, fault_of, IsImage}
-use Rattle.ihex_read.specs.Loading.{Made, is_outside, is_taken, is_resettable, has_placing, placing_fault, written}
+use Rattle.ihex_read.specs.ImageText.{base_from, base_of, placed_from, placed_of, clashes, lacks_reset, has, alone_faults, placing_faults, fault_of}
+use Rattle.ihex_read.specs.Loading.{Made, is_outside, is_taken, is_resettable, placing_fault, written}
 use Rattle.ihex_read.specs.Record.{record_of, type_of, offset_of, data_of, base_behind, placed_by}
 use Rattle.ihex_read.proofs.PlacingLemmas.{outside-row}
 use Rattle.ihex_read.proofs.WrittenLemmas.{Holds, clashes-taken, has_byte-some, row_written, length-written}
@@ -30,6 +30,9 @@ placed_from-push base (first ∷ lines) line =
     let rest = placed_from-push (base_behind base (record_of first)) lines line in
     ap (λ places. placed_by base (record_of first) ++ places) rest ∙ sym (append_assoc (placed_by base (record_of first)) (placed_from (base_behind base (record_of first)) lines)
     (placed_by (base_from (base_behind base (record_of first)) lines) (record_of line)))
+
+pub placed_of-push : (lines : List (List ℕ)) (line : List ℕ) → placed_of (lines ++ line ∷ []) ≡ placed_of lines ++ placed_by (base_of lines) (record_of line)
+placed_of-push lines line = placed_from-push 0 lines line
 
 -- no line makes an empty image
 pub made_nothing : (image : List (Option ℕ)) → length image ≡ 65536 → ((at : ℕ) → byte_at image at ≡ None) → Made [] 0 image

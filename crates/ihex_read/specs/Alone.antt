@@ -1,9 +1,9 @@
 -- The faults of a line by itself, in the two steps in which they are found.
-use Rattle.std.specs.Prelude.{◌≡◌, ℕ, ◌+◌, ◌%◌, ◌==◌, Bool, true, not, nat_lt, if◌then◌else◌, List, [], ◌∷◌, length, sum, Option, None, Some, find}
+use Rattle.std.specs.Prelude.{◌≡◌, ℕ, ◌+◌, ◌%◌, ◌==◌, true, not, nat_lt, if◌then◌else◌, List, length, sum, Option, None, Some, find}
 use Rattle.std.specs.List.{list_all}
 use Rattle.hex.specs.Hex.{is_hex_digit}
 use Rattle.ihex_read.specs.declared.fault.HexFault.{HexFault}
-use Rattle.ihex_read.specs.declared.fault.HexFault.TheVariants.{NoColon, BadDigit, BadLength, BadSum, BadType, BadTypeLength}
+use Rattle.ihex_read.specs.declared.fault.HexFault.TheVariants.{BadDigit, BadLength, BadSum, BadType, BadTypeLength}
 use Rattle.ihex_read.specs.ImageText.{alone_faults, has_alone}
 use Rattle.ihex_read.specs.Record.{is_miscounted, length_of, type_of, is_length_of_type}
 

@@ -1,7 +1,7 @@
 -- The records of Intel's Hexadecimal Object File Format Specification, Revision A, 1988: a colon and pairs of
 -- hexadecimal digits for the record length (RECLEN), the load offset, the record type (RECTYP), the data, and a
 -- checksum (CHKSUM) that makes the sum of all these bytes 0 modulo 256.
-use Rattle.std.specs.Prelude.{ℕ, ◌+◌, ◌-◌, ◌*◌, ◌%◌, ◌==◌, ◌||◌, nat_lt, not, if◌then◌else◌, Bool, true, false, List, [], ◌∷◌, length, take, drop, slice_index, unwrap_or}
+use Rattle.std.specs.Prelude.{ℕ, ◌+◌, ◌-◌, ◌*◌, ◌%◌, ◌==◌, ◌||◌, nat_lt, not, if◌then◌else◌, Bool, true, List, [], ◌∷◌, length, take, drop, slice_index, unwrap_or}
 use Rattle.std.specs.List.{enumerate_from}
 use Rattle.hex.specs.Hex.{hex_digit_value}
 

@@ -23,7 +23,8 @@ pub fn image_of(alloc: Global, text: &[u8], rules: Rules) -> Result<Option<Image
     while !rest.is_empty() {
         let (line, behind) = split_line(rest);
         match loader.accept(line) {
-            Err(_) | Ok(LineKind::Address) => return Ok(None),
+            Err(_) => return Ok(None),
+            Ok(LineKind::Address) => return Ok(None),
             Ok(LineKind::Data) => {}
             Ok(LineKind::End) => {
                 if !are_blank(behind) {
