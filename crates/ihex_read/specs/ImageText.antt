@@ -10,7 +10,7 @@ use Rattle.ihex_read.specs.declared.fault.HexFault.{HexFault}
 use Rattle.ihex_read.specs.declared.fault.HexFault.TheVariants.{NoColon, BadDigit, BadLength, BadSum, BadType, BadTypeLength, OutOfRange, Clash, Misplaced, NoEnd, Trailing, NoReset}
 use Rattle.ihex_read.specs.Image.{byte_at}
 use Rattle.ihex_read.specs.Lines.{lines_of}
-use Rattle.ihex_read.specs.Record.{record_of, length_of, offset_of, type_of, data_of, is_length_of_type, base_behind, placed_by}
+use Rattle.ihex_read.specs.Record.{record_of, is_miscounted, length_of, type_of, is_length_of_type, base_behind, placed_by}
 
 -- RAM stands from an even address to an odd one above it, behind the peripherals
 abbrev pub IsRamRange : Rules → Type 0
@@ -58,35 +58,38 @@ lacks_reset Mcs51 placed = false
 abbrev pub is_end : List ℕ → Bool
 is_end line = type_of (record_of line) == 1
 
+-- whether a line that isn't blank has a fault by itself
+abbrev pub has_alone : List ℕ → HexFault → Bool
+has_alone line NoColon = not (slice_index line 0 == 58)
+has_alone line BadDigit = not (list_all is_hex_digit (drop 1 line))
+has_alone line BadLength = is_miscounted (drop 1 line)
+has_alone line BadSum = not (sum (record_of line) % 256 == 0)
+has_alone line BadType = nat_lt 5 (type_of (record_of line))
+has_alone line BadTypeLength =
+    let bytes = record_of line in not (is_length_of_type (type_of bytes) (length_of bytes))
+has_alone line _ = false
+
 -- whether a line that isn't blank has a fault, behind the lines in front of it
 abbrev pub has : Rules → List (List ℕ) → List ℕ → HexFault → Bool
-has rules before line NoColon = not (slice_index line 0 == 58)
-has rules before line BadDigit = not (list_all is_hex_digit (drop 1 line))
-has rules before line BadLength = let bytes = record_of line in
-    (length line % 2 == 0) || nat_lt (length bytes) 5 || not (length_of bytes + 5 == length bytes)
-has rules before line BadSum = not (sum (record_of line) % 256 == 0)
-has rules before line BadType = nat_lt 5 (type_of (record_of line))
-has rules before line BadTypeLength =
-    let bytes = record_of line in not (is_length_of_type (type_of bytes) (length_of bytes))
 -- an offset + i above FFFFh makes an address above FFFFh, under any base
 has rules before line OutOfRange = list_any (λ byte. nat_lt 65535 byte.0) (placed_by (base_of before) (record_of line))
 has rules before line Clash = list_any (clashes (placed_of before)) (placed_by (base_of before) (record_of line))
 has rules before line Misplaced =
     list_any (λ byte. is_misplaced rules byte.0) (placed_by (base_of before) (record_of line))
 has rules before line NoReset = is_end line && lacks_reset rules (placed_of before)
--- these two are faults of the whole text
-has rules before line NoEnd = false
-has rules before line Trailing = false
+has rules before line fault = has_alone line fault
 
--- the faults of one line in the order in which they are told
-abbrev pub line_faults : List HexFault
-line_faults =
-    NoColon ∷ BadDigit ∷ BadLength ∷ BadSum ∷ BadType ∷ BadTypeLength ∷ OutOfRange ∷ Clash ∷ Misplaced ∷ NoReset ∷ []
+-- the faults of one line in the order in which they are told; NoEnd and Trailing are faults of the whole text
+abbrev pub alone_faults : List HexFault
+alone_faults = NoColon ∷ BadDigit ∷ BadLength ∷ BadSum ∷ BadType ∷ BadTypeLength ∷ []
+
+abbrev pub placing_faults : List HexFault
+placing_faults = OutOfRange ∷ Clash ∷ Misplaced ∷ NoReset ∷ []
 
 -- the fault of a line behind the lines in front of it; a blank line has none
 abbrev pub fault_of : Rules → List (List ℕ) → List ℕ → Option HexFault
 fault_of rules before [] = None
-fault_of rules before (b ∷ bytes) = find (has rules before (b ∷ bytes)) line_faults
+fault_of rules before (b ∷ bytes) = find (has rules before (b ∷ bytes)) (alone_faults ++ placing_faults)
 
 -- no line is at fault behind those in front of it, and none is an end record
 abbrev pub IsOpen : Rules → List (List ℕ) → Type 0

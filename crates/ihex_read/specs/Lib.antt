@@ -1,4 +1,6 @@
+pub mod Alone
 pub mod Image
 pub mod ImageText
 pub mod Lines
 pub mod Record
+pub mod Loading

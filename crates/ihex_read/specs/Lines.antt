@@ -1,11 +1,9 @@
 -- The lines of an image text. A line is the bytes up to a line feed, or up to the end of the text where any stand
 -- behind the last line feed. One carriage return at its end is none of it.
-use Rattle.std.specs.Prelude.{ℕ, ◌==◌, if◌then◌else◌, List, [], ◌∷◌, ◌++◌}
+use Rattle.std.specs.Prelude.{ℕ, ◌-◌, ◌==◌, if◌then◌else◌, List, [], ◌∷◌, ◌++◌, length, take, slice_index}
 
 abbrev pub without_return : List ℕ → List ℕ
-without_return [] = []
-without_return (b ∷ []) = if b == 13 then [] else b ∷ []
-without_return (b ∷ c ∷ bytes) = b ∷ without_return (c ∷ bytes)
+without_return line = if slice_index line (length line - 1) == 13 then take (length line - 1) line else line
 
 -- what stands behind the last line feed: no line, or one
 abbrev pub last_line : List ℕ → List (List ℕ)

@@ -1,7 +1,7 @@
 -- The records of Intel's Hexadecimal Object File Format Specification, Revision A, 1988: a colon and pairs of
 -- hexadecimal digits for the record length (RECLEN), the load offset, the record type (RECTYP), the data, and a
 -- checksum (CHKSUM) that makes the sum of all these bytes 0 modulo 256.
-use Rattle.std.specs.Prelude.{ℕ, ◌+◌, ◌-◌, ◌*◌, ◌==◌, if◌then◌else◌, Bool, true, false, List, [], ◌∷◌, length, take, drop, slice_index, unwrap_or}
+use Rattle.std.specs.Prelude.{ℕ, ◌+◌, ◌-◌, ◌*◌, ◌%◌, ◌==◌, ◌||◌, nat_lt, not, if◌then◌else◌, Bool, true, List, [], ◌∷◌, length, take, drop, slice_index, unwrap_or}
 use Rattle.std.specs.List.{enumerate_from}
 use Rattle.hex.specs.Hex.{hex_digit_value}
 
@@ -30,6 +30,12 @@ type_of bytes = slice_index bytes 3
 
 abbrev pub data_of : List ℕ → List ℕ
 data_of bytes = take (length bytes - 5) (drop 4 bytes)
+
+-- digits that are odd in number, give fewer than 5 bytes, or have another length byte than the number of bytes less 5
+abbrev pub is_miscounted : List ℕ → Bool
+is_miscounted digits =
+    let bytes = bytes_of digits in
+    (length digits % 2 == 1) || (nat_lt (length bytes) 5 || not (length_of bytes + 5 == length bytes))
 
 -- how many data bytes a record of each type has; one of type 00 has any number
 abbrev pub is_length_of_type : ℕ → ℕ → Bool

@@ -1,6 +1,6 @@
 //! A memory image: a byte or none at each of the 65,536 addresses.
 
-ghost use Rattle.std.specs.Prelude.{◌≡◌};
+ghost use Rattle.std.specs.Prelude.{◌≡◌, length};
 ghost use Rattle.ihex_read.specs.Image.{byte_at};
 
 use std::marker::Model;
@@ -22,6 +22,14 @@ impl Model for Image {
 }
 
 impl Image {
+    /// Of what stands at the 65,536 addresses.
+    pub fn new(bytes: Vec<Option<u8>>) -> Image
+        requires { length bytes.items ≡ 65536 }
+        ensures { result ≡ bytes.items }
+    {
+        Image { bytes }
+    }
+
     /// The byte at an address, where the image has one.
     pub fn byte(&self, at: u16) -> Option<u8>
         ensures { result ≡ byte_at self.now at }

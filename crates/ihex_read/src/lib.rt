@@ -4,7 +4,11 @@
 
 mod address_map;
 mod fault;
+mod lines;
+mod loading;
+mod placing;
 mod plain;
+mod record;
 mod rule_set;
 
 pub use address_map::Image;
