@@ -1,14 +1,14 @@
 //! The program: the top call over the standard input and output.
 #![tactic(auto)]
 
-use std::env;
 use std::process::ExitCode;
+use std::{env, io};
 use vsa_io::{StdinSource, StdoutSink};
 use vsa_top::{NoGate, Status, vsa};
 
 /// The words behind the program's name, or none where they can't be had.
-fn words(rt: &HostRuntime) -> Result<Vec<String>, std::io::Error> {
-    env::args(rt)?.skip(1).collect(rt.alloc())
+fn words(rt: &HostRuntime) -> io::Result<Vec<String>> {
+    Ok(env::args(rt)?.skip(1).collect(rt.alloc())?)
 }
 
 fn main(rt: HostRuntime) -> ExitCode {

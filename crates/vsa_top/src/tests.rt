@@ -20,7 +20,7 @@ fn words_of(alloc: Global, line: &str) -> Result<Vec<String>, AllocError> {
 }
 
 /// A call answers this status and this text, in pieces of one byte too.
-fn answers<R: Abort + Threads + Wait + Sync>(
+fn answers<R: Abort + Threads + Wait + AllocGlobal + Sync>(
     rt: &R,
     line: &str,
     input: &str,
@@ -28,11 +28,11 @@ fn answers<R: Abort + Threads + Wait + Sync>(
     text: &str,
 ) -> Result<(), Fail> {
     for piece in [1, 4096] {
-        let words = words_of(Global, line)?;
-        let bytes = Vec::from_slice(Global, input.as_bytes())?;
+        let words = words_of(rt.alloc(), line)?;
+        let bytes = Vec::from_slice(rt.alloc(), input.as_bytes())?;
         let mut source = CleanSource::new(bytes, piece);
-        let mut sink = CleanSink::with_room(Global, piece, 4096)?;
-        let outcome = vsa(rt, Global, words.as_slice(), &mut source, &mut sink, &NoGate);
+        let mut sink = CleanSink::with_room(rt.alloc(), piece, 4096)?;
+        let outcome = vsa(rt, rt.alloc(), words.as_slice(), &mut source, &mut sink, &NoGate);
         assert_eq!(rt; outcome.status, status, "{line}");
         assert_eq!(rt; sink.bytes(), text.as_bytes(), "{line}");
     }
