@@ -6,9 +6,11 @@ mod node;
 mod plain;
 mod sequence;
 mod shown;
+#[cfg(test)]
+mod tests;
 
 pub use few::Few;
 pub use node::{Calls, Frame, Node, Unit};
-pub use plain::{Vs16, Vs8};
+pub use plain::{Vs8, Vs16};
 pub use sequence::Sequence;
 pub use shown::{Cause, InstrBytes, Item, Set, Space};

@@ -2,8 +2,7 @@
 
 ghost use Rattle.std.specs.Prelude.{◌≡◌, ◌≤◌, ◌<◌, ◌++◌, ◌∷◌, [], length};
 
-use crate::plain::{Vs16, Vs8};
-
+use crate::plain::{Vs8, Vs16};
 use arrayvec::ArrayVec;
 use std::marker::Model;
 
@@ -83,9 +82,15 @@ impl InstrBytes {
 #[derive(Drop)]
 pub enum Item {
     /// An instruction runs.
-    Instr { pc: u16, bytes: InstrBytes },
+    Instr {
+        pc: u16,
+        bytes: InstrBytes,
+    },
     /// Control goes from one address to another.
-    Edge { from: u16, to: u16 },
+    Edge {
+        from: u16,
+        to: u16,
+    },
     /// Memory is read or written, `size` bytes at one of the addresses.
     Access {
         pc: u16,
@@ -95,7 +100,10 @@ pub enum Item {
         at: Set,
     },
     /// The stack pointer has one of the values.
-    Stack { pc: u16, at: Set },
+    Stack {
+        pc: u16,
+        at: Set,
+    },
 }
 
 impl Default for Item {

@@ -1,7 +1,5 @@
 -- What was read so far, and what is left.
-use Rattle.std.proofs.Common.{◌≡◌, ℕ, ◌≤◌, List, ◌++◌, Option, None, Some, length, take, drop, refl, ap, sym, ◌∙◌, append_assoc, rules}
-use Rattle.std.proofs.lemmas.List.{take-append-drop}
-use Rattle.vsa_io.specs.Stream.{Takes}
+use Rattle.std.proofs.Common.{ℕ, List, ◌++◌, Option, None, Some}
 
 -- bytes in front of what is left, where it is told
 abbrev pub prepended : List ℕ → Option (List ℕ) → Option (List ℕ)

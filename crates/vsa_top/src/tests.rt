@@ -2,7 +2,6 @@
 
 use crate::outcome::{NoGate, Status};
 use crate::top::vsa;
-
 use std::alloc::{AllocError, Global};
 use std::process::Abort;
 use std::sync::Wait;
@@ -32,7 +31,14 @@ fn answers<R: Abort + Threads + Wait + AllocGlobal + Sync>(
         let bytes = Vec::from_slice(rt.alloc(), input.as_bytes())?;
         let mut source = CleanSource::new(bytes, piece);
         let mut sink = CleanSink::with_room(rt.alloc(), piece, 4096)?;
-        let outcome = vsa(rt, rt.alloc(), words.as_slice(), &mut source, &mut sink, &NoGate);
+        let outcome = vsa(
+            rt,
+            rt.alloc(),
+            words.as_slice(),
+            &mut source,
+            &mut sink,
+            &NoGate,
+        );
         assert_eq!(rt; outcome.status, status, "{line}");
         assert_eq!(rt; sink.bytes(), text.as_bytes(), "{line}");
     }
@@ -43,7 +49,8 @@ const EIGHT_BYTES: &str = ":06F0000031408002FF3FD9\n:02FFFE0000F011\n:00000001FF
 
 #[test]
 fn row_eight_bytes(rt: HostRuntime) -> Result<(), Fail> {
-    let report = "CLOSED\nE F000 F004\nE F004 F004\nI F000 31408002 MOV #0280h,SP\nI F004 FF3F JMP F004h\nS F000 0000/2/8000\nS F004 0280\nT 0280 1\n";
+    let report =
+        "CLOSED\nE F000 F004\nE F004 F004\nI F000 31408002 MOV #0280h,SP\nI F004 FF3F JMP F004h\nS F000 0000/2/8000\nS F004 0280\nT 0280 1\n";
     answers(&rt, "analyse msp430", EIGHT_BYTES, Status::Done, report)
 }
 
@@ -67,10 +74,20 @@ fn rows_open(rt: HostRuntime) -> Result<(), Fail> {
 
 #[test]
 fn rows_refused(rt: HostRuntime) -> Result<(), Fail> {
-    for input in ["", ":06F00000314080", ":06F0000031408002FF3FD9\n:00000001FF\n"] {
+    for input in [
+        "",
+        ":06F00000314080",
+        ":06F0000031408002FF3FD9\n:00000001FF\n",
+    ] {
         answers(&rt, "analyse msp430", input, Status::BadImage, "BAD\n")?;
     }
-    for line in ["", "analyse", "analyse z80", "msp430 analyse", "analyse msp430 --cert"] {
+    for line in [
+        "",
+        "analyse",
+        "analyse z80",
+        "msp430 analyse",
+        "analyse msp430 --cert",
+    ] {
         answers(&rt, line, EIGHT_BYTES, Status::Usage, "USAGE\n")?;
     }
     Ok(())

@@ -10,7 +10,6 @@ use crate::msp430::Msp430;
 use crate::outcome::{Gate, Outcome, Status};
 use crate::report::report_of;
 use crate::words::is_reading;
-
 use ihex_read::Rules;
 use std::alloc::Global;
 use std::sync::Wait;

@@ -5,7 +5,6 @@ ghost use Rattle.vsa_top.specs.Msp430Table.{IsInstr, instr_of, instr_text};
 
 use crate::msp430::instr::{Instr, is_move_word, target_of_jump, text_at, word_from};
 use crate::msp430::state::{ChipState, State};
-
 use arrayvec::ArrayString;
 use call_context::{Calls, Cause, Frame, InstrBytes, Item, Node, Sequence, Set, Unit};
 use chip_law::{Chip, ChipText, Work};
@@ -81,10 +80,7 @@ impl Msp430 {
             }
             Instr::Jump { offset } => (target_of_jump(pc, offset), *at),
         };
-        work.items.push(Item::Instr {
-            pc,
-            bytes,
-        })?;
+        work.items.push(Item::Instr { pc, bytes })?;
         work.items.push(Item::Edge { from: pc, to })?;
         work.posts.push((Node::At(to, *calls, frame), after))?;
         Ok(work)

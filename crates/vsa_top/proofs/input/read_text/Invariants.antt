@@ -1,4 +1,4 @@
-use Rattle.std.proofs.Common.{◌≡◌, ◌-◌, ◌≤◌, vec_len}
+use Rattle.std.proofs.Common.{◌≡◌, ◌-◌, vec_len}
 use Rattle.vsa_top.proofs.Reading.{prepended}
 use Rattle.vsa_top.proofs.input.read_text.Given as goal
 
