@@ -15,3 +15,6 @@ pub use address_map::Image;
 pub use fault::{HexError, HexFault};
 pub use plain::image_of;
 pub use rule_set::{Rules, Tail};
+
+#[cfg(test)]
+mod tests;
