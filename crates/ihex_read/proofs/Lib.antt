@@ -6,3 +6,4 @@ pub mod MadeLemmas
 pub mod LinesLemmas
 pub mod TextLemmas
 pub mod PlainLemmas
+pub mod LawLemmas

@@ -23,7 +23,7 @@ prefix_at (x ∷ b₁) (y ∷ b₂) line r₁ r₂ e h =
     let rest = prefix_at b₁ b₂ line r₁ r₂ tail (omega arith) in
     (cc (rest.0, head), rest.1)
 
-same_cut : (b₁ b₂ : List (List ℕ)) (l₁ l₂ : List ℕ) (r₁ r₂ : List (List ℕ)) → b₁ ++ l₁ ∷ r₁ ≡ b₂ ++ l₂ ∷ r₂ → length b₁ ≡ length b₂
+pub same_cut : (b₁ b₂ : List (List ℕ)) (l₁ l₂ : List ℕ) (r₁ r₂ : List (List ℕ)) → b₁ ++ l₁ ∷ r₁ ≡ b₂ ++ l₂ ∷ r₂ → length b₁ ≡ length b₂
     → (b₁ ≡ b₂) × (l₁ ≡ l₂) × (r₁ ≡ r₂)
 same_cut [] [] l₁ l₂ r₁ r₂ e h = (refl, cc e, cc e)
 same_cut [] (y ∷ b₂) l₁ l₂ r₁ r₂ e h = absurd (omega arith)
@@ -35,7 +35,7 @@ same_cut (x ∷ b₁) (y ∷ b₂) l₁ l₂ r₁ r₂ e h =
     (cc (rest.0, head), rest.1, rest.2)
 
 -- a line among open ones is accepted, and is no end record
-among_open : (rules : Rules) (b₁ b₂ : List (List ℕ)) (line : List ℕ) (r₁ r₂ : List (List ℕ)) → b₁ ++ line ∷ r₁ ≡ b₂ ++ r₂ → length b₁ < length b₂
+pub among_open : (rules : Rules) (b₁ b₂ : List (List ℕ)) (line : List ℕ) (r₁ r₂ : List (List ℕ)) → b₁ ++ line ∷ r₁ ≡ b₂ ++ r₂ → length b₁ < length b₂
     → IsOpen rules b₂ → (fault_of rules b₁ line ≡ None) × (is_end line ≡ false)
 among_open rules b₁ b₂ line r₁ r₂ e h all_open =
     let place = prefix_at b₁ b₂ line r₁ r₂ e h in

@@ -4,6 +4,7 @@
 
 mod address_map;
 mod fault;
+mod law;
 mod lines;
 mod loading;
 mod placing;
@@ -13,5 +14,9 @@ mod rule_set;
 
 pub use address_map::Image;
 pub use fault::{HexError, HexFault};
+pub use law::image_or_fault;
 pub use plain::image_of;
 pub use rule_set::{Rules, Tail};
+
+#[cfg(test)]
+mod tests;

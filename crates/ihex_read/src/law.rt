@@ -1,0 +1,20 @@
+//! What every list of lines has.
+
+ghost use Rattle.std.specs.Prelude.{◌≡◌, ◌⊎◌, ℕ, List, Option};
+ghost use Rattle.ihex_read.specs.declared.fault.HexFault.{HexFault};
+ghost use Rattle.ihex_read.specs.declared.rule_set.Rules.{Rules};
+ghost use Rattle.ihex_read.specs.declared.rule_set.Tail.{Tail};
+ghost use Rattle.ihex_read.specs.ImageText.{Denotes, FirstFault};
+
+/// Every list of lines has an image or a first fault, never both, and no second one of either.
+pub fn image_or_fault()
+    ensures one { (rules : Rules) (tail : Tail) (lines : List (List ℕ)) →
+        ((image : List (Option ℕ)) × Denotes rules tail lines image)
+        ⊎ ((line : ℕ) × (fault : HexFault) × FirstFault rules tail lines line fault) }
+    ensures not_both { (rules : Rules) (tail : Tail) (lines : List (List ℕ)) (image : List (Option ℕ)) (line : ℕ) (fault : HexFault) →
+        Denotes rules tail lines image → ¬ FirstFault rules tail lines line fault }
+    ensures one_image { (rules : Rules) (tail : Tail) (lines : List (List ℕ)) (image other : List (Option ℕ)) →
+        Denotes rules tail lines image → Denotes rules tail lines other → image ≡ other }
+    ensures one_fault { (rules : Rules) (tail : Tail) (lines : List (List ℕ)) (line other_line : ℕ) (fault other : HexFault) →
+        FirstFault rules tail lines line fault → FirstFault rules tail lines other_line other → (line ≡ other_line) × (fault ≡ other) }
+{}
