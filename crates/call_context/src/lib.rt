@@ -2,6 +2,7 @@
 #![tactic(auto)]
 
 mod few;
+mod laws;
 mod node;
 mod plain;
 mod sequence;
@@ -10,6 +11,7 @@ mod shown;
 mod tests;
 
 pub use few::Few;
+pub use laws::tests_tell_what_is_one;
 pub use node::{Calls, Frame, Node, Unit};
 pub use plain::{Vs8, Vs16};
 pub use sequence::Sequence;

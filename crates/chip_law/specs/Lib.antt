@@ -1,2 +1,3 @@
 pub mod Digits
 pub mod Line
+pub mod Meaning

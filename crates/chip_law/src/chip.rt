@@ -1,6 +1,8 @@
 //! The traits of a chip.
 
-ghost use Rattle.std.specs.Prelude.{◌≡◌, ℕ, List, Option, is_some};
+ghost use Rattle.chip_law.specs.Meaning.{Meaning};
+ghost use Rattle.std.specs.Option.{option_copied};
+ghost use Rattle.std.specs.Prelude.{IfOk, ◌≡◌, ℕ, List};
 
 use arrayvec::ArrayString;
 use call_context::{Cause, Frame, Item, Node, Sequence, Unit};
@@ -22,14 +24,29 @@ pub struct Work<A> {
 
 /// A chip as an analysis sees it: over abstract states, each of which stands for many states of the chip.
 pub trait Chip {
-    /// An abstract state.
-    type Abs: Drop;
+    /// The program and the options: plain data, which says all that the chip means.
+    type Base: Drop;
 
     /// One state of the chip itself.
     type State;
 
+    /// An abstract state.
+    type Abs: Drop;
+
+    /// The chip's program and options.
+    ghost base: { Self → Self.Base };
+
+    /// What a program with options means.
+    ghost meaning: { Self.Base → Meaning Self.State Self.Abs };
+
+    /// The program and the options.
+    fn base(&self, alloc: Global) -> Result<Self::Base, Memory>
+        ensures { IfOk result (λ b. b ≡ base self.now) };
+
     /// The node and the abstract state that each run begins in.
-    fn start(&self, alloc: Global) -> Result<(Node, Self::Abs), Memory>;
+    fn start(&self, alloc: Global) -> Result<(Node, Self::Abs), Memory>
+        ensures node { IfOk result (λ start. start.0 ≡ (meaning (base self.now)).first_node) }
+        ensures state { IfOk result (λ start. start.1 ≡ (meaning (base self.now)).first_state) };
 
     /// The work of a unit over its input states. A unit that returns from an interrupt has the state of its
     /// exit as a second input.
@@ -39,13 +56,21 @@ pub trait Chip {
         unit: &Unit,
         at: &Self::Abs,
         exit: Option<&Self::Abs>,
-    ) -> Result<Work<Self::Abs>, Memory>;
+    ) -> Result<Work<Self::Abs>, Memory>
+        ensures { IfOk result (λ work. work ≡ (meaning (base self.now)).work unit.now at.now (option_copied exit.entry)) };
 
     /// An equal state.
-    fn copy(&self, alloc: Global, a: &Self::Abs) -> Result<Self::Abs, Memory>;
+    fn copy(&self, alloc: Global, a: &Self::Abs) -> Result<Self::Abs, Memory>
+        ensures { IfOk result (λ copy. copy ≡ a.now) };
 
     /// A state that stands for all that either stands for.
-    fn join(&self, alloc: Global, held: &Self::Abs, new: &Self::Abs) -> Result<Self::Abs, Memory>;
+    fn join(
+        &self,
+        alloc: Global,
+        held: &Self::Abs,
+        new: &Self::Abs,
+    ) -> Result<Self::Abs, Memory>
+        ensures { IfOk result (λ joined. joined ≡ (meaning (base self.now)).join held.now new.now) };
 
     /// Such a state that grows in few steps: to marks of the program, or where `coarse` to whole classes.
     fn widen(
@@ -54,13 +79,16 @@ pub trait Chip {
         held: &Self::Abs,
         new: &Self::Abs,
         coarse: bool,
-    ) -> Result<Self::Abs, Memory>;
+    ) -> Result<Self::Abs, Memory>
+        ensures { IfOk result (λ widened. widened ≡ (meaning (base self.now)).widen coarse held.now new.now) };
 
     /// The state that stands for all that may stand at the node.
-    fn top(&self, alloc: Global, node: &Node) -> Result<Self::Abs, Memory>;
+    fn top(&self, alloc: Global, node: &Node) -> Result<Self::Abs, Memory>
+        ensures { IfOk result (λ top. top ≡ (meaning (base self.now)).top node.now) };
 
     /// Whether all that `new` stands for stands under `held`, found part by part.
-    fn within(&self, new: &Self::Abs, held: &Self::Abs) -> bool;
+    fn within(&self, new: &Self::Abs, held: &Self::Abs) -> bool
+        ensures { result ≡ (meaning (base self.now)).within new.now held.now };
 }
 
 /// A chip whose instructions have a text.

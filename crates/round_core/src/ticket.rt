@@ -1,40 +1,51 @@
 //! Units that are out.
 
-use crate::place::Place;
+ghost use Rattle.std.specs.Prelude.{◌≡◌};
+ghost use Rattle.std.specs.Option.{option_copied};
+
+use crate::versions::Versions;
+
 use call_context::Unit;
 use chip_law::{Chip, Work};
-
-/// The versions of a unit's inputs: the rises of its node, and those of its exit for a return.
-#[derive(Clone, Copy, Debug, PartialEq, Eq)]
-pub struct Versions {
-    pub at: u32,
-    pub exit: u32,
-}
+use std::marker::Model;
 
 /// A unit that is out, with copies of its input states.
 #[derive(Drop)]
 pub struct Ticket<C: Chip> {
-    pub(crate) seat: u32,
-    pub(crate) unit: Unit,
-    pub(crate) place: Place,
-    pub(crate) at: C::Abs,
-    pub(crate) exit: Option<C::Abs>,
-    pub(crate) versions: Versions,
+    seat: u32,
+    unit: Unit,
+    at: C::Abs,
+    exit: Option<C::Abs>,
+    versions: Versions,
+}
+
+impl<C: Chip> Model for Ticket<C> {
+    ghost use Rattle.round_core.specs.Machine.{Out};
+
+    ghost Value = { Out C.Abs };
+
+    ghost view = { λ t. record { seat = t.seat; unit = t.unit; at = t.at; exit = t.exit; versions = t.versions } };
 }
 
 impl<C: Chip> Ticket<C> {
     /// The unit that is out.
-    pub fn unit(&self) -> &Unit {
+    pub fn unit(&self) -> &Unit
+        ensures { result.now ≡ self.now.unit }
+    {
         &self.unit
     }
 
     /// The state of the unit's node when it was claimed.
-    pub fn at(&self) -> &C::Abs {
+    pub fn at(&self) -> &C::Abs
+        ensures { result.now ≡ self.now.at }
+    {
         &self.at
     }
 
     /// The state of the unit's exit when it was claimed, for a return.
-    pub fn exit(&self) -> Option<&C::Abs> {
+    pub fn exit(&self) -> Option<&C::Abs>
+        ensures { option_copied result ≡ self.now.exit }
+    {
         self.exit.as_ref()
     }
 }

@@ -1,0 +1,29 @@
+-- What contracts see of a book and of a ticket.
+use Rattle.std.specs.Prelude.{◌≡◌, ℕ, map, Option, None, Some, List, [], ◌∷◌, ◌++◌}
+use Rattle.call_context.specs.declared.node.Unit.{Unit as WorkUnit}
+use Rattle.call_context.specs.declared.node.Node.{Node}
+use Rattle.chip_law.specs.Meaning.{Meaning}
+use Rattle.chip_law.specs.declared.chip.Work.{Work}
+use Rattle.round_core.specs.declared.event.Event.{Event}
+use Rattle.round_core.specs.Machine.{BookState, Held, Done, Out, out_at, replay}
+
+-- A book is its chip's program with options, and its journal: all else follows.
+pub record Kept (B : Type 0) : Type 0 where
+  pub base : B
+  pub journal : List Event
+
+-- the nodes with their states
+abbrev pub nodes_of : {A : Type 0} → BookState A → List (Node × A)
+nodes_of b = map (λ h. (h.node, h.state)) b.nodes
+
+-- the last work of each unit that was done
+abbrev pub works_of : {A : Type 0} → BookState A → List (WorkUnit × Work A)
+works_of b = map (λ d. (d.unit, d.work)) b.done
+
+-- a book with one more event
+abbrev pub with_event : {B : Type 0} → Kept B → Event → Kept B
+with_event book event = record { base = book.base; journal = book.journal ++ event ∷ [] }
+
+-- the ticket is a unit that is out of the book
+abbrev pub IsOutOf : {A : Type 0} → BookState A → Out A → Type 0
+IsOutOf b ticket = out_at b.out ticket.unit ≡ Some ticket
