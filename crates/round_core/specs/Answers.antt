@@ -7,7 +7,7 @@ use Rattle.round_core.specs.declared.ticket.Claimed.TheVariants.{Ticket, Idle, F
 use Rattle.round_core.specs.Machine.{Out, IsFirst, IsFinished, NoneClaimable, replay}
 use Rattle.round_core.specs.Kept.{Kept, with_event, IsOutOf}
 
-abbrev pub AnswersClaim : {S A B : Type 0} → Meaning S A → Kept B → Kept B → ℕ → Claimed A → Type 0
+abbrev pub AnswersClaim : {C B S A : Type 0} → Meaning S A → Kept B → Kept B → ℕ → Claimed C B S A → Type 0
 AnswersClaim m old new seat (Ticket t) =
     IsFirst (replay m old.journal) t.unit × (t.seat ≡ seat) × (new ≡ with_event old (Claim seat t.unit)) × IsOutOf (replay m new.journal) t
 AnswersClaim m old new seat Idle = (new ≡ old) × NoneClaimable (replay m old.journal) × ((replay m old.journal).out ≢ [])

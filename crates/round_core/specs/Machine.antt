@@ -168,7 +168,11 @@ inputs_of nodes (Back node exit) =
 abbrev pub with_out : {A : Type 0} → BookState A → ℕ → WorkUnit → Option (A × Option A) → List (Out A)
 with_out b seat unit None = b.out
 with_out b seat unit (Some inputs) = b.out ++ record {
-  seat = seat; unit = unit; at = inputs.0; exit = inputs.1; versions = versions_of b.nodes unit;
+  seat = seat;
+  unit = unit;
+  at = inputs.0;
+  exit = inputs.1;
+  versions = versions_of b.nodes unit;
 } ∷ []
 
 -- the book behind the work of a unit that was out

@@ -4,7 +4,6 @@ ghost use Rattle.std.specs.Prelude.{◌≡◌};
 ghost use Rattle.std.specs.Option.{option_copied};
 
 use crate::versions::Versions;
-
 use call_context::Unit;
 use chip_law::{Chip, Work};
 use std::marker::Model;
@@ -28,6 +27,32 @@ impl<C: Chip> Model for Ticket<C> {
 }
 
 impl<C: Chip> Ticket<C> {
+    /// A ticket of these parts.
+    pub(crate) fn new(
+        seat: u32,
+        unit: Unit,
+        at: C::Abs,
+        exit: Option<C::Abs>,
+        versions: Versions,
+    ) -> Self
+        ensures { result ≡ record { seat = seat; unit = unit; at = at; exit = exit; versions = versions } }
+    {
+        Ticket {
+            seat,
+            unit,
+            at,
+            exit,
+            versions,
+        }
+    }
+
+    /// The seat, the unit, and the versions of its inputs.
+    pub(crate) fn into_parts(self) -> (u32, Unit, Versions)
+        ensures { (result.0 ≡ self.seat) × (result.1 ≡ self.unit) × (result.2 ≡ self.versions) }
+    {
+        (self.seat, self.unit, self.versions)
+    }
+
     /// The unit that is out.
     pub fn unit(&self) -> &Unit
         ensures { result.now ≡ self.now.unit }
