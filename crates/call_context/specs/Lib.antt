@@ -1,3 +1,5 @@
 pub mod Few
+pub mod Nodes
+pub mod Plain
 pub mod Same
 pub mod SameLaws

@@ -41,6 +41,18 @@ impl<const N: usize> Few<N> {
         }
     }
 
+    /// The list of these numbers.
+    pub fn from_slice(list: &[u16]) -> Self
+        requires { length list.now ≤ N }
+        ensures { result ≡ list.now }
+    {
+        let mut few = Few::new();
+        for value in list {
+            few.push(*value);
+        }
+        few
+    }
+
     /// How many numbers there are, at most `N`.
     pub fn len(&self) -> usize
         ensures length { result ≡ length self.now }
@@ -58,7 +70,8 @@ impl<const N: usize> Few<N> {
 
     /// The numbers.
     pub fn as_slice(&self) -> &[u16]
-        ensures { result.now ≡ self.now }
+        ensures numbers { result.now ≡ self.now }
+        ensures room { length result.now ≤ N }
     {
         &self.places[..self.len]
     }

@@ -1,3 +1,7 @@
 pub mod Digits
+pub mod Laws
 pub mod Line
 pub mod Meaning
+pub mod Runs
+pub mod Single
+pub mod Table

@@ -1,12 +1,8 @@
 //! The book of an analysis: nodes with their states, the works of units, and the journal of what was done.
 #![tactic(auto)]
 
-mod agenda;
 mod book;
-mod claim;
 mod event;
-mod place;
-mod post;
 mod ticket;
 mod versions;
 

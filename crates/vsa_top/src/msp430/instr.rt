@@ -2,7 +2,7 @@
 
 ghost use Rattle.chip_law.specs.Digits.{hex};
 ghost use Rattle.std.specs.Prelude.{[], ◌≡◌, ◌<◌, ◌+◌, ◌*◌, ◌%◌, ◌++◌, ◌∷◌, ◌≤◌, IfSome, length, ◌==◌};
-ghost use Rattle.vsa_top.specs.Msp430Table.{IsInstr, instr_of, jump_target, text_of, instr_text, register_text, is_move, is_jump, is_destination, word_of};
+ghost use Rattle.vsa_top.specs.Msp430Table.{IsInstr, instr_of, jump_target, next_of, text_of, instr_text, register_text, is_load, is_copy, is_general, is_jump, is_destination, word_of};
 
 use arrayvec::ArrayString;
 use chip_law::hex_word;
@@ -11,7 +11,9 @@ use chip_law::hex_word;
 #[derive(Clone, Copy, Debug, PartialEq, Eq)]
 pub enum Instr {
     /// `MOV #value,register`.
-    Move { value: u16, register: u8 },
+    Load { value: u16, register: u8 },
+    /// `MOV source,register`.
+    Copy { source: u8, register: u8 },
     /// `JMP` by an offset of ten bits, in words.
     Jump { offset: u16 },
 }
@@ -23,12 +25,35 @@ pub fn word_from(low: u8, high: u8) -> u16
     low as u16 + 256 * high as u16
 }
 
-/// Whether a word begins a move of an immediate to SP or to one of R4 to R15.
-pub fn is_move_word(word: u16) -> bool
-    ensures { result ≡ is_move word }
+/// Whether a register is one of R4 to R15.
+fn is_general_register(register: u16) -> bool
+    ensures { result ≡ is_general register }
 {
-    let register = word % 16;
-    word / 16 == 0x403 && (register == 1 || (register >= 4 && register < 16))
+    register >= 4 && register < 16
+}
+
+/// Whether a register is SP or one of R4 to R15.
+fn is_destination_register(register: u16) -> bool
+    ensures { result ≡ is_destination register }
+{
+    register == 1 || is_general_register(register)
+}
+
+/// Whether a word begins a move of an immediate to SP or to one of R4 to R15.
+pub fn is_load_word(word: u16) -> bool
+    ensures { result ≡ is_load word }
+{
+    word / 16 == 0x403 && is_destination_register(word % 16)
+}
+
+/// Whether a word is a move from one of R4 to R15 to SP or to one of R4 to R15.
+pub fn is_copy_word(word: u16) -> bool
+    ensures { result ≡ is_copy word }
+{
+    word / 4096 == 4
+        && is_general_register(word / 256 % 16)
+        && word / 16 % 16 == 0
+        && is_destination_register(word % 16)
 }
 
 /// Whether a word is a jump.
@@ -51,14 +76,19 @@ impl Instr {
                     Some(Instr::Jump {
                         offset: word % 1024,
                     })
+                } else if is_copy_word(word) {
+                    Some(Instr::Copy {
+                        source: (word / 256 % 16) as u8,
+                        register: (word % 16) as u8,
+                    })
                 } else {
                     None
                 }
             }
             [low, high, value_low, value_high] => {
                 let word = word_from(*low, *high);
-                if is_move_word(word) {
-                    Some(Instr::Move {
+                if is_load_word(word) {
+                    Some(Instr::Load {
                         value: word_from(*value_low, *value_high),
                         register: (word % 16) as u8,
                     })
@@ -81,6 +111,18 @@ pub fn target_of_jump(pc: u16, offset: u16) -> u16
         (forward % 65536) as u16
     } else {
         ((forward + 63488) % 65536) as u16
+    }
+}
+
+/// The address behind the bytes of an instruction, or where it jumps.
+pub fn next_address(pc: u16, instr: Instr) -> u16
+    requires { IsInstr instr }
+    ensures { result ≡ next_of pc instr }
+{
+    match instr {
+        Instr::Load { .. } => pc.wrapping_add(4),
+        Instr::Copy { .. } => pc.wrapping_add(2),
+        Instr::Jump { offset } => target_of_jump(pc, offset),
     }
 }
 
@@ -131,7 +173,13 @@ pub fn text_at(pc: u16, instr: Instr) -> ArrayString<40>
 {
     let mut text = ArrayString::new();
     match instr {
-        Instr::Move { value, register } => {
+        Instr::Copy { source, register } => {
+            text.push_str("MOV ");
+            push_register(&mut text, source);
+            text.push_str(",");
+            push_register(&mut text, register);
+        }
+        Instr::Load { value, register } => {
             text.push_str("MOV #");
             push_word(&mut text, value);
             text.push_str("h,");

@@ -1,0 +1,19 @@
+-- Runs of a chip from reset, and what is met on them.
+use Rattle.std.specs.Prelude.{◌≡◌, ℕ, zero, suc, List, Contains}
+use Rattle.chip_law.specs.Meaning.{Meaning}
+use Rattle.chip_law.specs.Single.{Single, Outcome}
+use Rattle.chip_law.specs.Single.Outcome.{Next, Wild}
+
+module _ {S A : Type 0} (m : Meaning S A) where
+  -- some run of n steps from a reset state ends in the state
+  abbrev pub RunsTo : ℕ → S → Type 0
+  RunsTo zero s = m.IsReset s
+  RunsTo (suc n) t = (s : S) × (items : List Single) × RunsTo n s × m.Step s (Next items t)
+
+  -- some run meets the item in the step behind its first n steps
+  abbrev pub Meets : ℕ → Single → Type 0
+  Meets n item = (s : S) × (items : List Single) × (t : S) × RunsTo n s × m.Step s (Next items t) × Contains items item
+
+  -- some run leaves the model in the step behind its first n steps
+  abbrev pub GoesWild : ℕ → Type 0
+  GoesWild n = (s : S) × RunsTo n s × m.Step s Wild

@@ -1,0 +1,37 @@
+-- What one step of a chip does, in single numbers, and when an item of an analysis shows it.
+use Rattle.std.specs.Prelude.{◌≡◌, ℕ, Bool, List, Contains}
+use Rattle.call_context.specs.declared.shown.Space.{Space}
+use Rattle.call_context.specs.declared.shown.Item.{Item}
+use Rattle.call_context.specs.declared.shown.Item.TheVariants as sets
+use Rattle.call_context.specs.Plain.{HasValue}
+
+pub data Single : Type 0 where
+  -- the instruction of these bytes runs
+  Instr : (pc : ℕ) (bytes : List ℕ) → Single
+  -- control goes from one address to the other
+  Edge : (origin target : ℕ) → Single
+  -- a byte or a word is read or written
+  Access : (pc : ℕ) (space : Space) (write : Bool) (size address : ℕ) → Single
+  -- the stack pointer before the step
+  Stack : (pc sp : ℕ) → Single
+
+-- what a step leads to: the next state with what the step did, or out of what the model says
+pub data Outcome (S : Type 0) : Type 0 where
+  Next : (items : List Single) (state : S) → Outcome S
+  Wild : Outcome S
+
+-- an item over sets has the numbers
+abbrev pub Shows : Item → Single → Type 0
+Shows (sets.Instr pc bytes) (Instr at these) = (at ≡ pc) × (these ≡ bytes)
+Shows (sets.Edge origin target) (Edge o t) = (o ≡ origin) × (t ≡ target)
+Shows (sets.Access pc space write size set) (Access at kind writes bytes address) =
+    (at ≡ pc) × (kind ≡ space) × (writes ≡ write) × (bytes ≡ size) × HasValue set address
+Shows (sets.Stack pc set) (Stack at sp) = (at ≡ pc) × HasValue set sp
+Shows (sets.Instr pc bytes) other = ⊥
+Shows (sets.Edge origin target) other = ⊥
+Shows (sets.Access pc space write size set) other = ⊥
+Shows (sets.Stack pc set) other = ⊥
+
+-- one of the items shows it
+abbrev pub AreShowing : List Item → Single → Type 0
+AreShowing items single = (item : Item) × Contains items item × Shows item single
