@@ -57,7 +57,6 @@ module _ {S A : Type 0} (m : Meaning S A) where
     pub first_frame : frame_of m.first_node ≡ Base
     pub first_form : m.HasForm m.first_node m.first_state
     pub covers_reset : (s : S) → m.IsReset s → m.Covers m.first_node m.first_state s None
-
     -- THE WORK OF A LOCATION
     pub wild_is_open : (node : Node) (a : A) (s : S) (first : Option S) → IsLocation node → m.HasForm node a
         → m.Covers node a s first → m.Step s Wild → (m.work (One node) a None).opens ≢ []
@@ -66,7 +65,6 @@ module _ {S A : Type 0} (m : Meaning S A) where
         → Lands node (m.work (One node) a None) s first items t
     pub posts_form : (node : Node) (a : A) (to : Node) (b : A) → IsLocation node → m.HasForm node a
         → Contains (m.work (One node) a None).posts (to, b) → m.HasForm to b
-
     -- THE WORK OF A RETURN
     pub return_resumes : (node exit : Node) (a x : A) (f : S) (first : Option S) (t : S) → IsLocation node
         → ¬ IsLocation exit → m.HasForm node a → m.HasForm exit x → m.Covers node a f first
@@ -75,7 +73,6 @@ module _ {S A : Type 0} (m : Meaning S A) where
     pub returns_form : (node exit : Node) (a x : A) (to : Node) (b : A) → IsLocation node → ¬ IsLocation exit
         → m.HasForm node a → m.HasForm exit x → Contains (m.work (Back node exit) a (Some x)).posts (to, b)
         → m.HasForm to b
-
     -- THE ORDER OF STATES
     pub covers_more : (node : Node) (a b : A) (s : S) (first : Option S) → m.HasForm node a → m.HasForm node b
         → m.within a b ≡ true → m.Covers node a s first → m.Covers node b s first

@@ -16,7 +16,6 @@ pub record Meaning (S A : Type 0) : Type 1 where
   pub IsReset : S → Type 0
   -- what a state may lead to, by one instruction or by one interrupt's entry
   pub Step : S → Outcome S → Type 0
-
   -- THE ANALYSIS
   -- the node and the state that each run begins in
   pub first_node : Node
@@ -30,7 +29,6 @@ pub record Meaning (S A : Type 0) : Type 1 where
   pub widen : Bool → A → A → A
   -- the state of all that may stand at a node
   pub top : Node → A
-
   -- WHAT TIES THEM
   -- a node and a state as the analysis makes them
   pub HasForm : Node → A → Type 0

@@ -64,12 +64,7 @@ pub trait Chip {
         ensures { IfOk result (λ copy. copy ≡ a.now) };
 
     /// A state that stands for all that either stands for.
-    fn join(
-        &self,
-        alloc: Global,
-        held: &Self::Abs,
-        new: &Self::Abs,
-    ) -> Result<Self::Abs, Memory>
+    fn join(&self, alloc: Global, held: &Self::Abs, new: &Self::Abs) -> Result<Self::Abs, Memory>
         ensures { IfOk result (λ joined. joined ≡ (meaning (base self.now)).join held.now new.now) };
 
     /// Such a state that grows in few steps: to marks of the program, or where `coarse` to whole classes.

@@ -1,9 +1,11 @@
 //! A memory image: a byte or none at each of the 65,536 addresses.
 
-ghost use Rattle.std.specs.Prelude.{◌≡◌, length};
+ghost use Rattle.std.specs.Prelude.{◌≡◌, IfOk, length};
 ghost use Rattle.ihex_read.specs.Image.{byte_at};
 
+use std::alloc::Global;
 use std::marker::Model;
+use vsa_io::Memory;
 
 /// The bytes of a program at their addresses. Contracts see what stands at each of the 65,536 addresses, in order.
 #[derive(Debug, Drop)]
@@ -28,6 +30,15 @@ impl Image {
         ensures { result ≡ bytes.items }
     {
         Image { bytes }
+    }
+
+    /// An equal image.
+    pub fn copy(&self, alloc: Global) -> Result<Image, Memory>
+        ensures { IfOk result (λ copy. copy ≡ self.now) }
+    {
+        Ok(Image {
+            bytes: Vec::from_slice(alloc, self.bytes.as_slice())?,
+        })
     }
 
     /// The byte at an address, where the image has one.

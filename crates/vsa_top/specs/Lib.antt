@@ -1,2 +1,5 @@
 pub mod Answer
+pub mod Msp430Chip
+pub mod Msp430Fetch
+pub mod Msp430State
 pub mod Msp430Table

@@ -1,9 +1,11 @@
 //! The chip.
 
-ghost use Rattle.std.specs.Prelude.{◌≡◌, IfOk};
+ghost use Rattle.std.specs.Prelude.{◌≡◌, ◌≤◌, [], IfOk, length};
+ghost use Rattle.vsa_top.specs.Msp430Chip.{msp430, nothing, work_at};
+ghost use Rattle.vsa_top.specs.Msp430Fetch.{word_at, reset_address, built, fetched};
 ghost use Rattle.vsa_top.specs.Msp430Table.{IsInstr, instr_of, instr_text};
 
-use crate::msp430::instr::{Instr, is_move_word, target_of_jump, text_at, word_from};
+use crate::msp430::instr::{Instr, is_load_word, next_address, text_at, word_from};
 use crate::msp430::state::{ChipState, State};
 use arrayvec::ArrayString;
 use call_context::{Calls, Cause, Frame, InstrBytes, Item, Node, Sequence, Set, Unit};
@@ -20,17 +22,25 @@ pub struct Msp430 {
 
 impl Msp430 {
     /// The chip with this program.
-    pub fn new(image: Image) -> Msp430 {
+    pub fn new(image: Image) -> Msp430
+        ensures { result.image ≡ image }
+    {
         Msp430 { image }
     }
 
     /// The low and the high byte of the word at an address, where the image has both.
-    fn word(&self, at: u16) -> Option<(u8, u8)> {
-        Some((self.image.byte(at)?, self.image.byte(at.wrapping_add(1))?))
+    fn word(&self, at: u16) -> Option<(u8, u8)>
+        ensures { result ≡ word_at self.now.image at }
+    {
+        let low = self.image.byte(at)?;
+        let high = self.image.byte(at.wrapping_add(1))?;
+        Some((low, high))
     }
 
     /// Where the program starts: the word at FFFEh without bit 0.
-    fn reset(&self) -> u16 {
+    fn reset(&self) -> u16
+        ensures { result ≡ reset_address self.now.image }
+    {
         match self.word(0xFFFE) {
             Some((low, high)) => word_from(low - low % 2, high),
             None => 0,
@@ -38,19 +48,21 @@ impl Msp430 {
     }
 
     /// The instruction at an address with its bytes, or why there is none.
+    #[tactic(auto, unfolding(crate::specs::Msp430Fetch::fetched))]
     fn fetch(&self, pc: u16) -> Result<(Instr, InstrBytes), Cause>
-        ensures { IfOk result (λ found. IsInstr found.0) }
+        ensures exact { result ≡ fetched self.now.image pc }
+        ensures in_range { IfOk result (λ found. IsInstr found.0) }
     {
-        let (low, high) = self.word(pc).ok_or(Cause::Fetch)?;
-        if is_move_word(word_from(low, high)) {
-            let (value_low, value_high) = self.word(pc.wrapping_add(2)).ok_or(Cause::Fetch)?;
-            let bytes = [low, high, value_low, value_high];
-            let instr = Instr::from_bytes(&bytes).ok_or(Cause::Unbuilt)?;
-            return Ok((instr, InstrBytes::from_slice(&bytes)));
+        let Some((low, high)) = self.word(pc) else {
+            return Err(Cause::Fetch);
+        };
+        if !is_load_word(word_from(low, high)) {
+            return built_of(&[low, high]);
         }
-        let bytes = [low, high];
-        let instr = Instr::from_bytes(&bytes).ok_or(Cause::Unbuilt)?;
-        Ok((instr, InstrBytes::from_slice(&bytes)))
+        match self.word(pc.wrapping_add(2)) {
+            Some((value_low, value_high)) => built_of(&[low, high, value_low, value_high]),
+            None => Err(Cause::Fetch),
+        }
     }
 
     /// The work of a location.
@@ -61,39 +73,51 @@ impl Msp430 {
         calls: &Calls,
         frame: Frame,
         at: &State,
-    ) -> Result<Work<State>, Memory> {
+    ) -> Result<Work<State>, Memory>
+        ensures { IfOk result (λ work. work ≡ work_at pc calls.now frame at.now (fetched self.now.image pc)) }
+    {
         let mut work = empty_work(alloc);
         work.items.push(Item::Stack {
             pc,
             at: Set::W(at.sp),
         })?;
-        let (instr, bytes) = match self.fetch(pc) {
-            Ok(found) => found,
-            Err(cause) => {
-                work.opens.push((pc, cause))?;
-                return Ok(work);
+        match self.fetch(pc) {
+            Ok((instr, bytes)) => {
+                let next = next_address(pc, instr);
+                work.items.push(Item::Instr { pc, bytes })?;
+                work.items.push(Item::Edge { from: pc, to: next })?;
+                work.posts
+                    .push((Node::At(next, *calls, frame), at.behind(instr)))?;
             }
-        };
-        let (to, after) = match instr {
-            Instr::Move { value, register } => {
-                (pc.wrapping_add(4), at.with_register(register, value))
-            }
-            Instr::Jump { offset } => (target_of_jump(pc, offset), *at),
-        };
-        work.items.push(Item::Instr { pc, bytes })?;
-        work.items.push(Item::Edge { from: pc, to })?;
-        work.posts.push((Node::At(to, *calls, frame), after))?;
+            Err(cause) => work.opens.push((pc, cause))?,
+        }
         Ok(work)
     }
 }
 
+/// The instruction of these bytes with them, where it is built.
+fn built_of(bytes: &[u8]) -> Result<(Instr, InstrBytes), Cause>
+    requires { length bytes.now ≤ 6 }
+    ensures exact { result ≡ built bytes.now (instr_of bytes.now) }
+    ensures in_range { IfOk result (λ found. IsInstr found.0) }
+{
+    match Instr::from_bytes(bytes) {
+        Some(instr) => Ok((instr, InstrBytes::from_slice(bytes))),
+        None => Err(Cause::Unbuilt),
+    }
+}
+
 /// The node that each run begins in.
-fn start_node(reset: u16) -> Node {
+fn start_node(reset: u16) -> Node
+    ensures { result ≡ Node.At reset [] Frame.Base }
+{
     Node::At(reset, Calls::new(), Frame::Base)
 }
 
 /// A work that gives nothing.
-fn empty_work(alloc: Global) -> Work<State> {
+fn empty_work(alloc: Global) -> Work<State>
+    ensures { result ≡ nothing }
+{
     Work {
         items: Sequence::new(alloc),
         posts: Sequence::new(alloc),
@@ -102,10 +126,21 @@ fn empty_work(alloc: Global) -> Work<State> {
     }
 }
 
+#[tactic(auto, unfolding(crate::specs::Msp430Chip::msp430))]
 impl Chip for Msp430 {
-    type Abs = State;
+    type Base = Image;
 
     type State = ChipState;
+
+    type Abs = State;
+
+    ghost base = { λ chip. chip.image };
+
+    ghost meaning = { msp430 };
+
+    fn base(&self, alloc: Global) -> Result<Image, Memory> {
+        self.image.copy(alloc)
+    }
 
     fn start(&self, _alloc: Global) -> Result<(Node, State), Memory> {
         Ok((start_node(self.reset()), State::unknown()))

@@ -1,5 +1,10 @@
 //! States of the MSP430.
 
+ghost use Rattle.std.specs.Prelude.{◌≡◌, ◌<◌, ◌≤◌, true};
+ghost use Rattle.vsa_top.specs.Msp430State.{unknown as nothing_known, state_within, state_joined, state_widened, set_of, with_set, state_behind, all_within, all_joined, all_widened};
+ghost use Rattle.vsa_top.specs.Msp430Table.{IsInstr, is_general, is_destination};
+
+use crate::msp430::instr::Instr;
 use call_context::{Sequence, Vs16};
 
 /// The chip's state: its registers, with PC, SP, SR and the constant generator R3 as the first four, the bytes of
@@ -18,9 +23,45 @@ pub struct State {
     pub registers: [Vs16; 12],
 }
 
+/// Whether each set is within the other list's.
+fn are_within(new: &[Vs16; 12], held: &[Vs16; 12]) -> bool
+    ensures { result ≡ all_within new.now held.now }
+{
+    for i in 0..12 {
+        if !new[i].within(&held[i]) {
+            return false;
+        }
+    }
+    true
+}
+
+/// Each set joined with the other list's.
+fn join_all(held: &[Vs16; 12], new: &[Vs16; 12]) -> [Vs16; 12]
+    ensures { result ≡ all_joined held.now new.now }
+{
+    let mut sets = [Vs16::Any; 12];
+    for i in 0..12 {
+        sets[i] = held[i].join(&new[i], Vs16::Any);
+    }
+    sets
+}
+
+/// Each set widened by the other list's.
+fn widen_all(held: &[Vs16; 12], new: &[Vs16; 12]) -> [Vs16; 12]
+    ensures { result ≡ all_widened held.now new.now }
+{
+    let mut sets = [Vs16::Any; 12];
+    for i in 0..12 {
+        sets[i] = held[i].widen(&new[i], Vs16::Any);
+    }
+    sets
+}
+
 impl State {
-    /// Nothing is known. SP is even.
-    pub fn unknown() -> State {
+    /// Nothing is known, but that SP is even.
+    pub fn unknown() -> State
+        ensures { result ≡ nothing_known }
+    {
         State {
             sp: Vs16::Even,
             registers: [Vs16::Any; 12],
@@ -28,47 +69,63 @@ impl State {
     }
 
     /// Whether each set is within the other state's.
-    pub fn is_within(&self, held: &State) -> bool {
-        self.sp.within(&held.sp)
-            && self
-                .registers
-                .iter()
-                .zip(&held.registers)
-                .all(|(new, held)| new.within(held))
+    pub fn is_within(&self, held: &State) -> bool
+        ensures { result ≡ state_within self.now held.now }
+    {
+        self.sp.within(&held.sp) && are_within(&self.registers, &held.registers)
     }
 
     /// Each set joined with the other state's.
-    pub fn joined(&self, new: &State) -> State {
-        let mut state = *self;
-        state.sp = self.sp.join(&new.sp, Vs16::Even);
-        for i in 0..12 {
-            state.registers[i] = self.registers[i].join(&new.registers[i], Vs16::Any);
+    pub fn joined(&self, new: &State) -> State
+        ensures { result ≡ state_joined self.now new.now }
+    {
+        State {
+            sp: self.sp.join(&new.sp, Vs16::Even),
+            registers: join_all(&self.registers, &new.registers),
         }
-        state
     }
 
-    /// The state whose sets are unknown where they aren't within this one's.
-    pub fn widened(&self, new: &State) -> State {
-        let mut state = *self;
-        if !new.sp.within(&self.sp) {
-            state.sp = Vs16::Even;
+    /// The state whose sets are whole where the other's aren't within this one's.
+    pub fn widened(&self, new: &State) -> State
+        ensures { result ≡ state_widened self.now new.now }
+    {
+        State {
+            sp: self.sp.widen(&new.sp, Vs16::Even),
+            registers: widen_all(&self.registers, &new.registers),
         }
-        for i in 0..12 {
-            if !new.registers[i].within(&self.registers[i]) {
-                state.registers[i] = Vs16::Any;
-            }
-        }
-        state
     }
 
-    /// The state with one value in SP or in one of R4 to R15. SP loses bit 0.
-    pub fn with_register(&self, register: u8, value: u16) -> State {
+    /// The set of one of R4 to R15.
+    fn set(&self, register: u8) -> Vs16
+        requires { is_general register ≡ true }
+        ensures { result ≡ set_of self.now register }
+    {
+        self.registers[register as usize - 4]
+    }
+
+    /// The state with another set for SP, which loses bit 0, or for one of R4 to R15.
+    fn with(&self, register: u8, values: Vs16) -> State
+        requires { is_destination register ≡ true }
+        ensures { result ≡ with_set self.now register values }
+    {
         let mut state = *self;
         if register == 1 {
-            state.sp = Vs16::one(value - value % 2);
-        } else if register >= 4 && register < 16 {
-            state.registers[register as usize - 4] = Vs16::one(value);
+            state.sp = values.even_parts();
+        } else {
+            state.registers[register as usize - 4] = values;
         }
         state
+    }
+
+    /// The state behind an instruction.
+    pub fn behind(&self, instr: Instr) -> State
+        requires { IsInstr instr }
+        ensures { result ≡ state_behind instr self.now }
+    {
+        match instr {
+            Instr::Load { value, register } => self.with(register, Vs16::one(value)),
+            Instr::Copy { source, register } => self.with(register, self.set(source)),
+            Instr::Jump { .. } => *self,
+        }
     }
 }
