@@ -1,11 +1,13 @@
 -- What contracts see of a book and of a ticket.
-use Rattle.std.specs.Prelude.{◌≡◌, ℕ, map, Option, None, Some, List, [], ◌∷◌, ◌++◌}
+use Rattle.std.specs.Prelude.{◌≡◌, ℕ, Bool, true, filter, map, Option, None, Some, List, [], ◌∷◌, ◌++◌}
 use Rattle.call_context.specs.declared.node.Unit.{Unit as WorkUnit}
+use Rattle.call_context.specs.declared.node.Unit.TheVariants.{One, Back}
 use Rattle.call_context.specs.declared.node.Node.{Node}
+use Rattle.call_context.specs.Nodes.{frame_of}
 use Rattle.chip_law.specs.Meaning.{Meaning}
 use Rattle.chip_law.specs.declared.chip.Work.{Work}
 use Rattle.round_core.specs.declared.event.Event.{Event}
-use Rattle.round_core.specs.Machine.{BookState, Held, Done, Out, out_at, replay}
+use Rattle.round_core.specs.Machine.{BookState, Held, Done, Out, out_at, waits_for, replay}
 
 -- A book is its chip's program with options, and its journal: all else follows.
 pub record Kept (B : Type 0) : Type 0 where
@@ -27,3 +29,12 @@ with_event book event = record { base = book.base; journal = book.journal ++ eve
 -- the ticket is a unit that is out of the book
 abbrev pub IsOutOf : {A : Type 0} → BookState A → Out A → Type 0
 IsOutOf b ticket = out_at b.out ticket.unit ≡ Some ticket
+
+-- a return whose location no longer waits for the exit's frame is no unit of the book any more
+abbrev pub is_live : {A : Type 0} → List (Done A) → WorkUnit → Bool
+is_live done (One node) = true
+is_live done (Back node exit) = waits_for done node (frame_of exit)
+
+-- the last works of the book's units
+abbrev pub live_works : {A : Type 0} → BookState A → List (Work A)
+live_works b = map (λ p. p.1) (filter (λ p. is_live b.done p.0) (works_of b))

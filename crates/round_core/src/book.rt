@@ -2,7 +2,7 @@
 
 ghost use Rattle.std.specs.Prelude.{◌≡◌, ◌↔◌, [], IsTrue, IfOk, IfErr, OnOk, OnErr};
 ghost use Rattle.round_core.specs.Answers.{AnswersClaim};
-ghost use Rattle.round_core.specs.Kept.{nodes_of, works_of, with_event, IsOutOf};
+ghost use Rattle.round_core.specs.Kept.{nodes_of, works_of, with_event, IsOutOf, is_live};
 ghost use Rattle.round_core.specs.Machine.{replay, IsFinished};
 
 use crate::event::Event;
@@ -97,4 +97,10 @@ impl<C: Chip> Book<C> {
         Err((Memory, done))
     }
 
+    /// Whether a unit that was done is still a unit of the book.
+    pub fn is_live(&self, unit: &Unit) -> bool
+        ensures { result ≡ is_live (replay (C.meaning self.now.base) self.now.journal).done unit.now }
+    {
+        match self.never {}
+    }
 }

@@ -3,3 +3,4 @@ pub mod Msp430Chip
 pub mod Msp430Fetch
 pub mod Msp430State
 pub mod Msp430Table
+pub mod Report

@@ -1,0 +1,88 @@
+-- The report of an analysis, made from the works of its units.
+use Rattle.std.specs.Prelude.{ℕ, ◌&&◌, ◌||◌, min, if◌then◌else◌, Bool, true, false, Option, None, Some, List, [], ◌∷◌, ◌++◌, map, count_by, codes, nat_eq}
+use Rattle.std.specs.List.{flat_map, starts_with, ends_with}
+use Rattle.std.specs.Fmt.{decimal}
+use Rattle.std.specs.Ordering.{nat_cmp}
+use Rattle.std.specs.Cmp.Lexicographic.{slice_cmp}
+use Rattle.std.specs.BTreeSet.{insert_key}
+use Rattle.std.specs.declared.alloc.Global.{Global}
+use Rattle.std.specs.declared.vec.Vec.{Vec}
+use Rattle.call_context.specs.declared.plain.Vs16.{Vs16}
+use Rattle.call_context.specs.declared.plain.Vs16.TheVariants.{Listed, Even, Any}
+use Rattle.call_context.specs.declared.shown.Set.{Set}
+use Rattle.call_context.specs.declared.shown.Set.TheVariants.{B, W}
+use Rattle.call_context.specs.declared.shown.Cause.{Cause}
+use Rattle.call_context.specs.declared.shown.Item.{Item}
+use Rattle.call_context.specs.declared.shown.Item.TheVariants.{Instr, Edge, Access, Stack}
+use Rattle.chip_law.specs.declared.chip.Work.{Work}
+use Rattle.chip_law.specs.Digits.{hex}
+use Rattle.chip_law.specs.Line.{item_line_of, open_line_of}
+
+-- the bytes of lines
+abbrev pub bytes_of : List (Vec ℕ Global) → List (List ℕ)
+bytes_of lines = map (λ line. line.items) lines
+
+-- lines put into a set that ascends by their bytes and has each line once
+abbrev pub with_lines : List (List ℕ) → List (List ℕ) → List (List ℕ)
+with_lines set [] = set
+with_lines set (line ∷ lines) = with_lines (insert_key (slice_cmp nat_cmp) set line) lines
+
+-- the lines of a work's items and opens, where instructions have these texts
+abbrev pub lines_of : {A : Type 0} → (ℕ → List ℕ → List ℕ) → Work A → List (List ℕ)
+lines_of text work = map (item_line_of text) work.items ++ map (λ o. open_line_of o.0 o.1) work.opens
+
+abbrev pub is_empty : List (ℕ × Cause) → Bool
+is_empty [] = true
+is_empty (o ∷ os) = false
+
+-- no work leaves a site open
+abbrev pub are_closed : {A : Type 0} → List (Work A) → Bool
+are_closed [] = true
+are_closed (work ∷ works) = is_empty work.opens && are_closed works
+
+abbrev pub lesser : Option ℕ → Option ℕ → Option ℕ
+lesser None b = b
+lesser (Some a) None = Some a
+lesser (Some a) (Some b) = Some (min a b)
+
+-- the first of some values that ascend
+abbrev pub first_value : List ℕ → Option ℕ
+first_value [] = None
+first_value (value ∷ values) = Some value
+
+-- the least stack pointer that an item shows by a list, which ascends
+abbrev pub least_stack : Item → Option ℕ
+least_stack (Stack pc (W (Listed values))) = first_value values
+least_stack (Stack pc (W Even)) = None
+least_stack (Stack pc (W Any)) = None
+least_stack (Stack pc (B values)) = None
+least_stack (Instr pc bytes) = None
+least_stack (Edge origin target) = None
+least_stack (Access pc space write size at) = None
+
+abbrev pub least_of : Option ℕ → List Item → Option ℕ
+least_of least [] = least
+least_of least (item ∷ items) = least_of (lesser least (least_stack item)) items
+
+-- a line that tells a whole set of stack pointers
+abbrev pub is_whole_stack : List ℕ → Bool
+is_whole_stack line =
+    starts_with nat_eq line (codes "S ") && (ends_with nat_eq line (codes " *") || ends_with nat_eq line (codes " 0000/2/8000"))
+
+abbrev pub value_text : Option ℕ → List ℕ
+value_text None = codes "none"
+value_text (Some value) = hex 4 value
+
+-- the least stack pointer of the lines that tell a list, and the number of those that tell a whole set
+abbrev pub summary_of : Option ℕ → List (List ℕ) → List ℕ
+summary_of least lines = codes "T " ++ value_text least ++ codes " " ++ decimal (count_by is_whole_stack lines) ++ codes "\n"
+
+abbrev pub head_line : Bool → List ℕ
+head_line closed = if closed then codes "CLOSED\n" else codes "OPEN\n"
+
+-- a head, the lines with a line feed each, and the summary
+abbrev pub report_text : Bool → List (List ℕ) → Option ℕ → List ℕ
+report_text closed lines least = head_line closed ++ flat_map (λ line. line ++ 10 ∷ []) lines ++ summary_of least lines
+
+abbrev pub report_of : {A : Type 0} → (ℕ → List ℕ → List ℕ) → List (Work A) → List ℕ
+report_of text works = report_text (are_closed works) (with_lines [] (flat_map (lines_of text) works)) (least_of None (flat_map (λ work. work.items) works))
