@@ -1,3 +1,5 @@
 pub mod Kept
 pub mod Machine
 pub mod Answers
+pub mod HeldLaws
+pub mod ReplayLaws
