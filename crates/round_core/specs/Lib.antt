@@ -2,4 +2,5 @@ pub mod Kept
 pub mod Machine
 pub mod Answers
 pub mod HeldLaws
-pub mod ReplayLaws
+pub mod Form
+pub mod RiseLaws
