@@ -1,3 +1,11 @@
 pub mod Kept
 pub mod Machine
 pub mod Answers
+pub mod HeldLaws
+pub mod Form
+pub mod RiseLaws
+pub mod EntryLaws
+pub mod ReplayLaws
+pub mod FormLaws
+pub mod Turns
+pub mod TurnLaws
