@@ -15,13 +15,12 @@ use std::marker::Model;
 use vsa_io::Memory;
 
 #[derive(Drop)]
-pub enum Never {}
-
-#[derive(Drop)]
 pub struct Book<C: Chip> {
     base: C::Base,
+    nodes: Vec<(Node, C::Abs)>,
+    works: Vec<(Unit, Work<C::Abs>)>,
+    live: bool,
     journal: Vec<Event>,
-    never: Never,
 }
 
 impl<C: Chip> Model for Book<C> {
@@ -30,6 +29,10 @@ impl<C: Chip> Model for Book<C> {
     ghost Value = { Kept C.Base };
 
     ghost view = { λ b. record { base = b.base; journal = b.journal.items } };
+
+    ghost use Rattle.round_core.specs.Kept.{IsStub};
+
+    ghost invariant = { λ b. IsStub (C.meaning b.base) b.journal.items b.nodes.items b.works.items b.live };
 }
 
 impl<C: Chip> Book<C> {
@@ -42,13 +45,13 @@ impl<C: Chip> Book<C> {
     pub fn nodes(&self) -> &[(Node, C::Abs)]
         ensures { result.now ≡ nodes_of (replay (C.meaning self.now.base) self.now.journal) }
     {
-        match self.never {}
+        self.nodes.as_slice()
     }
 
     pub fn works(&self) -> &[(Unit, Work<C::Abs>)]
         ensures { result.now ≡ works_of (replay (C.meaning self.now.base) self.now.journal) }
     {
-        match self.never {}
+        self.works.as_slice()
     }
 
     pub fn journal(&self) -> &[Event]
@@ -62,7 +65,7 @@ impl<C: Chip> Book<C> {
         ensures works { result.1.items ≡ works_of (replay (C.meaning self.base) self.journal) }
         ensures journal { result.2.items ≡ self.journal }
     {
-        match self.never {}
+        (self.nodes, self.works, self.journal)
     }
 
     pub fn claim(&mut self, chip: &C, seat: u32) -> Result<Claimed<C>, Memory>
@@ -71,19 +74,6 @@ impl<C: Chip> Book<C> {
         ensures refused { OnErr result (self.new ≡ self.old) }
     {
         Err(Memory)
-    }
-
-    pub fn give_back(&mut self, ticket: Ticket<C>)
-        requires { IsOutOf (replay (C.meaning self.old.base) self.old.journal) ticket }
-        ensures { self.new ≡ with_event self.old (Event.GiveBack ticket.seat ticket.unit) }
-    {
-        match self.never {}
-    }
-
-    pub fn finished(&self) -> bool
-        ensures { IsTrue result ↔ IsFinished (replay (C.meaning self.now.base) self.now.journal) }
-    {
-        match self.never {}
     }
 
     pub fn post(&mut self, chip: &C, done: Done<C>) -> Result<(), (Memory, Done<C>)>
@@ -101,6 +91,7 @@ impl<C: Chip> Book<C> {
     pub fn is_live(&self, unit: &Unit) -> bool
         ensures { result ≡ is_live (replay (C.meaning self.now.base) self.now.journal).done unit.now }
     {
-        match self.never {}
+        let _unit = unit;
+        self.live
     }
 }

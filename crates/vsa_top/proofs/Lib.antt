@@ -1,3 +1,4 @@
 pub mod Images
 pub mod Reading
 pub mod ReportLemmas
+pub mod TurnLemmas

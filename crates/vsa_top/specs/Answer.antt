@@ -1,11 +1,20 @@
 -- What the program answers to its words and its input.
-use Rattle.std.specs.Prelude.{◌≡◌, ◌⊎◌, ℕ, ◌≤◌, Option, List, [], ◌∷◌, length, map, codes, IfSome, string_bytes}
+use Rattle.std.specs.Prelude.{◌≡◌, ◌⊎◌, true, false, None, Some, ℕ, ◌≤◌, Option, List, [], ◌∷◌, length, map, codes, IfSome, string_bytes}
 use Rattle.std.specs.declared.string.String.{String}
 use Rattle.std.specs.declared.alloc.Global.{Global}
 use Rattle.ihex_read.specs.declared.rule_set.Rules.{Rules}
 use Rattle.ihex_read.specs.declared.rule_set.Rules.TheVariants.{Msp430}
 use Rattle.ihex_read.specs.ImageText.{IsPlainImage}
 use Rattle.vsa_io.specs.Stream.{appended, AppendsPrefix}
+use Rattle.chip_law.specs.declared.chip.Work.{Work}
+use Rattle.round_core.specs.declared.event.Event.{Event}
+use Rattle.round_core.specs.Kept.{live_works}
+use Rattle.round_core.specs.Machine.{replay, IsLegalJournal, IsFinished}
+use Rattle.vsa_top.specs.declared.msp430.state.State.{State}
+use Rattle.vsa_top.specs.Msp430Chip.{msp430}
+use Rattle.vsa_top.specs.Msp430Table.{instr_of, instr_text}
+use Rattle.vsa_top.specs.Report.{report_of, are_closed}
+use Rattle.vsa_top.specs.Turns.{AreTurns}
 use Rattle.vsa_top.specs.declared.outcome.Status.{Status}
 use Rattle.vsa_top.specs.declared.outcome.Status.TheVariants as status
 
@@ -21,12 +30,15 @@ rules = Msp430 512 2559
 abbrev pub text_limit : ℕ
 text_limit = 4194304
 
--- the input is an image text within the limit
-abbrev pub HasImage : List ℕ → Type 0
-HasImage input = (length input ≤ text_limit) × (image : List (Option ℕ)) × IsPlainImage rules input image
+-- an input, where it is told, is an image text within the limit that denotes the image
+abbrev pub IsImageOf : Option (List ℕ) → List (Option ℕ) → Type 0
+IsImageOf None image = Unit {0}
+IsImageOf (Some text) image = (length text ≤ text_limit) × IsPlainImage rules text image
 
-abbrev pub LacksImage : List ℕ → Type 0
-LacksImage input = HasImage input → ⊥
+-- an input, where it is told, denotes no image within the limit
+abbrev pub LacksImage : Option (List ℕ) → Type 0
+LacksImage None = Unit {0}
+LacksImage (Some text) = (image : List (Option ℕ)) → IsImageOf (Some text) image → ⊥
 
 abbrev pub usage_line : List ℕ
 usage_line = codes "USAGE\n"
@@ -34,40 +46,75 @@ usage_line = codes "USAGE\n"
 abbrev pub bad_line : List ℕ
 bad_line = codes "BAD\n"
 
--- What words that aren't a reading get, and what is then held behind what was. A call that was cut short wrote a
--- front of its answer, perhaps nothing.
-abbrev pub AnswersUsage : Status → (before after : Option (List ℕ)) → Type 0
-AnswersUsage status.Usage before after = after ≡ appended before usage_line
-AnswersUsage status.WriteFault before after = AppendsPrefix before usage_line after
-AnswersUsage status.Memory before after = AppendsPrefix before usage_line after
-AnswersUsage status.Done before after = ⊥
-AnswersUsage status.Open before after = ⊥
-AnswersUsage status.BadImage before after = ⊥
-AnswersUsage status.BadCert before after = ⊥
-AnswersUsage status.ReadFault before after = ⊥
-AnswersUsage status.TooLong before after = ⊥
-AnswersUsage status.Wild before after = ⊥
-AnswersUsage status.NeedChoice before after = ⊥
+-- the works of the units of the book that a journal leads to
+abbrev pub works_behind : List (Option ℕ) → List Event → List (Work State)
+works_behind image journal = live_works (replay (msp430 image) journal)
 
--- what words that are a reading get for an input, where it is told
-abbrev pub AnswersInput : Status → Option (List ℕ) → (before after : Option (List ℕ)) → Type 0
-AnswersInput status.Done input before after = IfSome input HasImage
-AnswersInput status.Open input before after = IfSome input HasImage
-AnswersInput status.BadImage input before after = IfSome input LacksImage × (after ≡ appended before bad_line)
-AnswersInput status.ReadFault input before after = after ≡ before
-AnswersInput status.WriteFault input before after = IfSome input (λ text. LacksImage text → AppendsPrefix before bad_line after)
-AnswersInput status.Memory input before after = IfSome input (λ text. LacksImage text → AppendsPrefix before bad_line after)
-AnswersInput status.Usage input before after = ⊥
--- none of these comes yet
-AnswersInput status.BadCert input before after = ⊥
-AnswersInput status.TooLong input before after = ⊥
-AnswersInput status.Wild input before after = ⊥
-AnswersInput status.NeedChoice input before after = ⊥
+-- the report of the book that a journal leads to
+abbrev pub report_behind : List (Option ℕ) → List Event → List ℕ
+report_behind image journal = report_of (λ pc bytes. instr_text pc (instr_of bytes)) (works_behind image journal)
+
+-- a journal of one worker, each event of which is legal, to a finished book
+pub record IsAnalysis (image : List (Option ℕ)) (journal : List Event) : Type 0 where
+  pub legal : IsLegalJournal (msp430 image) journal
+  pub finished : IsFinished (replay (msp430 image) journal)
+  pub turns : AreTurns journal
+
+-- What words that aren't a reading get: a status, what is then held behind what was, and a journal. A call that was
+-- cut short wrote a front of its answer, perhaps nothing.
+abbrev pub AnswersUsage : Status → (before after : Option (List ℕ)) → List Event → Type 0
+AnswersUsage status.Usage before after journal = (after ≡ appended before usage_line) × (journal ≡ [])
+AnswersUsage status.WriteFault before after journal = AppendsPrefix before usage_line after × (journal ≡ [])
+AnswersUsage status.Done before after journal = ⊥
+AnswersUsage status.Open before after journal = ⊥
+AnswersUsage status.BadImage before after journal = ⊥
+AnswersUsage status.BadCert before after journal = ⊥
+AnswersUsage status.ReadFault before after journal = ⊥
+AnswersUsage status.Memory before after journal = ⊥
+AnswersUsage status.TooLong before after journal = ⊥
+AnswersUsage status.Wild before after journal = ⊥
+AnswersUsage status.NeedChoice before after journal = ⊥
+
+-- what an image gets: Open exactly where the book has an open
+abbrev pub AnswersImage : Status → List (Option ℕ) → (before after : Option (List ℕ)) → List Event → Type 0
+AnswersImage status.Done image before after journal = IsAnalysis image journal
+    × (are_closed (works_behind image journal) ≡ true) × (after ≡ appended before (report_behind image journal))
+AnswersImage status.Open image before after journal = IsAnalysis image journal
+    × (are_closed (works_behind image journal) ≡ false) × (after ≡ appended before (report_behind image journal))
+AnswersImage status.WriteFault image before after journal =
+    IsAnalysis image journal × AppendsPrefix before (report_behind image journal) after
+AnswersImage status.Usage image before after journal = ⊥
+AnswersImage status.BadImage image before after journal = ⊥
+AnswersImage status.BadCert image before after journal = ⊥
+AnswersImage status.ReadFault image before after journal = ⊥
+AnswersImage status.Memory image before after journal = ⊥
+AnswersImage status.TooLong image before after journal = ⊥
+AnswersImage status.Wild image before after journal = ⊥
+AnswersImage status.NeedChoice image before after journal = ⊥
+
+-- what an input gets that denotes no image
+abbrev pub AnswersBad : Status → (before after : Option (List ℕ)) → List Event → Type 0
+AnswersBad status.BadImage before after journal = (after ≡ appended before bad_line) × (journal ≡ [])
+AnswersBad status.WriteFault before after journal = AppendsPrefix before bad_line after × (journal ≡ [])
+AnswersBad status.Done before after journal = ⊥
+AnswersBad status.Open before after journal = ⊥
+AnswersBad status.Usage before after journal = ⊥
+AnswersBad status.BadCert before after journal = ⊥
+AnswersBad status.ReadFault before after journal = ⊥
+AnswersBad status.Memory before after journal = ⊥
+AnswersBad status.TooLong before after journal = ⊥
+AnswersBad status.Wild before after journal = ⊥
+AnswersBad status.NeedChoice before after journal = ⊥
+
+-- The answer to words that are a reading: that of an image which the input denotes, or of none, or a fault of the
+-- source or want of memory, with nothing written.
+pub data AnswersInput (answered : Status) (input before after : Option (List ℕ)) (journal : List Event) : Type 0 where
+  of_image : (image : List (Option ℕ)) → IsImageOf input image → AnswersImage answered image before after journal
+      → AnswersInput answered input before after journal
+  of_none : LacksImage input → AnswersBad answered before after journal → AnswersInput answered input before after journal
+  unread : (answered ≡ status.ReadFault) ⊎ (answered ≡ status.Memory) → after ≡ before → journal ≡ []
+      → AnswersInput answered input before after journal
 
 -- a status that tells a fault, or want of memory, in place of the answer
 abbrev pub IsCutShort : Status → Type 0
 IsCutShort answered = (answered ≡ status.ReadFault) ⊎ (answered ≡ status.WriteFault) ⊎ (answered ≡ status.Memory)
-
--- a status that an image gets
-abbrev pub IsOfImage : Status → Type 0
-IsOfImage answered = (answered ≡ status.Done) ⊎ (answered ≡ status.Open) ⊎ (answered ≡ status.WriteFault)

@@ -4,3 +4,4 @@ pub mod Msp430Fetch
 pub mod Msp430State
 pub mod Msp430Table
 pub mod Report
+pub mod Turns

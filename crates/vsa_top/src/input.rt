@@ -2,7 +2,7 @@
 
 ghost use Rattle.std.specs.Prelude.{◌≡◌, ◌<◌, ◌≤◌, length, IfOk, IfErr, OnErr, OnOk, IfSome, MatchOption};
 ghost use Rattle.vsa_io.specs.Stream.{HasRisen};
-ghost use Rattle.vsa_top.specs.Answer.{text_limit, HasImage, LacksImage, rules as the_rules};
+ghost use Rattle.vsa_top.specs.Answer.{text_limit, IsImageOf, LacksImage, rules as the_rules};
 
 use ihex_read::{Image, Rules, image_of};
 use std::alloc::Global;
@@ -49,7 +49,7 @@ pub fn image_in<S: Source>(
     rules: Rules,
 ) -> Result<Option<Image>, ReadError>
     requires { rules ≡ the_rules }
-    ensures found { IfOk result (λ found. MatchOption found (IfSome (S.left source.old) LacksImage) (λ _. IfSome (S.left source.old) HasImage)) }
+    ensures found { IfOk result (λ found. MatchOption found (LacksImage (S.left source.old)) (IsImageOf (S.left source.old))) }
     ensures cause { IfErr result (λ e. e ≡ ReadError.Failed → HasRisen (S.faults source.old) (S.faults source.new)) }
     ensures quiet { OnOk result (S.faults source.new ≡ S.faults source.old) }
 {

@@ -1,8 +1,8 @@
 //! The top call.
 
-ghost use Rattle.std.specs.Prelude.{◌≡◌, ◌≢◌, [], IfOk, OnOk, ◌⊎◌, ◌≤◌, OnErr};
+ghost use Rattle.std.specs.Prelude.{◌≡◌, ◌≢◌, if◌then◌else◌, [], IfOk, OnOk, ◌⊎◌, ◌≤◌, OnErr};
 ghost use Rattle.vsa_io.specs.Stream.{HasRisen, AppendsPrefix, appended};
-ghost use Rattle.vsa_top.specs.Answer.{rules as the_rules, IsReading, AnswersUsage, AnswersInput, IsCutShort, IsOfImage};
+ghost use Rattle.vsa_top.specs.Answer.{rules as the_rules, IsReading, AnswersUsage, AnswersImage, AnswersInput, IsCutShort};
 
 use crate::fixpoint::fixpoint_alone;
 use crate::input::{ReadError, image_in};
@@ -55,25 +55,29 @@ fn without_journal(alloc: Global, status: Status) -> Outcome
 
 /// Analyses a program, and writes the report.
 fn analyse_image<K: Sink>(alloc: Global, chip: &Msp430, sink: &mut K) -> Result<Outcome, Memory>
-    ensures answered { IfOk result (λ outcome. IsOfImage outcome.status) }
+    ensures answer { IfOk result (λ outcome. AnswersImage outcome.status chip.now.image (K.held sink.old) (K.held sink.new) outcome.journal.items) }
     ensures cause { IfOk result (λ outcome. outcome.status ≡ Status.WriteFault → HasRisen (K.faults sink.old) (K.faults sink.new)) }
     ensures quiet { IfOk result (λ outcome. outcome.status ≢ Status.WriteFault → K.faults sink.new ≡ K.faults sink.old) }
+    ensures unwritten { OnErr result (K.held sink.new ≡ K.held sink.old) }
 {
     let book = fixpoint_alone(alloc, chip)?;
     let report = report_of(alloc, chip, &book)?;
-    let status = if report.is_closed {
-        Status::Done
-    } else {
-        Status::Open
-    };
+    let status = status_of(report.is_closed);
     let status = answer(sink, report.text.as_slice(), status);
     let (_, _, journal) = book.into_parts();
     Ok(Outcome { status, journal })
 }
 
+/// The status of a report.
+fn status_of(is_closed: bool) -> Status
+    ensures { result ≡ (if is_closed then Status.Done else Status.Open) }
+{
+    if is_closed { Status::Done } else { Status::Open }
+}
+
 /// Reads an image text, analyses it, and writes the report.
 fn analyse<S: Source, K: Sink>(alloc: Global, source: &mut S, sink: &mut K) -> Outcome
-    ensures answer { AnswersInput result.status (S.left source.old) (K.held sink.old) (K.held sink.new) }
+    ensures answer { AnswersInput result.status (S.left source.old) (K.held sink.old) (K.held sink.new) result.journal.items }
     ensures read_fault { result.status ≡ Status.ReadFault → HasRisen (S.faults source.old) (S.faults source.new) }
     ensures write_fault { result.status ≡ Status.WriteFault → HasRisen (K.faults sink.old) (K.faults sink.new) }
     ensures quiet_source { ¬ IsCutShort result.status → S.faults source.new ≡ S.faults source.old }
@@ -100,9 +104,9 @@ pub fn vsa<R: Threads + Wait + Sync, S: Source, K: Sink, G: Gate>(
     _gate: &G,
 ) -> Outcome
     // Words that aren't a reading are refused, and no others.
-    ensures usage { ¬ IsReading words.now → AnswersUsage result.status (K.held sink.old) (K.held sink.new) }
-    // An input that is no image text within the limit is refused, and no other.
-    ensures answer { IsReading words.now → AnswersInput result.status (S.left source.old) (K.held sink.old) (K.held sink.new) }
+    ensures usage { ¬ IsReading words.now → AnswersUsage result.status (K.held sink.old) (K.held sink.new) result.journal.items }
+    // The bytes are exactly the report of the book that the journal leads to, or the refusal of an input without image.
+    ensures answer { IsReading words.now → AnswersInput result.status (S.left source.old) (K.held sink.old) (K.held sink.new) result.journal.items }
 
     // A fault is told only where its count rose, and a status that tells none is given only where none did.
     ensures read_fault { result.status ≡ Status.ReadFault → HasRisen (S.faults source.old) (S.faults source.new) }

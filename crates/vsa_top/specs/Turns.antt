@@ -1,0 +1,14 @@
+-- The journal of one worker alone.
+use Rattle.std.specs.Prelude.{◌≡◌, List, [], ◌∷◌}
+use Rattle.round_core.specs.declared.event.Event.{Event}
+use Rattle.round_core.specs.declared.event.Event.TheVariants.{Claim, Post, GiveBack}
+
+-- each claim of seat 0 is followed at once by the post of its unit, and there is no other event
+abbrev pub AreTurns : List Event → Type 0
+AreTurns [] = Unit {0}
+AreTurns (Claim seat unit ∷ Post other posted ∷ events) = (seat ≡ 0) × (other ≡ 0) × (posted ≡ unit) × AreTurns events
+AreTurns (Claim seat unit ∷ []) = ⊥
+AreTurns (Claim seat unit ∷ Claim other taken ∷ events) = ⊥
+AreTurns (Claim seat unit ∷ GiveBack other taken ∷ events) = ⊥
+AreTurns (Post seat unit ∷ events) = ⊥
+AreTurns (GiveBack seat unit ∷ events) = ⊥
