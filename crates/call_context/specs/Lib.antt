@@ -1,5 +1,6 @@
 pub mod Few
 pub mod Nodes
 pub mod Plain
+pub mod PlainLaws
 pub mod Same
 pub mod SameLaws
