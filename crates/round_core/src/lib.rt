@@ -5,6 +5,7 @@ mod agenda;
 mod book;
 mod claim;
 mod event;
+mod laws;
 mod place;
 mod post;
 mod ticket;
