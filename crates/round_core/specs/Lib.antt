@@ -4,3 +4,4 @@ pub mod Answers
 pub mod HeldLaws
 pub mod Form
 pub mod RiseLaws
+pub mod EntryLaws
