@@ -5,3 +5,5 @@ pub mod HeldLaws
 pub mod Form
 pub mod RiseLaws
 pub mod EntryLaws
+pub mod ReplayLaws
+pub mod FormLaws
