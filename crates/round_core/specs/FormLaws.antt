@@ -42,7 +42,7 @@ inputs_of-form m Form b (Back (At pc calls frame) (Exit from left)) inputs a u e
 inputs_of-form m Form b (Back (At pc calls frame) (At from calls' frame')) inputs a u e = absurd u
 inputs_of-form m Form b (Back (Exit pc frame) exit) inputs a u e = absurd u
 
-IsInForm-opening : {S A : Type 0} (m : Meaning S A) (Form : Node → A → Type 0) → KeepsForm m Form → IsInForm m Form (opening m)
+pub IsInForm-opening : {S A : Type 0} (m : Meaning S A) (Form : Node → A → Type 0) → KeepsForm m Form → IsInForm m Form (opening m)
 IsInForm-opening m Form keeps = record {
   nodes = (record { least = omega arith; most = omega arith; last = λ e. absurd (cc); form = keeps.start }, tt);
   out = tt;

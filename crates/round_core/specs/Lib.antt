@@ -7,3 +7,5 @@ pub mod RiseLaws
 pub mod EntryLaws
 pub mod ReplayLaws
 pub mod FormLaws
+pub mod Turns
+pub mod TurnLaws

@@ -162,7 +162,8 @@ IsWellDone-later m hs ls d s w = record {
     (r.0, inputs_of-same hs ls d.unit r.0 s r.1 (e ∙ sym same), r.2);
 }
 
-IsSteady-opening : {S A : Type 0} (m : Meaning S A) → IsSteady m (opening m)
+-- the opening has it
+pub IsSteady-opening : {S A : Type 0} (m : Meaning S A) → IsSteady m (opening m)
 IsSteady-opening m = record { apart = (refl, tt); once = tt; out = tt; done = tt }
 
 IsSteady-posted : {S A : Type 0} (m : Meaning S A) (b : BookState A) (o : Out A) → IsWellOut b.nodes o → IsSteady m b → IsSteady m (posted m b (Some o))

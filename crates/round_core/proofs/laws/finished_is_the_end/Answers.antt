@@ -1,0 +1,7 @@
+use Rattle.round_core.specs.ReplayLaws.{finished-end, IsLegalJournal-last}
+use Rattle.round_core.specs.Machine.{replay}
+use Rattle.round_core.proofs.laws.finished_is_the_end.Goals as goal
+
+pub returns-clause-journal : goal.returns-clause-journal
+returns-clause-journal g c = λ base journal event f l.
+    finished-end (replay (g.C.Chip.meaning base) journal) event f (IsLegalJournal-last (g.C.Chip.meaning base) journal event l)

@@ -1,0 +1,143 @@
+-- Claims, posts and give-backs of one unit take turns, and a unit is claimed anew only for inputs that rose.
+use Rattle.std.specs.Prelude.{◌≡◌, ℕ, ◌+◌, ◌<◌, ◌≤◌, ◌⊎◌, ◌&&◌, Bool, true, false, cond, Option, None, Some, List, [], ◌∷◌, ◌++◌, MatchOption, count_by}
+use Rattle.std.specs.List.{AllByRecursion}
+use Rattle.std.proofs.Common.{refl, sym, ◌∙◌, ap, ap₂, subst, inl, inr, arith}
+use Rattle.std.proofs.lemmas.Bool.{cases_Bool}
+use Rattle.std.proofs.lemmas.List.Sums.{sum_by-cons}
+use Rattle.call_context.specs.declared.node.Node.{Node}
+use Rattle.call_context.specs.declared.node.Unit.{Unit as WorkUnit}
+use Rattle.call_context.specs.Same.{same_unit}
+use Rattle.call_context.specs.SameLaws.{same_unit-refl, same_unit-eq}
+use Rattle.chip_law.specs.Meaning.{Meaning}
+use Rattle.round_core.specs.declared.versions.Versions.{Versions}
+use Rattle.round_core.specs.declared.event.Event.{Event}
+use Rattle.round_core.specs.declared.event.Event.TheVariants.{Claim, Post, GiveBack}
+use Rattle.round_core.specs.Form.{KeepsForm, TopIsGreatest}
+use Rattle.round_core.specs.RiseLaws.{AreInBounds}
+use Rattle.round_core.specs.EntryLaws.{AreUpTo, done_at-all, out_at-all, all-any, done_at-with_done, done_at-with_done_other, out_at-without, out_at-without_other, out_at-push, out_at-push_other}
+use Rattle.round_core.specs.ReplayLaws.{IsSteady, IsSteady-after, IsSteady-replay, IsSteady-opening, IsWellOut, IsWellDone, taken, after-claim, after-post, after-give_back, inputs_of-unit}
+use Rattle.round_core.specs.FormLaws.{IsInForm, IsInForm-after, IsInForm-replay, IsInForm-opening, versions_of-most, versions_of-least}
+use Rattle.round_core.specs.Turns.{is_claim, is_post, is_give_back, anyone, outs}
+use Rattle.round_core.specs.Machine.{BookState, Held, Done, Out, done_at, out_at, versions_of, opening, posted, with_done, without, after, replay_from, replay, IsUnit, IsClaimable, IsFirst, IsLegal, AllLegal, IsLegalJournal, HasRisen}
+
+-- the unit that an event is of
+abbrev pub unit_of : Event → WorkUnit
+unit_of (Claim seat unit) = unit
+unit_of (Post seat unit) = unit
+unit_of (GiveBack seat unit) = unit
+
+-- the last work of a unit that a post leaves
+abbrev pub done_by : {S A : Type 0} → Meaning S A → Out A → Done A
+done_by m o = record { unit = o.unit; work = m.work o.unit o.at o.exit; versions = o.versions }
+
+-- a claim leaves its unit out
+pub after-claim_out : {S A : Type 0} (m : Meaning S A) (b : BookState A) (seat : ℕ) (unit : WorkUnit) → IsFirst b unit
+    → (o : Out A) × (out_at (after m b (Claim seat unit)).out unit ≡ Some o) × (o.seat ≡ seat) × (o.versions ≡ versions_of b.nodes unit)
+      × (done_at (after m b (Claim seat unit)).done unit ≡ done_at b.done unit)
+after-claim_out m b seat unit f =
+    let i = inputs_of-unit b unit f.claimable.known in
+    let e = after-claim m b seat unit i.0 i.1 in
+    (taken b seat unit i.0,
+      ap (λ x. out_at x.out unit) e ∙ out_at-push b.out (taken b seat unit i.0) f.claimable.at_home,
+      refl, refl, ap (λ x. done_at x.done unit) e)
+
+-- a post leaves its unit at home, with the work of what was out
+pub after-post_done : {S A : Type 0} (m : Meaning S A) (b : BookState A) (seat : ℕ) (unit : WorkUnit) (o : Out A) → IsSteady m b → out_at b.out unit ≡ Some o
+    → (out_at (after m b (Post seat unit)).out unit ≡ None) × (done_at (after m b (Post seat unit)).done unit ≡ Some (done_by m o))
+after-post_done m b seat unit o s e =
+    let n : o.unit ≡ unit = (out_at-all (λ x. Unit {0}) b.out unit o (all-any b.out) e).1 in
+    let p = after-post m b seat unit o e in
+    (ap (λ x. out_at x.out unit) p ∙ ap (λ u. out_at (without b.out u) unit) n ∙ out_at-without b.out unit s.once,
+      ap (λ x. done_at x.done unit) p ∙ ap (λ u. done_at (with_done b.done (done_by m o)) u) (sym n) ∙ done_at-with_done b.done (done_by m o))
+
+pub after-give_back_home : {S A : Type 0} (m : Meaning S A) (b : BookState A) (seat : ℕ) (unit : WorkUnit) → IsSteady m b
+    → (out_at (after m b (GiveBack seat unit)).out unit ≡ None) × (done_at (after m b (GiveBack seat unit)).done unit ≡ done_at b.done unit)
+after-give_back_home m b seat unit s =
+    let e = after-give_back m b seat unit in
+    (ap (λ x. out_at x.out unit) e ∙ out_at-without b.out unit s.once, ap (λ x. done_at x.done unit) e)
+
+-- an event leaves the other units as they were
+pub after-other : {S A : Type 0} (m : Meaning S A) (b : BookState A) (event : Event) (unit : WorkUnit) → IsLegal b event → same_unit unit (unit_of event) ≡ false
+    → (out_at (after m b event).out unit ≡ out_at b.out unit) × (done_at (after m b event).done unit ≡ done_at b.done unit)
+after-other m b (Claim seat u) unit l ne =
+    let i = inputs_of-unit b u l.claimable.known in
+    let e = after-claim m b seat u i.0 i.1 in
+    (ap (λ x. out_at x.out unit) e ∙ out_at-push_other b.out (taken b seat u i.0) unit ne, ap (λ x. done_at x.done unit) e)
+after-other m b (Post seat u) unit l ne =
+    let o = l.0 in
+    let n : (l.0).unit ≡ u = (out_at-all (λ x. Unit {0}) b.out u l.0 (all-any b.out) l.1).1 in
+    let d : same_unit unit (l.0).unit ≡ false = subst (λ x. same_unit unit x ≡ false) (sym n) ne in
+    let p = after-post m b seat u l.0 l.1 in
+    (ap (λ x. out_at x.out unit) p ∙ out_at-without_other b.out (l.0).unit unit d,
+      ap (λ x. done_at x.done unit) p ∙ done_at-with_done_other b.done (done_by m l.0) unit d)
+after-other m b (GiveBack seat u) unit l ne =
+    let e = after-give_back m b seat u in
+    (ap (λ x. out_at x.out unit) e ∙ out_at-without_other b.out u unit ne, ap (λ x. done_at x.done unit) e)
+
+abbrev one : Bool → ℕ
+one b = cond b 1 0
+
+-- what an event adds to each count
+abbrev Turn : {S A : Type 0} → Meaning S A → (ℕ → Bool) → WorkUnit → BookState A → Event → Type 0
+Turn m seats unit b event = one (is_claim seats unit event) + outs seats (out_at b.out unit)
+    ≡ one (is_post seats unit event) + one (is_give_back seats unit event) + outs seats (out_at (after m b event).out unit)
+
+turn-other : {S A : Type 0} (m : Meaning S A) (seats : ℕ → Bool) (unit : WorkUnit) (b : BookState A) (event : Event) → IsLegal b event
+    → same_unit unit (unit_of event) ≡ false → Turn m seats unit b event
+turn-other m seats unit b (Claim seat u) l ne =
+    let a : one (same_unit unit u && seats seat) ≡ 0 = ap (λ x. one (x && seats seat)) ne in
+    let e = ap (outs seats) (after-other m b (Claim seat u) unit l ne).0 in omega (arith, a, e)
+turn-other m seats unit b (Post seat u) l ne =
+    let a : one (same_unit unit u && seats seat) ≡ 0 = ap (λ x. one (x && seats seat)) ne in
+    let e = ap (outs seats) (after-other m b (Post seat u) unit l ne).0 in omega (arith, a, e)
+turn-other m seats unit b (GiveBack seat u) l ne =
+    let a : one (same_unit unit u && seats seat) ≡ 0 = ap (λ x. one (x && seats seat)) ne in
+    let e = ap (outs seats) (after-other m b (GiveBack seat u) unit l ne).0 in omega (arith, a, e)
+
+turn-own : {S A : Type 0} (m : Meaning S A) (seats : ℕ → Bool) (b : BookState A) (event : Event) → IsLegal b event → IsSteady m b
+    → Turn m seats (unit_of event) b event
+turn-own m seats b (Claim seat u) l s =
+    let r = after-claim_out m b seat u l in
+    let a : one (same_unit u u && seats seat) ≡ one (seats seat) = ap (λ x. one (x && seats seat)) (same_unit-refl u) in
+    let home : outs seats (out_at b.out u) ≡ 0 = ap (outs seats) l.claimable.at_home in
+    let out : outs seats (out_at (after m b (Claim seat u)).out u) ≡ one (seats seat) = ap (outs seats) r.1 ∙ ap (λ x. one (seats x)) r.2 in
+    omega (arith, a, home, out)
+turn-own m seats b (Post seat u) l s =
+    let r = after-post_done m b seat u l.0 s l.1 in
+    let a : one (same_unit u u && seats seat) ≡ one (seats seat) = ap (λ x. one (x && seats seat)) (same_unit-refl u) in
+    let out : outs seats (out_at b.out u) ≡ one (seats seat) = ap (outs seats) l.1 ∙ ap (λ x. one (seats x)) l.2 in
+    let home : outs seats (out_at (after m b (Post seat u)).out u) ≡ 0 = ap (outs seats) r.0 in
+    omega (arith, a, home, out)
+turn-own m seats b (GiveBack seat u) l s =
+    let r = after-give_back_home m b seat u s in
+    let a : one (same_unit u u && seats seat) ≡ one (seats seat) = ap (λ x. one (x && seats seat)) (same_unit-refl u) in
+    let out : outs seats (out_at b.out u) ≡ one (seats seat) = ap (outs seats) l.1 ∙ ap (λ x. one (seats x)) l.2 in
+    let home : outs seats (out_at (after m b (GiveBack seat u)).out u) ≡ 0 = ap (outs seats) r.0 in
+    omega (arith, a, home, out)
+
+turn-step : {S A : Type 0} (m : Meaning S A) (seats : ℕ → Bool) (unit : WorkUnit) (b : BookState A) (event : Event) → IsLegal b event → IsSteady m b
+    → Turn m seats unit b event
+turn-step m seats unit b event l s =
+    elim (cases_Bool (same_unit unit (unit_of event))) [
+      inl t ↦ subst (λ u. Turn m seats u b event) (sym (same_unit-eq unit (unit_of event) t)) (turn-own m seats b event l s)
+    | inr f ↦ turn-other m seats unit b event l f
+    ]
+
+-- Each claim is answered by a post or a give-back, but for a unit that is out.
+pub turns-replay_from : {S A : Type 0} (m : Meaning S A) (seats : ℕ → Bool) (unit : WorkUnit) (b : BookState A) (es : List Event) → AllLegal m b es → IsSteady m b
+    → count_by (is_claim seats unit) es + outs seats (out_at b.out unit)
+      ≡ count_by (is_post seats unit) es + count_by (is_give_back seats unit) es + outs seats (out_at (replay_from m b es).out unit)
+unfolding replay_from AllLegal
+turns-replay_from m seats unit b [] l s = omega arith
+turns-replay_from m seats unit b (e ∷ es) l s =
+    let rest = turns-replay_from m seats unit (after m b e) es l.1 (IsSteady-after m b e l.0 s) in
+    let step : Turn m seats unit b e = turn-step m seats unit b e l.0 s in
+    let c = sum_by-cons (λ x. cond (is_claim seats unit x) 1 0) e es in
+    let p = sum_by-cons (λ x. cond (is_post seats unit x) 1 0) e es in
+    let g = sum_by-cons (λ x. cond (is_give_back seats unit x) 1 0) e es in
+    omega (arith, rest, step, c, p, g)
+
+pub turns-replay : {S A : Type 0} (m : Meaning S A) (seats : ℕ → Bool) (unit : WorkUnit) (journal : List Event) → IsLegalJournal m journal
+    → count_by (is_claim seats unit) journal
+      ≡ count_by (is_post seats unit) journal + count_by (is_give_back seats unit) journal + outs seats (out_at (replay m journal).out unit)
+turns-replay m seats unit journal l = let t = turns-replay_from m seats unit (opening m) journal l (IsSteady-opening m) in omega (arith, t)

@@ -1,0 +1,51 @@
+-- How often a unit was claimed, posted and given back.
+use Rattle.std.specs.Prelude.{◌≡◌, ℕ, ◌+◌, ◌==◌, ◌&&◌, Bool, true, false, cond, Option, None, Some, List, count_by}
+use Rattle.call_context.specs.declared.node.Unit.{Unit as WorkUnit}
+use Rattle.call_context.specs.Same.{same_unit}
+use Rattle.round_core.specs.declared.event.Event.{Event}
+use Rattle.round_core.specs.declared.event.Event.TheVariants.{Claim, Post, GiveBack}
+use Rattle.round_core.specs.Machine.{Out}
+
+-- an event of that kind, of the unit, by a seat that passes
+abbrev pub is_claim : (ℕ → Bool) → WorkUnit → Event → Bool
+is_claim seats unit (Claim seat other) = same_unit unit other && seats seat
+is_claim seats unit (Post seat other) = false
+is_claim seats unit (GiveBack seat other) = false
+
+abbrev pub is_post : (ℕ → Bool) → WorkUnit → Event → Bool
+is_post seats unit (Claim seat other) = false
+is_post seats unit (Post seat other) = same_unit unit other && seats seat
+is_post seats unit (GiveBack seat other) = false
+
+abbrev pub is_give_back : (ℕ → Bool) → WorkUnit → Event → Bool
+is_give_back seats unit (Claim seat other) = false
+is_give_back seats unit (Post seat other) = false
+is_give_back seats unit (GiveBack seat other) = same_unit unit other && seats seat
+
+-- by any seat
+abbrev pub anyone : ℕ → Bool
+anyone seat = true
+
+abbrev pub claims_of : WorkUnit → List Event → ℕ
+claims_of unit journal = count_by (is_claim anyone unit) journal
+
+abbrev pub posts_of : WorkUnit → List Event → ℕ
+posts_of unit journal = count_by (is_post anyone unit) journal
+
+abbrev pub give_backs_of : WorkUnit → List Event → ℕ
+give_backs_of unit journal = count_by (is_give_back anyone unit) journal
+
+-- by one seat
+abbrev pub claims_by : ℕ → WorkUnit → List Event → ℕ
+claims_by seat unit journal = count_by (is_claim (λ s. s == seat) unit) journal
+
+abbrev pub posts_by : ℕ → WorkUnit → List Event → ℕ
+posts_by seat unit journal = count_by (is_post (λ s. s == seat) unit) journal
+
+abbrev pub give_backs_by : ℕ → WorkUnit → List Event → ℕ
+give_backs_by seat unit journal = count_by (is_give_back (λ s. s == seat) unit) journal
+
+-- whether a unit is out to a seat that passes, as a number
+abbrev pub outs : {A : Type 0} → (ℕ → Bool) → Option (Out A) → ℕ
+outs seats None = 0
+outs seats (Some o) = cond (seats o.seat) 1 0
