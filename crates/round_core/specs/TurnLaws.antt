@@ -3,6 +3,7 @@ use Rattle.std.specs.Prelude.{◌≡◌, ℕ, ◌+◌, ◌<◌, ◌≤◌, ◌�
 use Rattle.std.specs.List.{AllByRecursion}
 use Rattle.std.proofs.Common.{refl, sym, ◌∙◌, ap, ap₂, subst, inl, inr, arith}
 use Rattle.std.proofs.lemmas.Bool.{cases_Bool}
+use Rattle.std.proofs.lemmas.Option.{same_Some}
 use Rattle.std.proofs.lemmas.List.Sums.{sum_by-cons}
 use Rattle.call_context.specs.declared.node.Node.{Node}
 use Rattle.call_context.specs.declared.node.Unit.{Unit as WorkUnit}
@@ -141,3 +142,116 @@ pub turns-replay : {S A : Type 0} (m : Meaning S A) (seats : ℕ → Bool) (unit
     → count_by (is_claim seats unit) journal
       ≡ count_by (is_post seats unit) journal + count_by (is_give_back seats unit) journal + outs seats (out_at (replay m journal).out unit)
 turns-replay m seats unit journal l = let t = turns-replay_from m seats unit (opening m) journal l (IsSteady-opening m) in omega (arith, t)
+
+-- how far a unit's inputs had risen for its last work
+abbrev pub level : {A : Type 0} → Option (Done A) → ℕ
+level None = 0
+level (Some d) = d.versions.at + d.versions.exit
+
+-- a unit that is out has inputs that rose since its last work
+abbrev pub IsAhead : {A : Type 0} → WorkUnit → BookState A → Type 0
+IsAhead unit b = (o : Out _) → out_at b.out unit ≡ Some o → level (done_at b.done unit) < o.versions.at + o.versions.exit
+
+-- what an event does to the level of a unit
+abbrev Climb : {S A : Type 0} → Meaning S A → WorkUnit → BookState A → Event → Type 0
+Climb m unit b event = IsAhead unit (after m b event)
+    × (one (is_post anyone unit event) + level (done_at b.done unit) ≤ level (done_at (after m b event).done unit))
+
+-- versions that some input of which rose have a greater sum
+risen-sum : (v w : Versions) → AreUpTo v w → HasRisen v w → v.at + v.exit < w.at + w.exit
+risen-sum v w u (inl h) = omega (arith, u.at, u.exit, h)
+risen-sum v w u (inr h) = omega (arith, u.at, u.exit, h)
+
+-- by whether the unit was done
+due-by : {A : Type 0} (now : Versions) (was : Option (Done A)) → 1 ≤ now.at → MatchOption was (Unit {0}) (λ d. HasRisen d.versions now)
+    → ((d : Done A) → was ≡ Some d → AreUpTo d.versions now) → level was < now.at + now.exit
+due-by now None least due known = omega arith
+due-by now (Some d) least due known = risen-sum d.versions now (known d refl) due
+
+climb-other : {S A : Type 0} (m : Meaning S A) (unit : WorkUnit) (b : BookState A) (event : Event) → IsLegal b event
+    → same_unit unit (unit_of event) ≡ false → one (is_post anyone unit event) ≡ 0 → IsAhead unit b → Climb m unit b event
+climb-other m unit b event l ne none a =
+    let r = after-other m b event unit l ne in
+    let lv = ap level r.1 in
+    (λ o e. let h : level (done_at b.done unit) < o.versions.at + o.versions.exit = a o (sym r.0 ∙ e) in omega (arith, lv, h), omega (arith, none, lv))
+
+none-other : (unit : WorkUnit) (event : Event) → same_unit unit (unit_of event) ≡ false → one (is_post anyone unit event) ≡ 0
+none-other unit (Claim seat u) ne = refl
+none-other unit (Post seat u) ne = ap (λ x. one (x && true)) ne
+none-other unit (GiveBack seat u) ne = refl
+
+climb-own : {S A : Type 0} (m : Meaning S A) (Form : Node → A → Type 0) (b : BookState A) (event : Event) → IsLegal b event → IsSteady m b
+    → AreInBounds m Form b.nodes → IsAhead (unit_of event) b → Climb m (unit_of event) b event
+climb-own m Form b (Claim seat u) l s n a =
+    let r = after-claim_out m b seat u l in
+    let lv = ap level r.4 in
+    let due : level (done_at b.done u) < (versions_of b.nodes u).at + (versions_of b.nodes u).exit =
+      due-by (versions_of b.nodes u) (done_at b.done u) (versions_of-least m Form b u n l.claimable.known) l.claimable.due
+      (λ d e. let w = done_at-all (IsWellDone m b.nodes) b.done u d s.done e in subst (λ x. AreUpTo d.versions (versions_of b.nodes x)) w.1 (w.0).known) in
+    (λ o e. let same : r.0 ≡ o = same_Some r.0 o (sym r.1 ∙ e) in
+        let va : o.versions.at ≡ (versions_of b.nodes u).at = ap (λ x. x.versions.at) (sym same) ∙ ap (λ x. x.at) r.3 in
+        let ve : o.versions.exit ≡ (versions_of b.nodes u).exit = ap (λ x. x.versions.exit) (sym same) ∙ ap (λ x. x.exit) r.3 in
+        omega (arith, lv, due, va, ve),
+      omega (arith, lv))
+climb-own m Form b (Post seat u) l s n a =
+    let r = after-post_done m b seat u l.0 s l.1 in
+    let lv : level (done_at (after m b (Post seat u)).done u) ≡ (l.0).versions.at + (l.0).versions.exit = ap level r.1 in
+    let h : level (done_at b.done u) < (l.0).versions.at + (l.0).versions.exit = a l.0 l.1 in
+    let count : one (is_post anyone u (Post seat u)) ≡ 1 = ap (λ x. one (x && true)) (same_unit-refl u) in
+    (λ o e. absurd (let no : None ≡ Some o = sym r.0 ∙ e in cc), omega (arith, lv, h, count))
+climb-own m Form b (GiveBack seat u) l s n a =
+    let r = after-give_back_home m b seat u s in
+    let lv = ap level r.1 in
+    (λ o e. absurd (let no : None ≡ Some o = sym r.0 ∙ e in cc), omega (arith, lv))
+
+climb-step : {S A : Type 0} (m : Meaning S A) (Form : Node → A → Type 0) (unit : WorkUnit) (b : BookState A) (event : Event) → IsLegal b event → IsSteady m b
+    → AreInBounds m Form b.nodes → IsAhead unit b → Climb m unit b event
+climb-step m Form unit b event l s n a =
+    elim (cases_Bool (same_unit unit (unit_of event))) [
+      inl t ↦ let e : unit ≡ unit_of event = same_unit-eq unit (unit_of event) t in
+        subst (λ u. Climb m u b event) (sym e) (climb-own m Form b event l s n (subst (λ u. IsAhead u b) e a))
+    | inr f ↦ climb-other m unit b event l f (none-other unit event f) a
+    ]
+
+-- each post of a unit is of inputs that rose further
+pub climbs-replay_from : {S A : Type 0} (m : Meaning S A) (Form : Node → A → Type 0) → KeepsForm m Form → TopIsGreatest m Form
+    → (unit : WorkUnit) (b : BookState A) (es : List Event) → AllLegal m b es → IsSteady m b → IsInForm m Form b → IsAhead unit b
+    → IsAhead unit (replay_from m b es)
+      × (count_by (is_post anyone unit) es + level (done_at b.done unit) ≤ level (done_at (replay_from m b es).done unit))
+unfolding replay_from AllLegal
+climbs-replay_from m Form keeps top unit b [] l s i a = (a, omega arith)
+climbs-replay_from m Form keeps top unit b (e ∷ es) l s i a =
+    let step : Climb m unit b e = climb-step m Form unit b e l.0 s i.nodes a in
+    let rest = climbs-replay_from m Form keeps top unit (after m b e) es l.1 (IsSteady-after m b e l.0 s) (IsInForm-after m Form keeps top b e l.0 i) step.0 in
+    let p = sum_by-cons (λ x. cond (is_post anyone unit x) 1 0) e es in
+    (rest.0, omega (arith, rest.1, step.1, p))
+
+-- by whether the unit was done
+level-by : {S A : Type 0} (m : Meaning S A) (Form : Node → A → Type 0) (b : BookState A) (unit : WorkUnit) → IsSteady m b → AreInBounds m Form b.nodes
+    → (was : Option (Done A)) → done_at b.done unit ≡ was → level was ≤ 128
+level-by m Form b unit s n None e = omega arith
+level-by m Form b unit s n (Some d) e =
+    let w = done_at-all (IsWellDone m b.nodes) b.done unit d s.done e in
+    let v = versions_of-most m Form b.nodes d.unit n in
+    omega (arith, (w.0).known.at, (w.0).known.exit, v.0, v.1)
+
+-- by whether the unit is out
+out-by : {S A : Type 0} (m : Meaning S A) (Form : Node → A → Type 0) (b : BookState A) (unit : WorkUnit) → IsSteady m b → AreInBounds m Form b.nodes → IsAhead unit b
+    → (was : Option (Out A)) → out_at b.out unit ≡ was → level (done_at b.done unit) + outs anyone was ≤ 128
+out-by m Form b unit s n a None e = let l = level-by m Form b unit s n (done_at b.done unit) refl in omega (arith, l)
+out-by m Form b unit s n a (Some o) e =
+    let w = out_at-all (IsWellOut b.nodes) b.out unit o s.out e in
+    let v = versions_of-most m Form b.nodes o.unit n in
+    let h = a o e in
+    omega (arith, (w.0).known.at, (w.0).known.exit, v.0, v.1, h)
+
+-- A unit is claimed at most 128 times more often than it is given back: each claim but the first is of an input that rose.
+pub claims-most : {S A : Type 0} (m : Meaning S A) (Form : Node → A → Type 0) → KeepsForm m Form → TopIsGreatest m Form
+    → (unit : WorkUnit) (journal : List Event) → IsLegalJournal m journal
+    → count_by (is_claim anyone unit) journal ≤ 128 + count_by (is_give_back anyone unit) journal
+claims-most m Form keeps top unit journal l =
+    let b = replay m journal in
+    let t = turns-replay m anyone unit journal l in
+    let c = climbs-replay_from m Form keeps top unit (opening m) journal l (IsSteady-opening m) (IsInForm-opening m Form keeps) (λ o e. absurd (cc)) in
+    let o = out-by m Form b unit (IsSteady-replay m journal l) (IsInForm-replay m Form keeps top journal l).nodes c.0 (out_at b.out unit) refl in
+    omega (arith, t, c.1, o)
