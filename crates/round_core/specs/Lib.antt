@@ -9,3 +9,4 @@ pub mod ReplayLaws
 pub mod FormLaws
 pub mod Turns
 pub mod TurnLaws
+pub mod WorkLaws

@@ -1,5 +1,6 @@
 -- Rises of a node: at least 1 and at most 64, with top at the 64th; and what is posted is under its node from then on.
 use Rattle.std.specs.Prelude.{◌≡◌, ℕ, ◌+◌, ◌<◌, ◌≤◌, ◌⊎◌, nat_le, Bool, true, false, Option, None, Some, List, [], ◌∷◌, if◌then◌else◌}
+use Rattle.std.specs.List.{AllByRecursion}
 use Rattle.std.proofs.Common.{refl, sym, ◌∙◌, ap, subst, inl, inr, arith}
 use Rattle.std.proofs.lemmas.Bool.{cases_Bool, cond-true, cond-false, false≢true, cond_both, cases_lt}
 use Rattle.std.proofs.lemmas.Option.{same_Some}
@@ -19,8 +20,7 @@ pub record IsInBounds {S A : Type 0} (m : Meaning S A) (Form : Node → A → Ty
   pub form : Form h.node h.state
 
 abbrev pub AreInBounds : {S A : Type 0} → Meaning S A → (Node → A → Type 0) → List (Held A) → Type 0
-AreInBounds m Form [] = Unit {0}
-AreInBounds m Form (h ∷ hs) = IsInBounds m Form h × AreInBounds m Form hs
+AreInBounds m Form nodes = AllByRecursion (IsInBounds m Form) nodes
 
 pub held_at-in_bounds : {S A : Type 0} (m : Meaning S A) (Form : Node → A → Type 0) (hs : List (Held A)) (node : Node) (h : Held A)
     → AreInBounds m Form hs → held_at hs node ≡ Some h → IsInBounds m Form h
@@ -86,8 +86,7 @@ abbrev pub IsUnder : {S A : Type 0} → Meaning S A → List (Held A) → Node �
 IsUnder m hs post = (h : Held _) × (held_at hs post.0 ≡ Some h) × (m.within post.1 h.state ≡ true)
 
 abbrev pub AreUnder : {S A : Type 0} → Meaning S A → List (Held A) → List (Node × A) → Type 0
-AreUnder m hs [] = Unit {0}
-AreUnder m hs (post ∷ posts) = IsUnder m hs post × AreUnder m hs posts
+AreUnder m hs posts = AllByRecursion (IsUnder m hs) posts
 
 -- both the held state and the posted one are within the risen one
 risen-above : {S A : Type 0} (m : Meaning S A) (Form : Node → A → Type 0) → IsOrdered m Form → (h : Held A) (posted : A)
