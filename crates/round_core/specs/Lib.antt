@@ -10,3 +10,5 @@ pub mod FormLaws
 pub mod Turns
 pub mod TurnLaws
 pub mod WorkLaws
+pub mod Table
+pub mod TableLaws
