@@ -1,6 +1,6 @@
 -- Tables of nodes with abstract states. A closed table stands for all that may happen: its works leave nothing open, and lead
 -- only to what is in it.
-use Rattle.std.specs.Prelude.{◌≡◌, Bool, true, Option, None, Some, List, []}
+use Rattle.std.specs.Prelude.{◌≡◌, true, Option, None, Some, List, []}
 use Rattle.std.specs.List.{AllByRecursion, list_any}
 use Rattle.std.specs.Option.{option_map}
 use Rattle.call_context.specs.declared.node.Node.{Node}
@@ -9,7 +9,6 @@ use Rattle.call_context.specs.declared.node.Unit.{Unit as WorkUnit}
 use Rattle.call_context.specs.declared.node.Unit.TheVariants.{One, Back}
 use Rattle.call_context.specs.Same.{same_frame}
 use Rattle.chip_law.specs.Meaning.{Meaning}
-use Rattle.chip_law.specs.declared.chip.Work.{Work}
 use Rattle.round_core.specs.Machine.{Held, held_at}
 
 -- the table of a book's nodes

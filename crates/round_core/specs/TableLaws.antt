@@ -1,8 +1,8 @@
 -- The table of a closed book is closed.
-use Rattle.std.specs.Prelude.{◌≡◌, Bool, true, false, Option, None, Some, List, [], ◌∷◌, unwrap_or}
+use Rattle.std.specs.Prelude.{◌≡◌, true, false, Option, None, Some, List, unwrap_or}
 use Rattle.std.specs.List.{AllByRecursion, list_any}
 use Rattle.std.specs.Option.{option_map}
-use Rattle.std.proofs.Common.{refl, sym, ◌∙◌, ap, subst}
+use Rattle.std.proofs.Common.{sym, ◌∙◌, ap, subst}
 use Rattle.std.proofs.lemmas.Option.{same_Some}
 use Rattle.call_context.specs.declared.node.Node.{Node}
 use Rattle.call_context.specs.declared.node.Node.TheVariants.{At, Exit}
@@ -10,12 +10,11 @@ use Rattle.call_context.specs.declared.node.Unit.{Unit as WorkUnit}
 use Rattle.call_context.specs.declared.node.Unit.TheVariants.{One, Back}
 use Rattle.call_context.specs.Same.{same_frame}
 use Rattle.chip_law.specs.Meaning.{Meaning}
-use Rattle.chip_law.specs.declared.chip.Work.{Work}
 use Rattle.round_core.specs.HeldLaws.{option_map-some}
-use Rattle.round_core.specs.RiseLaws.{IsUnder, AreUnder}
+use Rattle.round_core.specs.RiseLaws.{IsUnder}
 use Rattle.round_core.specs.EntryLaws.{inputs_of-found, all-map}
 use Rattle.round_core.specs.ReplayLaws.{IsSteady}
-use Rattle.round_core.specs.WorkLaws.{IsServed, IsWorkOf, finished-done, finished-under}
+use Rattle.round_core.specs.WorkLaws.{IsServed, finished-done, finished-under}
 use Rattle.round_core.specs.Table.{table_of, IsUnitOver, IsHeldIn, IsClosedTable}
 use Rattle.round_core.specs.Machine.{BookState, Held, Done, held_at, done_at, inputs_of, waits_for, IsUnit, IsFinished, IsClosed}
 
@@ -49,11 +48,12 @@ unit-of_table m b f s (Back (At pc calls frame) (Exit from left)) at (Some exit)
     let x = at-held b.nodes (Exit from left) exit o.1 in
     let d = waits-present m b f s (At pc calls frame) h.0 (h.0, h.1) h.1 in
     let waits : waits_for b.done (At pc calls frame) left ≡ true =
-      ap (λ w. unwrap_or (option_map (λ k. list_any (same_frame left) k.work.waits) w) false) d.1
-      ∙ ap (λ w. list_any (same_frame left) w.waits) d.2
-      ∙ ap (λ a. list_any (same_frame left) (m.work (One (At pc calls frame)) a None).waits) h.2 ∙ o.2 in
-    ((h.0, x.0, h.1, x.1, waits),
-      inputs_of-found b.nodes (At pc calls frame) (Exit from left) h.0 x.0 h.1 x.1 ∙ ap (λ a. Some (a, Some (x.0).state)) h.2 ∙ ap (λ e. Some (at, Some e)) x.2)
+    ap (λ w. unwrap_or (option_map (λ k. list_any (same_frame left) k.work.waits) w) false) d.1
+    ∙ ap (λ w. list_any (same_frame left) w.waits) d.2
+    ∙ ap (λ a. list_any (same_frame left) (m.work (One (At pc calls frame)) a None).waits) h.2 ∙ o.2 in (
+      (h.0, x.0, h.1, x.1, waits),
+      inputs_of-found b.nodes (At pc calls frame) (Exit from left) h.0 x.0 h.1 x.1 ∙ ap (λ a. Some (a, Some (x.0).state)) h.2 ∙ ap (λ e. Some (at, Some e)) x.2,
+    )
 unit-of_table m b f s (Back (At pc calls frame) (Exit from left)) at None o = absurd o
 unit-of_table m b f s (Back (At pc calls frame) (At from calls' frame')) at exit o = absurd o
 unit-of_table m b f s (Back (Exit pc frame) node) at exit o = absurd o
@@ -71,10 +71,10 @@ pub closed-table : {S A : Type 0} (m : Meaning S A) (b : BookState A) → IsClos
 closed-table m b c s v = record {
   start = held-in m b.nodes (m.first_node, m.first_state) v.start;
   no_open = λ unit at exit o. let u = unit-of_table m b c.finished s unit at exit o in
-    let d = work-present m b c.finished s unit at exit u.0 u.1 in
-    ap (λ w. w.opens) (sym d.2) ∙ c.no_open unit d.0 u.0 d.1;
+      let d = work-present m b c.finished s unit at exit u.0 u.1 in
+      ap (λ w. w.opens) (sym d.2) ∙ c.no_open unit d.0 u.0 d.1;
   posts = λ unit at exit o. let u = unit-of_table m b c.finished s unit at exit o in
-    let d = work-present m b c.finished s unit at exit u.0 u.1 in
-    subst (λ w. AllByRecursion (IsHeldIn m (table_of b.nodes)) w.posts) d.2
-    (all-map (IsUnder m b.nodes) (IsHeldIn m (table_of b.nodes)) (held-in m b.nodes) (d.0).work.posts (finished-under m b unit d.0 v d.1));
+      let d = work-present m b c.finished s unit at exit u.0 u.1 in
+      subst (λ w. AllByRecursion (IsHeldIn m (table_of b.nodes)) w.posts) d.2
+      (all-map (IsUnder m b.nodes) (IsHeldIn m (table_of b.nodes)) (held-in m b.nodes) (d.0).work.posts (finished-under m b unit d.0 v d.1));
 }

@@ -1,15 +1,9 @@
 -- In a finished book each unit was done over the present states of its inputs, and what its work posts is under the nodes.
-use Rattle.std.specs.Prelude.{◌≡◌, ℕ, ◌<◌, Bool, true, false, Option, None, Some, List, [], ◌∷◌, MatchOption, unwrap_or}
-use Rattle.std.specs.List.{AllByRecursion, list_any}
-use Rattle.std.specs.Option.{option_map}
-use Rattle.std.proofs.Common.{refl, sym, ◌∙◌, ap, subst, inl, inr}
-use Rattle.std.proofs.lemmas.Option.{same_Some}
-use Rattle.call_context.specs.declared.node.Frame.{Frame}
+use Rattle.std.specs.Prelude.{◌≡◌, Option, None, Some, List, [], ◌∷◌, MatchOption}
+use Rattle.std.specs.List.{AllByRecursion}
+use Rattle.std.proofs.Common.{refl, sym, ap, subst}
 use Rattle.call_context.specs.declared.node.Node.{Node}
-use Rattle.call_context.specs.declared.node.Node.TheVariants.{At, Exit}
 use Rattle.call_context.specs.declared.node.Unit.{Unit as WorkUnit}
-use Rattle.call_context.specs.declared.node.Unit.TheVariants.{One, Back}
-use Rattle.call_context.specs.Same.{same_frame}
 use Rattle.call_context.specs.SameLaws.{same_node-refl}
 use Rattle.chip_law.specs.Meaning.{Meaning}
 use Rattle.chip_law.specs.declared.chip.Work.{Work}
@@ -19,9 +13,9 @@ use Rattle.round_core.specs.Form.{AreFormed, KeepsForm, PostsAreFormed, IsOrdere
 use Rattle.round_core.specs.HeldLaws.{held_at-here}
 use Rattle.round_core.specs.RiseLaws.{IsUnder, AreUnder, AreUnder-all_raised, IsUnder-all_raised, all_raised-under}
 use Rattle.round_core.specs.EntryLaws.{out_at-all, done_at-all, all-with_done, up_to-unless_risen}
-use Rattle.round_core.specs.ReplayLaws.{IsSteady, IsSteady-replay, IsWellDone, taken, after-claim, after-post, after-give_back, inputs_of-unit}
+use Rattle.round_core.specs.ReplayLaws.{IsSteady, IsWellDone, after-claim, after-post, after-give_back, inputs_of-unit}
 use Rattle.round_core.specs.FormLaws.{IsInForm, IsInForm-after, IsInForm-opening}
-use Rattle.round_core.specs.Machine.{BookState, Held, Done, Out, held_at, done_at, out_at, all_raised, versions_of, inputs_of, opening, posted, with_done, without, after, replay_from, replay, waits_for, IsUnit, IsClaimable, IsFinished, IsClosed, IsLegal, AllLegal, IsLegalJournal, HasRisen}
+use Rattle.round_core.specs.Machine.{BookState, Held, Done, Out, done_at, out_at, all_raised, versions_of, inputs_of, opening, posted, after, replay_from, replay, IsUnit, IsFinished, IsLegal, AllLegal, IsLegalJournal, HasRisen}
 
 -- the work of a unit over the present states of its inputs
 abbrev pub IsWorkOf : {S A : Type 0} → Meaning S A → List (Held A) → WorkUnit → Work A → Type 0
@@ -39,12 +33,12 @@ done-by m b unit f s u None e =
 done-by m b unit f s u (Some d) e =
     let w = done_at-all (IsWellDone m b.nodes) b.done unit d s.done e in
     let same : versions_of b.nodes d.unit ≡ d.versions = up_to-unless_risen d.versions (versions_of b.nodes d.unit) (w.0).known
-      (λ h. f.none_claimable unit (record {
-        known = u;
-        at_home = ap (λ os. out_at os unit) f.none_out;
-        due = subst (λ w. MatchOption w (Unit {0}) (λ d. HasRisen d.versions (versions_of b.nodes unit))) (sym e)
+    (λ h. f.none_claimable unit (record {
+      known = u;
+      at_home = ap (λ os. out_at os unit) f.none_out;
+      due = subst (λ w. MatchOption w (Unit {0}) (λ d. HasRisen d.versions (versions_of b.nodes unit))) (sym e)
           (subst (λ x. HasRisen d.versions (versions_of b.nodes x)) w.1 h);
-      })) in
+    })) in
     (d, e, subst (λ x. IsWorkOf m b.nodes x d.work) w.1 ((w.0).worked same))
 
 pub finished-done : {S A : Type 0} (m : Meaning S A) (b : BookState A) (unit : WorkUnit) → IsFinished b → IsSteady m b → IsUnit b unit
@@ -62,9 +56,11 @@ all-both P Q R f (x ∷ xs) p q = (f x p.0 q.0, all-both P Q R f xs p.1 q.1)
 
 IsServed-opening : {S A : Type 0} (m : Meaning S A) (Form : Node → A → Type 0) → KeepsForm m Form → IsOrdered m Form → IsServed m (opening m)
 IsServed-opening m Form keeps o = record {
-  start = (record { node = m.first_node; state = m.first_state; rises = 1 },
+  start = (
+    record { node = m.first_node; state = m.first_state; rises = 1 },
     held_at-here (record { node = m.first_node; state = m.first_state; rises = 1 }) [] m.first_node (same_node-refl m.first_node),
-    o.itself m.first_node m.first_state keeps.start);
+    o.itself m.first_node m.first_state keeps.start,
+  );
   done = tt;
 }
 
@@ -76,10 +72,10 @@ IsServed-posted m Form keeps o b out f i s =
     record {
       start = IsUnder-all_raised m Form keeps o b.nodes work.posts (m.first_node, m.first_state) i.nodes p keeps.start s.start;
       done = all-with_done (λ d. AreUnder m (all_raised m b.nodes work.posts) d.work.posts) b.done
-        (record { unit = out.unit; work = work; versions = out.versions })
-        (all-both (λ d. PostsAreFormed Form d.work.posts) (λ d. AreUnder m b.nodes d.work.posts) (λ d. AreUnder m (all_raised m b.nodes work.posts) d.work.posts)
+          (record { unit = out.unit; work = work; versions = out.versions })
+          (all-both (λ d. PostsAreFormed Form d.work.posts) (λ d. AreUnder m b.nodes d.work.posts) (λ d. AreUnder m (all_raised m b.nodes work.posts) d.work.posts)
           (λ d g u. AreUnder-all_raised m Form keeps o b.nodes work.posts d.work.posts i.nodes p g u) b.done i.done s.done)
-        (all_raised-under m Form keeps o b.nodes work.posts i.nodes p);
+          (all_raised-under m Form keeps o b.nodes work.posts i.nodes p);
     }
 
 pub IsServed-after : {S A : Type 0} (m : Meaning S A) (Form : Node → A → Type 0) → KeepsForm m Form → IsOrdered m Form

@@ -1,7 +1,6 @@
 -- Claims, posts and give-backs of one unit take turns, and a unit is claimed anew only for inputs that rose.
-use Rattle.std.specs.Prelude.{◌≡◌, ℕ, ◌+◌, ◌<◌, ◌≤◌, ◌⊎◌, ◌&&◌, Bool, true, false, cond, Option, None, Some, List, [], ◌∷◌, ◌++◌, MatchOption, count_by}
-use Rattle.std.specs.List.{AllByRecursion}
-use Rattle.std.proofs.Common.{refl, sym, ◌∙◌, ap, ap₂, subst, inl, inr, arith}
+use Rattle.std.specs.Prelude.{◌≡◌, ℕ, ◌+◌, ◌<◌, ◌≤◌, ◌&&◌, Bool, true, false, cond, Option, None, Some, List, [], ◌∷◌, MatchOption, count_by}
+use Rattle.std.proofs.Common.{refl, sym, ◌∙◌, ap, subst, inl, inr, arith}
 use Rattle.std.proofs.lemmas.Bool.{cases_Bool}
 use Rattle.std.proofs.lemmas.Option.{same_Some}
 use Rattle.std.proofs.lemmas.List.Sums.{sum_by-cons}
@@ -18,8 +17,8 @@ use Rattle.round_core.specs.RiseLaws.{AreInBounds}
 use Rattle.round_core.specs.EntryLaws.{AreUpTo, done_at-all, out_at-all, all-any, done_at-with_done, done_at-with_done_other, out_at-without, out_at-without_other, out_at-push, out_at-push_other}
 use Rattle.round_core.specs.ReplayLaws.{IsSteady, IsSteady-after, IsSteady-replay, IsSteady-opening, IsWellOut, IsWellDone, taken, after-claim, after-post, after-give_back, inputs_of-unit}
 use Rattle.round_core.specs.FormLaws.{IsInForm, IsInForm-after, IsInForm-replay, IsInForm-opening, versions_of-most, versions_of-least}
-use Rattle.round_core.specs.Turns.{is_claim, is_post, is_give_back, anyone, outs}
-use Rattle.round_core.specs.Machine.{BookState, Held, Done, Out, done_at, out_at, versions_of, opening, posted, with_done, without, after, replay_from, replay, IsUnit, IsClaimable, IsFirst, IsLegal, AllLegal, IsLegalJournal, HasRisen}
+use Rattle.round_core.specs.Counts.{is_claim, is_post, is_give_back, anyone, outs}
+use Rattle.round_core.specs.Machine.{BookState, Done, Out, done_at, out_at, versions_of, opening, with_done, without, after, replay_from, replay, IsFirst, IsLegal, AllLegal, IsLegalJournal, HasRisen}
 
 -- the unit that an event is of
 abbrev pub unit_of : Event → WorkUnit
@@ -34,22 +33,26 @@ done_by m o = record { unit = o.unit; work = m.work o.unit o.at o.exit; versions
 -- a claim leaves its unit out
 pub after-claim_out : {S A : Type 0} (m : Meaning S A) (b : BookState A) (seat : ℕ) (unit : WorkUnit) → IsFirst b unit
     → (o : Out A) × (out_at (after m b (Claim seat unit)).out unit ≡ Some o) × (o.seat ≡ seat) × (o.versions ≡ versions_of b.nodes unit)
-      × (done_at (after m b (Claim seat unit)).done unit ≡ done_at b.done unit)
+    × (done_at (after m b (Claim seat unit)).done unit ≡ done_at b.done unit)
 after-claim_out m b seat unit f =
     let i = inputs_of-unit b unit f.claimable.known in
-    let e = after-claim m b seat unit i.0 i.1 in
-    (taken b seat unit i.0,
+    let e = after-claim m b seat unit i.0 i.1 in (
+      taken b seat unit i.0,
       ap (λ x. out_at x.out unit) e ∙ out_at-push b.out (taken b seat unit i.0) f.claimable.at_home,
-      refl, refl, ap (λ x. done_at x.done unit) e)
+      refl,
+      refl,
+      ap (λ x. done_at x.done unit) e,
+    )
 
 -- a post leaves its unit at home, with the work of what was out
 pub after-post_done : {S A : Type 0} (m : Meaning S A) (b : BookState A) (seat : ℕ) (unit : WorkUnit) (o : Out A) → IsSteady m b → out_at b.out unit ≡ Some o
     → (out_at (after m b (Post seat unit)).out unit ≡ None) × (done_at (after m b (Post seat unit)).done unit ≡ Some (done_by m o))
 after-post_done m b seat unit o s e =
     let n : o.unit ≡ unit = (out_at-all (λ x. Unit {0}) b.out unit o (all-any b.out) e).1 in
-    let p = after-post m b seat unit o e in
-    (ap (λ x. out_at x.out unit) p ∙ ap (λ u. out_at (without b.out u) unit) n ∙ out_at-without b.out unit s.once,
-      ap (λ x. done_at x.done unit) p ∙ ap (λ u. done_at (with_done b.done (done_by m o)) u) (sym n) ∙ done_at-with_done b.done (done_by m o))
+    let p = after-post m b seat unit o e in (
+      ap (λ x. out_at x.out unit) p ∙ ap (λ u. out_at (without b.out u) unit) n ∙ out_at-without b.out unit s.once,
+      ap (λ x. done_at x.done unit) p ∙ ap (λ u. done_at (with_done b.done (done_by m o)) u) (sym n) ∙ done_at-with_done b.done (done_by m o),
+    )
 
 pub after-give_back_home : {S A : Type 0} (m : Meaning S A) (b : BookState A) (seat : ℕ) (unit : WorkUnit) → IsSteady m b
     → (out_at (after m b (GiveBack seat unit)).out unit ≡ None) × (done_at (after m b (GiveBack seat unit)).done unit ≡ done_at b.done unit)
@@ -68,9 +71,10 @@ after-other m b (Post seat u) unit l ne =
     let o = l.0 in
     let n : (l.0).unit ≡ u = (out_at-all (λ x. Unit {0}) b.out u l.0 (all-any b.out) l.1).1 in
     let d : same_unit unit (l.0).unit ≡ false = subst (λ x. same_unit unit x ≡ false) (sym n) ne in
-    let p = after-post m b seat u l.0 l.1 in
-    (ap (λ x. out_at x.out unit) p ∙ out_at-without_other b.out (l.0).unit unit d,
-      ap (λ x. done_at x.done unit) p ∙ done_at-with_done_other b.done (done_by m l.0) unit d)
+    let p = after-post m b seat u l.0 l.1 in (
+      ap (λ x. out_at x.out unit) p ∙ out_at-without_other b.out (l.0).unit unit d,
+      ap (λ x. done_at x.done unit) p ∙ done_at-with_done_other b.done (done_by m l.0) unit d,
+    )
 after-other m b (GiveBack seat u) unit l ne =
     let e = after-give_back m b seat u in
     (ap (λ x. out_at x.out unit) e ∙ out_at-without_other b.out u unit ne, ap (λ x. done_at x.done unit) e)
@@ -120,14 +124,14 @@ turn-step : {S A : Type 0} (m : Meaning S A) (seats : ℕ → Bool) (unit : Work
     → Turn m seats unit b event
 turn-step m seats unit b event l s =
     elim (cases_Bool (same_unit unit (unit_of event))) [
-      inl t ↦ subst (λ u. Turn m seats u b event) (sym (same_unit-eq unit (unit_of event) t)) (turn-own m seats b event l s)
-    | inr f ↦ turn-other m seats unit b event l f
+      | inl t ↦ subst (λ u. Turn m seats u b event) (sym (same_unit-eq unit (unit_of event) t)) (turn-own m seats b event l s)
+      | inr f ↦ turn-other m seats unit b event l f
     ]
 
 -- Each claim is answered by a post or a give-back, but for a unit that is out.
 pub turns-replay_from : {S A : Type 0} (m : Meaning S A) (seats : ℕ → Bool) (unit : WorkUnit) (b : BookState A) (es : List Event) → AllLegal m b es → IsSteady m b
     → count_by (is_claim seats unit) es + outs seats (out_at b.out unit)
-      ≡ count_by (is_post seats unit) es + count_by (is_give_back seats unit) es + outs seats (out_at (replay_from m b es).out unit)
+    ≡ count_by (is_post seats unit) es + count_by (is_give_back seats unit) es + outs seats (out_at (replay_from m b es).out unit)
 unfolding replay_from AllLegal
 turns-replay_from m seats unit b [] l s = omega arith
 turns-replay_from m seats unit b (e ∷ es) l s =
@@ -140,7 +144,7 @@ turns-replay_from m seats unit b (e ∷ es) l s =
 
 pub turns-replay : {S A : Type 0} (m : Meaning S A) (seats : ℕ → Bool) (unit : WorkUnit) (journal : List Event) → IsLegalJournal m journal
     → count_by (is_claim seats unit) journal
-      ≡ count_by (is_post seats unit) journal + count_by (is_give_back seats unit) journal + outs seats (out_at (replay m journal).out unit)
+    ≡ count_by (is_post seats unit) journal + count_by (is_give_back seats unit) journal + outs seats (out_at (replay m journal).out unit)
 turns-replay m seats unit journal l = let t = turns-replay_from m seats unit (opening m) journal l (IsSteady-opening m) in omega (arith, t)
 
 -- how far a unit's inputs had risen for its last work
@@ -186,13 +190,14 @@ climb-own m Form b (Claim seat u) l s n a =
     let r = after-claim_out m b seat u l in
     let lv = ap level r.4 in
     let due : level (done_at b.done u) < (versions_of b.nodes u).at + (versions_of b.nodes u).exit =
-      due-by (versions_of b.nodes u) (done_at b.done u) (versions_of-least m Form b u n l.claimable.known) l.claimable.due
-      (λ d e. let w = done_at-all (IsWellDone m b.nodes) b.done u d s.done e in subst (λ x. AreUpTo d.versions (versions_of b.nodes x)) w.1 (w.0).known) in
-    (λ o e. let same : r.0 ≡ o = same_Some r.0 o (sym r.1 ∙ e) in
-        let va : o.versions.at ≡ (versions_of b.nodes u).at = ap (λ x. x.versions.at) (sym same) ∙ ap (λ x. x.at) r.3 in
-        let ve : o.versions.exit ≡ (versions_of b.nodes u).exit = ap (λ x. x.versions.exit) (sym same) ∙ ap (λ x. x.exit) r.3 in
-        omega (arith, lv, due, va, ve),
-      omega (arith, lv))
+    due-by (versions_of b.nodes u) (done_at b.done u) (versions_of-least m Form b u n l.claimable.known) l.claimable.due
+    (λ d e. let w = done_at-all (IsWellDone m b.nodes) b.done u d s.done e in subst (λ x. AreUpTo d.versions (versions_of b.nodes x)) w.1 (w.0).known) in (
+      λ o e. let same : r.0 ≡ o = same_Some r.0 o (sym r.1 ∙ e) in
+          let va : o.versions.at ≡ (versions_of b.nodes u).at = ap (λ x. x.versions.at) (sym same) ∙ ap (λ x. x.at) r.3 in
+          let ve : o.versions.exit ≡ (versions_of b.nodes u).exit = ap (λ x. x.versions.exit) (sym same) ∙ ap (λ x. x.exit) r.3 in
+          omega (arith, lv, due, va, ve),
+      omega (arith, lv),
+    )
 climb-own m Form b (Post seat u) l s n a =
     let r = after-post_done m b seat u l.0 s l.1 in
     let lv : level (done_at (after m b (Post seat u)).done u) ≡ (l.0).versions.at + (l.0).versions.exit = ap level r.1 in
@@ -208,16 +213,16 @@ climb-step : {S A : Type 0} (m : Meaning S A) (Form : Node → A → Type 0) (un
     → AreInBounds m Form b.nodes → IsAhead unit b → Climb m unit b event
 climb-step m Form unit b event l s n a =
     elim (cases_Bool (same_unit unit (unit_of event))) [
-      inl t ↦ let e : unit ≡ unit_of event = same_unit-eq unit (unit_of event) t in
-        subst (λ u. Climb m u b event) (sym e) (climb-own m Form b event l s n (subst (λ u. IsAhead u b) e a))
-    | inr f ↦ climb-other m unit b event l f (none-other unit event f) a
+      | inl t ↦ let e : unit ≡ unit_of event = same_unit-eq unit (unit_of event) t in
+          subst (λ u. Climb m u b event) (sym e) (climb-own m Form b event l s n (subst (λ u. IsAhead u b) e a))
+      | inr f ↦ climb-other m unit b event l f (none-other unit event f) a
     ]
 
 -- each post of a unit is of inputs that rose further
 pub climbs-replay_from : {S A : Type 0} (m : Meaning S A) (Form : Node → A → Type 0) → KeepsForm m Form → TopIsGreatest m Form
     → (unit : WorkUnit) (b : BookState A) (es : List Event) → AllLegal m b es → IsSteady m b → IsInForm m Form b → IsAhead unit b
     → IsAhead unit (replay_from m b es)
-      × (count_by (is_post anyone unit) es + level (done_at b.done unit) ≤ level (done_at (replay_from m b es).done unit))
+    × (count_by (is_post anyone unit) es + level (done_at b.done unit) ≤ level (done_at (replay_from m b es).done unit))
 unfolding replay_from AllLegal
 climbs-replay_from m Form keeps top unit b [] l s i a = (a, omega arith)
 climbs-replay_from m Form keeps top unit b (e ∷ es) l s i a =
