@@ -267,3 +267,12 @@ inputs_of-same hs ls (Back node exit) inputs s e v =
     let l = state-later hs ls node r.0 s r.2 (ap (λ x. x.at) v) in
     let k = state-later hs ls exit r.1 s r.3 (ap (λ x. x.exit) v) in
     inputs_of-found ls node exit l.0 k.0 l.1 k.1 ∙ ap₂ (λ a b. Some (a, Some b)) l.2 k.2 ∙ ap (λ x. Some x) (sym r.4)
+
+-- the work of a unit that was never done comes behind the others
+pub with_done-new : {A : Type 0} (ds : List (Done A)) (new : Done A) → done_at ds new.unit ≡ None → with_done ds new ≡ ds ++ new ∷ []
+with_done-new [] new e = refl
+with_done-new (d ∷ ds) new e =
+    elim (cases_Bool (same_unit new.unit d.unit)) [
+      inl t ↦ absurd (let s : None ≡ Some d = sym e ∙ done_at-here d ds new.unit t in cc)
+    | inr f ↦ with_done-there d ds new f ∙ ap (λ l. d ∷ l) (with_done-new ds new (sym (done_at-there d ds new.unit f) ∙ e))
+    ]

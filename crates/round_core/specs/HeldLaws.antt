@@ -1,7 +1,8 @@
 -- Nodes with their states under posts: each stays in its place, and its rises never fall.
-use Rattle.std.specs.Prelude.{◌≡◌, ℕ, ◌+◌, ◌≤◌, true, false, Option, None, Some, List, [], ◌∷◌, if◌then◌else◌, unwrap_or}
+use Rattle.std.specs.Prelude.{◌≡◌, ℕ, ◌+◌, ◌≤◌, true, false, Option, None, Some, List, [], ◌∷◌, if◌then◌else◌, unwrap_or, ◌++◌, slice_set}
+use Rattle.std.specs.List.{AllByRecursion, slice_get}
 use Rattle.std.specs.Option.{option_map}
-use Rattle.std.proofs.Common.{refl, sym, ◌∙◌, ap, subst, inl, inr, arith}
+use Rattle.std.proofs.Common.{refl, sym, ◌∙◌, ap, subst, inl, inr, arith, add-one}
 use Rattle.std.proofs.lemmas.Option.{same_Some}
 use Rattle.std.proofs.lemmas.Bool.{cases_Bool, cond-true, cond-false, false_from_ne_true, false≢true}
 use Rattle.call_context.specs.declared.node.Node.{Node}
@@ -253,3 +254,57 @@ AreApart-raised m (h ∷ hs) post a =
 pub AreApart-all_raised : {S A : Type 0} (m : Meaning S A) (hs : List (Held A)) (posts : List (Node × A)) → AreApart hs → AreApart (all_raised m hs posts)
 AreApart-all_raised m hs [] a = a
 AreApart-all_raised m hs (post ∷ posts) a = AreApart-all_raised m (raised m hs post) posts (AreApart-raised m hs post a)
+
+-- what holds of each entry holds of the one that is found
+pub held_at-all : {A : Type 0} (P : Held A → Type 0) (hs : List (Held A)) (node : Node) (h : Held A) → AllByRecursion P hs → held_at hs node ≡ Some h → P h
+held_at-all P [] node h a e = absurd (cc)
+held_at-all P (k ∷ hs) node h a e =
+    elim (cases_Bool (same_node node k.node)) [
+      inl t ↦ subst P (same_Some k h (sym (held_at-here k hs node t) ∙ e)) a.0
+    | inr f ↦ held_at-all P hs node h a.1 (sym (held_at-there k hs node f) ∙ e)
+    ]
+
+-- a node that is not there has no place
+pub place_of-none : {A : Type 0} (hs : List (Held A)) (node : Node) → held_at hs node ≡ None → place_of hs node ≡ None
+place_of-none [] node e = refl
+place_of-none (k ∷ hs) node e =
+    elim (cases_Bool (same_node node k.node)) [
+      inl t ↦ absurd (let s : None ≡ Some k = sym e ∙ held_at-here k hs node t in cc)
+    | inr f ↦ place_of-there k hs node f
+        ∙ ap (λ o. option_map (λ place. place + 1) o) (place_of-none hs node (sym (held_at-there k hs node f) ∙ e))
+    ]
+
+-- the entry at a node's place is the node's
+pub slice_get-place : {A : Type 0} (hs : List (Held A)) (node : Node) (p : ℕ) → place_of hs node ≡ Some p → slice_get hs p ≡ held_at hs node
+slice_get-place [] node p e = absurd (cc)
+slice_get-place (k ∷ hs) node p e =
+    elim (cases_Bool (same_node node k.node)) [
+      inl t ↦ let z : 0 ≡ p = same_Some 0 p (sym (place_of-here k hs node t) ∙ e) in
+        ap (λ i. slice_get (k ∷ hs) i) (sym z) ∙ sym (held_at-here k hs node t)
+    | inr f ↦ let q = option_map-some (λ place. place + 1) (place_of hs node) p (sym (place_of-there k hs node f) ∙ e) in
+        ap (λ i. slice_get (k ∷ hs) i) (sym (sym (add-one q.0) ∙ q.2)) ∙ slice_get-place hs node q.0 q.1 ∙ sym (held_at-there k hs node f)
+    ]
+
+-- a post of a new node puts it behind the others
+pub raised-new : {S A : Type 0} (m : Meaning S A) (hs : List (Held A)) (post : Node × A) → held_at hs post.0 ≡ None
+    → raised m hs post ≡ hs ++ entry_after m None post ∷ []
+raised-new m [] post e = refl
+raised-new m (h ∷ hs) post e =
+    elim (cases_Bool (same_node post.0 h.node)) [
+      inl t ↦ absurd (let s : None ≡ Some h = sym e ∙ held_at-here h hs post.0 t in cc)
+    | inr f ↦ raised-there m h hs post f ∙ ap (λ l. h ∷ l) (raised-new m hs post (sym (held_at-there h hs post.0 f) ∙ e))
+    ]
+
+-- a post of a node that is there changes the entry at its place
+pub raised-at : {S A : Type 0} (m : Meaning S A) (hs : List (Held A)) (post : Node × A) (p : ℕ) (h : Held A) → place_of hs post.0 ≡ Some p
+    → held_at hs post.0 ≡ Some h → raised m hs post ≡ slice_set hs p (risen m h post.1)
+raised-at m [] post p h e d = absurd (cc)
+raised-at m (k ∷ hs) post p h e d =
+    elim (cases_Bool (same_node post.0 k.node)) [
+      inl t ↦ let z : 0 ≡ p = same_Some 0 p (sym (place_of-here k hs post.0 t) ∙ e) in
+        let s : k ≡ h = same_Some k h (sym (held_at-here k hs post.0 t) ∙ d) in
+        raised-here m k hs post t ∙ ap (λ x. risen m x post.1 ∷ hs) s ∙ ap (λ i. slice_set (k ∷ hs) i (risen m h post.1)) z
+    | inr f ↦ let q = option_map-some (λ place. place + 1) (place_of hs post.0) p (sym (place_of-there k hs post.0 f) ∙ e) in
+        raised-there m k hs post f ∙ ap (λ l. k ∷ l) (raised-at m hs post q.0 h q.1 (sym (held_at-there k hs post.0 f) ∙ d))
+        ∙ ap (λ i. slice_set (k ∷ hs) i (risen m h post.1)) (sym (add-one q.0) ∙ q.2)
+    ]
