@@ -273,6 +273,6 @@ pub with_done-new : {A : Type 0} (ds : List (Done A)) (new : Done A) → done_at
 with_done-new [] new e = refl
 with_done-new (d ∷ ds) new e =
     elim (cases_Bool (same_unit new.unit d.unit)) [
-      inl t ↦ absurd (let s : None ≡ Some d = sym e ∙ done_at-here d ds new.unit t in cc)
-    | inr f ↦ with_done-there d ds new f ∙ ap (λ l. d ∷ l) (with_done-new ds new (sym (done_at-there d ds new.unit f) ∙ e))
+      | inl t ↦ absurd (let s : None ≡ Some d = sym e ∙ done_at-here d ds new.unit t in cc)
+      | inr f ↦ with_done-there d ds new f ∙ ap (λ l. d ∷ l) (with_done-new ds new (sym (done_at-there d ds new.unit f) ∙ e))
     ]

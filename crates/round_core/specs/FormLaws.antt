@@ -98,14 +98,3 @@ pub versions_of-most : {S A : Type 0} (m : Meaning S A) (Form : Node → A → T
     → ((versions_of hs unit).at ≤ 64) × ((versions_of hs unit).exit ≤ 64)
 versions_of-most m Form hs (One node) a = (version_of-most m Form hs node a, omega arith)
 versions_of-most m Form hs (Back node exit) a = (version_of-most m Form hs node a, version_of-most m Form hs exit a)
-
--- a unit's node has risen
-pub versions_of-least : {S A : Type 0} (m : Meaning S A) (Form : Node → A → Type 0) (b : BookState A) (unit : WorkUnit) → AreInBounds m Form b.nodes
-    → IsUnit b unit → 1 ≤ (versions_of b.nodes unit).at
-versions_of-least m Form b (One (At pc calls frame)) a u =
-    let v = version_of-held b.nodes (At pc calls frame) u.0 u.1 in let i = (held_at-in_bounds m Form b.nodes (At pc calls frame) u.0 a u.1).least in omega (arith, v, i)
-versions_of-least m Form b (One (Exit pc frame)) a u = absurd u
-versions_of-least m Form b (Back (At pc calls frame) (Exit from left)) a u =
-    let v = version_of-held b.nodes (At pc calls frame) u.0 u.2 in let i = (held_at-in_bounds m Form b.nodes (At pc calls frame) u.0 a u.2).least in omega (arith, v, i)
-versions_of-least m Form b (Back (At pc calls frame) (At from calls' frame')) a u = absurd u
-versions_of-least m Form b (Back (Exit pc frame) exit) a u = absurd u

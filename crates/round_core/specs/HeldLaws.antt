@@ -260,8 +260,8 @@ pub held_at-all : {A : Type 0} (P : Held A → Type 0) (hs : List (Held A)) (nod
 held_at-all P [] node h a e = absurd (cc)
 held_at-all P (k ∷ hs) node h a e =
     elim (cases_Bool (same_node node k.node)) [
-      inl t ↦ subst P (same_Some k h (sym (held_at-here k hs node t) ∙ e)) a.0
-    | inr f ↦ held_at-all P hs node h a.1 (sym (held_at-there k hs node f) ∙ e)
+      | inl t ↦ subst P (same_Some k h (sym (held_at-here k hs node t) ∙ e)) a.0
+      | inr f ↦ held_at-all P hs node h a.1 (sym (held_at-there k hs node f) ∙ e)
     ]
 
 -- a node that is not there has no place
@@ -269,9 +269,9 @@ pub place_of-none : {A : Type 0} (hs : List (Held A)) (node : Node) → held_at 
 place_of-none [] node e = refl
 place_of-none (k ∷ hs) node e =
     elim (cases_Bool (same_node node k.node)) [
-      inl t ↦ absurd (let s : None ≡ Some k = sym e ∙ held_at-here k hs node t in cc)
-    | inr f ↦ place_of-there k hs node f
-        ∙ ap (λ o. option_map (λ place. place + 1) o) (place_of-none hs node (sym (held_at-there k hs node f) ∙ e))
+      | inl t ↦ absurd (let s : None ≡ Some k = sym e ∙ held_at-here k hs node t in cc)
+      | inr f ↦ place_of-there k hs node f
+          ∙ ap (λ o. option_map (λ place. place + 1) o) (place_of-none hs node (sym (held_at-there k hs node f) ∙ e))
     ]
 
 -- the entry at a node's place is the node's
@@ -279,10 +279,10 @@ pub slice_get-place : {A : Type 0} (hs : List (Held A)) (node : Node) (p : ℕ) 
 slice_get-place [] node p e = absurd (cc)
 slice_get-place (k ∷ hs) node p e =
     elim (cases_Bool (same_node node k.node)) [
-      inl t ↦ let z : 0 ≡ p = same_Some 0 p (sym (place_of-here k hs node t) ∙ e) in
-        ap (λ i. slice_get (k ∷ hs) i) (sym z) ∙ sym (held_at-here k hs node t)
-    | inr f ↦ let q = option_map-some (λ place. place + 1) (place_of hs node) p (sym (place_of-there k hs node f) ∙ e) in
-        ap (λ i. slice_get (k ∷ hs) i) (sym (sym (add-one q.0) ∙ q.2)) ∙ slice_get-place hs node q.0 q.1 ∙ sym (held_at-there k hs node f)
+      | inl t ↦ let z : 0 ≡ p = same_Some 0 p (sym (place_of-here k hs node t) ∙ e) in
+          ap (λ i. slice_get (k ∷ hs) i) (sym z) ∙ sym (held_at-here k hs node t)
+      | inr f ↦ let q = option_map-some (λ place. place + 1) (place_of hs node) p (sym (place_of-there k hs node f) ∙ e) in
+          ap (λ i. slice_get (k ∷ hs) i) (sym (sym (add-one q.0) ∙ q.2)) ∙ slice_get-place hs node q.0 q.1 ∙ sym (held_at-there k hs node f)
     ]
 
 -- a post of a new node puts it behind the others
@@ -291,8 +291,8 @@ pub raised-new : {S A : Type 0} (m : Meaning S A) (hs : List (Held A)) (post : N
 raised-new m [] post e = refl
 raised-new m (h ∷ hs) post e =
     elim (cases_Bool (same_node post.0 h.node)) [
-      inl t ↦ absurd (let s : None ≡ Some h = sym e ∙ held_at-here h hs post.0 t in cc)
-    | inr f ↦ raised-there m h hs post f ∙ ap (λ l. h ∷ l) (raised-new m hs post (sym (held_at-there h hs post.0 f) ∙ e))
+      | inl t ↦ absurd (let s : None ≡ Some h = sym e ∙ held_at-here h hs post.0 t in cc)
+      | inr f ↦ raised-there m h hs post f ∙ ap (λ l. h ∷ l) (raised-new m hs post (sym (held_at-there h hs post.0 f) ∙ e))
     ]
 
 -- a post of a node that is there changes the entry at its place
@@ -301,10 +301,10 @@ pub raised-at : {S A : Type 0} (m : Meaning S A) (hs : List (Held A)) (post : No
 raised-at m [] post p h e d = absurd (cc)
 raised-at m (k ∷ hs) post p h e d =
     elim (cases_Bool (same_node post.0 k.node)) [
-      inl t ↦ let z : 0 ≡ p = same_Some 0 p (sym (place_of-here k hs post.0 t) ∙ e) in
-        let s : k ≡ h = same_Some k h (sym (held_at-here k hs post.0 t) ∙ d) in
-        raised-here m k hs post t ∙ ap (λ x. risen m x post.1 ∷ hs) s ∙ ap (λ i. slice_set (k ∷ hs) i (risen m h post.1)) z
-    | inr f ↦ let q = option_map-some (λ place. place + 1) (place_of hs post.0) p (sym (place_of-there k hs post.0 f) ∙ e) in
-        raised-there m k hs post f ∙ ap (λ l. k ∷ l) (raised-at m hs post q.0 h q.1 (sym (held_at-there k hs post.0 f) ∙ d))
-        ∙ ap (λ i. slice_set (k ∷ hs) i (risen m h post.1)) (sym (add-one q.0) ∙ q.2)
+      | inl t ↦ let z : 0 ≡ p = same_Some 0 p (sym (place_of-here k hs post.0 t) ∙ e) in
+          let s : k ≡ h = same_Some k h (sym (held_at-here k hs post.0 t) ∙ d) in
+          raised-here m k hs post t ∙ ap (λ x. risen m x post.1 ∷ hs) s ∙ ap (λ i. slice_set (k ∷ hs) i (risen m h post.1)) z
+      | inr f ↦ let q = option_map-some (λ place. place + 1) (place_of hs post.0) p (sym (place_of-there k hs post.0 f) ∙ e) in
+          raised-there m k hs post f ∙ ap (λ l. k ∷ l) (raised-at m hs post q.0 h q.1 (sym (held_at-there k hs post.0 f) ∙ d))
+          ∙ ap (λ i. slice_set (k ∷ hs) i (risen m h post.1)) (sym (add-one q.0) ∙ q.2)
     ]

@@ -12,9 +12,9 @@ use Rattle.call_context.specs.Same.{same_node}
 use Rattle.chip_law.specs.Meaning.{Meaning}
 use Rattle.round_core.specs.declared.event.Event.{Event}
 use Rattle.round_core.specs.declared.event.Event.TheVariants.{Claim, Post, GiveBack}
-use Rattle.round_core.specs.HeldLaws.{AllStay, AllStay-refl, AllStay-trans, AllStay-all_raised, AreApart, AreApart-all_raised, place_of-held, place_of-one, Stays-risen, raised-here, raised-there}
+use Rattle.round_core.specs.HeldLaws.{AllStay, AllStay-refl, AllStay-trans, AllStay-all_raised, AreApart, AreApart-all_raised, place_of-held, place_of-one, Stays-risen, raised-here, raised-there, held_at-all, version_of-held}
 use Rattle.round_core.specs.EntryLaws.{AreOutOnce, AreOutOnce-push, AreOutOnce-without, AreUpTo, AreUpTo-refl, AreUpTo-trans, versions-between, versions_of-later, inputs_of-found, inputs_of-later, inputs_of-same, out_at-all, all-map, all-push, all-with_done, all-without}
-use Rattle.round_core.specs.Machine.{BookState, Held, Done, Out, out_at, place_of, versions_of, inputs_of, opening, posted, risen, raised, all_raised, with_out, without, after, replay_from, replay, IsUnit, IsFirst, IsBelow, ComesBefore, IsLegal, AllLegal, IsLegalJournal, IsFinished}
+use Rattle.round_core.specs.Machine.{BookState, Held, Done, Out, out_at, held_at, place_of, version_of, versions_of, inputs_of, opening, posted, risen, raised, all_raised, with_out, without, after, replay_from, replay, IsUnit, IsFirst, IsBelow, ComesBefore, IsLegal, AllLegal, IsLegalJournal, IsFinished}
 
 -- the replay of a journal in two parts
 pub replay_from-append : {S A : Type 0} (m : Meaning S A) (b : BookState A) (es fs : List Event)
@@ -299,3 +299,17 @@ AreRisen-after m b (GiveBack seat unit) a = a
 pub AreRisen-replay : {S A : Type 0} (m : Meaning S A) (journal : List Event) → IsLegalJournal m journal → AreRisen (replay m journal).nodes
 AreRisen-replay m journal l =
     replay_from-keeps m (λ b. AreRisen b.nodes) (λ b event e a. AreRisen-after m b event a) (opening m) journal l (omega arith, tt)
+
+-- by the entry of the node
+least-by : {A : Type 0} (hs : List (Held A)) (node : Node) (h : Held A) → AreRisen hs → held_at hs node ≡ Some h → 1 ≤ version_of hs node
+least-by hs node h a e =
+    let v = version_of-held hs node h e in
+    let i : 1 ≤ h.rises = held_at-all (λ x. 1 ≤ x.rises) hs node h a e in omega (arith, v, i)
+
+-- a unit's node has risen
+pub versions_of-least : {A : Type 0} (b : BookState A) (unit : WorkUnit) → AreRisen b.nodes → IsUnit b unit → 1 ≤ (versions_of b.nodes unit).at
+versions_of-least b (One (At pc calls frame)) a u = least-by b.nodes (At pc calls frame) u.0 a u.1
+versions_of-least b (One (Exit pc frame)) a u = absurd u
+versions_of-least b (Back (At pc calls frame) (Exit from left)) a u = least-by b.nodes (At pc calls frame) u.0 a u.2
+versions_of-least b (Back (At pc calls frame) (At from calls' frame')) a u = absurd u
+versions_of-least b (Back (Exit pc frame) exit) a u = absurd u

@@ -3,14 +3,13 @@ use Rattle.std.specs.Prelude.{◌≡◌, ℕ, ◌+◌, ◌≤◌, nat_le, Bool, 
 use Rattle.std.specs.List.{AllByRecursion}
 use Rattle.std.proofs.Common.{refl, sym, ◌∙◌, ap, subst, inl, inr, arith}
 use Rattle.std.proofs.lemmas.Bool.{cases_Bool, cond-true, cond-false, false≢true, cond_both, cases_lt}
-use Rattle.std.proofs.lemmas.Option.{same_Some}
 use Rattle.call_context.specs.declared.node.Node.{Node}
 use Rattle.call_context.specs.Same.{same_node}
 use Rattle.call_context.specs.SameLaws.{same_node-eq}
 use Rattle.chip_law.specs.Meaning.{Meaning}
 use Rattle.round_core.specs.Form.{KeepsForm, TopIsGreatest, PostsAreFormed, IsOrdered}
 use Rattle.round_core.specs.Machine.{Held, held_at, risen_state, risen, raised, all_raised}
-use Rattle.round_core.specs.HeldLaws.{held_at-here, held_at-there, held_at-node, held_at-raised, held_at-raised_other, raised-here, raised-there, entry_after, Stays-risen}
+use Rattle.round_core.specs.HeldLaws.{held_at-all, held_at-node, held_at-raised, held_at-raised_other, raised-here, raised-there, entry_after, Stays-risen}
 
 -- an entry whose rises are in bounds, with a state of the form
 pub record IsInBounds {S A : Type 0} (m : Meaning S A) (Form : Node → A → Type 0) (h : Held A) : Type 0 where
@@ -24,12 +23,7 @@ AreInBounds m Form nodes = AllByRecursion (IsInBounds m Form) nodes
 
 pub held_at-in_bounds : {S A : Type 0} (m : Meaning S A) (Form : Node → A → Type 0) (hs : List (Held A)) (node : Node) (h : Held A)
     → AreInBounds m Form hs → held_at hs node ≡ Some h → IsInBounds m Form h
-held_at-in_bounds m Form [] node h a e = absurd (cc)
-held_at-in_bounds m Form (k ∷ hs) node h a e =
-    elim (cases_Bool (same_node node k.node)) [
-      | inl t ↦ subst (λ x. IsInBounds m Form x) (same_Some k h (sym (held_at-here k hs node t) ∙ e)) a.0
-      | inr f ↦ held_at-in_bounds m Form hs node h a.1 (sym (held_at-there k hs node f) ∙ e)
-    ]
+held_at-in_bounds m Form hs node h a e = held_at-all (IsInBounds m Form) hs node h a e
 
 risen-within : {S A : Type 0} (m : Meaning S A) (h : Held A) (posted : A) → m.within posted h.state ≡ true → risen m h posted ≡ h
 risen-within m h posted e = cond-true _ _ _ e

@@ -6,10 +6,11 @@ ghost use Rattle.std.specs.List.{AllByRecursion};
 ghost use Rattle.call_context.specs.declared.node.Node.{Node as ANode};
 ghost use Rattle.call_context.specs.declared.node.Unit.{Unit as AUnit};
 ghost use Rattle.round_core.specs.declared.event.Event.{Event as AnEvent};
+ghost use Rattle.round_core.specs.declared.event.Event.TheVariants.{Post, GiveBack};
 ghost use Rattle.round_core.specs.EntryLaws.{AreOutOnce};
 ghost use Rattle.round_core.specs.Form.{Passes, KeepsForm, TopIsGreatest, IsOrdered};
 ghost use Rattle.round_core.specs.HeldLaws.{AreApart};
-ghost use Rattle.round_core.specs.Machine.{BookState, Held, Done, held_at, done_at, out_at, place_of, version_of, IsFirst, IsUnit, IsFinished, IsClosed, IsLegal, IsLegalJournal, replay};
+ghost use Rattle.round_core.specs.Machine.{BookState, Held, Done, Out, versions_of, HasRisen, IsClaimable, held_at, done_at, out_at, place_of, version_of, IsFirst, IsUnit, IsFinished, IsClosed, IsLegal, IsLegalJournal, replay};
 ghost use Rattle.round_core.specs.RiseLaws.{IsUnder};
 ghost use Rattle.round_core.specs.Table.{table_of, IsClosedTable};
 ghost use Rattle.round_core.specs.Counts.{anyone, outs, claims_of, posts_of, give_backs_of, claims_by, posts_by, give_backs_by};
@@ -66,4 +67,11 @@ pub fn finished_is_a_fixpoint<C: Chip>()
 /// The table of a closed book is closed, where within orders the states.
 pub fn closed_book_has_closed_table<C: Chip>()
     ensures { (base : C.Base) (form : ANode → C.Abs → Bool) (journal : List AnEvent) → KeepsForm (C.meaning base) (Passes form) → IsOrdered (C.meaning base) (Passes form) → IsLegalJournal (C.meaning base) journal → IsClosed (replay (C.meaning base) journal) → IsClosedTable (C.meaning base) (table_of (replay (C.meaning base) journal).nodes) }
+{}
+
+/// A unit that was out can be claimed anew, where it still is a unit of the book: behind a post if an input rose since
+/// the claim, and behind a give-back in any case.
+pub fn units_come_again<C: Chip>()
+    ensures posted { (base : C.Base) (journal : List AnEvent) (seat : ℕ) (unit : AUnit) (o : Out C.Abs) → IsLegalJournal (C.meaning base) journal → out_at (replay (C.meaning base) journal).out unit ≡ Some o → (let later = replay (C.meaning base) (journal ++ Post seat unit ∷ []) in IsUnit later unit → HasRisen o.versions (versions_of later.nodes unit) → IsClaimable later unit) }
+    ensures given_back { (base : C.Base) (journal : List AnEvent) (seat : ℕ) (unit : AUnit) (o : Out C.Abs) → IsLegalJournal (C.meaning base) journal → out_at (replay (C.meaning base) journal).out unit ≡ Some o → (let later = replay (C.meaning base) (journal ++ GiveBack seat unit ∷ []) in IsUnit later unit → IsClaimable later unit) }
 {}
