@@ -78,3 +78,28 @@ closed-table m b c s v = record {
       subst (λ w. AllByRecursion (IsHeldIn m (table_of b.nodes)) w.posts) d.2
       (all-map (IsUnder m b.nodes) (IsHeldIn m (table_of b.nodes)) (held-in m b.nodes) (d.0).work.posts (finished-under m b unit d.0 v d.1));
 }
+
+-- A unit of the table is one of the finished book, whose last work is the work over the table's states,
+pub table-unit : {S A : Type 0} (m : Meaning S A) (b : BookState A) → IsFinished b → IsSteady m b → (unit : WorkUnit) (at : A) (exit : Option A)
+    → IsUnitOver m (table_of b.nodes) unit at exit → IsUnit b unit × ((d : Done A) × (done_at b.done unit ≡ Some d) × (d.work ≡ m.work unit at exit))
+table-unit m b f s unit at exit o =
+    let u = unit-of_table m b f s unit at exit o in (u.0, work-present m b f s unit at exit u.0 u.1)
+
+-- and a unit of the finished book is one of the table.
+pub book-unit : {S A : Type 0} (m : Meaning S A) (b : BookState A) → IsFinished b → IsSteady m b → (unit : WorkUnit) → IsUnit b unit
+    → (at : A) × (exit : Option A) × IsUnitOver m (table_of b.nodes) unit at exit
+book-unit m b f s (One (At pc calls frame)) u = ((u.0).state, None, ap (λ o. option_map (λ h. h.state) o) u.1)
+book-unit m b f s (One (Exit pc frame)) u = absurd u
+book-unit m b f s (Back (At pc calls frame) (Exit from left)) u =
+    let d = waits-present m b f s (At pc calls frame) u.0 (u.0, u.2) u.2 in (
+      (u.0).state,
+      Some (u.1).state,
+      (
+        ap (λ o. option_map (λ h. h.state) o) u.2,
+        ap (λ o. option_map (λ h. h.state) o) u.3,
+        ap (λ w. list_any (same_frame left) w.waits) (sym d.2)
+            ∙ sym (ap (λ w. unwrap_or (option_map (λ k. list_any (same_frame left) k.work.waits) w) false) d.1) ∙ u.4,
+      ),
+    )
+book-unit m b f s (Back (At pc calls frame) (At from calls' frame')) u = absurd u
+book-unit m b f s (Back (Exit pc frame) exit) u = absurd u

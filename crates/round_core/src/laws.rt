@@ -1,7 +1,7 @@
 //! Laws of the book, as functions that do nothing: they hold of every legal journal, whatever the chip means. Where a
 //! law asks something of the chip, `form` tells which states may stand at a node.
 
-ghost use Rattle.std.specs.Prelude.{◌≡◌, ◌+◌, ◌≤◌, ◌==◌, ℕ, Bool, List, ◌∷◌, [], ◌++◌, Some};
+ghost use Rattle.std.specs.Prelude.{◌≡◌, ◌+◌, ◌≤◌, ◌==◌, ℕ, Bool, Option, List, ◌∷◌, [], ◌++◌, Some};
 ghost use Rattle.std.specs.List.{AllByRecursion};
 ghost use Rattle.call_context.specs.declared.node.Node.{Node as ANode};
 ghost use Rattle.call_context.specs.declared.node.Unit.{Unit as AUnit};
@@ -12,7 +12,7 @@ ghost use Rattle.round_core.specs.Form.{Passes, KeepsForm, TopIsGreatest, IsOrde
 ghost use Rattle.round_core.specs.HeldLaws.{AreApart};
 ghost use Rattle.round_core.specs.Machine.{BookState, Held, Done, Out, versions_of, HasRisen, IsClaimable, held_at, done_at, out_at, place_of, version_of, IsFirst, IsUnit, IsFinished, IsClosed, IsLegal, IsLegalJournal, replay};
 ghost use Rattle.round_core.specs.RiseLaws.{IsUnder};
-ghost use Rattle.round_core.specs.Table.{table_of, IsClosedTable};
+ghost use Rattle.round_core.specs.Table.{table_of, IsUnitOver, IsClosedTable};
 ghost use Rattle.round_core.specs.Counts.{anyone, outs, claims_of, posts_of, give_backs_of, claims_by, posts_by, give_backs_by};
 ghost use Rattle.round_core.specs.WorkLaws.{IsWorkOf};
 
@@ -62,6 +62,13 @@ pub fn finished_is_a_fixpoint<C: Chip>()
     ensures works { (base : C.Base) (journal : List AnEvent) (unit : AUnit) → IsLegalJournal (C.meaning base) journal → IsFinished (replay (C.meaning base) journal) → IsUnit (replay (C.meaning base) journal) unit → (d : Done C.Abs) × (done_at (replay (C.meaning base) journal).done unit ≡ Some d) × IsWorkOf (C.meaning base) (replay (C.meaning base) journal).nodes unit d.work }
     ensures posts { (base : C.Base) (form : ANode → C.Abs → Bool) (journal : List AnEvent) (unit : AUnit) (d : Done C.Abs) → KeepsForm (C.meaning base) (Passes form) → IsOrdered (C.meaning base) (Passes form) → IsLegalJournal (C.meaning base) journal → done_at (replay (C.meaning base) journal).done unit ≡ Some d → AllByRecursion (IsUnder (C.meaning base) (replay (C.meaning base) journal).nodes) d.work.posts }
     ensures start { (base : C.Base) (form : ANode → C.Abs → Bool) (journal : List AnEvent) → KeepsForm (C.meaning base) (Passes form) → IsOrdered (C.meaning base) (Passes form) → IsLegalJournal (C.meaning base) journal → IsUnder (C.meaning base) (replay (C.meaning base) journal).nodes ((C.meaning base).first_node, (C.meaning base).first_state) }
+{}
+
+/// The units of a finished book are those of its table, and their last works are the works over the table's states.
+pub fn finished_book_is_its_table<C: Chip>()
+    ensures units { (base : C.Base) (journal : List AnEvent) (unit : AUnit) → IsLegalJournal (C.meaning base) journal → IsFinished (replay (C.meaning base) journal) → IsUnit (replay (C.meaning base) journal) unit → (at : C.Abs) × (exit : Option C.Abs) × IsUnitOver (C.meaning base) (table_of (replay (C.meaning base) journal).nodes) unit at exit }
+    ensures known { (base : C.Base) (journal : List AnEvent) (unit : AUnit) (at : C.Abs) (exit : Option C.Abs) → IsLegalJournal (C.meaning base) journal → IsFinished (replay (C.meaning base) journal) → IsUnitOver (C.meaning base) (table_of (replay (C.meaning base) journal).nodes) unit at exit → IsUnit (replay (C.meaning base) journal) unit }
+    ensures works { (base : C.Base) (journal : List AnEvent) (unit : AUnit) (at : C.Abs) (exit : Option C.Abs) → IsLegalJournal (C.meaning base) journal → IsFinished (replay (C.meaning base) journal) → IsUnitOver (C.meaning base) (table_of (replay (C.meaning base) journal).nodes) unit at exit → (d : Done C.Abs) × (done_at (replay (C.meaning base) journal).done unit ≡ Some d) × (d.work ≡ (C.meaning base).work unit at exit) }
 {}
 
 /// The table of a closed book is closed, where within orders the states.
