@@ -12,6 +12,7 @@ use Rattle.call_context.specs.Same.{same_unit}
 use Rattle.call_context.specs.SameLaws.{same_unit-refl, same_unit-eq}
 use Rattle.round_core.specs.declared.versions.Versions.{Versions}
 use Rattle.round_core.specs.HeldLaws.{AllStay, held_at-later, version_of-later, state-later, option_map-some}
+use Rattle.round_core.specs.Counts.{AreOutOnce}
 use Rattle.round_core.specs.Machine.{Held, Done, Out, held_at, done_at, out_at, with_done, without, versions_of, inputs_of, HasRisen}
 
 pub same_unit-turned : (a b : WorkUnit) → same_unit a b ≡ false → same_unit b a ≡ false
@@ -115,11 +116,6 @@ done_at-with_done_other (d ∷ ds) new unit ne =
         | inr g ↦ done_at-there d (with_done ds new) unit g ∙ done_at-with_done_other ds new unit ne ∙ sym (done_at-there d ds unit g)
       ]
     ]
-
--- no unit is out twice
-abbrev pub AreOutOnce : {A : Type 0} → List (Out A) → Type 0
-AreOutOnce [] = Unit {0}
-AreOutOnce (o ∷ os) = (out_at os o.unit ≡ None) × AreOutOnce os
 
 pub out_at-without_other : {A : Type 0} (os : List (Out A)) (gone unit : WorkUnit) → same_unit unit gone ≡ false → out_at (without os gone) unit ≡ out_at os unit
 out_at-without_other [] gone unit ne = refl

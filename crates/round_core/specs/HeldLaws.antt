@@ -9,6 +9,7 @@ use Rattle.call_context.specs.declared.node.Node.{Node}
 use Rattle.call_context.specs.Same.{same_node}
 use Rattle.call_context.specs.SameLaws.{same_node-refl, same_node-eq}
 use Rattle.chip_law.specs.Meaning.{Meaning}
+use Rattle.round_core.specs.Counts.{AreApart}
 use Rattle.round_core.specs.Machine.{Held, held_at, place_of, version_of, risen_state, risen, raised, all_raised}
 
 -- A node stays: its rises don't fall, and its state is the same until it rises.
@@ -235,11 +236,6 @@ held_at-raised m (h ∷ hs) post =
       | inr f ↦ ap (λ l. held_at l post.0) (raised-there m h hs post f) ∙ held_at-there h (raised m hs post) post.0 f
           ∙ held_at-raised m hs post ∙ ap (λ o. Some (entry_after m o post)) (sym (held_at-there h hs post.0 f))
     ]
-
--- no two nodes are one
-abbrev pub AreApart : {A : Type 0} → List (Held A) → Type 0
-AreApart [] = Unit {0}
-AreApart (h ∷ hs) = (held_at hs h.node ≡ None) × AreApart hs
 
 -- a post makes no second entry of a node
 pub AreApart-raised : {S A : Type 0} (m : Meaning S A) (hs : List (Held A)) (post : Node × A) → AreApart hs → AreApart (raised m hs post)

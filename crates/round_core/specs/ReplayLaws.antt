@@ -12,8 +12,9 @@ use Rattle.call_context.specs.Same.{same_node}
 use Rattle.chip_law.specs.Meaning.{Meaning}
 use Rattle.round_core.specs.declared.event.Event.{Event}
 use Rattle.round_core.specs.declared.event.Event.TheVariants.{Claim, Post, GiveBack}
-use Rattle.round_core.specs.HeldLaws.{AllStay, AllStay-refl, AllStay-trans, AllStay-all_raised, AreApart, AreApart-all_raised, place_of-held, place_of-one, Stays-risen, raised-here, raised-there, held_at-all, version_of-held}
-use Rattle.round_core.specs.EntryLaws.{AreOutOnce, AreOutOnce-push, AreOutOnce-without, AreUpTo, AreUpTo-refl, AreUpTo-trans, versions-between, versions_of-later, inputs_of-found, inputs_of-later, inputs_of-same, out_at-all, all-map, all-push, all-with_done, all-without}
+use Rattle.round_core.specs.HeldLaws.{AllStay, AllStay-refl, AllStay-trans, AllStay-all_raised, AreApart-all_raised, place_of-held, place_of-one, Stays-risen, raised-here, raised-there, held_at-all, version_of-held}
+use Rattle.round_core.specs.EntryLaws.{AreOutOnce-push, AreOutOnce-without, AreUpTo, AreUpTo-refl, AreUpTo-trans, versions-between, versions_of-later, inputs_of-found, inputs_of-later, inputs_of-same, out_at-all, all-map, all-push, all-with_done, all-without}
+use Rattle.round_core.specs.Counts.{AreApart, AreOutOnce}
 use Rattle.round_core.specs.Machine.{BookState, Held, Done, Out, out_at, held_at, place_of, version_of, versions_of, inputs_of, opening, posted, risen, raised, all_raised, with_out, without, after, replay_from, replay, IsUnit, IsFirst, IsBelow, ComesBefore, IsLegal, AllLegal, IsLegalJournal, IsFinished}
 
 -- the replay of a journal in two parts

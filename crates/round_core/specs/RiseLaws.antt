@@ -8,6 +8,7 @@ use Rattle.call_context.specs.Same.{same_node}
 use Rattle.call_context.specs.SameLaws.{same_node-eq}
 use Rattle.chip_law.specs.Meaning.{Meaning}
 use Rattle.round_core.specs.Form.{KeepsForm, TopIsGreatest, PostsAreFormed, IsOrdered}
+use Rattle.round_core.specs.Table.{IsUnder}
 use Rattle.round_core.specs.Machine.{Held, held_at, risen_state, risen, raised, all_raised}
 use Rattle.round_core.specs.HeldLaws.{held_at-all, held_at-node, held_at-raised, held_at-raised_other, raised-here, raised-there, entry_after, Stays-risen}
 
@@ -74,10 +75,6 @@ pub all_raised-in_bounds : {S A : Type 0} (m : Meaning S A) (Form : Node → A �
 all_raised-in_bounds m Form keeps top hs [] a f = a
 all_raised-in_bounds m Form keeps top hs (post ∷ posts) a f =
     all_raised-in_bounds m Form keeps top (raised m hs post) posts (raised-in_bounds m Form keeps top hs post a f.0) f.1
-
--- a posted state is within what its node holds
-abbrev pub IsUnder : {S A : Type 0} → Meaning S A → List (Held A) → Node × A → Type 0
-IsUnder m hs post = (h : Held _) × (held_at hs post.0 ≡ Some h) × (m.within post.1 h.state ≡ true)
 
 abbrev pub AreUnder : {S A : Type 0} → Meaning S A → List (Held A) → List (Node × A) → Type 0
 AreUnder m hs posts = AllByRecursion (IsUnder m hs) posts

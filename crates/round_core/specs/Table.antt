@@ -9,7 +9,16 @@ use Rattle.call_context.specs.declared.node.Unit.{Unit as WorkUnit}
 use Rattle.call_context.specs.declared.node.Unit.TheVariants.{One, Back}
 use Rattle.call_context.specs.Same.{same_frame}
 use Rattle.chip_law.specs.Meaning.{Meaning}
-use Rattle.round_core.specs.Machine.{Held, held_at}
+use Rattle.chip_law.specs.declared.chip.Work.{Work}
+use Rattle.round_core.specs.Machine.{Held, held_at, inputs_of}
+
+-- a posted state is within what its node holds
+abbrev pub IsUnder : {S A : Type 0} → Meaning S A → List (Held A) → Node × A → Type 0
+IsUnder m hs post = (h : Held _) × (held_at hs post.0 ≡ Some h) × (m.within post.1 h.state ≡ true)
+
+-- the work of a unit over the present states of its inputs
+abbrev pub IsWorkOf : {S A : Type 0} → Meaning S A → List (Held A) → WorkUnit → Work A → Type 0
+IsWorkOf {A = A} m nodes unit work = (inputs : A × Option A) × (inputs_of nodes unit ≡ Some inputs) × (work ≡ m.work unit inputs.0 inputs.1)
 
 -- the table of a book's nodes
 abbrev pub table_of : {A : Type 0} → List (Held A) → Node → Option A

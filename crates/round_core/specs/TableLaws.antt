@@ -11,11 +11,10 @@ use Rattle.call_context.specs.declared.node.Unit.TheVariants.{One, Back}
 use Rattle.call_context.specs.Same.{same_frame}
 use Rattle.chip_law.specs.Meaning.{Meaning}
 use Rattle.round_core.specs.HeldLaws.{option_map-some}
-use Rattle.round_core.specs.RiseLaws.{IsUnder}
 use Rattle.round_core.specs.EntryLaws.{inputs_of-found, all-map}
 use Rattle.round_core.specs.ReplayLaws.{IsSteady}
 use Rattle.round_core.specs.WorkLaws.{IsServed, finished-done, finished-under}
-use Rattle.round_core.specs.Table.{table_of, IsUnitOver, IsHeldIn, IsClosedTable}
+use Rattle.round_core.specs.Table.{table_of, IsUnitOver, IsHeldIn, IsClosedTable, IsUnder}
 use Rattle.round_core.specs.Machine.{BookState, Held, Done, held_at, done_at, inputs_of, waits_for, IsUnit, IsFinished, IsClosed}
 
 -- the states that a table has are those of the nodes

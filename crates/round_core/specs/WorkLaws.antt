@@ -6,20 +6,16 @@ use Rattle.call_context.specs.declared.node.Node.{Node}
 use Rattle.call_context.specs.declared.node.Unit.{Unit as WorkUnit}
 use Rattle.call_context.specs.SameLaws.{same_node-refl}
 use Rattle.chip_law.specs.Meaning.{Meaning}
-use Rattle.chip_law.specs.declared.chip.Work.{Work}
 use Rattle.round_core.specs.declared.event.Event.{Event}
 use Rattle.round_core.specs.declared.event.Event.TheVariants.{Claim, Post, GiveBack}
 use Rattle.round_core.specs.Form.{AreFormed, KeepsForm, PostsAreFormed, IsOrdered}
 use Rattle.round_core.specs.HeldLaws.{held_at-here}
-use Rattle.round_core.specs.RiseLaws.{IsUnder, AreUnder, AreUnder-all_raised, IsUnder-all_raised, all_raised-under}
+use Rattle.round_core.specs.RiseLaws.{AreUnder, AreUnder-all_raised, IsUnder-all_raised, all_raised-under}
 use Rattle.round_core.specs.EntryLaws.{out_at-all, done_at-all, all-with_done, up_to-unless_risen}
 use Rattle.round_core.specs.ReplayLaws.{IsSteady, IsWellDone, after-claim, after-post, after-give_back, inputs_of-unit}
 use Rattle.round_core.specs.FormLaws.{IsInForm, IsInForm-after, IsInForm-opening}
-use Rattle.round_core.specs.Machine.{BookState, Held, Done, Out, done_at, out_at, all_raised, versions_of, inputs_of, opening, posted, after, replay_from, replay, IsUnit, IsFinished, IsLegal, AllLegal, IsLegalJournal, HasRisen}
-
--- the work of a unit over the present states of its inputs
-abbrev pub IsWorkOf : {S A : Type 0} → Meaning S A → List (Held A) → WorkUnit → Work A → Type 0
-IsWorkOf {A = A} m nodes unit work = (inputs : A × Option A) × (inputs_of nodes unit ≡ Some inputs) × (work ≡ m.work unit inputs.0 inputs.1)
+use Rattle.round_core.specs.Table.{IsUnder, IsWorkOf}
+use Rattle.round_core.specs.Machine.{BookState, Done, Out, done_at, out_at, all_raised, versions_of, opening, posted, after, replay_from, replay, IsUnit, IsFinished, IsLegal, AllLegal, IsLegalJournal, HasRisen}
 
 -- a unit of a finished book was done
 done-by : {S A : Type 0} (m : Meaning S A) (b : BookState A) (unit : WorkUnit) → IsFinished b → IsSteady m b → IsUnit b unit

@@ -7,19 +7,15 @@ ghost use Rattle.call_context.specs.declared.node.Node.{Node as ANode};
 ghost use Rattle.call_context.specs.declared.node.Unit.{Unit as AUnit};
 ghost use Rattle.round_core.specs.declared.event.Event.{Event as AnEvent};
 ghost use Rattle.round_core.specs.declared.event.Event.TheVariants.{Post, GiveBack};
-ghost use Rattle.round_core.specs.EntryLaws.{AreOutOnce};
 ghost use Rattle.round_core.specs.Form.{Passes, KeepsForm, TopIsGreatest, IsOrdered};
-ghost use Rattle.round_core.specs.HeldLaws.{AreApart};
 ghost use Rattle.round_core.specs.Machine.{BookState, Held, Done, Out, versions_of, HasRisen, IsClaimable, held_at, done_at, out_at, place_of, version_of, IsFirst, IsUnit, IsFinished, IsClosed, IsLegal, IsLegalJournal, replay};
-ghost use Rattle.round_core.specs.RiseLaws.{IsUnder};
-ghost use Rattle.round_core.specs.Table.{table_of, IsUnitOver, IsClosedTable};
-ghost use Rattle.round_core.specs.Counts.{anyone, outs, claims_of, posts_of, give_backs_of, claims_by, posts_by, give_backs_by};
-ghost use Rattle.round_core.specs.WorkLaws.{IsWorkOf};
+ghost use Rattle.round_core.specs.Table.{table_of, IsUnitOver, IsClosedTable, IsUnder, IsWorkOf};
+ghost use Rattle.round_core.specs.Counts.{anyone, outs, claims_of, posts_of, give_backs_of, claims_by, posts_by, give_backs_by, AreApart, AreOutOnce};
 
 use chip_law::Chip;
 
-/// No node has two entries, and once posted it stays in its place: its rises never fall, and its state is the same
-/// until it rises. This holds of all events.
+/// No node has two entries. Once posted a node stays in its place, its rises never fall, and its state is the same until
+/// it rises.
 pub fn nodes_stay<C: Chip>()
     ensures apart { (base : C.Base) (journal : List AnEvent) → IsLegalJournal (C.meaning base) journal → AreApart (replay (C.meaning base) journal).nodes }
     ensures places { (base : C.Base) (journal more : List AnEvent) (node : ANode) (place : ℕ) → place_of (replay (C.meaning base) journal).nodes node ≡ Some place → place_of (replay (C.meaning base) (journal ++ more)).nodes node ≡ Some place }
