@@ -1,5 +1,5 @@
 -- The entries of units that were done and of those that are out, and the inputs of units, under events.
-use Rattle.std.specs.Prelude.{◌≡◌, ℕ, ◌+◌, ◌<◌, ◌≤◌, ◌⊎◌, Bool, true, false, Option, None, Some, List, [], ◌∷◌, ◌++◌}
+use Rattle.std.specs.Prelude.{◌≡◌, ℕ, ◌<◌, ◌≤◌, true, false, Option, None, Some, List, [], ◌∷◌, ◌++◌}
 use Rattle.std.specs.List.{AllByRecursion}
 use Rattle.std.specs.Option.{option_map, option_and_then}
 use Rattle.std.proofs.Common.{refl, sym, ◌∙◌, ap, ap₂, subst, inl, inr, arith}
@@ -12,7 +12,8 @@ use Rattle.call_context.specs.Same.{same_unit}
 use Rattle.call_context.specs.SameLaws.{same_unit-refl, same_unit-eq}
 use Rattle.round_core.specs.declared.versions.Versions.{Versions}
 use Rattle.round_core.specs.HeldLaws.{AllStay, held_at-later, version_of-later, state-later, option_map-some}
-use Rattle.round_core.specs.Machine.{Held, Done, Out, held_at, done_at, out_at, with_done, without, version_of, versions_of, inputs_of, HasRisen}
+use Rattle.round_core.specs.Counts.{AreOutOnce}
+use Rattle.round_core.specs.Machine.{Held, Done, Out, held_at, done_at, out_at, with_done, without, versions_of, inputs_of, HasRisen}
 
 pub same_unit-turned : (a b : WorkUnit) → same_unit a b ≡ false → same_unit b a ≡ false
 same_unit-turned a b e =
@@ -51,9 +52,9 @@ pub done_at-all : {A : Type 0} (P : Done A → Type 0) (ds : List (Done A)) (uni
 done_at-all P [] unit d a e = absurd (cc)
 done_at-all P (k ∷ ds) unit d a e =
     elim (cases_Bool (same_unit unit k.unit)) [
-      inl t ↦ let s : k ≡ d = same_Some k d (sym (done_at-here k ds unit t) ∙ e) in
-        (subst P s a.0, ap (λ x. x.unit) (sym s) ∙ sym (same_unit-eq unit k.unit t))
-    | inr f ↦ done_at-all P ds unit d a.1 (sym (done_at-there k ds unit f) ∙ e)
+      | inl t ↦ let s : k ≡ d = same_Some k d (sym (done_at-here k ds unit t) ∙ e) in
+          (subst P s a.0, ap (λ x. x.unit) (sym s) ∙ sym (same_unit-eq unit k.unit t))
+      | inr f ↦ done_at-all P ds unit d a.1 (sym (done_at-there k ds unit f) ∙ e)
     ]
 
 pub out_at-all : {A : Type 0} (P : Out A → Type 0) (os : List (Out A)) (unit : WorkUnit) (o : Out A) → AllByRecursion P os → out_at os unit ≡ Some o
@@ -61,9 +62,9 @@ pub out_at-all : {A : Type 0} (P : Out A → Type 0) (os : List (Out A)) (unit :
 out_at-all P [] unit o a e = absurd (cc)
 out_at-all P (k ∷ os) unit o a e =
     elim (cases_Bool (same_unit unit k.unit)) [
-      inl t ↦ let s : k ≡ o = same_Some k o (sym (out_at-here k os unit t) ∙ e) in
-        (subst P s a.0, ap (λ x. x.unit) (sym s) ∙ sym (same_unit-eq unit k.unit t))
-    | inr f ↦ out_at-all P os unit o a.1 (sym (out_at-there k os unit f) ∙ e)
+      | inl t ↦ let s : k ≡ o = same_Some k o (sym (out_at-here k os unit t) ∙ e) in
+          (subst P s a.0, ap (λ x. x.unit) (sym s) ∙ sym (same_unit-eq unit k.unit t))
+      | inr f ↦ out_at-all P os unit o a.1 (sym (out_at-there k os unit f) ∙ e)
     ]
 
 pub all-any : {X : Type 0} (xs : List X) → AllByRecursion (λ x. Unit {0}) xs
@@ -82,24 +83,24 @@ pub all-with_done : {A : Type 0} (P : Done A → Type 0) (ds : List (Done A)) (n
 all-with_done P [] new a p = (p, tt)
 all-with_done P (d ∷ ds) new a p =
     elim (cases_Bool (same_unit new.unit d.unit)) [
-      inl t ↦ subst (AllByRecursion P) (sym (with_done-here d ds new t)) (p, a.1)
-    | inr f ↦ subst (AllByRecursion P) (sym (with_done-there d ds new f)) (a.0, all-with_done P ds new a.1 p)
+      | inl t ↦ subst (AllByRecursion P) (sym (with_done-here d ds new t)) (p, a.1)
+      | inr f ↦ subst (AllByRecursion P) (sym (with_done-there d ds new f)) (a.0, all-with_done P ds new a.1 p)
     ]
 
 pub all-without : {A : Type 0} (P : Out A → Type 0) (os : List (Out A)) (unit : WorkUnit) → AllByRecursion P os → AllByRecursion P (without os unit)
 all-without P [] unit a = tt
 all-without P (o ∷ os) unit a =
     elim (cases_Bool (same_unit unit o.unit)) [
-      inl t ↦ subst (AllByRecursion P) (sym (without-here o os unit t)) a.1
-    | inr f ↦ subst (AllByRecursion P) (sym (without-there o os unit f)) (a.0, all-without P os unit a.1)
+      | inl t ↦ subst (AllByRecursion P) (sym (without-here o os unit t)) a.1
+      | inr f ↦ subst (AllByRecursion P) (sym (without-there o os unit f)) (a.0, all-without P os unit a.1)
     ]
 
 pub done_at-with_done : {A : Type 0} (ds : List (Done A)) (new : Done A) → done_at (with_done ds new) new.unit ≡ Some new
 done_at-with_done [] new = done_at-here new [] new.unit (same_unit-refl new.unit)
 done_at-with_done (d ∷ ds) new =
     elim (cases_Bool (same_unit new.unit d.unit)) [
-      inl t ↦ ap (λ l. done_at l new.unit) (with_done-here d ds new t) ∙ done_at-here new ds new.unit (same_unit-refl new.unit)
-    | inr f ↦ ap (λ l. done_at l new.unit) (with_done-there d ds new f) ∙ done_at-there d (with_done ds new) new.unit f ∙ done_at-with_done ds new
+      | inl t ↦ ap (λ l. done_at l new.unit) (with_done-here d ds new t) ∙ done_at-here new ds new.unit (same_unit-refl new.unit)
+      | inr f ↦ ap (λ l. done_at l new.unit) (with_done-there d ds new f) ∙ done_at-there d (with_done ds new) new.unit f ∙ done_at-with_done ds new
     ]
 
 -- the last works of other units stay
@@ -108,41 +109,36 @@ pub done_at-with_done_other : {A : Type 0} (ds : List (Done A)) (new : Done A) (
 done_at-with_done_other [] new unit ne = done_at-there new [] unit ne
 done_at-with_done_other (d ∷ ds) new unit ne =
     elim (cases_Bool (same_unit new.unit d.unit)) [
-      inl t ↦ let n : same_unit unit d.unit ≡ false = subst (λ x. same_unit unit x ≡ false) (same_unit-eq new.unit d.unit t) ne in
-        ap (λ l. done_at l unit) (with_done-here d ds new t) ∙ done_at-there new ds unit ne ∙ sym (done_at-there d ds unit n)
-    | inr f ↦ ap (λ l. done_at l unit) (with_done-there d ds new f) ∙ elim (cases_Bool (same_unit unit d.unit)) [
-          inl t ↦ done_at-here d (with_done ds new) unit t ∙ sym (done_at-here d ds unit t)
+      | inl t ↦ let n : same_unit unit d.unit ≡ false = subst (λ x. same_unit unit x ≡ false) (same_unit-eq new.unit d.unit t) ne in
+          ap (λ l. done_at l unit) (with_done-here d ds new t) ∙ done_at-there new ds unit ne ∙ sym (done_at-there d ds unit n)
+      | inr f ↦ ap (λ l. done_at l unit) (with_done-there d ds new f) ∙ elim (cases_Bool (same_unit unit d.unit)) [
+        | inl t ↦ done_at-here d (with_done ds new) unit t ∙ sym (done_at-here d ds unit t)
         | inr g ↦ done_at-there d (with_done ds new) unit g ∙ done_at-with_done_other ds new unit ne ∙ sym (done_at-there d ds unit g)
-        ]
+      ]
     ]
-
--- no unit is out twice
-abbrev pub AreOutOnce : {A : Type 0} → List (Out A) → Type 0
-AreOutOnce [] = Unit {0}
-AreOutOnce (o ∷ os) = (out_at os o.unit ≡ None) × AreOutOnce os
 
 pub out_at-without_other : {A : Type 0} (os : List (Out A)) (gone unit : WorkUnit) → same_unit unit gone ≡ false → out_at (without os gone) unit ≡ out_at os unit
 out_at-without_other [] gone unit ne = refl
 out_at-without_other (o ∷ os) gone unit ne =
     elim (cases_Bool (same_unit gone o.unit)) [
-      inl t ↦ let n : same_unit unit o.unit ≡ false = subst (λ x. same_unit unit x ≡ false) (same_unit-eq gone o.unit t) ne in
-        ap (λ l. out_at l unit) (without-here o os gone t) ∙ sym (out_at-there o os unit n)
-    | inr f ↦ ap (λ l. out_at l unit) (without-there o os gone f) ∙ elim (cases_Bool (same_unit unit o.unit)) [
-          inl t ↦ out_at-here o (without os gone) unit t ∙ sym (out_at-here o os unit t)
+      | inl t ↦ let n : same_unit unit o.unit ≡ false = subst (λ x. same_unit unit x ≡ false) (same_unit-eq gone o.unit t) ne in
+          ap (λ l. out_at l unit) (without-here o os gone t) ∙ sym (out_at-there o os unit n)
+      | inr f ↦ ap (λ l. out_at l unit) (without-there o os gone f) ∙ elim (cases_Bool (same_unit unit o.unit)) [
+        | inl t ↦ out_at-here o (without os gone) unit t ∙ sym (out_at-here o os unit t)
         | inr g ↦ out_at-there o (without os gone) unit g ∙ out_at-without_other os gone unit ne ∙ sym (out_at-there o os unit g)
-        ]
+      ]
     ]
 
 out_at-gone : {A : Type 0} (os : List (Out A)) (gone unit : WorkUnit) → out_at os unit ≡ None → out_at (without os gone) unit ≡ None
 out_at-gone [] gone unit e = refl
 out_at-gone (o ∷ os) gone unit e =
     elim (cases_Bool (same_unit unit o.unit)) [
-      inl t ↦ absurd (let s : None ≡ Some o = sym e ∙ out_at-here o os unit t in cc)
-    | inr f ↦ let e' : out_at os unit ≡ None = sym (out_at-there o os unit f) ∙ e in
-        elim (cases_Bool (same_unit gone o.unit)) [
-          inl t ↦ ap (λ l. out_at l unit) (without-here o os gone t) ∙ e'
-        | inr g ↦ ap (λ l. out_at l unit) (without-there o os gone g) ∙ out_at-there o (without os gone) unit f ∙ out_at-gone os gone unit e'
-        ]
+      | inl t ↦ absurd (let s : None ≡ Some o = sym e ∙ out_at-here o os unit t in cc)
+      | inr f ↦ let e' : out_at os unit ≡ None = sym (out_at-there o os unit f) ∙ e in
+          elim (cases_Bool (same_unit gone o.unit)) [
+            | inl t ↦ ap (λ l. out_at l unit) (without-here o os gone t) ∙ e'
+            | inr g ↦ ap (λ l. out_at l unit) (without-there o os gone g) ∙ out_at-there o (without os gone) unit f ∙ out_at-gone os gone unit e'
+          ]
     ]
 
 -- a unit that is taken back is out no more
@@ -150,24 +146,24 @@ pub out_at-without : {A : Type 0} (os : List (Out A)) (unit : WorkUnit) → AreO
 out_at-without [] unit a = refl
 out_at-without (o ∷ os) unit a =
     elim (cases_Bool (same_unit unit o.unit)) [
-      inl t ↦ ap (λ l. out_at l unit) (without-here o os unit t) ∙ ap (λ u. out_at os u) (same_unit-eq unit o.unit t) ∙ a.0
-    | inr f ↦ ap (λ l. out_at l unit) (without-there o os unit f) ∙ out_at-there o (without os unit) unit f ∙ out_at-without os unit a.1
+      | inl t ↦ ap (λ l. out_at l unit) (without-here o os unit t) ∙ ap (λ u. out_at os u) (same_unit-eq unit o.unit t) ∙ a.0
+      | inr f ↦ ap (λ l. out_at l unit) (without-there o os unit f) ∙ out_at-there o (without os unit) unit f ∙ out_at-without os unit a.1
     ]
 
 pub AreOutOnce-without : {A : Type 0} (os : List (Out A)) (unit : WorkUnit) → AreOutOnce os → AreOutOnce (without os unit)
 AreOutOnce-without [] unit a = tt
 AreOutOnce-without (o ∷ os) unit a =
     elim (cases_Bool (same_unit unit o.unit)) [
-      inl t ↦ subst AreOutOnce (sym (without-here o os unit t)) a.1
-    | inr f ↦ subst AreOutOnce (sym (without-there o os unit f)) (out_at-gone os unit o.unit a.0, AreOutOnce-without os unit a.1)
+      | inl t ↦ subst AreOutOnce (sym (without-here o os unit t)) a.1
+      | inr f ↦ subst AreOutOnce (sym (without-there o os unit f)) (out_at-gone os unit o.unit a.0, AreOutOnce-without os unit a.1)
     ]
 
 pub out_at-push : {A : Type 0} (os : List (Out A)) (o : Out A) → out_at os o.unit ≡ None → out_at (os ++ o ∷ []) o.unit ≡ Some o
 out_at-push [] o e = out_at-here o [] o.unit (same_unit-refl o.unit)
 out_at-push (k ∷ os) o e =
     elim (cases_Bool (same_unit o.unit k.unit)) [
-      inl t ↦ absurd (let s : None ≡ Some k = sym e ∙ out_at-here k os o.unit t in cc)
-    | inr f ↦ out_at-there k (os ++ o ∷ []) o.unit f ∙ out_at-push os o (sym (out_at-there k os o.unit f) ∙ e)
+      | inl t ↦ absurd (let s : None ≡ Some k = sym e ∙ out_at-here k os o.unit t in cc)
+      | inr f ↦ out_at-there k (os ++ o ∷ []) o.unit f ∙ out_at-push os o (sym (out_at-there k os o.unit f) ∙ e)
     ]
 
 pub out_at-push_other : {A : Type 0} (os : List (Out A)) (o : Out A) (unit : WorkUnit) → same_unit unit o.unit ≡ false
@@ -175,17 +171,19 @@ pub out_at-push_other : {A : Type 0} (os : List (Out A)) (o : Out A) (unit : Wor
 out_at-push_other [] o unit ne = out_at-there o [] unit ne
 out_at-push_other (k ∷ os) o unit ne =
     elim (cases_Bool (same_unit unit k.unit)) [
-      inl t ↦ out_at-here k (os ++ o ∷ []) unit t ∙ sym (out_at-here k os unit t)
-    | inr f ↦ out_at-there k (os ++ o ∷ []) unit f ∙ out_at-push_other os o unit ne ∙ sym (out_at-there k os unit f)
+      | inl t ↦ out_at-here k (os ++ o ∷ []) unit t ∙ sym (out_at-here k os unit t)
+      | inr f ↦ out_at-there k (os ++ o ∷ []) unit f ∙ out_at-push_other os o unit ne ∙ sym (out_at-there k os unit f)
     ]
 
 pub AreOutOnce-push : {A : Type 0} (os : List (Out A)) (o : Out A) → AreOutOnce os → out_at os o.unit ≡ None → AreOutOnce (os ++ o ∷ [])
 AreOutOnce-push [] o a e = (refl, tt)
 AreOutOnce-push (k ∷ os) o a e =
     elim (cases_Bool (same_unit o.unit k.unit)) [
-      inl t ↦ absurd (let s : None ≡ Some k = sym e ∙ out_at-here k os o.unit t in cc)
-    | inr f ↦ (out_at-push_other os o k.unit (same_unit-turned o.unit k.unit f) ∙ a.0,
-        AreOutOnce-push os o a.1 (sym (out_at-there k os o.unit f) ∙ e))
+      | inl t ↦ absurd (let s : None ≡ Some k = sym e ∙ out_at-here k os o.unit t in cc)
+      | inr f ↦ (
+        out_at-push_other os o k.unit (same_unit-turned o.unit k.unit f) ∙ a.0,
+        AreOutOnce-push os o a.1 (sym (out_at-there k os o.unit f) ∙ e),
+      )
     ]
 
 -- versions of inputs that are no later than others
@@ -225,7 +223,7 @@ pub inputs_of-found : {A : Type 0} (hs : List (Held A)) (node exit : Node) (h x 
     → inputs_of hs (Back node exit) ≡ Some (h.state, Some x.state)
 inputs_of-found {A = A} hs node exit h x e d =
     let both : Option (Held A) → Option (Held A) → Option (A × Option A) =
-      λ at left. option_and_then (λ k. option_map (λ y. (k.state, Some y.state)) left) at in
+    λ at left. option_and_then (λ k. option_map (λ y. (k.state, Some y.state)) left) at in
     ap₂ both e d
 
 back-by : {A : Type 0} (inputs : A × Option A) (at exit : Option (Held A))
@@ -265,3 +263,12 @@ inputs_of-same hs ls (Back node exit) inputs s e v =
     let l = state-later hs ls node r.0 s r.2 (ap (λ x. x.at) v) in
     let k = state-later hs ls exit r.1 s r.3 (ap (λ x. x.exit) v) in
     inputs_of-found ls node exit l.0 k.0 l.1 k.1 ∙ ap₂ (λ a b. Some (a, Some b)) l.2 k.2 ∙ ap (λ x. Some x) (sym r.4)
+
+-- the work of a unit that was never done comes behind the others
+pub with_done-new : {A : Type 0} (ds : List (Done A)) (new : Done A) → done_at ds new.unit ≡ None → with_done ds new ≡ ds ++ new ∷ []
+with_done-new [] new e = refl
+with_done-new (d ∷ ds) new e =
+    elim (cases_Bool (same_unit new.unit d.unit)) [
+      | inl t ↦ absurd (let s : None ≡ Some d = sym e ∙ done_at-here d ds new.unit t in cc)
+      | inr f ↦ with_done-there d ds new f ∙ ap (λ l. d ∷ l) (with_done-new ds new (sym (done_at-there d ds new.unit f) ∙ e))
+    ]

@@ -1,11 +1,16 @@
 -- What the laws of a book ask of a chip's meaning. A form says which states may stand at a node: numbers in range,
 -- sets in their normal shape. It may hold of every state.
-use Rattle.std.specs.Prelude.{◌≡◌, Bool, true, Option, None, Some, List, [], ◌∷◌}
+use Rattle.std.specs.Prelude.{◌≡◌, Bool, true, Option, None, Some, List}
+use Rattle.std.specs.List.{AllByRecursion}
 use Rattle.call_context.specs.declared.node.Node.{Node}
 use Rattle.call_context.specs.declared.node.Node.TheVariants.{At, Exit}
 use Rattle.call_context.specs.declared.node.Unit.{Unit as WorkUnit}
 use Rattle.call_context.specs.declared.node.Unit.TheVariants.{One, Back}
 use Rattle.chip_law.specs.Meaning.{Meaning}
+
+-- the form that a test tells
+abbrev pub Passes : {A : Type 0} → (Node → A → Bool) → Node → A → Type 0
+Passes form node state = form node state ≡ true
 
 -- the input states of a unit have the form of their nodes
 abbrev pub AreFormed : {A : Type 0} → (Node → A → Type 0) → WorkUnit → A → Option A → Type 0
@@ -19,8 +24,7 @@ AreFormed Form (Back (Exit pc frame) node) at exit = ⊥
 
 -- each posted state has the form of its node
 abbrev pub PostsAreFormed : {A : Type 0} → (Node → A → Type 0) → List (Node × A) → Type 0
-PostsAreFormed Form [] = Unit {0}
-PostsAreFormed Form (post ∷ posts) = Form post.0 post.1 × PostsAreFormed Form posts
+PostsAreFormed Form posts = AllByRecursion (λ post. Form post.0 post.1) posts
 
 -- what starts in the form stays in it
 pub record KeepsForm {S A : Type 0} (m : Meaning S A) (Form : Node → A → Type 0) : Type 0 where

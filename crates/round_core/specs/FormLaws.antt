@@ -1,9 +1,7 @@
 -- What the replay of a legal journal keeps for a chip that keeps a form of states: rises in bounds, and every state of the form.
-use Rattle.std.specs.Prelude.{◌≡◌, ℕ, ◌+◌, ◌<◌, ◌≤◌, Bool, true, false, Option, None, Some, List, [], ◌∷◌, ◌++◌}
+use Rattle.std.specs.Prelude.{◌≡◌, ◌≤◌, Option, None, Some, List}
 use Rattle.std.specs.List.{AllByRecursion}
-use Rattle.std.specs.Option.{option_map}
-use Rattle.std.proofs.Common.{refl, sym, ◌∙◌, ap, subst, arith}
-use Rattle.std.proofs.lemmas.Option.{same_Some}
+use Rattle.std.proofs.Common.{refl, sym, subst, arith}
 use Rattle.call_context.specs.declared.node.Node.{Node}
 use Rattle.call_context.specs.declared.node.Node.TheVariants.{At, Exit}
 use Rattle.call_context.specs.declared.node.Unit.{Unit as WorkUnit}
@@ -13,10 +11,10 @@ use Rattle.round_core.specs.declared.event.Event.{Event}
 use Rattle.round_core.specs.declared.event.Event.TheVariants.{Claim, Post, GiveBack}
 use Rattle.round_core.specs.Form.{AreFormed, KeepsForm, TopIsGreatest, PostsAreFormed}
 use Rattle.round_core.specs.HeldLaws.{option_map-some, held_at-node, version_of-held, version_of-none}
-use Rattle.round_core.specs.RiseLaws.{IsInBounds, AreInBounds, held_at-in_bounds, all_raised-in_bounds}
+use Rattle.round_core.specs.RiseLaws.{AreInBounds, held_at-in_bounds, all_raised-in_bounds}
 use Rattle.round_core.specs.EntryLaws.{inputs_of-back, out_at-all, all-push, all-with_done, all-without}
 use Rattle.round_core.specs.ReplayLaws.{taken, after-claim, after-post, after-give_back, replay_from-keeps, inputs_of-unit}
-use Rattle.round_core.specs.Machine.{BookState, Held, Done, Out, held_at, done_at, out_at, version_of, versions_of, inputs_of, opening, posted, with_done, without, after, replay, IsUnit, IsLegal, IsLegalJournal}
+use Rattle.round_core.specs.Machine.{BookState, Held, Out, held_at, version_of, versions_of, inputs_of, opening, posted, after, replay, IsUnit, IsLegal, IsLegalJournal}
 
 pub record IsInForm {S A : Type 0} (m : Meaning S A) (Form : Node → A → Type 0) (b : BookState A) : Type 0 where
   pub nodes : AreInBounds m Form b.nodes
@@ -57,7 +55,7 @@ IsInForm-posted m Form keeps top b o f i =
       nodes = all_raised-in_bounds m Form keeps top b.nodes (m.work o.unit o.at o.exit).posts i.nodes p;
       out = all-without (λ x. AreFormed Form x.unit x.at x.exit) b.out o.unit i.out;
       done = all-with_done (λ d. PostsAreFormed Form d.work.posts) b.done
-        (record { unit = o.unit; work = m.work o.unit o.at o.exit; versions = o.versions }) i.done p;
+          (record { unit = o.unit; work = m.work o.unit o.at o.exit; versions = o.versions }) i.done p;
     }
 
 pub IsInForm-after : {S A : Type 0} (m : Meaning S A) (Form : Node → A → Type 0) → KeepsForm m Form → TopIsGreatest m Form
@@ -67,7 +65,7 @@ IsInForm-after m Form keeps top b (Claim seat unit) l i =
     subst (IsInForm m Form) (sym (after-claim m b seat unit n.0 n.1)) (record {
       nodes = i.nodes;
       out = all-push (λ x. AreFormed Form x.unit x.at x.exit) b.out (taken b seat unit n.0) i.out
-        (inputs_of-form m Form b unit n.0 i.nodes l.claimable.known n.1);
+          (inputs_of-form m Form b unit n.0 i.nodes l.claimable.known n.1);
       done = i.done;
     })
 IsInForm-after m Form keeps top b (Post seat unit) l i =
@@ -100,14 +98,3 @@ pub versions_of-most : {S A : Type 0} (m : Meaning S A) (Form : Node → A → T
     → ((versions_of hs unit).at ≤ 64) × ((versions_of hs unit).exit ≤ 64)
 versions_of-most m Form hs (One node) a = (version_of-most m Form hs node a, omega arith)
 versions_of-most m Form hs (Back node exit) a = (version_of-most m Form hs node a, version_of-most m Form hs exit a)
-
--- a unit's node has risen
-pub versions_of-least : {S A : Type 0} (m : Meaning S A) (Form : Node → A → Type 0) (b : BookState A) (unit : WorkUnit) → AreInBounds m Form b.nodes
-    → IsUnit b unit → 1 ≤ (versions_of b.nodes unit).at
-versions_of-least m Form b (One (At pc calls frame)) a u =
-    let v = version_of-held b.nodes (At pc calls frame) u.0 u.1 in let i = (held_at-in_bounds m Form b.nodes (At pc calls frame) u.0 a u.1).least in omega (arith, v, i)
-versions_of-least m Form b (One (Exit pc frame)) a u = absurd u
-versions_of-least m Form b (Back (At pc calls frame) (Exit from left)) a u =
-    let v = version_of-held b.nodes (At pc calls frame) u.0 u.2 in let i = (held_at-in_bounds m Form b.nodes (At pc calls frame) u.0 a u.2).least in omega (arith, v, i)
-versions_of-least m Form b (Back (At pc calls frame) (At from calls' frame')) a u = absurd u
-versions_of-least m Form b (Back (Exit pc frame) exit) a u = absurd u

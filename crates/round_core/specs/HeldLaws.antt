@@ -1,13 +1,15 @@
 -- Nodes with their states under posts: each stays in its place, and its rises never fall.
-use Rattle.std.specs.Prelude.{◌≡◌, ℕ, ◌+◌, ◌<◌, ◌≤◌, ◌⊎◌, Bool, true, false, Option, None, Some, List, [], ◌∷◌, ◌++◌, if◌then◌else◌, unwrap_or}
+use Rattle.std.specs.Prelude.{◌≡◌, ℕ, ◌+◌, ◌≤◌, true, false, Option, None, Some, List, [], ◌∷◌, if◌then◌else◌, unwrap_or, ◌++◌, slice_set}
+use Rattle.std.specs.List.{AllByRecursion, slice_get}
 use Rattle.std.specs.Option.{option_map}
-use Rattle.std.proofs.Common.{refl, sym, ◌∙◌, ap, subst, inl, inr, arith}
+use Rattle.std.proofs.Common.{refl, sym, ◌∙◌, ap, subst, inl, inr, arith, add-one}
 use Rattle.std.proofs.lemmas.Option.{same_Some}
 use Rattle.std.proofs.lemmas.Bool.{cases_Bool, cond-true, cond-false, false_from_ne_true, false≢true}
 use Rattle.call_context.specs.declared.node.Node.{Node}
 use Rattle.call_context.specs.Same.{same_node}
 use Rattle.call_context.specs.SameLaws.{same_node-refl, same_node-eq}
 use Rattle.chip_law.specs.Meaning.{Meaning}
+use Rattle.round_core.specs.Counts.{AreApart}
 use Rattle.round_core.specs.Machine.{Held, held_at, place_of, version_of, risen_state, risen, raised, all_raised}
 
 -- A node stays: its rises don't fall, and its state is the same until it rises.
@@ -58,8 +60,8 @@ AllStay-trans (h ∷ hs) (l ∷ ls) [] s t = absurd t
 pub Stays-risen : {S A : Type 0} (m : Meaning S A) (h : Held A) (posted : A) → Stays h (risen m h posted)
 Stays-risen m h posted =
     elim (m.within posted h.state) as (λ v. Stays h (if v then h else record { node = h.node; state = risen_state m h.node h.state posted (h.rises + 1); rises = h.rises + 1 })) [
-      true ↦ Stays-refl h
-    | false ↦ record { node = refl; rises = omega arith; state = λ e. absurd (omega arith) }
+      | true ↦ Stays-refl h
+      | false ↦ record { node = refl; rises = omega arith; state = λ e. absurd (omega arith) }
     ]
 
 -- a post leaves each node in its place
@@ -67,8 +69,8 @@ pub AllStay-raised : {S A : Type 0} (m : Meaning S A) (hs : List (Held A)) (post
 AllStay-raised m [] post = tt
 AllStay-raised m (h ∷ hs) post =
     elim (same_node post.0 h.node) as (λ v. AllStay (h ∷ hs) (if v then risen m h post.1 ∷ hs else h ∷ raised m hs post)) [
-      true ↦ (Stays-risen m h post.1, AllStay-refl hs)
-    | false ↦ (Stays-refl h, AllStay-raised m hs post)
+      | true ↦ (Stays-risen m h post.1, AllStay-refl hs)
+      | false ↦ (Stays-refl h, AllStay-raised m hs post)
     ]
 
 pub AllStay-all_raised : {S A : Type 0} (m : Meaning S A) (hs : List (Held A)) (posts : List (Node × A)) → AllStay hs (all_raised m hs posts)
@@ -90,10 +92,10 @@ pub held_at-node : {A : Type 0} (hs : List (Held A)) (node : Node) (h : Held A) 
 held_at-node [] node h e = absurd (cc)
 held_at-node (k ∷ hs) node h e =
     elim (cases_Bool (same_node node k.node)) [
-      inl t ↦ let s : k ≡ h = same_Some k h (sym (held_at-here k hs node t) ∙ e) in
-        let n : node ≡ k.node = same_node-eq node k.node t in
-        ap (λ x. x.node) (sym s) ∙ sym n
-    | inr f ↦ held_at-node hs node h (sym (held_at-there k hs node f) ∙ e)
+      | inl t ↦ let s : k ≡ h = same_Some k h (sym (held_at-here k hs node t) ∙ e) in
+          let n : node ≡ k.node = same_node-eq node k.node t in
+          ap (λ x. x.node) (sym s) ∙ sym n
+      | inr f ↦ held_at-node hs node h (sym (held_at-there k hs node f) ∙ e)
     ]
 
 -- a node that is there is there later, and stays
@@ -103,12 +105,12 @@ held_at-later [] ls node h s e = absurd (cc)
 held_at-later (k ∷ hs) [] node h s e = absurd s
 held_at-later (k ∷ hs) (l ∷ ls) node h s e =
     elim (cases_Bool (same_node node k.node)) [
-      inl t ↦ let e1 : k ≡ h = same_Some k h (sym (held_at-here k hs node t) ∙ e) in
-        let u : same_node node l.node ≡ true = ap (λ x. same_node node x) s.0.node ∙ t in
-        (l, held_at-here l ls node u, subst (λ x. Stays x l) e1 s.0)
-    | inr f ↦ let u : same_node node l.node ≡ false = ap (λ x. same_node node x) s.0.node ∙ f in
-        let r = held_at-later hs ls node h s.1 (sym (held_at-there k hs node f) ∙ e) in
-        (r.0, held_at-there l ls node u ∙ r.1, r.2)
+      | inl t ↦ let e1 : k ≡ h = same_Some k h (sym (held_at-here k hs node t) ∙ e) in
+          let u : same_node node l.node ≡ true = ap (λ x. same_node node x) s.0.node ∙ t in
+          (l, held_at-here l ls node u, subst (λ x. Stays x l) e1 s.0)
+      | inr f ↦ let u : same_node node l.node ≡ false = ap (λ x. same_node node x) s.0.node ∙ f in
+          let r = held_at-later hs ls node h s.1 (sym (held_at-there k hs node f) ∙ e) in
+          (r.0, held_at-there l ls node u ∙ r.1, r.2)
     ]
 
 -- a place stays the node's
@@ -117,11 +119,11 @@ place_of-later [] ls node p s e = absurd (cc)
 place_of-later (k ∷ hs) [] node p s e = absurd s
 place_of-later (k ∷ hs) (l ∷ ls) node p s e =
     elim (cases_Bool (same_node node k.node)) [
-      inl t ↦ let u : same_node node l.node ≡ true = ap (λ x. same_node node x) s.0.node ∙ t in
-        place_of-here l ls node u ∙ sym (place_of-here k hs node t) ∙ e
-    | inr f ↦ let u : same_node node l.node ≡ false = ap (λ x. same_node node x) s.0.node ∙ f in
-        let r = option_map-some (λ place. place + 1) (place_of hs node) p (sym (place_of-there k hs node f) ∙ e) in
-        place_of-there l ls node u ∙ ap (λ o. option_map (λ place. place + 1) o) (place_of-later hs ls node r.0 s.1 r.1) ∙ ap (λ x. Some x) r.2
+      | inl t ↦ let u : same_node node l.node ≡ true = ap (λ x. same_node node x) s.0.node ∙ t in
+          place_of-here l ls node u ∙ sym (place_of-here k hs node t) ∙ e
+      | inr f ↦ let u : same_node node l.node ≡ false = ap (λ x. same_node node x) s.0.node ∙ f in
+          let r = option_map-some (λ place. place + 1) (place_of hs node) p (sym (place_of-there k hs node f) ∙ e) in
+          place_of-there l ls node u ∙ ap (λ o. option_map (λ place. place + 1) o) (place_of-later hs ls node r.0 s.1 r.1) ∙ ap (λ x. Some x) r.2
     ]
 
 -- a place is of one node
@@ -129,19 +131,19 @@ pub place_of-one : {A : Type 0} (hs : List (Held A)) (n k : Node) (p : ℕ) → 
 place_of-one [] n k p e d = absurd (cc)
 place_of-one (h ∷ hs) n k p e d =
     elim (cases_Bool (same_node n h.node)) [
-      inl t ↦ let z : 0 ≡ p = same_Some 0 p (sym (place_of-here h hs n t) ∙ e) in
-        elim (cases_Bool (same_node k h.node)) [
-          inl u ↦ let a : n ≡ h.node = same_node-eq n h.node t in let b : k ≡ h.node = same_node-eq k h.node u in a ∙ sym b
-        | inr g ↦ let r = option_map-some (λ place. place + 1) (place_of hs k) p (sym (place_of-there h hs k g) ∙ d) in
-            absurd (omega (arith, r.2))
-        ]
-    | inr f ↦ let q = option_map-some (λ place. place + 1) (place_of hs n) p (sym (place_of-there h hs n f) ∙ e) in
-        elim (cases_Bool (same_node k h.node)) [
-          inl u ↦ let z : 0 ≡ p = same_Some 0 p (sym (place_of-here h hs k u) ∙ d) in absurd (omega (arith, q.2))
-        | inr g ↦ let r = option_map-some (λ place. place + 1) (place_of hs k) p (sym (place_of-there h hs k g) ∙ d) in
-            let same : r.0 ≡ q.0 = omega (arith, q.2, r.2) in
-            place_of-one hs n k q.0 q.1 (r.1 ∙ ap (λ x. Some x) same)
-        ]
+      | inl t ↦ let z : 0 ≡ p = same_Some 0 p (sym (place_of-here h hs n t) ∙ e) in
+          elim (cases_Bool (same_node k h.node)) [
+            | inl u ↦ let a : n ≡ h.node = same_node-eq n h.node t in let b : k ≡ h.node = same_node-eq k h.node u in a ∙ sym b
+            | inr g ↦ let r = option_map-some (λ place. place + 1) (place_of hs k) p (sym (place_of-there h hs k g) ∙ d) in
+                absurd (omega (arith, r.2))
+          ]
+      | inr f ↦ let q = option_map-some (λ place. place + 1) (place_of hs n) p (sym (place_of-there h hs n f) ∙ e) in
+          elim (cases_Bool (same_node k h.node)) [
+            | inl u ↦ let z : 0 ≡ p = same_Some 0 p (sym (place_of-here h hs k u) ∙ d) in absurd (omega (arith, q.2))
+            | inr g ↦ let r = option_map-some (λ place. place + 1) (place_of hs k) p (sym (place_of-there h hs k g) ∙ d) in
+                let same : r.0 ≡ q.0 = omega (arith, q.2, r.2) in
+                place_of-one hs n k q.0 q.1 (r.1 ∙ ap (λ x. Some x) same)
+          ]
     ]
 
 -- a node that is there has a place
@@ -149,9 +151,9 @@ pub place_of-held : {A : Type 0} (hs : List (Held A)) (node : Node) (h : Held A)
 place_of-held [] node h e = absurd (cc)
 place_of-held (k ∷ hs) node h e =
     elim (cases_Bool (same_node node k.node)) [
-      inl t ↦ (0, place_of-here k hs node t)
-    | inr f ↦ let r = place_of-held hs node h (sym (held_at-there k hs node f) ∙ e) in
-        (r.0 + 1, place_of-there k hs node f ∙ ap (λ o. option_map (λ place. place + 1) o) r.1)
+      | inl t ↦ (0, place_of-here k hs node t)
+      | inr f ↦ let r = place_of-held hs node h (sym (held_at-there k hs node f) ∙ e) in
+          (r.0 + 1, place_of-there k hs node f ∙ ap (λ o. option_map (λ place. place + 1) o) r.1)
     ]
 
 -- what has a place is there
@@ -159,10 +161,10 @@ pub held_at-placed : {A : Type 0} (hs : List (Held A)) (node : Node) (p : ℕ) �
 held_at-placed [] node p e = absurd (cc)
 held_at-placed (k ∷ hs) node p e =
     elim (cases_Bool (same_node node k.node)) [
-      inl t ↦ (k, held_at-here k hs node t)
-    | inr f ↦ let q = option_map-some (λ place. place + 1) (place_of hs node) p (sym (place_of-there k hs node f) ∙ e) in
-        let r = held_at-placed hs node q.0 q.1 in
-        (r.0, held_at-there k hs node f ∙ r.1)
+      | inl t ↦ (k, held_at-here k hs node t)
+      | inr f ↦ let q = option_map-some (λ place. place + 1) (place_of hs node) p (sym (place_of-there k hs node f) ∙ e) in
+          let r = held_at-placed hs node q.0 q.1 in
+          (r.0, held_at-there k hs node f ∙ r.1)
     ]
 
 pub version_of-held : {A : Type 0} (hs : List (Held A)) (node : Node) (h : Held A) → held_at hs node ≡ Some h → version_of hs node ≡ h.rises
@@ -208,14 +210,14 @@ pub held_at-raised_other : {S A : Type 0} (m : Meaning S A) (hs : List (Held A))
 held_at-raised_other m [] post node ne = held_at-there (record { node = post.0; state = post.1; rises = 1 }) [] node ne
 held_at-raised_other m (h ∷ hs) post node ne =
     elim (cases_Bool (same_node post.0 h.node)) [
-      inl t ↦ let p : post.0 ≡ h.node = same_node-eq post.0 h.node t in
-        let n : same_node node h.node ≡ false = subst (λ x. same_node node x ≡ false) p ne in
-        let k : same_node node (risen m h post.1).node ≡ false = ap (λ x. same_node node x) (Stays-risen m h post.1).node ∙ n in
-        ap (λ l. held_at l node) (raised-here m h hs post t) ∙ held_at-there (risen m h post.1) hs node k ∙ sym (held_at-there h hs node n)
-    | inr f ↦ ap (λ l. held_at l node) (raised-there m h hs post f) ∙ elim (cases_Bool (same_node node h.node)) [
-          inl t ↦ held_at-here h (raised m hs post) node t ∙ sym (held_at-here h hs node t)
+      | inl t ↦ let p : post.0 ≡ h.node = same_node-eq post.0 h.node t in
+          let n : same_node node h.node ≡ false = subst (λ x. same_node node x ≡ false) p ne in
+          let k : same_node node (risen m h post.1).node ≡ false = ap (λ x. same_node node x) (Stays-risen m h post.1).node ∙ n in
+          ap (λ l. held_at l node) (raised-here m h hs post t) ∙ held_at-there (risen m h post.1) hs node k ∙ sym (held_at-there h hs node n)
+      | inr f ↦ ap (λ l. held_at l node) (raised-there m h hs post f) ∙ elim (cases_Bool (same_node node h.node)) [
+        | inl t ↦ held_at-here h (raised m hs post) node t ∙ sym (held_at-here h hs node t)
         | inr g ↦ held_at-there h (raised m hs post) node g ∙ held_at-raised_other m hs post node ne ∙ sym (held_at-there h hs node g)
-        ]
+      ]
     ]
 
 -- the entry that a post leaves at its node
@@ -228,28 +230,77 @@ pub held_at-raised : {S A : Type 0} (m : Meaning S A) (hs : List (Held A)) (post
 held_at-raised m [] post = held_at-here (record { node = post.0; state = post.1; rises = 1 }) [] post.0 (same_node-refl post.0)
 held_at-raised m (h ∷ hs) post =
     elim (cases_Bool (same_node post.0 h.node)) [
-      inl t ↦ let k : same_node post.0 (risen m h post.1).node ≡ true = ap (λ x. same_node post.0 x) (Stays-risen m h post.1).node ∙ t in
-        ap (λ l. held_at l post.0) (raised-here m h hs post t) ∙ held_at-here (risen m h post.1) hs post.0 k
-        ∙ ap (λ o. Some (entry_after m o post)) (sym (held_at-here h hs post.0 t))
-    | inr f ↦ ap (λ l. held_at l post.0) (raised-there m h hs post f) ∙ held_at-there h (raised m hs post) post.0 f
-        ∙ held_at-raised m hs post ∙ ap (λ o. Some (entry_after m o post)) (sym (held_at-there h hs post.0 f))
+      | inl t ↦ let k : same_node post.0 (risen m h post.1).node ≡ true = ap (λ x. same_node post.0 x) (Stays-risen m h post.1).node ∙ t in
+          ap (λ l. held_at l post.0) (raised-here m h hs post t) ∙ held_at-here (risen m h post.1) hs post.0 k
+          ∙ ap (λ o. Some (entry_after m o post)) (sym (held_at-here h hs post.0 t))
+      | inr f ↦ ap (λ l. held_at l post.0) (raised-there m h hs post f) ∙ held_at-there h (raised m hs post) post.0 f
+          ∙ held_at-raised m hs post ∙ ap (λ o. Some (entry_after m o post)) (sym (held_at-there h hs post.0 f))
     ]
-
--- no two nodes are one
-abbrev pub AreApart : {A : Type 0} → List (Held A) → Type 0
-AreApart [] = Unit {0}
-AreApart (h ∷ hs) = (held_at hs h.node ≡ None) × AreApart hs
 
 -- a post makes no second entry of a node
 pub AreApart-raised : {S A : Type 0} (m : Meaning S A) (hs : List (Held A)) (post : Node × A) → AreApart hs → AreApart (raised m hs post)
 AreApart-raised m [] post a = (refl, tt)
 AreApart-raised m (h ∷ hs) post a =
     elim (cases_Bool (same_node post.0 h.node)) [
-      inl t ↦ subst AreApart (sym (raised-here m h hs post t)) (ap (λ n. held_at hs n) (Stays-risen m h post.1).node ∙ a.0, a.1)
-    | inr f ↦ subst AreApart (sym (raised-there m h hs post f))
-        (held_at-raised_other m hs post h.node (same_node-turned post.0 h.node f) ∙ a.0, AreApart-raised m hs post a.1)
+      | inl t ↦ subst AreApart (sym (raised-here m h hs post t)) (ap (λ n. held_at hs n) (Stays-risen m h post.1).node ∙ a.0, a.1)
+      | inr f ↦ subst AreApart (sym (raised-there m h hs post f))
+          (held_at-raised_other m hs post h.node (same_node-turned post.0 h.node f) ∙ a.0, AreApart-raised m hs post a.1)
     ]
 
 pub AreApart-all_raised : {S A : Type 0} (m : Meaning S A) (hs : List (Held A)) (posts : List (Node × A)) → AreApart hs → AreApart (all_raised m hs posts)
 AreApart-all_raised m hs [] a = a
 AreApart-all_raised m hs (post ∷ posts) a = AreApart-all_raised m (raised m hs post) posts (AreApart-raised m hs post a)
+
+-- what holds of each entry holds of the one that is found
+pub held_at-all : {A : Type 0} (P : Held A → Type 0) (hs : List (Held A)) (node : Node) (h : Held A) → AllByRecursion P hs → held_at hs node ≡ Some h → P h
+held_at-all P [] node h a e = absurd (cc)
+held_at-all P (k ∷ hs) node h a e =
+    elim (cases_Bool (same_node node k.node)) [
+      | inl t ↦ subst P (same_Some k h (sym (held_at-here k hs node t) ∙ e)) a.0
+      | inr f ↦ held_at-all P hs node h a.1 (sym (held_at-there k hs node f) ∙ e)
+    ]
+
+-- a node that is not there has no place
+pub place_of-none : {A : Type 0} (hs : List (Held A)) (node : Node) → held_at hs node ≡ None → place_of hs node ≡ None
+place_of-none [] node e = refl
+place_of-none (k ∷ hs) node e =
+    elim (cases_Bool (same_node node k.node)) [
+      | inl t ↦ absurd (let s : None ≡ Some k = sym e ∙ held_at-here k hs node t in cc)
+      | inr f ↦ place_of-there k hs node f
+          ∙ ap (λ o. option_map (λ place. place + 1) o) (place_of-none hs node (sym (held_at-there k hs node f) ∙ e))
+    ]
+
+-- the entry at a node's place is the node's
+pub slice_get-place : {A : Type 0} (hs : List (Held A)) (node : Node) (p : ℕ) → place_of hs node ≡ Some p → slice_get hs p ≡ held_at hs node
+slice_get-place [] node p e = absurd (cc)
+slice_get-place (k ∷ hs) node p e =
+    elim (cases_Bool (same_node node k.node)) [
+      | inl t ↦ let z : 0 ≡ p = same_Some 0 p (sym (place_of-here k hs node t) ∙ e) in
+          ap (λ i. slice_get (k ∷ hs) i) (sym z) ∙ sym (held_at-here k hs node t)
+      | inr f ↦ let q = option_map-some (λ place. place + 1) (place_of hs node) p (sym (place_of-there k hs node f) ∙ e) in
+          ap (λ i. slice_get (k ∷ hs) i) (sym (sym (add-one q.0) ∙ q.2)) ∙ slice_get-place hs node q.0 q.1 ∙ sym (held_at-there k hs node f)
+    ]
+
+-- a post of a new node puts it behind the others
+pub raised-new : {S A : Type 0} (m : Meaning S A) (hs : List (Held A)) (post : Node × A) → held_at hs post.0 ≡ None
+    → raised m hs post ≡ hs ++ entry_after m None post ∷ []
+raised-new m [] post e = refl
+raised-new m (h ∷ hs) post e =
+    elim (cases_Bool (same_node post.0 h.node)) [
+      | inl t ↦ absurd (let s : None ≡ Some h = sym e ∙ held_at-here h hs post.0 t in cc)
+      | inr f ↦ raised-there m h hs post f ∙ ap (λ l. h ∷ l) (raised-new m hs post (sym (held_at-there h hs post.0 f) ∙ e))
+    ]
+
+-- a post of a node that is there changes the entry at its place
+pub raised-at : {S A : Type 0} (m : Meaning S A) (hs : List (Held A)) (post : Node × A) (p : ℕ) (h : Held A) → place_of hs post.0 ≡ Some p
+    → held_at hs post.0 ≡ Some h → raised m hs post ≡ slice_set hs p (risen m h post.1)
+raised-at m [] post p h e d = absurd (cc)
+raised-at m (k ∷ hs) post p h e d =
+    elim (cases_Bool (same_node post.0 k.node)) [
+      | inl t ↦ let z : 0 ≡ p = same_Some 0 p (sym (place_of-here k hs post.0 t) ∙ e) in
+          let s : k ≡ h = same_Some k h (sym (held_at-here k hs post.0 t) ∙ d) in
+          raised-here m k hs post t ∙ ap (λ x. risen m x post.1 ∷ hs) s ∙ ap (λ i. slice_set (k ∷ hs) i (risen m h post.1)) z
+      | inr f ↦ let q = option_map-some (λ place. place + 1) (place_of hs post.0) p (sym (place_of-there k hs post.0 f) ∙ e) in
+          raised-there m k hs post f ∙ ap (λ l. k ∷ l) (raised-at m hs post q.0 h q.1 (sym (held_at-there k hs post.0 f) ∙ d))
+          ∙ ap (λ i. slice_set (k ∷ hs) i (risen m h post.1)) (sym (add-one q.0) ∙ q.2)
+    ]

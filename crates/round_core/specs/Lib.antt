@@ -7,5 +7,8 @@ pub mod RiseLaws
 pub mod EntryLaws
 pub mod ReplayLaws
 pub mod FormLaws
-pub mod Turns
-pub mod TurnLaws
+pub mod Counts
+pub mod CountLaws
+pub mod WorkLaws
+pub mod Table
+pub mod TableLaws

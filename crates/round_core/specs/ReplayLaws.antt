@@ -1,20 +1,21 @@
 -- What holds of the replay of a journal, one event after another.
-use Rattle.std.specs.Prelude.{◌≡◌, ℕ, ◌+◌, ◌<◌, ◌≤◌, ◌⊎◌, Bool, true, false, Option, None, Some, List, [], ◌∷◌, ◌++◌, MatchOption}
+use Rattle.std.specs.Prelude.{◌≡◌, ℕ, ◌<◌, ◌≤◌, ◌⊎◌, Option, None, Some, List, [], ◌∷◌, ◌++◌}
 use Rattle.std.specs.List.{AllByRecursion}
 use Rattle.std.specs.Option.{option_map}
 use Rattle.std.proofs.Common.{refl, sym, ◌∙◌, ap, ap₂, subst, subst₂, inl, inr, arith}
 use Rattle.std.proofs.lemmas.Bool.{cases_Bool, cases_order}
-use Rattle.std.proofs.lemmas.Option.{same_Some}
 use Rattle.call_context.specs.declared.node.Node.{Node}
 use Rattle.call_context.specs.declared.node.Node.TheVariants.{At, Exit}
 use Rattle.call_context.specs.declared.node.Unit.{Unit as WorkUnit}
 use Rattle.call_context.specs.declared.node.Unit.TheVariants.{One, Back}
+use Rattle.call_context.specs.Same.{same_node}
 use Rattle.chip_law.specs.Meaning.{Meaning}
 use Rattle.round_core.specs.declared.event.Event.{Event}
 use Rattle.round_core.specs.declared.event.Event.TheVariants.{Claim, Post, GiveBack}
-use Rattle.round_core.specs.HeldLaws.{AllStay, AllStay-refl, AllStay-trans, AllStay-all_raised, AreApart, AreApart-all_raised, place_of-held, place_of-one}
-use Rattle.round_core.specs.EntryLaws.{AreOutOnce, AreOutOnce-push, AreOutOnce-without, AreUpTo, AreUpTo-refl, AreUpTo-trans, versions-between, up_to-unless_risen, versions_of-later, inputs_of-found, inputs_of-later, inputs_of-same, done_at-all, out_at-all, all-any, all-map, all-push, all-with_done, all-without}
-use Rattle.round_core.specs.Machine.{BookState, Held, Done, Out, held_at, done_at, out_at, place_of, versions_of, inputs_of, opening, posted, all_raised, with_done, with_out, without, after, replay_from, replay, IsUnit, IsClaimable, IsFirst, IsBelow, ComesBefore, IsLegal, AllLegal, IsLegalJournal, IsFinished, NoneClaimable, HasRisen}
+use Rattle.round_core.specs.HeldLaws.{AllStay, AllStay-refl, AllStay-trans, AllStay-all_raised, AreApart-all_raised, place_of-held, place_of-one, Stays-risen, raised-here, raised-there, held_at-all, version_of-held}
+use Rattle.round_core.specs.EntryLaws.{AreOutOnce-push, AreOutOnce-without, AreUpTo, AreUpTo-refl, AreUpTo-trans, versions-between, versions_of-later, inputs_of-found, inputs_of-later, inputs_of-same, out_at-all, all-map, all-push, all-with_done, all-without}
+use Rattle.round_core.specs.Counts.{AreApart, AreOutOnce}
+use Rattle.round_core.specs.Machine.{BookState, Held, Done, Out, out_at, held_at, place_of, version_of, versions_of, inputs_of, opening, posted, risen, raised, all_raised, with_out, without, after, replay_from, replay, IsUnit, IsFirst, IsBelow, ComesBefore, IsLegal, AllLegal, IsLegalJournal, IsFinished}
 
 -- the replay of a journal in two parts
 pub replay_from-append : {S A : Type 0} (m : Meaning S A) (b : BookState A) (es fs : List Event)
@@ -135,7 +136,7 @@ pub record IsWellOut {A : Type 0} (nodes : List (Held A)) (o : Out A) : Type 0 w
 pub record IsWellDone {S A : Type 0} (m : Meaning S A) (nodes : List (Held A)) (d : Done A) : Type 0 where
   pub known : AreUpTo d.versions (versions_of nodes d.unit)
   pub worked : versions_of nodes d.unit ≡ d.versions
-    → (inputs : A × Option A) × (inputs_of nodes d.unit ≡ Some inputs) × (d.work ≡ m.work d.unit inputs.0 inputs.1)
+      → (inputs : A × Option A) × (inputs_of nodes d.unit ≡ Some inputs) × (d.work ≡ m.work d.unit inputs.0 inputs.1)
 
 -- What holds behind every legal journal, whatever the chip means.
 pub record IsSteady {S A : Type 0} (m : Meaning S A) (b : BookState A) : Type 0 where
@@ -150,7 +151,7 @@ IsWellOut-later hs ls o s w = record {
   known = AreUpTo-trans o.versions (versions_of hs o.unit) (versions_of ls o.unit) w.known (versions_of-later hs ls o.unit s);
   copied = λ e. let same : versions_of hs o.unit ≡ o.versions =
       versions-between o.versions (versions_of hs o.unit) (versions_of ls o.unit) w.known (versions_of-later hs ls o.unit s) e in
-    inputs_of-same hs ls o.unit (o.at, o.exit) s (w.copied same) (e ∙ sym same);
+      inputs_of-same hs ls o.unit (o.at, o.exit) s (w.copied same) (e ∙ sym same);
 }
 
 pub IsWellDone-later : {S A : Type 0} (m : Meaning S A) (hs ls : List (Held A)) (d : Done A) → AllStay hs ls → IsWellDone m hs d → IsWellDone m ls d
@@ -158,8 +159,8 @@ IsWellDone-later m hs ls d s w = record {
   known = AreUpTo-trans d.versions (versions_of hs d.unit) (versions_of ls d.unit) w.known (versions_of-later hs ls d.unit s);
   worked = λ e. let same : versions_of hs d.unit ≡ d.versions =
       versions-between d.versions (versions_of hs d.unit) (versions_of ls d.unit) w.known (versions_of-later hs ls d.unit s) e in
-    let r = w.worked same in
-    (r.0, inputs_of-same hs ls d.unit r.0 s r.1 (e ∙ sym same), r.2);
+      let r = w.worked same in
+      (r.0, inputs_of-same hs ls d.unit r.0 s r.1 (e ∙ sym same), r.2);
 }
 
 -- the opening has it
@@ -177,8 +178,8 @@ IsSteady-posted m b o w s =
       once = AreOutOnce-without b.out o.unit s.once;
       out = all-without (IsWellOut ls) b.out o.unit (all-map (IsWellOut b.nodes) (IsWellOut ls) (λ x. IsWellOut-later b.nodes ls x stay) b.out s.out);
       done = all-with_done (IsWellDone m ls) b.done (record { unit = o.unit; work = work; versions = o.versions })
-        (all-map (IsWellDone m b.nodes) (IsWellDone m ls) (λ x. IsWellDone-later m b.nodes ls x stay) b.done s.done)
-        (record { known = v.known; worked = λ e. ((o.at, o.exit), v.copied e, refl) });
+          (all-map (IsWellDone m b.nodes) (IsWellDone m ls) (λ x. IsWellDone-later m b.nodes ls x stay) b.done s.done)
+          (record { known = v.known; worked = λ e. ((o.at, o.exit), v.copied e, refl) });
     }
 
 -- a legal event keeps it
@@ -189,7 +190,7 @@ IsSteady-after m b (Claim seat unit) l s =
       apart = s.apart;
       once = AreOutOnce-push b.out (taken b seat unit i.0) s.once l.claimable.at_home;
       out = all-push (IsWellOut b.nodes) b.out (taken b seat unit i.0) s.out
-        (record { there = i; known = AreUpTo-refl (versions_of b.nodes unit); copied = λ e. i.1 });
+          (record { there = i; known = AreUpTo-refl (versions_of b.nodes unit); copied = λ e. i.1 });
       done = s.done;
     })
 IsSteady-after m b (Post seat unit) l s =
@@ -220,9 +221,9 @@ nodes-order : {A : Type 0} (hs : List (Held A)) (n k : Node) (p q : ℕ) → pla
     → (n ≡ k) ⊎ (IsBelow (place_of hs n) (place_of hs k) ⊎ IsBelow (place_of hs k) (place_of hs n))
 nodes-order hs n k p q e d =
     elim (cases_order p q) [
-      inl same ↦ inl (place_of-one hs n k p e (d ∙ ap (λ x. Some x) (sym same)))
-    | inr (inl l) ↦ inr (inl (below-by p q e d l))
-    | inr (inr g) ↦ inr (inr (below-by q p d e g))
+      | inl same ↦ inl (place_of-one hs n k p e (d ∙ ap (λ x. Some x) (sym same)))
+      | inr (inl l) ↦ inr (inl (below-by p q e d l))
+      | inr (inr g) ↦ inr (inr (below-by q p d e g))
     ]
 
 -- a unit's node has a place, and so has its exit
@@ -250,21 +251,66 @@ units-order b (Back n x) (One k) f g = inr (inr tt)
 units-order b (Back n x) (Back k y) f g =
     let p = unit-places b n x f in let q = unit-places b k y g in
     elim (nodes-order b.nodes n k p.0 q.0 p.2 q.2) [
-      inr (inl l) ↦ inr (inl (inl l))
-    | inr (inr r) ↦ inr (inr (inl r))
-    | inl e ↦ let same : place_of b.nodes n ≡ place_of b.nodes k = ap (λ z. place_of b.nodes z) e in
-        elim (nodes-order b.nodes x y p.1 q.1 p.3 q.3) [
-          inl d ↦ inl (ap₂ (λ a c. Back a c) e d)
-        | inr (inl l) ↦ inr (inl (inr (same, l)))
-        | inr (inr r) ↦ inr (inr (inr (sym same, r)))
-        ]
+      | inr (inl l) ↦ inr (inl (inl l))
+      | inr (inr r) ↦ inr (inr (inl r))
+      | inl e ↦ let same : place_of b.nodes n ≡ place_of b.nodes k = ap (λ z. place_of b.nodes z) e in
+          elim (nodes-order b.nodes x y p.1 q.1 p.3 q.3) [
+            | inl d ↦ inl (ap₂ (λ a c. Back a c) e d)
+            | inr (inl l) ↦ inr (inl (inr (same, l)))
+            | inr (inr r) ↦ inr (inr (inr (sym same, r)))
+          ]
     ]
 
 -- one unit alone is the first
 pub first-one : {A : Type 0} (b : BookState A) (u v : WorkUnit) → IsFirst b u → IsFirst b v → u ≡ v
 first-one b u v f g =
     elim (units-order b u v f.claimable.known g.claimable.known) [
-      inl e ↦ e
-    | inr (inl l) ↦ absurd (g.least u f.claimable l)
-    | inr (inr r) ↦ absurd (f.least v g.claimable r)
+      | inl e ↦ e
+      | inr (inl l) ↦ absurd (g.least u f.claimable l)
+      | inr (inr r) ↦ absurd (f.least v g.claimable r)
     ]
+
+-- each node rose at least once
+abbrev pub AreRisen : {A : Type 0} → List (Held A) → Type 0
+AreRisen hs = AllByRecursion (λ h. 1 ≤ h.rises) hs
+
+AreRisen-raised : {S A : Type 0} (m : Meaning S A) (hs : List (Held A)) (post : Node × A) → AreRisen hs → AreRisen (raised m hs post)
+AreRisen-raised m [] post a = (omega arith, tt)
+AreRisen-raised m (h ∷ hs) post a =
+    elim (cases_Bool (same_node post.0 h.node)) [
+      | inl t ↦ let s : h.rises ≤ (risen m h post.1).rises = (Stays-risen m h post.1).rises in
+          subst AreRisen (sym (raised-here m h hs post t)) (omega (arith, s, a.0), a.1)
+      | inr f ↦ subst AreRisen (sym (raised-there m h hs post f)) (a.0, AreRisen-raised m hs post a.1)
+    ]
+
+AreRisen-all_raised : {S A : Type 0} (m : Meaning S A) (hs : List (Held A)) (posts : List (Node × A)) → AreRisen hs → AreRisen (all_raised m hs posts)
+AreRisen-all_raised m hs [] a = a
+AreRisen-all_raised m hs (post ∷ posts) a = AreRisen-all_raised m (raised m hs post) posts (AreRisen-raised m hs post a)
+
+AreRisen-posted : {S A : Type 0} (m : Meaning S A) (b : BookState A) (o : Option (Out A)) → AreRisen b.nodes → AreRisen (posted m b o).nodes
+AreRisen-posted m b None a = a
+AreRisen-posted m b (Some o) a = AreRisen-all_raised m b.nodes (m.work o.unit o.at o.exit).posts a
+
+pub AreRisen-after : {S A : Type 0} (m : Meaning S A) (b : BookState A) (event : Event) → AreRisen b.nodes → AreRisen (after m b event).nodes
+unfolding after
+AreRisen-after m b (Claim seat unit) a = a
+AreRisen-after m b (Post seat unit) a = AreRisen-posted m b (out_at b.out unit) a
+AreRisen-after m b (GiveBack seat unit) a = a
+
+pub AreRisen-replay : {S A : Type 0} (m : Meaning S A) (journal : List Event) → IsLegalJournal m journal → AreRisen (replay m journal).nodes
+AreRisen-replay m journal l =
+    replay_from-keeps m (λ b. AreRisen b.nodes) (λ b event e a. AreRisen-after m b event a) (opening m) journal l (omega arith, tt)
+
+-- by the entry of the node
+least-by : {A : Type 0} (hs : List (Held A)) (node : Node) (h : Held A) → AreRisen hs → held_at hs node ≡ Some h → 1 ≤ version_of hs node
+least-by hs node h a e =
+    let v = version_of-held hs node h e in
+    let i : 1 ≤ h.rises = held_at-all (λ x. 1 ≤ x.rises) hs node h a e in omega (arith, v, i)
+
+-- a unit's node has risen
+pub versions_of-least : {A : Type 0} (b : BookState A) (unit : WorkUnit) → AreRisen b.nodes → IsUnit b unit → 1 ≤ (versions_of b.nodes unit).at
+versions_of-least b (One (At pc calls frame)) a u = least-by b.nodes (At pc calls frame) u.0 a u.1
+versions_of-least b (One (Exit pc frame)) a u = absurd u
+versions_of-least b (Back (At pc calls frame) (Exit from left)) a u = least-by b.nodes (At pc calls frame) u.0 a u.2
+versions_of-least b (Back (At pc calls frame) (At from calls' frame')) a u = absurd u
+versions_of-least b (Back (Exit pc frame) exit) a u = absurd u

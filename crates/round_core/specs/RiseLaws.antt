@@ -1,15 +1,16 @@
 -- Rises of a node: at least 1 and at most 64, with top at the 64th; and what is posted is under its node from then on.
-use Rattle.std.specs.Prelude.{◌≡◌, ℕ, ◌+◌, ◌<◌, ◌≤◌, ◌⊎◌, nat_le, Bool, true, false, Option, None, Some, List, [], ◌∷◌, if◌then◌else◌}
+use Rattle.std.specs.Prelude.{◌≡◌, ℕ, ◌+◌, ◌≤◌, nat_le, Bool, true, false, Option, None, Some, List, [], ◌∷◌}
+use Rattle.std.specs.List.{AllByRecursion}
 use Rattle.std.proofs.Common.{refl, sym, ◌∙◌, ap, subst, inl, inr, arith}
 use Rattle.std.proofs.lemmas.Bool.{cases_Bool, cond-true, cond-false, false≢true, cond_both, cases_lt}
-use Rattle.std.proofs.lemmas.Option.{same_Some}
 use Rattle.call_context.specs.declared.node.Node.{Node}
 use Rattle.call_context.specs.Same.{same_node}
-use Rattle.call_context.specs.SameLaws.{same_node-refl, same_node-eq}
+use Rattle.call_context.specs.SameLaws.{same_node-eq}
 use Rattle.chip_law.specs.Meaning.{Meaning}
 use Rattle.round_core.specs.Form.{KeepsForm, TopIsGreatest, PostsAreFormed, IsOrdered}
+use Rattle.round_core.specs.Table.{IsUnder}
 use Rattle.round_core.specs.Machine.{Held, held_at, risen_state, risen, raised, all_raised}
-use Rattle.round_core.specs.HeldLaws.{held_at-here, held_at-there, held_at-node, held_at-raised, held_at-raised_other, raised-here, raised-there, entry_after, Stays-risen}
+use Rattle.round_core.specs.HeldLaws.{held_at-all, held_at-node, held_at-raised, held_at-raised_other, raised-here, raised-there, entry_after, Stays-risen}
 
 -- an entry whose rises are in bounds, with a state of the form
 pub record IsInBounds {S A : Type 0} (m : Meaning S A) (Form : Node → A → Type 0) (h : Held A) : Type 0 where
@@ -19,17 +20,11 @@ pub record IsInBounds {S A : Type 0} (m : Meaning S A) (Form : Node → A → Ty
   pub form : Form h.node h.state
 
 abbrev pub AreInBounds : {S A : Type 0} → Meaning S A → (Node → A → Type 0) → List (Held A) → Type 0
-AreInBounds m Form [] = Unit {0}
-AreInBounds m Form (h ∷ hs) = IsInBounds m Form h × AreInBounds m Form hs
+AreInBounds m Form nodes = AllByRecursion (IsInBounds m Form) nodes
 
 pub held_at-in_bounds : {S A : Type 0} (m : Meaning S A) (Form : Node → A → Type 0) (hs : List (Held A)) (node : Node) (h : Held A)
     → AreInBounds m Form hs → held_at hs node ≡ Some h → IsInBounds m Form h
-held_at-in_bounds m Form [] node h a e = absurd (cc)
-held_at-in_bounds m Form (k ∷ hs) node h a e =
-    elim (cases_Bool (same_node node k.node)) [
-      inl t ↦ subst (λ x. IsInBounds m Form x) (same_Some k h (sym (held_at-here k hs node t) ∙ e)) a.0
-    | inr f ↦ held_at-in_bounds m Form hs node h a.1 (sym (held_at-there k hs node f) ∙ e)
-    ]
+held_at-in_bounds m Form hs node h a e = held_at-all (IsInBounds m Form) hs node h a e
 
 risen-within : {S A : Type 0} (m : Meaning S A) (h : Held A) (posted : A) → m.within posted h.state ≡ true → risen m h posted ≡ h
 risen-within m h posted e = cond-true _ _ _ e
@@ -50,17 +45,17 @@ pub risen-in_bounds : {S A : Type 0} (m : Meaning S A) (Form : Node → A → Ty
     → (h : Held A) (posted : A) → IsInBounds m Form h → Form h.node posted → IsInBounds m Form (risen m h posted)
 risen-in_bounds m Form keeps top h posted i f =
     elim (cases_Bool (m.within posted h.state)) [
-      inl t ↦ subst (λ x. IsInBounds m Form x) (sym (risen-within m h posted t)) i
-    | inr b ↦ subst (λ x. IsInBounds m Form x) (sym (risen-beyond m h posted b)) (record {
+      | inl t ↦ subst (λ x. IsInBounds m Form x) (sym (risen-within m h posted t)) i
+      | inr b ↦ subst (λ x. IsInBounds m Form x) (sym (risen-beyond m h posted b)) (record {
         least = omega arith;
         most = elim (cases_lt h.rises 64) [
-            inl lt ↦ omega arith
+          | inl lt ↦ omega arith
           | inr ge ↦ let all : h.rises ≡ 64 = omega (arith, i.most) in
               absurd (false≢true (sym b ∙ ap (λ s. m.within posted s) (i.last all) ∙ top h.node posted f))
-          ];
+        ];
         last = λ e. ap (λ r. risen_state m h.node h.state posted r) e;
         form = risen_state-by m (λ s. Form h.node s) h.node h.state posted (h.rises + 1)
-          (keeps.joined h.node h.state posted i.form f) (λ c. keeps.widened c h.node h.state posted i.form f) (keeps.topped h.node h.state i.form);
+            (keeps.joined h.node h.state posted i.form f) (λ c. keeps.widened c h.node h.state posted i.form f) (keeps.topped h.node h.state i.form);
       })
     ]
 
@@ -69,10 +64,10 @@ pub raised-in_bounds : {S A : Type 0} (m : Meaning S A) (Form : Node → A → T
 raised-in_bounds m Form keeps top [] post a f = (record { least = omega arith; most = omega arith; last = λ e. absurd (omega arith); form = f }, tt)
 raised-in_bounds m Form keeps top (h ∷ hs) post a f =
     elim (cases_Bool (same_node post.0 h.node)) [
-      inl t ↦ let n : post.0 ≡ h.node = same_node-eq post.0 h.node t in
-        subst (AreInBounds m Form) (sym (raised-here m h hs post t))
-        (risen-in_bounds m Form keeps top h post.1 a.0 (subst (λ x. Form x post.1) n f), a.1)
-    | inr g ↦ subst (AreInBounds m Form) (sym (raised-there m h hs post g)) (a.0, raised-in_bounds m Form keeps top hs post a.1 f)
+      | inl t ↦ let n : post.0 ≡ h.node = same_node-eq post.0 h.node t in
+          subst (AreInBounds m Form) (sym (raised-here m h hs post t))
+          (risen-in_bounds m Form keeps top h post.1 a.0 (subst (λ x. Form x post.1) n f), a.1)
+      | inr g ↦ subst (AreInBounds m Form) (sym (raised-there m h hs post g)) (a.0, raised-in_bounds m Form keeps top hs post a.1 f)
     ]
 
 pub all_raised-in_bounds : {S A : Type 0} (m : Meaning S A) (Form : Node → A → Type 0) → KeepsForm m Form → TopIsGreatest m Form
@@ -81,22 +76,17 @@ all_raised-in_bounds m Form keeps top hs [] a f = a
 all_raised-in_bounds m Form keeps top hs (post ∷ posts) a f =
     all_raised-in_bounds m Form keeps top (raised m hs post) posts (raised-in_bounds m Form keeps top hs post a f.0) f.1
 
--- a posted state is within what its node holds
-abbrev pub IsUnder : {S A : Type 0} → Meaning S A → List (Held A) → Node × A → Type 0
-IsUnder m hs post = (h : Held _) × (held_at hs post.0 ≡ Some h) × (m.within post.1 h.state ≡ true)
-
 abbrev pub AreUnder : {S A : Type 0} → Meaning S A → List (Held A) → List (Node × A) → Type 0
-AreUnder m hs [] = Unit {0}
-AreUnder m hs (post ∷ posts) = IsUnder m hs post × AreUnder m hs posts
+AreUnder m hs posts = AllByRecursion (IsUnder m hs) posts
 
 -- both the held state and the posted one are within the risen one
 risen-above : {S A : Type 0} (m : Meaning S A) (Form : Node → A → Type 0) → IsOrdered m Form → (h : Held A) (posted : A)
     → Form h.node h.state → Form h.node posted → (m.within h.state (risen m h posted).state ≡ true) × (m.within posted (risen m h posted).state ≡ true)
 risen-above m Form o h posted hf pf =
     elim (cases_Bool (m.within posted h.state)) [
-      inl t ↦ subst (λ x. (m.within h.state x.state ≡ true) × (m.within posted x.state ≡ true)) (sym (risen-within m h posted t)) (o.itself h.node h.state hf, t)
-    | inr b ↦ subst (λ x. (m.within h.state x.state ≡ true) × (m.within posted x.state ≡ true)) (sym (risen-beyond m h posted b))
-        (risen_state-by m (λ s. (m.within h.state s ≡ true) × (m.within posted s ≡ true)) h.node h.state posted (h.rises + 1)
+      | inl t ↦ subst (λ x. (m.within h.state x.state ≡ true) × (m.within posted x.state ≡ true)) (sym (risen-within m h posted t)) (o.itself h.node h.state hf, t)
+      | inr b ↦ subst (λ x. (m.within h.state x.state ≡ true) × (m.within posted x.state ≡ true)) (sym (risen-beyond m h posted b))
+          (risen_state-by m (λ s. (m.within h.state s ≡ true) × (m.within posted s ≡ true)) h.node h.state posted (h.rises + 1)
           (o.held_joined h.node h.state posted hf pf, o.posted_joined h.node h.state posted hf pf)
           (λ c. (o.held_widened c h.node h.state posted hf pf, o.posted_widened c h.node h.state posted hf pf))
           (o.topped h.node h.state hf, o.topped h.node posted pf))
@@ -109,9 +99,11 @@ posted-by m Form o hs post a f None e =
     (entry_after m None post, held_at-raised m hs post ∙ ap (λ w. Some (entry_after m w post)) e, o.itself post.0 post.1 f)
 posted-by m Form o hs post a f (Some h) e =
     let n : h.node ≡ post.0 = held_at-node hs post.0 h e in
-    let i = held_at-in_bounds m Form hs post.0 h a e in
-    (risen m h post.1, held_at-raised m hs post ∙ ap (λ w. Some (entry_after m w post)) e,
-      (risen-above m Form o h post.1 i.form (subst (λ x. Form x post.1) (sym n) f)).1)
+    let i = held_at-in_bounds m Form hs post.0 h a e in (
+      risen m h post.1,
+      held_at-raised m hs post ∙ ap (λ w. Some (entry_after m w post)) e,
+      (risen-above m Form o h post.1 i.form (subst (λ x. Form x post.1) (sym n) f)).1,
+    )
 
 -- what is posted is under its node then
 pub IsUnder-posted : {S A : Type 0} (m : Meaning S A) (Form : Node → A → Type 0) → IsOrdered m Form → (hs : List (Held A)) (post : Node × A)
@@ -124,18 +116,19 @@ pub IsUnder-raised : {S A : Type 0} (m : Meaning S A) (Form : Node → A → Typ
     → IsUnder m hs p → IsUnder m (raised m hs post) p
 IsUnder-raised m Form keeps o hs post p a f g u =
     elim (cases_Bool (same_node p.0 post.0)) [
-      inl t ↦ let n : p.0 ≡ post.0 = same_node-eq p.0 post.0 t in
-        let e : held_at hs post.0 ≡ Some u.0 = ap (λ x. held_at hs x) (sym n) ∙ u.1 in
-        let k : (u.0).node ≡ p.0 = held_at-node hs p.0 u.0 u.1 in
-        let i = held_at-in_bounds m Form hs post.0 u.0 a e in
-        let gf : Form (u.0).node p.1 = subst (λ x. Form x p.1) (sym k) g in
-        let pf : Form (u.0).node post.1 = subst (λ x. Form x post.1) (sym (k ∙ n)) f in
-        let r = risen-in_bounds m Form keeps o.topped u.0 post.1 i pf in
-        let rf : Form (u.0).node (risen m u.0 post.1).state = subst (λ x. Form x (risen m u.0 post.1).state) (Stays-risen m u.0 post.1).node r.form in
-        (risen m u.0 post.1,
-          ap (λ x. held_at (raised m hs post) x) n ∙ held_at-raised m hs post ∙ ap (λ w. Some (entry_after m w post)) e,
-          o.along (u.0).node p.1 (u.0).state (risen m u.0 post.1).state gf i.form rf u.2 (risen-above m Form o u.0 post.1 i.form pf).0)
-    | inr d ↦ (u.0, held_at-raised_other m hs post p.0 d ∙ u.1, u.2)
+      | inl t ↦ let n : p.0 ≡ post.0 = same_node-eq p.0 post.0 t in
+          let e : held_at hs post.0 ≡ Some u.0 = ap (λ x. held_at hs x) (sym n) ∙ u.1 in
+          let k : (u.0).node ≡ p.0 = held_at-node hs p.0 u.0 u.1 in
+          let i = held_at-in_bounds m Form hs post.0 u.0 a e in
+          let gf : Form (u.0).node p.1 = subst (λ x. Form x p.1) (sym k) g in
+          let pf : Form (u.0).node post.1 = subst (λ x. Form x post.1) (sym (k ∙ n)) f in
+          let r = risen-in_bounds m Form keeps o.topped u.0 post.1 i pf in
+          let rf : Form (u.0).node (risen m u.0 post.1).state = subst (λ x. Form x (risen m u.0 post.1).state) (Stays-risen m u.0 post.1).node r.form in (
+            risen m u.0 post.1,
+            ap (λ x. held_at (raised m hs post) x) n ∙ held_at-raised m hs post ∙ ap (λ w. Some (entry_after m w post)) e,
+            o.along (u.0).node p.1 (u.0).state (risen m u.0 post.1).state gf i.form rf u.2 (risen-above m Form o u.0 post.1 i.form pf).0,
+          )
+      | inr d ↦ (u.0, held_at-raised_other m hs post p.0 d ∙ u.1, u.2)
     ]
 
 pub IsUnder-all_raised : {S A : Type 0} (m : Meaning S A) (Form : Node → A → Type 0) → KeepsForm m Form → IsOrdered m Form
@@ -158,6 +151,7 @@ pub all_raised-under : {S A : Type 0} (m : Meaning S A) (Form : Node → A → T
     → (hs : List (Held A)) (posts : List (Node × A)) → AreInBounds m Form hs → PostsAreFormed Form posts → AreUnder m (all_raised m hs posts) posts
 all_raised-under m Form keeps o hs [] a f = tt
 all_raised-under m Form keeps o hs (post ∷ posts) a f =
-    let b = raised-in_bounds m Form keeps o.topped hs post a f.0 in
-    (IsUnder-all_raised m Form keeps o (raised m hs post) posts post b f.1 f.0 (IsUnder-posted m Form o hs post a f.0),
-      all_raised-under m Form keeps o (raised m hs post) posts b f.1)
+    let b = raised-in_bounds m Form keeps o.topped hs post a f.0 in (
+      IsUnder-all_raised m Form keeps o (raised m hs post) posts post b f.1 f.0 (IsUnder-posted m Form o hs post a f.0),
+      all_raised-under m Form keeps o (raised m hs post) posts b f.1,
+    )

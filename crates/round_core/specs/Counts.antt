@@ -1,10 +1,20 @@
--- How often a unit was claimed, posted and given back.
-use Rattle.std.specs.Prelude.{◌≡◌, ℕ, ◌+◌, ◌==◌, ◌&&◌, Bool, true, false, cond, Option, None, Some, List, count_by}
+-- What a book has once, and how often a unit was claimed, posted and given back.
+use Rattle.std.specs.Prelude.{ℕ, ◌==◌, ◌&&◌, Bool, true, false, cond, Option, None, Some, List, count_by, ◌≡◌, [], ◌∷◌}
 use Rattle.call_context.specs.declared.node.Unit.{Unit as WorkUnit}
 use Rattle.call_context.specs.Same.{same_unit}
 use Rattle.round_core.specs.declared.event.Event.{Event}
 use Rattle.round_core.specs.declared.event.Event.TheVariants.{Claim, Post, GiveBack}
-use Rattle.round_core.specs.Machine.{Out}
+use Rattle.round_core.specs.Machine.{Held, Out, held_at, out_at}
+
+-- no two nodes are one
+abbrev pub AreApart : {A : Type 0} → List (Held A) → Type 0
+AreApart [] = Unit {0}
+AreApart (h ∷ hs) = (held_at hs h.node ≡ None) × AreApart hs
+
+-- no unit is out twice
+abbrev pub AreOutOnce : {A : Type 0} → List (Out A) → Type 0
+AreOutOnce [] = Unit {0}
+AreOutOnce (o ∷ os) = (out_at os o.unit ≡ None) × AreOutOnce os
 
 -- an event of that kind, of the unit, by a seat that passes
 abbrev pub is_claim : (ℕ → Bool) → WorkUnit → Event → Bool

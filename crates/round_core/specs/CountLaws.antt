@@ -1,8 +1,7 @@
 -- Claims, posts and give-backs of one unit take turns, and a unit is claimed anew only for inputs that rose.
-use Rattle.std.specs.Prelude.{◌≡◌, ℕ, ◌+◌, ◌<◌, ◌≤◌, ◌⊎◌, ◌&&◌, Bool, true, false, cond, Option, None, Some, List, [], ◌∷◌, ◌++◌, MatchOption, count_by}
-use Rattle.std.specs.List.{AllByRecursion}
-use Rattle.std.proofs.Common.{refl, sym, ◌∙◌, ap, ap₂, subst, inl, inr, arith}
-use Rattle.std.proofs.lemmas.Bool.{cases_Bool}
+use Rattle.std.specs.Prelude.{◌≡◌, ℕ, ◌+◌, ◌<◌, ◌≤◌, ◌&&◌, Bool, true, false, cond, Option, None, Some, List, [], ◌∷◌, MatchOption, count_by}
+use Rattle.std.proofs.Common.{refl, sym, ◌∙◌, ap, subst, inl, inr, arith}
+use Rattle.std.proofs.lemmas.Bool.{cases_Bool, cases_lt}
 use Rattle.std.proofs.lemmas.Option.{same_Some}
 use Rattle.std.proofs.lemmas.List.Sums.{sum_by-cons}
 use Rattle.call_context.specs.declared.node.Node.{Node}
@@ -16,10 +15,10 @@ use Rattle.round_core.specs.declared.event.Event.TheVariants.{Claim, Post, GiveB
 use Rattle.round_core.specs.Form.{KeepsForm, TopIsGreatest}
 use Rattle.round_core.specs.RiseLaws.{AreInBounds}
 use Rattle.round_core.specs.EntryLaws.{AreUpTo, done_at-all, out_at-all, all-any, done_at-with_done, done_at-with_done_other, out_at-without, out_at-without_other, out_at-push, out_at-push_other}
-use Rattle.round_core.specs.ReplayLaws.{IsSteady, IsSteady-after, IsSteady-replay, IsSteady-opening, IsWellOut, IsWellDone, taken, after-claim, after-post, after-give_back, inputs_of-unit}
-use Rattle.round_core.specs.FormLaws.{IsInForm, IsInForm-after, IsInForm-replay, IsInForm-opening, versions_of-most, versions_of-least}
-use Rattle.round_core.specs.Turns.{is_claim, is_post, is_give_back, anyone, outs}
-use Rattle.round_core.specs.Machine.{BookState, Held, Done, Out, done_at, out_at, versions_of, opening, posted, with_done, without, after, replay_from, replay, IsUnit, IsClaimable, IsFirst, IsLegal, AllLegal, IsLegalJournal, HasRisen}
+use Rattle.round_core.specs.ReplayLaws.{IsSteady, IsSteady-after, IsSteady-replay, IsSteady-opening, IsWellOut, IsWellDone, taken, after-claim, after-post, after-give_back, inputs_of-unit, versions_of-least, AreRisen, AreRisen-after}
+use Rattle.round_core.specs.FormLaws.{IsInForm-replay, versions_of-most}
+use Rattle.round_core.specs.Counts.{is_claim, is_post, is_give_back, anyone, outs}
+use Rattle.round_core.specs.Machine.{BookState, Done, Out, done_at, out_at, versions_of, opening, with_done, without, after, replay_from, replay, IsUnit, IsClaimable, IsFirst, IsLegal, AllLegal, IsLegalJournal, HasRisen}
 
 -- the unit that an event is of
 abbrev pub unit_of : Event → WorkUnit
@@ -34,22 +33,26 @@ done_by m o = record { unit = o.unit; work = m.work o.unit o.at o.exit; versions
 -- a claim leaves its unit out
 pub after-claim_out : {S A : Type 0} (m : Meaning S A) (b : BookState A) (seat : ℕ) (unit : WorkUnit) → IsFirst b unit
     → (o : Out A) × (out_at (after m b (Claim seat unit)).out unit ≡ Some o) × (o.seat ≡ seat) × (o.versions ≡ versions_of b.nodes unit)
-      × (done_at (after m b (Claim seat unit)).done unit ≡ done_at b.done unit)
+    × (done_at (after m b (Claim seat unit)).done unit ≡ done_at b.done unit)
 after-claim_out m b seat unit f =
     let i = inputs_of-unit b unit f.claimable.known in
-    let e = after-claim m b seat unit i.0 i.1 in
-    (taken b seat unit i.0,
+    let e = after-claim m b seat unit i.0 i.1 in (
+      taken b seat unit i.0,
       ap (λ x. out_at x.out unit) e ∙ out_at-push b.out (taken b seat unit i.0) f.claimable.at_home,
-      refl, refl, ap (λ x. done_at x.done unit) e)
+      refl,
+      refl,
+      ap (λ x. done_at x.done unit) e,
+    )
 
 -- a post leaves its unit at home, with the work of what was out
 pub after-post_done : {S A : Type 0} (m : Meaning S A) (b : BookState A) (seat : ℕ) (unit : WorkUnit) (o : Out A) → IsSteady m b → out_at b.out unit ≡ Some o
     → (out_at (after m b (Post seat unit)).out unit ≡ None) × (done_at (after m b (Post seat unit)).done unit ≡ Some (done_by m o))
 after-post_done m b seat unit o s e =
     let n : o.unit ≡ unit = (out_at-all (λ x. Unit {0}) b.out unit o (all-any b.out) e).1 in
-    let p = after-post m b seat unit o e in
-    (ap (λ x. out_at x.out unit) p ∙ ap (λ u. out_at (without b.out u) unit) n ∙ out_at-without b.out unit s.once,
-      ap (λ x. done_at x.done unit) p ∙ ap (λ u. done_at (with_done b.done (done_by m o)) u) (sym n) ∙ done_at-with_done b.done (done_by m o))
+    let p = after-post m b seat unit o e in (
+      ap (λ x. out_at x.out unit) p ∙ ap (λ u. out_at (without b.out u) unit) n ∙ out_at-without b.out unit s.once,
+      ap (λ x. done_at x.done unit) p ∙ ap (λ u. done_at (with_done b.done (done_by m o)) u) (sym n) ∙ done_at-with_done b.done (done_by m o),
+    )
 
 pub after-give_back_home : {S A : Type 0} (m : Meaning S A) (b : BookState A) (seat : ℕ) (unit : WorkUnit) → IsSteady m b
     → (out_at (after m b (GiveBack seat unit)).out unit ≡ None) × (done_at (after m b (GiveBack seat unit)).done unit ≡ done_at b.done unit)
@@ -68,9 +71,10 @@ after-other m b (Post seat u) unit l ne =
     let o = l.0 in
     let n : (l.0).unit ≡ u = (out_at-all (λ x. Unit {0}) b.out u l.0 (all-any b.out) l.1).1 in
     let d : same_unit unit (l.0).unit ≡ false = subst (λ x. same_unit unit x ≡ false) (sym n) ne in
-    let p = after-post m b seat u l.0 l.1 in
-    (ap (λ x. out_at x.out unit) p ∙ out_at-without_other b.out (l.0).unit unit d,
-      ap (λ x. done_at x.done unit) p ∙ done_at-with_done_other b.done (done_by m l.0) unit d)
+    let p = after-post m b seat u l.0 l.1 in (
+      ap (λ x. out_at x.out unit) p ∙ out_at-without_other b.out (l.0).unit unit d,
+      ap (λ x. done_at x.done unit) p ∙ done_at-with_done_other b.done (done_by m l.0) unit d,
+    )
 after-other m b (GiveBack seat u) unit l ne =
     let e = after-give_back m b seat u in
     (ap (λ x. out_at x.out unit) e ∙ out_at-without_other b.out u unit ne, ap (λ x. done_at x.done unit) e)
@@ -120,14 +124,14 @@ turn-step : {S A : Type 0} (m : Meaning S A) (seats : ℕ → Bool) (unit : Work
     → Turn m seats unit b event
 turn-step m seats unit b event l s =
     elim (cases_Bool (same_unit unit (unit_of event))) [
-      inl t ↦ subst (λ u. Turn m seats u b event) (sym (same_unit-eq unit (unit_of event) t)) (turn-own m seats b event l s)
-    | inr f ↦ turn-other m seats unit b event l f
+      | inl t ↦ subst (λ u. Turn m seats u b event) (sym (same_unit-eq unit (unit_of event) t)) (turn-own m seats b event l s)
+      | inr f ↦ turn-other m seats unit b event l f
     ]
 
 -- Each claim is answered by a post or a give-back, but for a unit that is out.
 pub turns-replay_from : {S A : Type 0} (m : Meaning S A) (seats : ℕ → Bool) (unit : WorkUnit) (b : BookState A) (es : List Event) → AllLegal m b es → IsSteady m b
     → count_by (is_claim seats unit) es + outs seats (out_at b.out unit)
-      ≡ count_by (is_post seats unit) es + count_by (is_give_back seats unit) es + outs seats (out_at (replay_from m b es).out unit)
+    ≡ count_by (is_post seats unit) es + count_by (is_give_back seats unit) es + outs seats (out_at (replay_from m b es).out unit)
 unfolding replay_from AllLegal
 turns-replay_from m seats unit b [] l s = omega arith
 turns-replay_from m seats unit b (e ∷ es) l s =
@@ -140,7 +144,7 @@ turns-replay_from m seats unit b (e ∷ es) l s =
 
 pub turns-replay : {S A : Type 0} (m : Meaning S A) (seats : ℕ → Bool) (unit : WorkUnit) (journal : List Event) → IsLegalJournal m journal
     → count_by (is_claim seats unit) journal
-      ≡ count_by (is_post seats unit) journal + count_by (is_give_back seats unit) journal + outs seats (out_at (replay m journal).out unit)
+    ≡ count_by (is_post seats unit) journal + count_by (is_give_back seats unit) journal + outs seats (out_at (replay m journal).out unit)
 turns-replay m seats unit journal l = let t = turns-replay_from m seats unit (opening m) journal l (IsSteady-opening m) in omega (arith, t)
 
 -- how far a unit's inputs had risen for its last work
@@ -180,51 +184,69 @@ none-other unit (Claim seat u) ne = refl
 none-other unit (Post seat u) ne = ap (λ x. one (x && true)) ne
 none-other unit (GiveBack seat u) ne = refl
 
-climb-own : {S A : Type 0} (m : Meaning S A) (Form : Node → A → Type 0) (b : BookState A) (event : Event) → IsLegal b event → IsSteady m b
-    → AreInBounds m Form b.nodes → IsAhead (unit_of event) b → Climb m (unit_of event) b event
-climb-own m Form b (Claim seat u) l s n a =
+climb-own : {S A : Type 0} (m : Meaning S A) (b : BookState A) (event : Event) → IsLegal b event → IsSteady m b → AreRisen b.nodes
+    → IsAhead (unit_of event) b → Climb m (unit_of event) b event
+climb-own m b (Claim seat u) l s n a =
     let r = after-claim_out m b seat u l in
     let lv = ap level r.4 in
     let due : level (done_at b.done u) < (versions_of b.nodes u).at + (versions_of b.nodes u).exit =
-      due-by (versions_of b.nodes u) (done_at b.done u) (versions_of-least m Form b u n l.claimable.known) l.claimable.due
-      (λ d e. let w = done_at-all (IsWellDone m b.nodes) b.done u d s.done e in subst (λ x. AreUpTo d.versions (versions_of b.nodes x)) w.1 (w.0).known) in
-    (λ o e. let same : r.0 ≡ o = same_Some r.0 o (sym r.1 ∙ e) in
-        let va : o.versions.at ≡ (versions_of b.nodes u).at = ap (λ x. x.versions.at) (sym same) ∙ ap (λ x. x.at) r.3 in
-        let ve : o.versions.exit ≡ (versions_of b.nodes u).exit = ap (λ x. x.versions.exit) (sym same) ∙ ap (λ x. x.exit) r.3 in
-        omega (arith, lv, due, va, ve),
-      omega (arith, lv))
-climb-own m Form b (Post seat u) l s n a =
+    due-by (versions_of b.nodes u) (done_at b.done u) (versions_of-least b u n l.claimable.known) l.claimable.due
+    (λ d e. let w = done_at-all (IsWellDone m b.nodes) b.done u d s.done e in subst (λ x. AreUpTo d.versions (versions_of b.nodes x)) w.1 (w.0).known) in (
+      λ o e. let same : r.0 ≡ o = same_Some r.0 o (sym r.1 ∙ e) in
+          let va : o.versions.at ≡ (versions_of b.nodes u).at = ap (λ x. x.versions.at) (sym same) ∙ ap (λ x. x.at) r.3 in
+          let ve : o.versions.exit ≡ (versions_of b.nodes u).exit = ap (λ x. x.versions.exit) (sym same) ∙ ap (λ x. x.exit) r.3 in
+          omega (arith, lv, due, va, ve),
+      omega (arith, lv),
+    )
+climb-own m b (Post seat u) l s n a =
     let r = after-post_done m b seat u l.0 s l.1 in
     let lv : level (done_at (after m b (Post seat u)).done u) ≡ (l.0).versions.at + (l.0).versions.exit = ap level r.1 in
     let h : level (done_at b.done u) < (l.0).versions.at + (l.0).versions.exit = a l.0 l.1 in
     let count : one (is_post anyone u (Post seat u)) ≡ 1 = ap (λ x. one (x && true)) (same_unit-refl u) in
     (λ o e. absurd (let no : None ≡ Some o = sym r.0 ∙ e in cc), omega (arith, lv, h, count))
-climb-own m Form b (GiveBack seat u) l s n a =
+climb-own m b (GiveBack seat u) l s n a =
     let r = after-give_back_home m b seat u s in
     let lv = ap level r.1 in
     (λ o e. absurd (let no : None ≡ Some o = sym r.0 ∙ e in cc), omega (arith, lv))
 
-climb-step : {S A : Type 0} (m : Meaning S A) (Form : Node → A → Type 0) (unit : WorkUnit) (b : BookState A) (event : Event) → IsLegal b event → IsSteady m b
-    → AreInBounds m Form b.nodes → IsAhead unit b → Climb m unit b event
-climb-step m Form unit b event l s n a =
+climb-step : {S A : Type 0} (m : Meaning S A) (unit : WorkUnit) (b : BookState A) (event : Event) → IsLegal b event → IsSteady m b
+    → AreRisen b.nodes → IsAhead unit b → Climb m unit b event
+climb-step m unit b event l s n a =
     elim (cases_Bool (same_unit unit (unit_of event))) [
-      inl t ↦ let e : unit ≡ unit_of event = same_unit-eq unit (unit_of event) t in
-        subst (λ u. Climb m u b event) (sym e) (climb-own m Form b event l s n (subst (λ u. IsAhead u b) e a))
-    | inr f ↦ climb-other m unit b event l f (none-other unit event f) a
+      | inl t ↦ let e : unit ≡ unit_of event = same_unit-eq unit (unit_of event) t in
+          subst (λ u. Climb m u b event) (sym e) (climb-own m b event l s n (subst (λ u. IsAhead u b) e a))
+      | inr f ↦ climb-other m unit b event l f (none-other unit event f) a
     ]
 
 -- each post of a unit is of inputs that rose further
-pub climbs-replay_from : {S A : Type 0} (m : Meaning S A) (Form : Node → A → Type 0) → KeepsForm m Form → TopIsGreatest m Form
-    → (unit : WorkUnit) (b : BookState A) (es : List Event) → AllLegal m b es → IsSteady m b → IsInForm m Form b → IsAhead unit b
+pub climbs-replay_from : {S A : Type 0} (m : Meaning S A) (unit : WorkUnit) (b : BookState A) (es : List Event) → AllLegal m b es → IsSteady m b
+    → AreRisen b.nodes → IsAhead unit b
     → IsAhead unit (replay_from m b es)
-      × (count_by (is_post anyone unit) es + level (done_at b.done unit) ≤ level (done_at (replay_from m b es).done unit))
+    × (count_by (is_post anyone unit) es + level (done_at b.done unit) ≤ level (done_at (replay_from m b es).done unit))
 unfolding replay_from AllLegal
-climbs-replay_from m Form keeps top unit b [] l s i a = (a, omega arith)
-climbs-replay_from m Form keeps top unit b (e ∷ es) l s i a =
-    let step : Climb m unit b e = climb-step m Form unit b e l.0 s i.nodes a in
-    let rest = climbs-replay_from m Form keeps top unit (after m b e) es l.1 (IsSteady-after m b e l.0 s) (IsInForm-after m Form keeps top b e l.0 i) step.0 in
+climbs-replay_from m unit b [] l s n a = (a, omega arith)
+climbs-replay_from m unit b (e ∷ es) l s n a =
+    let step : Climb m unit b e = climb-step m unit b e l.0 s n a in
+    let rest = climbs-replay_from m unit (after m b e) es l.1 (IsSteady-after m b e l.0 s) (AreRisen-after m b e n) step.0 in
     let p = sum_by-cons (λ x. cond (is_post anyone unit x) 1 0) e es in
     (rest.0, omega (arith, rest.1, step.1, p))
+
+pub climbs-replay : {S A : Type 0} (m : Meaning S A) (unit : WorkUnit) (journal : List Event) → IsLegalJournal m journal
+    → IsAhead unit (replay m journal) × (count_by (is_post anyone unit) journal ≤ level (done_at (replay m journal).done unit))
+climbs-replay m unit journal l =
+    let c = climbs-replay_from m unit (opening m) journal l (IsSteady-opening m) (omega arith, tt) (λ o e. absurd (cc)) in
+    (c.0, omega (arith, c.1))
+
+-- versions with a greater sum have an input that rose
+ahead-risen : (v w : Versions) → AreUpTo v w → v.at + v.exit < w.at + w.exit → HasRisen v w
+ahead-risen v w u h =
+    elim (cases_lt v.at w.at) [ inl lt ↦ inl lt | inr ge ↦ inr (omega (arith, u.at, u.exit, h, ge)) ]
+
+-- by whether the unit was done
+ahead-by : {A : Type 0} (now out : Versions) (was : Option (Done A)) → AreUpTo out now → level was < out.at + out.exit
+    → ((d : Done A) → was ≡ Some d → AreUpTo d.versions now) → MatchOption was (Unit {0}) (λ d. HasRisen d.versions now)
+ahead-by now out None u h known = tt
+ahead-by now out (Some d) u h known = ahead-risen d.versions now (known d refl) (omega (arith, u.at, u.exit, h))
 
 -- by whether the unit was done
 level-by : {S A : Type 0} (m : Meaning S A) (Form : Node → A → Type 0) (b : BookState A) (unit : WorkUnit) → IsSteady m b → AreInBounds m Form b.nodes
@@ -252,6 +274,36 @@ pub claims-most : {S A : Type 0} (m : Meaning S A) (Form : Node → A → Type 0
 claims-most m Form keeps top unit journal l =
     let b = replay m journal in
     let t = turns-replay m anyone unit journal l in
-    let c = climbs-replay_from m Form keeps top unit (opening m) journal l (IsSteady-opening m) (IsInForm-opening m Form keeps) (λ o e. absurd (cc)) in
+    let c = climbs-replay m unit journal l in
     let o = out-by m Form b unit (IsSteady-replay m journal l) (IsInForm-replay m Form keeps top journal l).nodes c.0 (out_at b.out unit) refl in
     omega (arith, t, c.1, o)
+
+-- Where a unit that is out is given back, it can be claimed anew if it still is a unit.
+pub given_back-claimable : {S A : Type 0} (m : Meaning S A) (b : BookState A) (seat : ℕ) (unit : WorkUnit) (o : Out A) → IsSteady m b → IsAhead unit b
+    → out_at b.out unit ≡ Some o → IsUnit (after m b (GiveBack seat unit)) unit → IsClaimable (after m b (GiveBack seat unit)) unit
+given_back-claimable m b seat unit o s a e u =
+    let r = after-give_back_home m b seat unit s in
+    let nodes : (after m b (GiveBack seat unit)).nodes ≡ b.nodes = ap (λ x. x.nodes) (after-give_back m b seat unit) in
+    let w = out_at-all (IsWellOut b.nodes) b.out unit o s.out e in
+    let now : AreUpTo o.versions (versions_of b.nodes unit) = subst (λ x. AreUpTo o.versions (versions_of b.nodes x)) w.1 (w.0).known in
+    record {
+      known = u;
+      at_home = r.0;
+      due = subst (λ d. MatchOption d (Unit {0}) (λ x. HasRisen x.versions (versions_of (after m b (GiveBack seat unit)).nodes unit))) (sym r.1)
+          (subst (λ n. MatchOption (done_at b.done unit) (Unit {0}) (λ x. HasRisen x.versions (versions_of n unit))) (sym nodes)
+          (ahead-by (versions_of b.nodes unit) o.versions (done_at b.done unit) now (a o e)
+          (λ d f. let k = done_at-all (IsWellDone m b.nodes) b.done unit d s.done f in
+          subst (λ x. AreUpTo d.versions (versions_of b.nodes x)) k.1 (k.0).known)));
+    }
+
+-- An input that rose since the claim leaves a unit claimable behind its post, if it still is a unit.
+pub posted-claimable : {S A : Type 0} (m : Meaning S A) (b : BookState A) (seat : ℕ) (unit : WorkUnit) (o : Out A) → IsSteady m b
+    → out_at b.out unit ≡ Some o → IsUnit (after m b (Post seat unit)) unit
+    → HasRisen o.versions (versions_of (after m b (Post seat unit)).nodes unit) → IsClaimable (after m b (Post seat unit)) unit
+posted-claimable m b seat unit o s e u h =
+    let r = after-post_done m b seat unit o s e in
+    record {
+      known = u;
+      at_home = r.0;
+      due = subst (λ d. MatchOption d (Unit {0}) (λ x. HasRisen x.versions (versions_of (after m b (Post seat unit)).nodes unit))) (sym r.1) h;
+    }
