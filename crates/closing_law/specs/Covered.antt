@@ -1,5 +1,5 @@
--- What a closed table says of every run.
-use Rattle.std.specs.Prelude.{◌≡◌, ℕ, Option, Some, List}
+-- What a closed table, and a closed book, say of every run.
+use Rattle.std.specs.Prelude.{◌≡◌, ℕ, Option, Some, List, [], Contains}
 use Rattle.call_context.specs.declared.node.Node.{Node}
 use Rattle.call_context.specs.Nodes.{IsLocation}
 use Rattle.chip_law.specs.declared.chip.Work.{Work}
@@ -29,3 +29,12 @@ module _ {S A : Type 0} (m : Meaning S A) (table : Node → Option A) where
     pub stands : (n : ℕ) (s : S) → RunsTo m n s → StandsSomewhere s
     pub shows : (n : ℕ) (item : Single) → Meets m n item → IsShown item
     pub stays : (n : ℕ) → GoesWild m n → ⊥
+
+-- no work leaves a site open
+abbrev pub NoneIsOpen : {A : Type 0} → List (Work A) → Type 0
+NoneIsOpen works = (work : Work _) → Contains works work → work.opens ≡ []
+
+-- Whatever a run meets is shown by one of the works, and no run leaves the model.
+pub record AreCovering {S A : Type 0} (m : Meaning S A) (works : List (Work A)) : Type 0 where
+  pub shows : (n : ℕ) (item : Single) → Meets m n item → (work : Work A) × Contains works work × AreShowing work.items item
+  pub stays : (n : ℕ) → GoesWild m n → ⊥

@@ -1,11 +1,14 @@
-//! The closing law: a closed table covers every run of its chip.
+//! The closing law: a closed table covers every run of its chip, and so does a finished book without opens.
 #![tactic(auto)]
 
-ghost use Rattle.std.specs.Prelude.{Option};
+ghost use Rattle.std.specs.Prelude.{Option, List};
 ghost use Rattle.call_context.specs.declared.node.Node.{Node};
 ghost use Rattle.chip_law.specs.Laws.{IsLawful};
 ghost use Rattle.chip_law.specs.Table.{IsClosedTable};
-ghost use Rattle.closing_law.specs.Covered.{CoversRuns};
+ghost use Rattle.closing_law.specs.Covered.{CoversRuns, NoneIsOpen, AreCovering};
+ghost use Rattle.round_core.specs.Kept.{live_works};
+ghost use Rattle.round_core.specs.Machine.{replay, IsFinished, IsLegalJournal};
+ghost use Rattle.round_core.specs.declared.event.Event.{Event};
 
 use chip_law::Chip;
 
@@ -14,5 +17,15 @@ use chip_law::Chip;
 pub fn closed_tables_cover_runs<C: Chip>()
     ensures { (base : C.Base) (table : Node → Option C.Abs) → IsLawful (C.meaning base)
         → IsClosedTable (C.meaning base) table → CoversRuns (C.meaning base) table }
+{
+}
+
+/// The works of a finished book without opens, over a lawful chip, show whatever a run meets, and no run leaves the
+/// model.
+pub fn closed_books_cover_runs<C: Chip>()
+    ensures { (base : C.Base) (journal : List Event) → IsLawful (C.meaning base)
+        → IsLegalJournal (C.meaning base) journal → IsFinished (replay (C.meaning base) journal)
+        → NoneIsOpen (live_works (replay (C.meaning base) journal))
+        → AreCovering (C.meaning base) (live_works (replay (C.meaning base) journal)) }
 {
 }

@@ -18,7 +18,7 @@ use Rattle.round_core.specs.Table.{table_of, IsUnitOver, IsHeldIn, IsClosedTable
 use Rattle.round_core.specs.Machine.{BookState, Held, Done, held_at, done_at, inputs_of, waits_for, IsUnit, IsFinished, IsClosed}
 
 -- the states that a table has are those of the nodes
-at-held : {A : Type 0} (nodes : List (Held A)) (node : Node) (at : A) → table_of nodes node ≡ Some at → (h : Held A) × (held_at nodes node ≡ Some h) × (h.state ≡ at)
+pub at-held : {A : Type 0} (nodes : List (Held A)) (node : Node) (at : A) → table_of nodes node ≡ Some at → (h : Held A) × (held_at nodes node ≡ Some h) × (h.state ≡ at)
 at-held nodes node at e = option_map-some (λ h. h.state) (held_at nodes node) at e
 
 -- what is under its node is in the table
