@@ -1,11 +1,13 @@
 //! The closing law: a closed table covers every run of its chip, and so does a finished book without opens.
 #![tactic(auto)]
 
-ghost use Rattle.std.specs.Prelude.{Option, List};
+ghost use Rattle.std.specs.Prelude.{Option, List, Contains};
 ghost use Rattle.call_context.specs.declared.node.Node.{Node};
+ghost use Rattle.chip_law.specs.declared.chip.Work.{Work};
 ghost use Rattle.chip_law.specs.Laws.{IsLawful};
 ghost use Rattle.chip_law.specs.Table.{IsClosedTable};
 ghost use Rattle.closing_law.specs.Covered.{CoversRuns, NoneIsOpen, AreCovering};
+ghost use Rattle.closing_law.specs.Worked.{IsOfUnit};
 ghost use Rattle.round_core.specs.Kept.{live_works};
 ghost use Rattle.round_core.specs.Machine.{replay, IsFinished, IsLegalJournal};
 ghost use Rattle.round_core.specs.declared.event.Event.{Event};
@@ -27,5 +29,12 @@ pub fn closed_books_cover_runs<C: Chip>()
         → IsLegalJournal (C.meaning base) journal → IsFinished (replay (C.meaning base) journal)
         → NoneIsOpen (live_works (replay (C.meaning base) journal))
         → AreCovering (C.meaning base) (live_works (replay (C.meaning base) journal)) }
+{
+}
+
+/// Each work of a book is that of a unit over some states.
+pub fn works_are_of_units<C: Chip>()
+    ensures { (base : C.Base) (journal : List Event) (work : Work C.Abs)
+        → Contains (live_works (replay (C.meaning base) journal)) work → IsOfUnit (C.meaning base) work }
 {
 }

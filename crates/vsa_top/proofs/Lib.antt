@@ -1,4 +1,5 @@
 pub mod Images
+pub mod ProgramLemmas
 pub mod Reading
 pub mod ReportLemmas
 pub mod ShownLemmas
