@@ -1,34 +1,29 @@
 -- The laws of the MSP430: no interrupt is allowed by what is built, so each step stays in its frame, and no exit is met.
-use Rattle.std.proofs.Common.{◌≡◌, ◌≢◌, ℕ, ◌-◌, ◌+◌, ◌%◌, ◌<◌, ◌&&◌, Bool, true, false, Option, None, Some, Result, Ok, Err, List, [], ◌∷◌, length, get_or, replicate, refl, sym, ap, ◌∙◌, subst, inl, inr, arith, All, Contains}
+use Rattle.std.proofs.Common.{◌≡◌, ◌≢◌, ℕ, ◌-◌, ◌%◌, ◌<◌, true, Option, None, Result, Ok, Err, List, [], ◌∷◌, length, replicate, refl, sym, ap, ◌∙◌, subst, inl, inr, arith, Contains}
 use Rattle.std.proofs.lemmas.Bool.{and_from, and_parts}
 use Rattle.std.proofs.lemmas.List.{get_or-replicate}
 use Rattle.std.proofs.lemmas.List.Elements.{All-get_or, All-replicate}
 use Rattle.call_context.specs.declared.node.Frame.{Frame}
-use Rattle.call_context.specs.declared.node.Frame.TheVariants.{Base, Irq}
 use Rattle.call_context.specs.declared.node.Node.{Node}
 use Rattle.call_context.specs.declared.node.Node.TheVariants.{At, Exit}
-use Rattle.call_context.specs.declared.node.Unit.{Unit as WorkUnit}
-use Rattle.call_context.specs.declared.node.Unit.TheVariants.{One, Back}
-use Rattle.call_context.specs.declared.plain.Vs16.{Vs16}
-use Rattle.call_context.specs.declared.plain.Vs16.TheVariants.{Listed, Even, Any}
+use Rattle.call_context.specs.declared.node.Unit.TheVariants.{One}
+use Rattle.call_context.specs.declared.plain.Vs16.TheVariants.{Even, Any}
 use Rattle.call_context.specs.declared.shown.Cause.{Cause}
-use Rattle.call_context.specs.declared.shown.Item.{Item}
 use Rattle.call_context.specs.declared.shown.Item.TheVariants as items
 use Rattle.call_context.specs.declared.shown.Set.TheVariants.{W}
-use Rattle.call_context.specs.Nodes.{pc_of, frame_of, IsLocation}
+use Rattle.call_context.specs.Nodes.{IsLocation}
 use Rattle.call_context.specs.Plain.{HasWord, is_within, joined, widened}
 use Rattle.call_context.specs.PlainLaws.{in_none, in_cons, in_first, in_rest, within_has, within_itself, within_further, within_even, joined_held, joined_new, joined_form, widened_held, widened_new, widened_form}
-use Rattle.chip_law.specs.declared.chip.Work.{Work}
-use Rattle.chip_law.specs.Laws.{IsLawful, Lands, Resumes}
+use Rattle.chip_law.specs.Laws.{IsLawful, Lands}
 use Rattle.chip_law.specs.Laws.Lands.{stays}
-use Rattle.chip_law.specs.Single.{Single, Outcome, AreShowing}
+use Rattle.chip_law.specs.Single.{Single, AreShowing}
 use Rattle.chip_law.specs.Single.Single.{Instr as Ran, Edge as Went, Stack as Stood}
 use Rattle.chip_law.specs.Single.Outcome.{Next, Wild}
 use Rattle.vsa_top.specs.declared.msp430.instr.Instr.{Instr}
 use Rattle.vsa_top.specs.declared.msp430.state.State.{State}
 use Rattle.vsa_top.specs.declared.msp430.state.ChipState.{ChipState}
 use Rattle.vsa_top.specs.Msp430Chip.{register_of, IsResetOf, done_by, ran, StepsTo, work_at, work_of, AreWords, IsState, HasChipForm, HoldsOf, CoversState, IsProgram, msp430}
-use Rattle.vsa_top.specs.Msp430Fetch.{fetched, reset_address}
+use Rattle.vsa_top.specs.Msp430Fetch.{fetched}
 use Rattle.vsa_top.specs.Msp430State.{unknown, all_within, all_joined, all_widened, state_within, state_joined, state_widened, state_behind}
 use Rattle.vsa_top.specs.Msp430Table.{IsInstr, next_of}
 use Rattle.vsa_top.proofs.Msp430Sets.{all_within_itself, all_within_further, all_within_has, all_within_any, all_joined_held, all_joined_new, length-all_joined, all_joined_form, all_widened_held, all_widened_new, length-all_widened, all_widened_form}
@@ -91,10 +86,10 @@ shown_items pc calls frame a s instr bytes at holds item there =
       | inl first ↦ subst (AreShowing (stack ∷ ran_item ∷ edge ∷ [])) first (stack, in_first stack (ran_item ∷ edge ∷ []), (at, holds.sp))
       | inr rest ↦ elim (in_cons (Ran here bytes) (Went here (next_of here instr) ∷ []) item rest) [
         | inl second ↦ subst (AreShowing (stack ∷ ran_item ∷ edge ∷ [])) second
-        (ran_item, in_rest stack (ran_item ∷ edge ∷ []) ran_item (in_first ran_item (edge ∷ [])), (at, refl))
+            (ran_item, in_rest stack (ran_item ∷ edge ∷ []) ran_item (in_first ran_item (edge ∷ [])), (at, refl))
         | inr last ↦ elim (in_cons (Went here (next_of here instr)) [] item last) [
           | inl third ↦ subst (AreShowing (stack ∷ ran_item ∷ edge ∷ [])) third
-          (edge, in_rest stack (ran_item ∷ edge ∷ []) edge (in_rest ran_item (edge ∷ []) edge (in_first edge [])), (at, ap (λ p. next_of p instr) at))
+              (edge, in_rest stack (ran_item ∷ edge ∷ []) edge (in_rest ran_item (edge ∷ []) edge (in_first edge [])), (at, ap (λ p. next_of p instr) at))
           | inr none ↦ absurd (in_none item none)
         ]
       ]
@@ -120,7 +115,7 @@ lands image program (At pc calls frame) a s first done t location form covers (i
     let work = work_at pc calls frame a (Ok (instr, bytes)) in
     let covered : CoversState to behind t first = subst (λ u. CoversState to behind u first) (sym goes) (ran_covered pc calls frame a s first instr fits form covers) in
     let shown : (item : Single) → Contains done item → AreShowing work.items item =
-        λ item there. shown_items pc calls frame a s instr bytes covers.0 covers.1 item (subst (λ ds. Contains ds item) does there) in
+    λ item there. shown_items pc calls frame a s instr bytes covers.0 covers.1 item (subst (λ ds. Contains ds item) does there) in
     subst (λ r. Lands (msp430 image) node (work_at pc calls frame a r) s first done t) (sym found)
     (stays to behind (in_first (to, behind) []) tt refl covered shown)
 

@@ -1,5 +1,5 @@
 -- Lists of sets, position by position: inclusion is an order that keeps values, and joins and widenings have both lists.
-use Rattle.std.proofs.Common.{◌≡◌, ℕ, zero, suc, ◌-◌, ◌<◌, ◌%◌, ◌&&◌, Bool, true, false, List, [], ◌∷◌, length, map, get_or, set, replicate, refl, sym, ap, ◌∙◌, subst, inl, inr, arith, All, Contains}
+use Rattle.std.proofs.Common.{◌≡◌, ℕ, zero, suc, ◌-◌, ◌<◌, ◌%◌, true, List, [], ◌∷◌, length, map, get_or, replicate, refl, ap, inl, inr, arith, All, Contains}
 use Rattle.std.proofs.lemmas.Bool.{and_from, and_parts}
 use Rattle.std.proofs.lemmas.List.Elements.{All-nil, All-cons, All-head, All-tail}
 use Rattle.call_context.specs.declared.plain.Vs16.{Vs16}

@@ -1,10 +1,10 @@
 -- One instruction of the MSP430: what stands in an image is in range, and the state behind it stands for what it leaves.
-use Rattle.std.proofs.Common.{◌≡◌, ◌≢◌, ℕ, ◌+◌, ◌-◌, ◌*◌, ◌/◌, ◌%◌, ◌<◌, ◌≤◌, ◌==◌, ◌&&◌, ◌||◌, nat_lt, nat_le, if◌then◌else◌, Bool, true, false, Option, None, Some, Result, Ok, Err, List, [], ◌∷◌, length, get_or, set, refl, sym, ap, ◌∙◌, subst, inl, inr, arith, All}
-use Rattle.std.proofs.lemmas.Bool.{and_parts, or_cases, cond_both, eqb-true, eqb-false, ltb-true, leb-true, cases_lt, cases_eq}
+use Rattle.std.proofs.Common.{◌≡◌, ◌≢◌, ℕ, ◌+◌, ◌-◌, ◌*◌, ◌/◌, ◌%◌, ◌<◌, ◌≤◌, ◌==◌, ◌&&◌, nat_lt, nat_le, if◌then◌else◌, true, false, Option, None, Some, Result, Ok, Err, List, [], ◌∷◌, length, get_or, set, refl, sym, ap, ◌∙◌, subst, inl, inr, arith, All}
+use Rattle.std.proofs.lemmas.Bool.{and_parts, or_cases, cond_both, ltb-true, leb-true, cases_lt, cases_eq}
 use Rattle.std.proofs.lemmas.List.{length-set, get_or-set_same, get_or-set_other, get_or_past}
 use Rattle.std.proofs.lemmas.List.Elements.{All-get_or, All-set}
 use Rattle.call_context.specs.declared.plain.Vs16.{Vs16}
-use Rattle.call_context.specs.declared.plain.Vs16.TheVariants.{Listed, Even, Any}
+use Rattle.call_context.specs.declared.plain.Vs16.TheVariants.{Listed, Any}
 use Rattle.call_context.specs.declared.shown.Cause.{Cause}
 use Rattle.call_context.specs.Plain.{HasWord, even_parts}
 use Rattle.call_context.specs.PlainLaws.{in_none, in_cons, in_first, even_parts_has}
@@ -13,10 +13,10 @@ use Rattle.vsa_top.specs.declared.msp430.instr.Instr.{Instr}
 use Rattle.vsa_top.specs.declared.msp430.instr.Instr.TheVariants.{Load, Copy, Jump}
 use Rattle.vsa_top.specs.declared.msp430.state.State.{State}
 use Rattle.vsa_top.specs.declared.msp430.state.ChipState.{ChipState}
-use Rattle.vsa_top.specs.Msp430Chip.{register_of, allows_interrupts, IsChipState, written, effect_of, ran, AreWords, AreEvenWords, IsState, HoldsOf, IsByte, IsProgram}
+use Rattle.vsa_top.specs.Msp430Chip.{register_of, written, effect_of, ran, AreWords, IsState, HoldsOf, IsByte, IsProgram}
 use Rattle.vsa_top.specs.Msp430Fetch.{both, word_at, built, with_second, with_first, fetched, address_in, reset_address}
 use Rattle.vsa_top.specs.Msp430State.{set_of, with_set, state_behind}
-use Rattle.vsa_top.specs.Msp430Table.{word_of, is_general, is_destination, is_load, is_copy, is_jump, IsInstr, instr_of, jump_target, next_of}
+use Rattle.vsa_top.specs.Msp430Table.{word_of, is_general, is_destination, is_load, is_copy, is_jump, IsInstr, instr_of, next_of}
 use Rattle.vsa_top.proofs.Msp430Sets.{even_parts_form}
 
 -- WHAT STANDS IN AN IMAGE
@@ -136,8 +136,12 @@ record IsHeld (a : State) (registers : List ℕ) : Type 0 where
 
 held_of : (a : State) (s : ChipState) → HoldsOf a s → IsHeld a s.registers
 held_of a s h = record {
-  count = h.state.registers; words = h.state.words; even_sp = h.state.even_sp;
-  sp = h.sp; status = h.status; sets = h.registers;
+  count = h.state.registers;
+  words = h.state.words;
+  even_sp = h.state.even_sp;
+  sp = h.sp;
+  status = h.status;
+  sets = h.registers;
 }
 
 -- another register leaves each property of a list of registers
@@ -185,11 +189,11 @@ held_general a registers at value values sets_long h general small has =
       status = other_kept (λ r. r ≡ 0) registers at value 2 (λ e. omega arith) h.status;
       sets = λ register above below. elim (cases_eq register at) [
         | inl same ↦ subst (λ r. HasWord (get_or (set a.registers (at - 4) values) (r - 4) Any) (get_or (set registers at value) r 0)) (sym same)
-        (subst (λ held. HasWord held (get_or (set registers at value) at 0)) (sym (get_or-set_same a.registers (at - 4) values Any set_long))
-        (subst (HasWord values) (sym (get_or-set_same registers at value 0 long)) has))
+            (subst (λ held. HasWord held (get_or (set registers at value) at 0)) (sym (get_or-set_same a.registers (at - 4) values Any set_long))
+            (subst (HasWord values) (sym (get_or-set_same registers at value 0 long)) has))
         | inr other ↦ other_kept (HasWord (get_or (set a.registers (at - 4) values) (register - 4) Any)) registers at value register other
-        (subst (λ held. HasWord held (get_or registers register 0)) (sym (get_or-set_other a.registers (at - 4) (register - 4) values Any (λ e. other (omega arith))))
-        (h.sets register above below))
+            (subst (λ held. HasWord held (get_or registers register 0)) (sym (get_or-set_other a.registers (at - 4) (register - 4) values Any (λ e. other (omega arith))))
+            (h.sets register above below))
       ];
     }
 
@@ -221,9 +225,8 @@ ran_holds a s instr form h fits start =
     let next = next_of (register_of s 0) instr in
     let effect : IsHeld (state_behind instr a) (effect_of instr s) = held_effect a s instr form h fits in
     let behind : IsHeld (state_behind instr a) (set (effect_of instr s) 0 next) =
-        held_pc (state_behind instr a) (effect_of instr s) next effect (next_start (register_of s 0) instr start).0 in
-    let long : 0 < length (effect_of instr s) = omega (arith, effect.count) in
-    (
+    held_pc (state_behind instr a) (effect_of instr s) next effect (next_start (register_of s 0) instr start).0 in
+    let long : 0 < length (effect_of instr s) = omega (arith, effect.count) in (
       get_or-set_same (effect_of instr s) 0 next 0 long,
       record {
         state = record { registers = behind.count; words = behind.words; even_sp = behind.even_sp };

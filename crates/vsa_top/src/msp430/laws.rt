@@ -8,5 +8,4 @@ ghost use Rattle.vsa_top.specs.Msp430Chip.{IsProgram, msp430};
 /// are in order.
 pub fn msp430_is_lawful()
     ensures { (image : List (Option ℕ)) → IsProgram image → IsLawful (msp430 image) }
-{
-}
+{}
