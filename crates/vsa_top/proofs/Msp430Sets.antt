@@ -1,13 +1,13 @@
 -- Lists of sets, position by position: inclusion is an order that keeps values, and joins and widenings have both lists.
-use Rattle.std.proofs.Common.{◌≡◌, ℕ, zero, suc, ◌-◌, ◌<◌, ◌%◌, true, List, [], ◌∷◌, length, map, get_or, replicate, refl, ap, inl, inr, arith, All, Contains}
+use Rattle.std.proofs.Common.{◌≡◌, ℕ, zero, suc, ◌<◌, true, List, [], ◌∷◌, length, get_or, replicate, refl, ap, arith, All}
 use Rattle.std.proofs.lemmas.Bool.{and_from, and_parts}
 use Rattle.std.proofs.lemmas.List.Elements.{All-nil, All-cons, All-head, All-tail}
 use Rattle.call_context.specs.declared.plain.Vs16.{Vs16}
-use Rattle.call_context.specs.declared.plain.Vs16.TheVariants.{Listed, Even, Any}
-use Rattle.call_context.specs.Plain.{HasWord, is_within, joined, widened, even_parts}
-use Rattle.call_context.specs.PlainLaws.{in_none, in_cons, in_first, in_rest, within_has, within_itself, within_further, joined_held, joined_new, joined_form, widened_held, widened_new, widened_form, with_values-only}
+use Rattle.call_context.specs.declared.plain.Vs16.TheVariants.{Any}
+use Rattle.call_context.specs.Plain.{HasWord, is_within, joined, widened}
+use Rattle.call_context.specs.PlainLaws.{within_has, within_itself, within_further, joined_held, joined_new, joined_form, widened_held, widened_new, widened_form}
 use Rattle.vsa_top.specs.Msp430State.{all_within, all_joined, all_widened}
-use Rattle.vsa_top.specs.Msp430Chip.{AreWords, AreEvenWords}
+use Rattle.vsa_top.specs.Msp430Chip.{AreWords}
 
 pub all_within_itself : (xs : List Vs16) → all_within xs xs ≡ true
 all_within_itself [] = refl
@@ -85,19 +85,3 @@ all_widened_form (x ∷ xs) (y ∷ ys) f =
     All-cons AreWords (widened Any x y) (all_widened xs ys)
     (widened_form (λ v. v < 65536) Any x y (λ v h. h) (All-head AreWords x xs f))
     (all_widened_form xs ys (All-tail AreWords x xs f))
-
--- the even parts of words are even words
-even_part_of : (xs : List ℕ) (v : ℕ) → ((w : ℕ) → Contains xs w → w < 65536) → Contains (map (λ w. w - w % 2) xs) v → (v < 65536) × (v % 2 ≡ 0)
-even_part_of [] v form h = absurd (in_none v h)
-even_part_of (x ∷ xs) v form h = elim (in_cons (x - x % 2) (map (λ w. w - w % 2) xs) v h) [
-  | inl same ↦ let small : x < 65536 = form x (in_first x xs) in (omega arith, omega arith)
-  | inr rest ↦ even_part_of xs v (λ w there. form w (in_rest x xs w there)) rest
-]
-
-pub even_parts_form : (a : Vs16) → AreWords a → AreEvenWords (even_parts a)
-even_parts_form (Listed xs) form = λ v h. elim (with_values-only (map (λ w. w - w % 2) xs) [] v h) [
-  | inl none ↦ absurd (in_none v none)
-  | inr there ↦ even_part_of xs v form there
-]
-even_parts_form Even form = λ v h. (h.1, h.0)
-even_parts_form Any form = λ v h. (h.1, h.0)

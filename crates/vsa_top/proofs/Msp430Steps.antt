@@ -7,7 +7,7 @@ use Rattle.call_context.specs.declared.plain.Vs16.{Vs16}
 use Rattle.call_context.specs.declared.plain.Vs16.TheVariants.{Listed, Any}
 use Rattle.call_context.specs.declared.shown.Cause.{Cause}
 use Rattle.call_context.specs.Plain.{HasWord, even_parts}
-use Rattle.call_context.specs.PlainLaws.{in_none, in_cons, in_first, even_parts_has}
+use Rattle.call_context.specs.PlainLaws.{in_none, in_cons, in_first, even_parts_has, even_parts_form}
 use Rattle.ihex_read.specs.Image.{byte_at}
 use Rattle.vsa_top.specs.declared.msp430.instr.Instr.{Instr}
 use Rattle.vsa_top.specs.declared.msp430.instr.Instr.TheVariants.{Load, Copy, Jump}
@@ -17,7 +17,6 @@ use Rattle.vsa_top.specs.Msp430Chip.{register_of, written, effect_of, ran, AreWo
 use Rattle.vsa_top.specs.Msp430Fetch.{both, word_at, built, with_second, with_first, fetched, address_in, reset_address}
 use Rattle.vsa_top.specs.Msp430State.{set_of, with_set, state_behind}
 use Rattle.vsa_top.specs.Msp430Table.{word_of, is_general, is_destination, is_load, is_copy, is_jump, IsInstr, instr_of, next_of}
-use Rattle.vsa_top.proofs.Msp430Sets.{even_parts_form}
 
 -- WHAT STANDS IN AN IMAGE
 
