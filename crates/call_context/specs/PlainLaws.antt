@@ -221,11 +221,27 @@ within_even Any form = let odd : 1 % 2 ≡ 0 = (form 1 (omega arith)).1 in absur
 pub even_parts_has : (a : Vs16) (v : ℕ) → HasWord a v → v < 65536 → HasWord (even_parts a) (v - v % 2)
 even_parts_has (Listed xs) v h small = with_values-new (map (λ w. w - w % 2) xs) [] (v - v % 2) (mapped xs v h)
   where
-  mapped : (xs : List ℕ) (v : ℕ) → Contains xs v → Contains (map (λ w. w - w % 2) xs) (v - v % 2)
-  mapped [] v h = absurd (in_none v h)
-  mapped (x ∷ xs) v h = elim (in_cons x xs v h) [
-    | inl same ↦ subst (λ y. Contains ((x - x % 2) ∷ map (λ w. w - w % 2) xs) (y - y % 2)) same (in_first (x - x % 2) (map (λ w. w - w % 2) xs))
-    | inr rest ↦ in_rest (x - x % 2) (map (λ w. w - w % 2) xs) (v - v % 2) (mapped xs v rest)
-  ]
+    mapped : (xs : List ℕ) (v : ℕ) → Contains xs v → Contains (map (λ w. w - w % 2) xs) (v - v % 2)
+    mapped [] v h = absurd (in_none v h)
+    mapped (x ∷ xs) v h = elim (in_cons x xs v h) [
+      | inl same ↦ subst (λ y. Contains ((x - x % 2) ∷ map (λ w. w - w % 2) xs) (y - y % 2)) same (in_first (x - x % 2) (map (λ w. w - w % 2) xs))
+      | inr rest ↦ in_rest (x - x % 2) (map (λ w. w - w % 2) xs) (v - v % 2) (mapped xs v rest)
+    ]
 even_parts_has Even v h small = (omega (arith, h.0), omega (arith, h.1))
 even_parts_has Any v h small = (omega arith, omega arith)
+
+-- the even parts of words are even words
+pub even_parts_form : (a : Vs16) → ((v : ℕ) → HasWord a v → v < 65536) → (v : ℕ) → HasWord (even_parts a) v → (v < 65536) × (v % 2 ≡ 0)
+even_parts_form (Listed xs) form v h = elim (with_values-only (map (λ w. w - w % 2) xs) [] v h) [
+  | inl none ↦ absurd (in_none v none)
+  | inr there ↦ part_of xs v form there
+]
+  where
+    part_of : (xs : List ℕ) (v : ℕ) → ((w : ℕ) → Contains xs w → w < 65536) → Contains (map (λ w. w - w % 2) xs) v → (v < 65536) × (v % 2 ≡ 0)
+    part_of [] v form h = absurd (in_none v h)
+    part_of (x ∷ xs) v form h = elim (in_cons (x - x % 2) (map (λ w. w - w % 2) xs) v h) [
+      | inl same ↦ let small : x < 65536 = form x (in_first x xs) in (omega arith, omega arith)
+      | inr rest ↦ part_of xs v (λ w there. form w (in_rest x xs w there)) rest
+    ]
+even_parts_form Even form v h = (h.1, h.0)
+even_parts_form Any form v h = (h.1, h.0)

@@ -2,6 +2,7 @@
 
 mod chip;
 mod instr;
+mod laws;
 mod state;
 
 pub use chip::Msp430;
