@@ -7,3 +7,4 @@ pub mod LinesLemmas
 pub mod TextLemmas
 pub mod PlainLemmas
 pub mod LawLemmas
+pub mod ByteLemmas

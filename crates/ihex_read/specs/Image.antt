@@ -1,7 +1,12 @@
 -- A memory image: the list of what stands at the addresses from 0 to FFFFh.
-use Rattle.std.specs.Prelude.{ℕ, List, Option, None}
+use Rattle.std.specs.Prelude.{ℕ, ◌<◌, List, Option, None, Some}
 use Rattle.std.specs.List.{slice_index_or}
 
 -- the byte at an address; there is none behind the last
 abbrev pub byte_at : List (Option ℕ) → ℕ → Option ℕ
 byte_at image at = slice_index_or image at None
+
+-- a byte, or nothing
+abbrev pub IsByte : Option ℕ → Type 0
+IsByte None = Unit {0}
+IsByte (Some b) = b < 256

@@ -1,9 +1,10 @@
 //! What every list of lines has.
 
-ghost use Rattle.std.specs.Prelude.{◌≡◌, ◌⊎◌, ℕ, List, Option};
+ghost use Rattle.std.specs.Prelude.{◌≡◌, ◌⊎◌, ℕ, All, List, Option, length};
 ghost use Rattle.ihex_read.specs.declared.fault.HexFault.{HexFault};
 ghost use Rattle.ihex_read.specs.declared.rule_set.Rules.{Rules};
 ghost use Rattle.ihex_read.specs.declared.rule_set.Tail.{Tail};
+ghost use Rattle.ihex_read.specs.Image.{IsByte};
 ghost use Rattle.ihex_read.specs.ImageText.{Denotes, FirstFault};
 
 /// Every list of lines has an image or a first fault, never both, and no second one of either.
@@ -17,4 +18,10 @@ pub fn image_or_fault()
         Denotes rules tail lines image → Denotes rules tail lines other → image ≡ other }
     ensures one_fault { (rules : Rules) (tail : Tail) (lines : List (List ℕ)) (line other_line : ℕ) (fault other : HexFault) →
         FirstFault rules tail lines line fault → FirstFault rules tail lines other_line other → (line ≡ other_line) × (fault ≡ other) }
+{}
+
+/// An image that lines denote has a byte or nothing at each of its 65,536 addresses.
+pub fn images_have_bytes()
+    ensures { (rules : Rules) (tail : Tail) (lines : List (List ℕ)) (image : List (Option ℕ)) →
+        Denotes rules tail lines image → (length image ≡ 65536) × All IsByte image }
 {}

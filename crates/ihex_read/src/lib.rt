@@ -14,7 +14,7 @@ mod rule_set;
 
 pub use address_map::Image;
 pub use fault::{HexError, HexFault};
-pub use law::image_or_fault;
+pub use law::{image_or_fault, images_have_bytes};
 pub use plain::image_of;
 pub use rule_set::{Rules, Tail};
 

@@ -1,5 +1,5 @@
+pub mod HeadlineLemmas
 pub mod Images
-pub mod ProgramLemmas
 pub mod Msp430Laws
 pub mod Msp430Sets
 pub mod Msp430Steps

@@ -13,7 +13,8 @@ use Rattle.vsa_top.specs.declared.msp430.instr.Instr.{Instr}
 use Rattle.vsa_top.specs.declared.msp430.instr.Instr.TheVariants.{Load, Copy, Jump}
 use Rattle.vsa_top.specs.declared.msp430.state.State.{State}
 use Rattle.vsa_top.specs.declared.msp430.state.ChipState.{ChipState}
-use Rattle.vsa_top.specs.Msp430Chip.{register_of, written, effect_of, ran, AreWords, IsState, HoldsOf, IsByte, IsProgram}
+use Rattle.ihex_read.specs.Image.{IsByte}
+use Rattle.vsa_top.specs.Msp430Chip.{register_of, written, effect_of, ran, AreWords, IsState, HoldsOf, IsProgram}
 use Rattle.vsa_top.specs.Msp430Fetch.{both, word_at, built, with_second, with_first, fetched, address_in, reset_address}
 use Rattle.vsa_top.specs.Msp430State.{set_of, with_set, state_behind}
 use Rattle.vsa_top.specs.Msp430Table.{word_of, is_general, is_destination, is_load, is_copy, is_jump, IsInstr, instr_of, next_of}

@@ -70,7 +70,7 @@ in_with_lines_old : (lines set : List (List ℕ)) (y : List ℕ) → Contains se
 in_with_lines_old [] set y h = h
 in_with_lines_old (line ∷ lines) set y h = in_with_lines_old lines (insert_key (slice_cmp nat_cmp) set line) y (in_insert_old set line y h)
 
-in_with_lines_new : (lines set : List (List ℕ)) (y : List ℕ) → Contains lines y → Contains (with_lines set lines) y
+pub in_with_lines_new : (lines set : List (List ℕ)) (y : List ℕ) → Contains lines y → Contains (with_lines set lines) y
 in_with_lines_new [] set y h = absurd (in_none y h)
 in_with_lines_new (line ∷ lines) set y h = let more = insert_key (slice_cmp nat_cmp) set line in
     elim (in_cons line lines y h) [

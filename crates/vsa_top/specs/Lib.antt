@@ -1,4 +1,5 @@
 pub mod Answer
+pub mod Headline
 pub mod Msp430Chip
 pub mod Msp430Fetch
 pub mod Msp430State

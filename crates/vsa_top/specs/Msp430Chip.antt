@@ -14,6 +14,7 @@ use Rattle.call_context.specs.Plain.{HasWord}
 use Rattle.call_context.specs.declared.shown.Cause.{Cause}
 use Rattle.call_context.specs.declared.shown.Item.TheVariants as items
 use Rattle.call_context.specs.declared.shown.Set.TheVariants.{W}
+use Rattle.ihex_read.specs.Image.{IsByte}
 use Rattle.chip_law.specs.declared.chip.Work.{Work}
 use Rattle.chip_law.specs.Meaning.{Meaning}
 use Rattle.chip_law.specs.Single.{Single, Outcome}
@@ -137,10 +138,6 @@ CoversState (At pc calls frame) a s first = (register_of s 0 ≡ pc) × HoldsOf 
 CoversState (Exit pc frame) a s first = ⊥
 
 -- an image of bytes at each of the 65,536 addresses
-abbrev pub IsByte : Option ℕ → Type 0
-IsByte None = Unit {0}
-IsByte (Some b) = b < 256
-
 pub record IsProgram (image : List (Option ℕ)) : Type 0 where
   pub size : length image ≡ 65536
   pub bytes : All IsByte image

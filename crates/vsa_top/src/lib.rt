@@ -2,6 +2,7 @@
 #![tactic(auto)]
 
 mod fixpoint;
+mod headline;
 mod input;
 mod msp430;
 mod outcome;

@@ -1,25 +1,26 @@
--- The image that a text denotes has bytes.
+-- An image that lines denote has a byte or nothing at each of its 65,536 addresses.
 use Rattle.std.proofs.Common.{◌≡◌, ℕ, ◌<◌, ◌≤◌, ◌+◌, ◌*◌, ◌-◌, ◌==◌, Bool, true, false, Option, None, Some, List, [], ◌∷◌, ◌++◌, length, take, drop, refl, sym, ap, subst, ◌∙◌, arith, cond, zero, suc}
 use Rattle.std.specs.Prelude.{Contains, All, unwrap_or, if◌then◌else◌, nat_le, ◌&&◌}
 use Rattle.std.specs.List.{enumerate_from, slice_index_or}
 use Rattle.std.proofs.lemmas.List.Elements.{All-nil, All-cons, All-take, All-drop, All-append, All-contains, All-from_get_or}
+use Rattle.std.proofs.lemmas.Bool.{leb-true}
 use Rattle.hex.specs.Hex.{hex_digit_value}
-use Rattle.ihex_read.specs.Image.{byte_at}
-use Rattle.ihex_read.specs.ImageText.{placed_from, placed_of, Denotes, IsImage, IsPlainImage}
+use Rattle.ihex_read.specs.Image.{byte_at, IsByte}
+use Rattle.ihex_read.specs.ImageText.{placed_from, placed_of, Denotes, IsImage}
+use Rattle.ihex_read.specs.declared.rule_set.Rules.{Rules}
+use Rattle.ihex_read.specs.declared.rule_set.Tail.{Tail}
 use Rattle.ihex_read.specs.Record.{bytes_of, record_of, data_of, placed_by, base_behind, offset_of, type_of}
-use Rattle.vsa_top.specs.Answer.{rules}
-use Rattle.vsa_top.specs.Msp430Chip.{IsByte, IsProgram}
 
 both : (x y : Bool) → (x && y) ≡ true → (x ≡ true) × (y ≡ true)
 both true true h = (refl, refl)
 both true false h = absurd (cc)
 both false y h = absurd (cc)
 
-AreBytes : List ℕ → Type 0
+abbrev AreBytes : List ℕ → Type 0
 AreBytes xs = All (λ x. x < 256) xs
 
 -- each second part is a byte
-ArePlaced : List (ℕ × ℕ) → Type 0
+abbrev ArePlaced : List (ℕ × ℕ) → Type 0
 ArePlaced pairs = All (λ (p : ℕ × ℕ). p.1 < 256) pairs
 
 -- a digit's value is below 16
@@ -27,13 +28,13 @@ digit_below : (c : ℕ) → unwrap_or (hex_digit_value c) 0 < 16
 digit_below c = upper (nat_le 65 c && nat_le c 70) refl
   where
     decimal : (b : Bool) → (nat_le 48 c && nat_le c 57) ≡ b → unwrap_or (if b then Some (c - 48) else None) 0 < 16
-    decimal true e = omega (arith, both (nat_le 48 c) (nat_le c 57) e)
+    decimal true e = let top = leb-true c 57 (both (nat_le 48 c) (nat_le c 57) e).1 in omega (arith, top)
     decimal false e = omega arith
     lower : (b : Bool) → (nat_le 97 c && nat_le c 102) ≡ b → unwrap_or (if b then Some (c - 87) else if nat_le 48 c && nat_le c 57 then Some (c - 48) else None) 0 < 16
-    lower true e = omega (arith, both (nat_le 97 c) (nat_le c 102) e)
+    lower true e = let top = leb-true c 102 (both (nat_le 97 c) (nat_le c 102) e).1 in omega (arith, top)
     lower false e = decimal (nat_le 48 c && nat_le c 57) refl
     upper : (b : Bool) → (nat_le 65 c && nat_le c 70) ≡ b → unwrap_or (if b then Some (c - 55) else if nat_le 97 c && nat_le c 102 then Some (c - 87) else if nat_le 48 c && nat_le c 57 then Some (c - 48) else None) 0 < 16
-    upper true e = omega (arith, both (nat_le 65 c) (nat_le c 70) e)
+    upper true e = let top = leb-true c 70 (both (nat_le 65 c) (nat_le c 70) e).1 in omega (arith, top)
     upper false e = lower (nat_le 97 c && nat_le c 102) refl
 
 bytes_of-are : (digits : List ℕ) → AreBytes (bytes_of digits)
@@ -69,11 +70,10 @@ byte_at-is image lines is at None e = tt
 byte_at-is image lines is at (Some value) e =
     All-contains (λ (p : ℕ × ℕ). p.1 < 256) (placed_of lines) (at, value) (placed_from-are lines 0) ((is.bytes at value).0 e)
 
-denoted_is_program : (image : List (Option ℕ)) (lines : List (List ℕ)) → IsImage image lines → IsProgram image
-denoted_is_program image lines is = record {
-  size = is.size;
-  bytes = All-from_get_or IsByte image None (λ at lt. byte_at-is image lines is at (byte_at image at) refl);
-}
-
-pub plain_is_program : (text : List ℕ) (image : List (Option ℕ)) → IsPlainImage rules text image → IsProgram image
-plain_is_program text image plain = denoted_is_program image plain.denoted.0 plain.denoted.2.2.2.2
+pub denoted_bytes : (rules : Rules) (tail : Tail) (lines : List (List ℕ)) (image : List (Option ℕ)) → Denotes rules tail lines image
+    → (length image ≡ 65536) × All IsByte image
+denoted_bytes rules tail lines image denoted =
+    let is = denoted.5 in (
+      is.size,
+      All-from_get_or IsByte image None (λ at lt. byte_at-is image denoted.0 is at (byte_at image at) refl),
+    )

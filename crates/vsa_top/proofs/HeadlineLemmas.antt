@@ -1,0 +1,185 @@
+-- A report that is told as closed covers every run, and one that is told as open has an open site.
+use Rattle.std.proofs.Common.{◌≡◌, ◌++◌, ℕ, Bool, true, false, Option, None, Some, Result, Ok, Err, List, [], ◌∷◌, refl, sym, ap, subst, ◌∙◌, inl, inr, cond}
+use Rattle.std.specs.Prelude.{◌⊎◌, All, Contains, length, map, ◌&&◌, if◌then◌else◌}
+use Rattle.std.specs.List.{flat_map}
+use Rattle.std.proofs.lemmas.List.Elements.{Contains-append_right}
+use Rattle.std.proofs.lemmas.Option.{same_Some}
+use Rattle.call_context.specs.PlainLaws.{in_none, in_cons, in_first, in_rest}
+use Rattle.call_context.specs.declared.node.Frame.{Frame}
+use Rattle.call_context.specs.declared.node.Node.{Node}
+use Rattle.call_context.specs.declared.node.Node.TheVariants.{At, Exit}
+use Rattle.call_context.specs.declared.node.Unit.{Unit as WorkUnit}
+use Rattle.call_context.specs.declared.node.Unit.TheVariants.{One, Back}
+use Rattle.call_context.specs.declared.shown.Cause.{Cause}
+use Rattle.call_context.specs.declared.shown.Item.{Item}
+use Rattle.chip_law.specs.declared.chip.Work.{Work}
+use Rattle.chip_law.specs.Laws.{IsLawful}
+use Rattle.chip_law.specs.Line.{item_line_of, open_line_of}
+use Rattle.chip_law.specs.Shown.{HasLine, IsShownIn}
+use Rattle.closing_law.specs.Covered.{NoneIsOpen, AreCovering}
+use Rattle.closing_law.specs.Worked.{IsOfUnit}
+use Rattle.ihex_read.specs.declared.rule_set.Tail.{Tail}
+use Rattle.ihex_read.specs.declared.rule_set.Tail.TheVariants.{Blank}
+use Rattle.ihex_read.specs.declared.rule_set.Rules.{Rules}
+use Rattle.ihex_read.specs.Image.{IsByte}
+use Rattle.ihex_read.specs.ImageText.{Denotes, IsPlainImage}
+use Rattle.ihex_read.specs.Lines as texts
+use Rattle.round_core.specs.Kept.{live_works}
+use Rattle.round_core.specs.Machine.{replay, IsLegalJournal, IsFinished}
+use Rattle.round_core.specs.declared.event.Event.{Event}
+use Rattle.vsa_io.specs.Stream.{appended}
+use Rattle.vsa_top.specs.declared.msp430.instr.Instr.{Instr}
+use Rattle.vsa_top.specs.declared.msp430.state.State.{State}
+use Rattle.vsa_top.specs.declared.outcome.Status.{Status}
+use Rattle.vsa_top.specs.declared.outcome.Status.TheVariants.{Done, Open, ReadFault, Memory}
+use Rattle.vsa_top.specs.Answer.{rules, IsImageOf, IsAnalysis, AnswersInput, AnswersImage, AnswersBad, works_behind, report_behind}
+use Rattle.vsa_top.specs.Answer.AnswersInput.{of_image, of_none, unread}
+use Rattle.vsa_top.specs.Headline.{CoversEveryRun, HasOpenSite, ReportsOn}
+use Rattle.vsa_top.specs.Msp430Chip.{msp430, work_of, work_at, nothing, IsProgram}
+use Rattle.vsa_top.specs.Msp430Fetch.{fetched}
+use Rattle.vsa_top.specs.Msp430Table.{instr_of, instr_text, next_of}
+use Rattle.vsa_top.specs.Report.{are_closed, is_empty, lines_of, with_lines, least_of, report_of}
+use Rattle.vsa_top.proofs.ShownLemmas.{report_has, report_has_item, in_with_lines_new, in_flat_map, in_map}
+
+both : (x y : Bool) → (x && y) ≡ true → (x ≡ true) × (y ≡ true)
+both true true h = (refl, refl)
+both true false h = absurd (cc)
+both false y h = absurd (cc)
+
+none_of : (opens : List (ℕ × Cause)) → is_empty opens ≡ true → opens ≡ []
+none_of [] h = refl
+none_of (o ∷ os) h = absurd (cc)
+
+-- works that are closed leave none open
+none_open : {A : Type 0} (works : List (Work A)) → are_closed works ≡ true → NoneIsOpen works
+none_open [] h work k = absurd (in_none work k)
+none_open (first ∷ works) h work k = let b = both (is_empty first.opens) (are_closed works) h in
+    elim (in_cons first works work k) [
+      | inl same ↦ subst (λ (w : Work _). w.opens ≡ []) same (none_of first.opens b.0)
+      | inr rest ↦ none_open works b.1 work rest
+    ]
+
+-- works that aren't closed leave one open
+abbrev LeavesOpen : {A : Type 0} → List (Work A) → Type 0
+LeavesOpen {A = A} works = (work : Work A) × (site : ℕ × Cause) × Contains works work × Contains work.opens site
+
+some_open : {A : Type 0} (works : List (Work A)) → are_closed works ≡ false → LeavesOpen works
+some_open [] h = absurd (cc)
+some_open {A = A} (first ∷ works) h =
+    let rest : are_closed works ≡ false → LeavesOpen works = λ left. some_open works left in
+    elim first.opens as (λ (opens : List (ℕ × Cause)). first.opens ≡ opens → LeavesOpen (first ∷ works)) [
+      | [] ↦ λ e. let found = rest (ap (λ (o : List (ℕ × Cause)). is_empty o && are_closed works) (sym e) ∙ h) in
+        (found.0, found.1, in_rest first works found.0 found.2, found.3)
+      | site ∷ sites ↦ λ e. (first, site, in_first first works, subst (λ (l : List (ℕ × Cause)). Contains l site) (sym e) (in_first site sites))
+    ] refl
+
+-- an open of a unit's work stands where no instruction is fetched
+open_at : (pc : ℕ) (calls : List ℕ) (frame : Frame) (a : State) (found : Result (Instr × List ℕ) Cause) (at : ℕ) (cause : Cause)
+    → Contains (work_at pc calls frame a found).opens (at, cause) → (at ≡ pc) × (found ≡ Err cause)
+open_at pc calls frame a (Err why) at cause h = elim (in_cons (pc, why) [] (at, cause) h) [
+  | inl same ↦ (ap (λ o. o.0) (sym same), ap (λ (o : ℕ × Cause). Err o.1) same)
+  | inr none ↦ absurd (in_none (at, cause) none)
+]
+open_at pc calls frame a (Ok found) at cause h = absurd (in_none (at, cause) h)
+
+unit_open : (image : List (Option ℕ)) (unit : WorkUnit) (a : State) (exit : Option State) (at : ℕ) (cause : Cause)
+    → Contains (work_of image unit a exit).opens (at, cause) → fetched image at ≡ Err cause
+unit_open image (One (At pc calls frame)) a exit at cause h =
+    let found = open_at pc calls frame a (fetched image pc) at cause h in ap (fetched image) found.0 ∙ found.1
+unit_open image (One (Exit pc frame)) a exit at cause h = absurd (in_none (at, cause) h)
+unit_open image (Back node other) a exit at cause h = absurd (in_none (at, cause) h)
+
+site_limit : (image : List (Option ℕ)) (work : Work State) (at : ℕ) (cause : Cause) → IsOfUnit (msp430 image) work
+    → Contains work.opens (at, cause) → fetched image at ≡ Err cause
+unfolding msp430
+site_limit image work at cause is h =
+    unit_open image is.unit is.at is.exit at cause (subst (λ (w : Work State). Contains w.opens (at, cause)) is.is_work h)
+
+abbrev text_at : ℕ → List ℕ → List ℕ
+text_at = λ pc bytes. instr_text pc (instr_of bytes)
+
+-- the report has the line of each open
+report_has_open : (works : List (Work State)) (work : Work State) (site : ℕ × Cause) → Contains works work → Contains work.opens site
+    → HasLine (report_of text_at works) (open_line_of site.0 site.1)
+report_has_open works work site w o =
+    report_has (are_closed works) (with_lines [] (flat_map (lines_of text_at) works)) (least_of _ (flat_map (λ w. w.items) works)) (open_line_of site.0 site.1)
+    (in_with_lines_new (flat_map (lines_of text_at) works) [] (open_line_of site.0 site.1)
+    (in_flat_map (lines_of text_at) works work (open_line_of site.0 site.1) w
+    (Contains-append_right (map (item_line_of text_at) work.items) (map (λ o. open_line_of o.0 o.1) work.opens) (open_line_of site.0 site.1)
+    (in_map (λ (o : ℕ × Cause). open_line_of o.0 o.1) work.opens site o))))
+
+-- what is known of the chip, of books and of texts
+abbrev AreLawful : Type 0
+AreLawful = (image : List (Option ℕ)) → IsProgram image → IsLawful (msp430 image)
+
+abbrev CoverRuns : Type 0
+CoverRuns = (image : List (Option ℕ)) (journal : List Event) → IsLawful (msp430 image) → IsLegalJournal (msp430 image) journal
+    → IsFinished (replay (msp430 image) journal) → NoneIsOpen (works_behind image journal)
+    → AreCovering (msp430 image) (works_behind image journal)
+
+abbrev HaveBytes : Type 0
+HaveBytes = (rules : Rules) (tail : Tail) (lines : List (List ℕ)) (image : List (Option ℕ))
+    → Denotes rules tail lines image → (length image ≡ 65536) × All IsByte image
+
+abbrev AreOfUnits : Type 0
+AreOfUnits = (image : List (Option ℕ)) (journal : List Event) (work : Work State) → Contains (works_behind image journal) work
+    → IsOfUnit (msp430 image) work
+
+abbrev HaveOneImage : Type 0
+HaveOneImage = (rules : Rules) (tail : Tail) (lines : List (List ℕ)) (image other : List (Option ℕ))
+    → Denotes rules tail lines image → Denotes rules tail lines other → image ≡ other
+
+-- the image of an answer is the one that the text denotes
+same_image : HaveOneImage → (input : Option (List ℕ)) (text : List ℕ) (image other : List (Option ℕ)) → input ≡ Some text
+    → IsPlainImage rules text image → IsImageOf input other → other ≡ image
+same_image one None text image other e plain found = absurd (cc)
+same_image one (Some read) text image other e plain found =
+    let same : read ≡ text = same_Some read text e in
+    one rules Blank (texts.lines_of text) other image (subst (λ t. Denotes rules Blank (texts.lines_of t) other) same found.1.denoted) plain.denoted
+
+covers_every : AreLawful → CoverRuns → HaveBytes → (text : List ℕ) (image : List (Option ℕ)) (journal : List Event) → IsPlainImage rules text image
+    → IsAnalysis image journal → are_closed (works_behind image journal) ≡ true → CoversEveryRun image (report_behind image journal)
+covers_every lawful cover bytes text image journal plain analysis closed =
+    let held = bytes rules Blank (texts.lines_of text) image plain.denoted in
+    let covering = cover image journal (lawful image (record { size = held.0; bytes = held.1 })) analysis.legal analysis.finished
+        (none_open (works_behind image journal) closed) in
+    record {
+      shows = λ n item met. let found = covering.shows n item met in record {
+        item = found.2.0;
+        has = found.2.2;
+        line = report_has_item text_at (works_behind image journal) found.0 found.2.0 found.1 found.2.1;
+      };
+      stays = covering.stays;
+    }
+
+open_site : AreOfUnits → (image : List (Option ℕ)) (journal : List Event) → are_closed (works_behind image journal) ≡ false
+    → HasOpenSite image journal (report_behind image journal)
+open_site of_units image journal left =
+    let found = some_open (works_behind image journal) left in
+    record {
+      pc = found.1.0;
+      cause = found.1.1;
+      line = report_has_open (works_behind image journal) found.0 found.1 found.2 found.3;
+      met = (found.0, found.2, found.3);
+      limit = site_limit image found.0 found.1.0 found.1.1 (of_units image journal found.0 found.2) found.3;
+    }
+
+pub closed_lem : AreLawful → CoverRuns → HaveBytes → HaveOneImage → (input before after : Option (List ℕ)) (journal : List Event)
+    → AnswersInput Done input before after journal → ReportsOn input before after CoversEveryRun
+closed_lem lawful cover bytes one input before after journal (of_image other found answer) text image e plain =
+    let same = same_image one input text image other e plain found in
+    let is = subst (λ i. AnswersImage Done i before after journal) same answer in
+    (report_behind image journal, is.2, covers_every lawful cover bytes text image journal plain is.0 is.1)
+closed_lem lawful cover bytes one input before after journal (of_none lacks answer) text image e plain = absurd answer
+closed_lem lawful cover bytes one input before after journal (unread why kept none) text image e plain =
+    elim why [ inl a ↦ absurd (cc) | inr b ↦ absurd (cc) ]
+
+pub open_lem : AreOfUnits → HaveOneImage → (input before after : Option (List ℕ)) (journal : List Event)
+    → AnswersInput Open input before after journal → ReportsOn input before after (λ image report. HasOpenSite image journal report)
+open_lem of_units one input before after journal (of_image other found answer) text image e plain =
+    let same = same_image one input text image other e plain found in
+    let is = subst (λ i. AnswersImage Open i before after journal) same answer in
+    (report_behind image journal, is.2, open_site of_units image journal is.1)
+open_lem of_units one input before after journal (of_none lacks answer) text image e plain = absurd answer
+open_lem of_units one input before after journal (unread why kept none) text image e plain =
+    elim why [ inl a ↦ absurd (cc) | inr b ↦ absurd (cc) ]

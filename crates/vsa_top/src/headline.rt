@@ -1,0 +1,25 @@
+//! What an answer says of every run.
+
+ghost use Rattle.std.specs.Prelude.{ℕ, Option, List};
+ghost use Rattle.round_core.specs.declared.event.Event.{Event as AnEvent};
+ghost use Rattle.vsa_top.specs.declared.outcome.Status.TheVariants.{Done, Open};
+ghost use Rattle.vsa_top.specs.Answer.{AnswersInput};
+ghost use Rattle.vsa_top.specs.Headline.{CoversEveryRun, HasOpenSite, ReportsOn};
+
+use crate::msp430::{Msp430, msp430_is_lawful};
+use closing_law::{closed_books_cover_runs, works_are_of_units};
+use ihex_read::{image_or_fault, images_have_bytes};
+
+/// A report that is told as closed covers every run, and one that is told as open has an open site.
+pub(crate) fn reports_hold()
+    ensures closed { (input before after : Option (List ℕ)) (journal : List AnEvent)
+        → AnswersInput Done input before after journal → ReportsOn input before after CoversEveryRun }
+    ensures open { (input before after : Option (List ℕ)) (journal : List AnEvent)
+        → AnswersInput Open input before after journal → ReportsOn input before after (λ image report. HasOpenSite image journal report) }
+{
+    image_or_fault();
+    images_have_bytes();
+    msp430_is_lawful();
+    closed_books_cover_runs::<Msp430>();
+    works_are_of_units::<Msp430>();
+}
