@@ -1,5 +1,5 @@
 -- A report that is told as closed covers every run, and one that is told as open has an open site.
-use Rattle.std.proofs.Common.{◌≡◌, ◌++◌, ℕ, Bool, true, false, Option, None, Some, Result, Ok, Err, List, [], ◌∷◌, refl, sym, ap, subst, ◌∙◌, inl, inr, cond}
+use Rattle.std.proofs.Common.{◌≡◌, ◌++◌, ℕ, Bool, true, false, Option, None, Some, Result, Ok, Err, List, [], ◌∷◌, refl, sym, ap, subst, ◌∙◌, append_assoc, inl, inr, cond}
 use Rattle.std.specs.Prelude.{◌⊎◌, All, Contains, length, map, ◌&&◌, if◌then◌else◌}
 use Rattle.std.specs.List.{flat_map}
 use Rattle.std.proofs.lemmas.List.Elements.{Contains-append_right}
@@ -34,11 +34,11 @@ use Rattle.vsa_top.specs.declared.outcome.Status.{Status}
 use Rattle.vsa_top.specs.declared.outcome.Status.TheVariants.{Done, Open, ReadFault, Memory}
 use Rattle.vsa_top.specs.Answer.{rules, IsImageOf, IsAnalysis, AnswersInput, AnswersImage, AnswersBad, works_behind, report_behind}
 use Rattle.vsa_top.specs.Answer.AnswersInput.{of_image, of_none, unread}
-use Rattle.vsa_top.specs.Headline.{CoversEveryRun, HasOpenSite, ReportsOn}
+use Rattle.vsa_top.specs.Headline.{Says, CoversEveryRun, HasOpenSite, ReportsOn}
 use Rattle.vsa_top.specs.Msp430Chip.{msp430, work_of, work_at, nothing, IsProgram}
 use Rattle.vsa_top.specs.Msp430Fetch.{fetched}
 use Rattle.vsa_top.specs.Msp430Table.{instr_of, instr_text, next_of}
-use Rattle.vsa_top.specs.Report.{are_closed, is_empty, lines_of, with_lines, least_of, report_of}
+use Rattle.vsa_top.specs.Report.{are_closed, is_empty, lines_of, with_lines, least_of, head_line, summary_of, report_text, report_of}
 use Rattle.vsa_top.proofs.ShownLemmas.{report_has, report_has_item, in_with_lines_new, in_flat_map, in_map}
 
 both : (x y : Bool) → (x && y) ≡ true → (x ≡ true) × (y ≡ true)
@@ -98,6 +98,14 @@ site_limit image work at cause is h =
 abbrev text_at : ℕ → List ℕ → List ℕ
 text_at = λ pc bytes. instr_text pc (instr_of bytes)
 
+-- the head of a report
+says_head : (closed : Bool) (works : List (Work State)) → are_closed works ≡ closed → Says (head_line closed) (report_of text_at works)
+says_head closed works e =
+    let lines = with_lines [] (flat_map (lines_of text_at) works) in
+    let least = least_of _ (flat_map (λ (w : Work State). w.items) works) in
+    let body = flat_map (λ line. line ++ 10 ∷ []) lines in
+    (body ++ summary_of least lines, ap (λ c. report_text c lines least) e ∙ append_assoc (head_line closed) body (summary_of least lines))
+
 -- the report has the line of each open
 report_has_open : (works : List (Work State)) (work : Work State) (site : ℕ × Cause) → Contains works work → Contains work.opens site
     → HasLine (report_of text_at works) (open_line_of site.0 site.1)
@@ -144,6 +152,7 @@ covers_every lawful cover bytes text image journal plain analysis closed =
     let covering = cover image journal (lawful image (record { size = held.0; bytes = held.1 })) analysis.legal analysis.finished
         (none_open (works_behind image journal) closed) in
     record {
+      says = says_head true (works_behind image journal) closed;
       shows = λ n item met. let found = covering.shows n item met in record {
         item = found.2.0;
         has = found.2.2;
@@ -157,6 +166,7 @@ open_site : AreOfUnits → (image : List (Option ℕ)) (journal : List Event) �
 open_site of_units image journal left =
     let found = some_open (works_behind image journal) left in
     record {
+      says = says_head false (works_behind image journal) left;
       pc = found.1.0;
       cause = found.1.1;
       line = report_has_open (works_behind image journal) found.0 found.1 found.2 found.3;

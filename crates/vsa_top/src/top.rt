@@ -2,9 +2,11 @@
 
 ghost use Rattle.std.specs.Prelude.{◌≡◌, ◌≢◌, if◌then◌else◌, [], IfOk, OnOk, ◌⊎◌, ◌≤◌, OnErr};
 ghost use Rattle.vsa_io.specs.Stream.{HasRisen, AppendsPrefix, appended};
+ghost use Rattle.vsa_top.specs.Headline.{CoversEveryRun, HasOpenSite, ReportsOn};
 ghost use Rattle.vsa_top.specs.Answer.{rules as the_rules, IsReading, AnswersUsage, AnswersImage, AnswersInput, IsCutShort};
 
 use crate::fixpoint::fixpoint_alone;
+use crate::headline::reports_hold;
 use crate::input::{ReadError, image_in};
 use crate::msp430::Msp430;
 use crate::outcome::{Gate, Outcome, Status};
@@ -103,6 +105,12 @@ pub fn vsa<R: Threads + Wait + Sync, S: Source, K: Sink, G: Gate>(
     sink: &mut K,
     _gate: &G,
 ) -> Outcome
+    // THE HEADLINE. Where the input denotes an image and the status is Done, which tells a report that says CLOSED,
+    // whatever the chip meets on any run has its line in the report, and no run leaves the model.
+    ensures headline { result.status ≡ Status.Done → ReportsOn (S.left source.old) (K.held sink.old) (K.held sink.new) CoversEveryRun }
+    // Where the status is Open the report shows a site at which no instruction that is built stands.
+    ensures open_sites { result.status ≡ Status.Open → ReportsOn (S.left source.old) (K.held sink.old) (K.held sink.new) (λ image report. HasOpenSite image result.journal.items report) }
+
     // Words that aren't a reading are refused, and no others.
     ensures usage { ¬ IsReading words.now → AnswersUsage result.status (K.held sink.old) (K.held sink.new) result.journal.items }
     // The bytes are exactly the report of the book that the journal leads to, or the refusal of an input without image.
@@ -115,6 +123,7 @@ pub fn vsa<R: Threads + Wait + Sync, S: Source, K: Sink, G: Gate>(
     ensures quiet_sink { ¬ IsCutShort result.status → K.faults sink.new ≡ K.faults sink.old }
 {
     if is_reading(words) {
+        reports_hold();
         analyse(alloc, source, sink)
     } else {
         without_journal(alloc, answer(sink, b"USAGE\n", Status::Usage))
