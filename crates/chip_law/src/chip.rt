@@ -1,5 +1,6 @@
 //! The traits of a chip.
 
+ghost use Rattle.chip_law.specs.Laws.{IsLawful};
 ghost use Rattle.chip_law.specs.Meaning.{Meaning};
 ghost use Rattle.std.specs.Option.{option_copied};
 ghost use Rattle.std.specs.Prelude.{IfOk, ◌≡◌, ℕ, List};
@@ -84,6 +85,16 @@ pub trait Chip {
     /// Whether all that `new` stands for stands under `held`, found part by part.
     fn within(&self, new: &Self::Abs, held: &Self::Abs) -> bool
         ensures { result ≡ (meaning (base self.now)).within new.now held.now };
+}
+
+/// A chip whose laws are proved, for generic code to use.
+pub trait LawfulChip: Chip {
+    /// The programs of which the laws hold.
+    ghost program: { Self.Base → Type 0 };
+
+    /// The laws: the start stands for each reset state, the work of a unit for each step, and the states are in order.
+    fn laws()
+        ensures { (b : Self.Base) → program b → IsLawful (Self.meaning b) };
 }
 
 /// A chip whose instructions have a text.

@@ -70,13 +70,13 @@ live_in live [] unit d found alive = absurd (cc)
 live_in live (first ∷ done) unit d found alive =
     let later : done_at done unit ≡ Some d → Contains (passing live (pairs_of done)) d.work = λ e. live_in live done unit d e alive in
     elim (same_unit unit first.unit) as (λ t. same_unit unit first.unit ≡ t → (if t then Some first else done_at done unit) ≡ Some d
-        → Contains (with_first live (live first.unit) first done) d.work) [
+    → Contains (with_first live (live first.unit) first done) d.work) [
       | true ↦ λ same e.
-        let unit_is : unit ≡ first.unit = same_unit-eq unit first.unit same in
-        let is_d : first ≡ d = same_Some first d e in
-        let passes : live first.unit ≡ true = ap live (sym unit_is) ∙ alive in
-        subst (λ b. Contains (with_first live b first done) d.work) (sym passes)
-        (subst (λ x. Contains (first.work ∷ passing live (pairs_of done)) x.work) is_d (in_first first.work (passing live (pairs_of done))))
+          let unit_is : unit ≡ first.unit = same_unit-eq unit first.unit same in
+          let is_d : first ≡ d = same_Some first d e in
+          let passes : live first.unit ≡ true = ap live (sym unit_is) ∙ alive in
+          subst (λ b. Contains (with_first live b first done) d.work) (sym passes)
+          (subst (λ x. Contains (first.work ∷ passing live (pairs_of done)) x.work) is_d (in_first first.work (passing live (pairs_of done))))
       | false ↦ λ other e. elim (live first.unit) as (λ b. Contains (with_first live b first done) d.work) [
         | true ↦ in_rest first.work (passing live (pairs_of done)) d.work (later e)
         | false ↦ later e
@@ -99,15 +99,15 @@ module _ {S A : Type 0} (m : Meaning S A) (laws : IsLawful m) where
     topped = laws.top_form;
   }
     where
-    formed_posts : (unit : WorkUnit) (at : A) (exit : Option A) → AreFormed m.HasForm unit at exit → PostsAreFormed m.HasForm (m.work unit at exit).posts
-    formed_posts (One (At pc calls frame)) at None f = all_of (λ post. m.HasForm post.0 post.1) _ (λ post h. laws.posts_form (At pc calls frame) at post.0 post.1 tt f h)
-    formed_posts (One (At pc calls frame)) at (Some exit) f = absurd f
-    formed_posts (One (Exit pc frame)) at exit f = absurd f
-    formed_posts (Back (At pc calls frame) (Exit from left)) at (Some exit) f =
-        all_of (λ post. m.HasForm post.0 post.1) _ (λ post h. laws.returns_form (At pc calls frame) (Exit from left) at exit post.0 post.1 tt (λ l. l) f.0 f.1 h)
-    formed_posts (Back (At pc calls frame) (Exit from left)) at None f = absurd f
-    formed_posts (Back (At pc calls frame) (At from calls' frame')) at exit f = absurd f
-    formed_posts (Back (Exit pc frame) node) at exit f = absurd f
+      formed_posts : (unit : WorkUnit) (at : A) (exit : Option A) → AreFormed m.HasForm unit at exit → PostsAreFormed m.HasForm (m.work unit at exit).posts
+      formed_posts (One (At pc calls frame)) at None f = all_of (λ post. m.HasForm post.0 post.1) _ (λ post h. laws.posts_form (At pc calls frame) at post.0 post.1 tt f h)
+      formed_posts (One (At pc calls frame)) at (Some exit) f = absurd f
+      formed_posts (One (Exit pc frame)) at exit f = absurd f
+      formed_posts (Back (At pc calls frame) (Exit from left)) at (Some exit) f =
+          all_of (λ post. m.HasForm post.0 post.1) _ (λ post h. laws.returns_form (At pc calls frame) (Exit from left) at exit post.0 post.1 tt (λ l. l) f.0 f.1 h)
+      formed_posts (Back (At pc calls frame) (Exit from left)) at None f = absurd f
+      formed_posts (Back (At pc calls frame) (At from calls' frame')) at exit f = absurd f
+      formed_posts (Back (Exit pc frame) node) at exit f = absurd f
 
   is_ordered : IsOrdered m m.HasForm
   is_ordered = record {

@@ -72,13 +72,17 @@ module _ {S A : Type 0} (m : Meaning S A) (laws : IsLawful m) (table : Node → 
       let back = m.work (Back home exit) b (Some x) in
       let is_back : IsWork m table back = of_return home exit b x below.2 not_location below.3 held below.4 in
       let resumes : Resumes m home exit back (first_of fs) t =
-          laws.return_resumes home exit b x f (first_of fs) t below.2 not_location (closed.formed home b below.3) form (covers_of fs home b f below.5) covers in
+      laws.return_resumes home exit b x f (first_of fs) t below.2 not_location (closed.formed home b below.3) form (covers_of fs home b f below.5) covers in
       let more : HoldsMore m table home resumes.state = closed.posts_held back home resumes.state is_back resumes.posted in
       let post_form : m.HasForm home resumes.state =
-          laws.returns_form home exit b x home resumes.state below.2 not_location (closed.formed home b below.3) form resumes.posted in
+      laws.returns_form home exit b x home resumes.state below.2 not_location (closed.formed home b below.3) form resumes.posted in
       record {
         after = record {
-          node = home; state = more.0; suspended = fs; is_location = below.2; is_held = more.1;
+          node = home;
+          state = more.0;
+          suspended = fs;
+          is_location = below.2;
+          is_held = more.1;
           stands = stands_like fs home home b more.0 f t refl below.5 (covers_held home resumes.state t (first_of fs) post_form more resumes.covers);
         };
         shown = λ item contains. elim (shows item contains) [
@@ -97,7 +101,11 @@ module _ {S A : Type 0} (m : Meaning S A) (laws : IsLawful m) (table : Node → 
       let form : m.HasForm to state = laws.posts_form node a to state location (closed.formed node a held) posted in
       record {
         after = record {
-          node = to; state = more.0; suspended = suspended; is_location = to_location; is_held = more.1;
+          node = to;
+          state = more.0;
+          suspended = suspended;
+          is_location = to_location;
+          is_held = more.1;
           stands = stands_like suspended node to a more.0 s t same stands (covers_held to state t (first_of suspended) form more covers);
         };
         shown = λ item contains. record { work = work; is_work = is_work; shows = shows item contains };
@@ -109,7 +117,11 @@ module _ {S A : Type 0} (m : Meaning S A) (laws : IsLawful m) (table : Node → 
       let form : m.HasForm to state = laws.posts_form node a to state location (closed.formed node a held) posted in
       record {
         after = record {
-          node = to; state = more.0; suspended = s ∷ suspended; is_location = to_location; is_held = more.1;
+          node = to;
+          state = more.0;
+          suspended = s ∷ suspended;
+          is_location = to_location;
+          is_held = more.1;
           stands = (
             covers_held to state t (Some s) form more covers,
             suspended_at work (frame_of to) (λ n b. Stands m table suspended n b s) node a refl location held stands waited,
@@ -141,7 +153,11 @@ module _ {S A : Type 0} (m : Meaning S A) (laws : IsLawful m) (table : Node → 
   all_stand zero s reset =
       let more = closed.started in
       record {
-        node = m.first_node; state = more.0; suspended = []; is_location = laws.first_is_location; is_held = more.1;
+        node = m.first_node;
+        state = more.0;
+        suspended = [];
+        is_location = laws.first_is_location;
+        is_held = more.1;
         stands = (laws.first_frame, covers_held m.first_node m.first_state s None laws.first_form more (laws.covers_reset s reset));
       }
   all_stand (suc n) t run = (steps_on run.0 run.1 t (all_stand n run.0 run.2) run.3).after

@@ -13,7 +13,6 @@ use Rattle.call_context.specs.declared.node.Unit.TheVariants.{One, Back}
 use Rattle.call_context.specs.declared.shown.Cause.{Cause}
 use Rattle.call_context.specs.declared.shown.Item.{Item}
 use Rattle.chip_law.specs.declared.chip.Work.{Work}
-use Rattle.chip_law.specs.Laws.{IsLawful}
 use Rattle.chip_law.specs.Line.{item_line_of, open_line_of}
 use Rattle.chip_law.specs.Shown.{HasLine, IsShownIn}
 use Rattle.closing_law.specs.Covered.{NoneIsOpen, AreCovering}
@@ -69,7 +68,7 @@ some_open {A = A} (first ∷ works) h =
     let rest : are_closed works ≡ false → LeavesOpen works = λ left. some_open works left in
     elim first.opens as (λ (opens : List (ℕ × Cause)). first.opens ≡ opens → LeavesOpen (first ∷ works)) [
       | [] ↦ λ e. let found = rest (ap (λ (o : List (ℕ × Cause)). is_empty o && are_closed works) (sym e) ∙ h) in
-        (found.0, found.1, in_rest first works found.0 found.2, found.3)
+          (found.0, found.1, in_rest first works found.0 found.2, found.3)
       | site ∷ sites ↦ λ e. (first, site, in_first first works, subst (λ (l : List (ℕ × Cause)). Contains l site) (sym e) (in_first site sites))
     ] refl
 
@@ -116,12 +115,9 @@ report_has_open works work site w o =
     (Contains-append_right (map (item_line_of text_at) work.items) (map (λ o. open_line_of o.0 o.1) work.opens) (open_line_of site.0 site.1)
     (in_map (λ (o : ℕ × Cause). open_line_of o.0 o.1) work.opens site o))))
 
--- what is known of the chip, of books and of texts
-abbrev AreLawful : Type 0
-AreLawful = (image : List (Option ℕ)) → IsProgram image → IsLawful (msp430 image)
-
+-- what is known of books and of texts
 abbrev CoverRuns : Type 0
-CoverRuns = (image : List (Option ℕ)) (journal : List Event) → IsLawful (msp430 image) → IsLegalJournal (msp430 image) journal
+CoverRuns = (image : List (Option ℕ)) (journal : List Event) → IsProgram image → IsLegalJournal (msp430 image) journal
     → IsFinished (replay (msp430 image) journal) → NoneIsOpen (works_behind image journal)
     → AreCovering (msp430 image) (works_behind image journal)
 
@@ -145,12 +141,12 @@ same_image one (Some read) text image other e plain found =
     let same : read ≡ text = same_Some read text e in
     one rules Blank (texts.lines_of text) other image (subst (λ t. Denotes rules Blank (texts.lines_of t) other) same found.1.denoted) plain.denoted
 
-covers_every : AreLawful → CoverRuns → HaveBytes → (text : List ℕ) (image : List (Option ℕ)) (journal : List Event) → IsPlainImage rules text image
+covers_every : CoverRuns → HaveBytes → (text : List ℕ) (image : List (Option ℕ)) (journal : List Event) → IsPlainImage rules text image
     → IsAnalysis image journal → are_closed (works_behind image journal) ≡ true → CoversEveryRun image (report_behind image journal)
-covers_every lawful cover bytes text image journal plain analysis closed =
+covers_every cover bytes text image journal plain analysis closed =
     let held = bytes rules Blank (texts.lines_of text) image plain.denoted in
-    let covering = cover image journal (lawful image (record { size = held.0; bytes = held.1 })) analysis.legal analysis.finished
-        (none_open (works_behind image journal) closed) in
+    let covering = cover image journal (record { size = held.0; bytes = held.1 }) analysis.legal analysis.finished
+    (none_open (works_behind image journal) closed) in
     record {
       says = says_head true (works_behind image journal) closed;
       shows = λ n item met. let found = covering.shows n item met in record {
@@ -174,14 +170,14 @@ open_site of_units image journal left =
       limit = site_limit image found.0 found.1.0 found.1.1 (of_units image journal found.0 found.2) found.3;
     }
 
-pub closed_lem : AreLawful → CoverRuns → HaveBytes → HaveOneImage → (input before after : Option (List ℕ)) (journal : List Event)
+pub closed_lem : CoverRuns → HaveBytes → HaveOneImage → (input before after : Option (List ℕ)) (journal : List Event)
     → AnswersInput Done input before after journal → ReportsOn input before after CoversEveryRun
-closed_lem lawful cover bytes one input before after journal (of_image other found answer) text image e plain =
+closed_lem cover bytes one input before after journal (of_image other found answer) text image e plain =
     let same = same_image one input text image other e plain found in
     let is = subst (λ i. AnswersImage Done i before after journal) same answer in
-    (report_behind image journal, is.2, covers_every lawful cover bytes text image journal plain is.0 is.1)
-closed_lem lawful cover bytes one input before after journal (of_none lacks answer) text image e plain = absurd answer
-closed_lem lawful cover bytes one input before after journal (unread why kept none) text image e plain =
+    (report_behind image journal, is.2, covers_every cover bytes text image journal plain is.0 is.1)
+closed_lem cover bytes one input before after journal (of_none lacks answer) text image e plain = absurd answer
+closed_lem cover bytes one input before after journal (unread why kept none) text image e plain =
     elim why [ inl a ↦ absurd (cc) | inr b ↦ absurd (cc) ]
 
 pub open_lem : AreOfUnits → HaveOneImage → (input before after : Option (List ℕ)) (journal : List Event)

@@ -104,7 +104,8 @@ has_line-body [] line h = absurd (in_none line h)
 has_line-body (first ∷ lines) line h = let body = flat_map (λ l. l ++ 10 ∷ []) lines in
     elim (in_cons first lines line h) [
       | inl same ↦ record {
-        front = []; back = body;
+        front = [];
+        back = body;
         whole = append_assoc first (10 ∷ []) body ∙ ap (λ l. l ++ 10 ∷ body) same;
         begins = inl refl;
       }

@@ -6,7 +6,7 @@ ghost use Rattle.vsa_top.specs.declared.outcome.Status.TheVariants.{Done, Open};
 ghost use Rattle.vsa_top.specs.Answer.{AnswersInput};
 ghost use Rattle.vsa_top.specs.Headline.{CoversEveryRun, HasOpenSite, ReportsOn};
 
-use crate::msp430::{Msp430, msp430_is_lawful};
+use crate::msp430::Msp430;
 use closing_law::{closed_books_cover_runs, works_are_of_units};
 use ihex_read::{image_or_fault, images_have_bytes};
 
@@ -19,7 +19,6 @@ pub(crate) fn reports_hold()
 {
     image_or_fault();
     images_have_bytes();
-    msp430_is_lawful();
     closed_books_cover_runs::<Msp430>();
     works_are_of_units::<Msp430>();
 }

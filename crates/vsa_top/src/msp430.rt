@@ -6,4 +6,3 @@ mod laws;
 mod state;
 
 pub use chip::Msp430;
-pub(crate) use laws::msp430_is_lawful;

@@ -192,8 +192,7 @@ fn push_summary(
     let count = count.to_string(*text.allocator())?;
     text.push(b' ')?;
     text.extend_from_slice(count.as_str().as_bytes())?;
-    text.push(b'\n')
-        .map_err(AllocError::from)
+    text.push(b'\n').map_err(AllocError::from)
 }
 
 /// The text of what was told.

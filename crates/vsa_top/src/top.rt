@@ -74,7 +74,11 @@ fn analyse_image<K: Sink>(alloc: Global, chip: &Msp430, sink: &mut K) -> Result<
 fn status_of(is_closed: bool) -> Status
     ensures { result ≡ (if is_closed then Status.Done else Status.Open) }
 {
-    if is_closed { Status::Done } else { Status::Open }
+    if is_closed {
+        Status::Done
+    } else {
+        Status::Open
+    }
 }
 
 /// Reads an image text, analyses it, and writes the report.

@@ -3,7 +3,7 @@ use Rattle.vsa_top.proofs.headline.reports_hold.Goals as goal
 
 pub returns-clause-closed : goal.returns-clause-closed
 returns-clause-closed c =
-    closed_lem c.msp430_is_lawful.ensures c.closed_books_cover_runs.ensures c.images_have_bytes.ensures c.image_or_fault.ensures.one_image
+    closed_lem c.closed_books_cover_runs.ensures c.images_have_bytes.ensures c.image_or_fault.ensures.one_image
 
 pub returns-clause-open : goal.returns-clause-open
 returns-clause-open c = open_lem c.works_are_of_units.ensures c.image_or_fault.ensures.one_image

@@ -25,9 +25,9 @@ loop-unit-preserved g c =
     let left = ap (passing (is_live b.done)) first ∙ passing-cons (is_live b.done) pair (drop (i + 1) pairs) live (sym c.is_live-is_live.ensures) in
     record {
       lines = lines_more (lines_of text) live pair.1 rest (bytes_of c.loop-unit.told.lines.keys) (bytes_of c.tell.new.told.lines.keys) (with_lines [] (flat_map (lines_of text) (live_works b))) c.in_ok-tell.ensures.lines
-      (subst (λ works. with_lines (bytes_of c.loop-unit.told.lines.keys) (flat_map (lines_of text) works) ≡ with_lines [] (flat_map (lines_of text) (live_works b))) left c.loop-unit.invariant.lines);
+          (subst (λ works. with_lines (bytes_of c.loop-unit.told.lines.keys) (flat_map (lines_of text) works) ≡ with_lines [] (flat_map (lines_of text) (live_works b))) left c.loop-unit.invariant.lines);
       closed = closed_more live pair.1 rest c.loop-unit.told.is_closed c.tell.new.told.is_closed (are_closed (live_works b)) c.in_ok-tell.ensures.closed
-      (subst (λ works. (c.loop-unit.told.is_closed && are_closed works) ≡ are_closed (live_works b)) left c.loop-unit.invariant.closed);
+          (subst (λ works. (c.loop-unit.told.is_closed && are_closed works) ≡ are_closed (live_works b)) left c.loop-unit.invariant.closed);
       least = least_more live pair.1 rest c.loop-unit.told.least c.tell.new.told.least (least_of None (flat_map (λ work. work.items) (live_works b))) c.in_ok-tell.ensures.least
-      (subst (λ works. least_of c.loop-unit.told.least (flat_map (λ work. work.items) works) ≡ least_of None (flat_map (λ work. work.items) (live_works b))) left c.loop-unit.invariant.least);
+          (subst (λ works. least_of c.loop-unit.told.least (flat_map (λ work. work.items) works) ≡ least_of None (flat_map (λ work. work.items) (live_works b))) left c.loop-unit.invariant.least);
     }
