@@ -1,7 +1,7 @@
 -- An image that lines denote has a byte or nothing at each of its 65,536 addresses.
-use Rattle.std.proofs.Common.{◌≡◌, ℕ, ◌<◌, ◌≤◌, ◌+◌, ◌*◌, ◌-◌, ◌==◌, Bool, true, false, Option, None, Some, List, [], ◌∷◌, ◌++◌, length, take, drop, refl, sym, ap, subst, ◌∙◌, arith, cond, zero, suc}
-use Rattle.std.specs.Prelude.{Contains, All, unwrap_or, if◌then◌else◌, nat_le, ◌&&◌}
-use Rattle.std.specs.List.{enumerate_from, slice_index_or}
+use Rattle.std.proofs.Common.{◌≡◌, ℕ, ◌<◌, ◌+◌, ◌*◌, ◌-◌, ◌==◌, Bool, true, false, Option, None, Some, List, [], ◌∷◌, length, drop, refl, arith, suc}
+use Rattle.std.specs.Prelude.{All, unwrap_or, if◌then◌else◌, nat_le, ◌&&◌}
+use Rattle.std.specs.List.{enumerate_from}
 use Rattle.std.proofs.lemmas.List.Elements.{All-nil, All-cons, All-take, All-drop, All-append, All-contains, All-from_get_or}
 use Rattle.std.proofs.lemmas.Bool.{leb-true}
 use Rattle.hex.specs.Hex.{hex_digit_value}
@@ -30,9 +30,11 @@ digit_below c = upper (nat_le 65 c && nat_le c 70) refl
     decimal : (b : Bool) → (nat_le 48 c && nat_le c 57) ≡ b → unwrap_or (if b then Some (c - 48) else None) 0 < 16
     decimal true e = let top = leb-true c 57 (both (nat_le 48 c) (nat_le c 57) e).1 in omega (arith, top)
     decimal false e = omega arith
+
     lower : (b : Bool) → (nat_le 97 c && nat_le c 102) ≡ b → unwrap_or (if b then Some (c - 87) else if nat_le 48 c && nat_le c 57 then Some (c - 48) else None) 0 < 16
     lower true e = let top = leb-true c 102 (both (nat_le 97 c) (nat_le c 102) e).1 in omega (arith, top)
     lower false e = decimal (nat_le 48 c && nat_le c 57) refl
+
     upper : (b : Bool) → (nat_le 65 c && nat_le c 70) ≡ b → unwrap_or (if b then Some (c - 55) else if nat_le 97 c && nat_le c 102 then Some (c - 87) else if nat_le 48 c && nat_le c 57 then Some (c - 48) else None) 0 < 16
     upper true e = let top = leb-true c 70 (both (nat_le 65 c) (nat_le c 70) e).1 in omega (arith, top)
     upper false e = lower (nat_le 97 c && nat_le c 102) refl
@@ -54,7 +56,7 @@ placed_by-are : (base : ℕ) (bytes : List ℕ) → AreBytes bytes → ArePlaced
 placed_by-are base bytes are =
     elim (type_of bytes == 0) as (λ b. ArePlaced (if b then enumerate_from (base + offset_of bytes) (data_of bytes) else [])) [
       | true ↦ enumerated (base + offset_of bytes) (data_of bytes)
-        (All-take (λ x. x < 256) (length bytes - 5) (drop 4 bytes) (All-drop (λ x. x < 256) 4 bytes are))
+          (All-take (λ x. x < 256) (length bytes - 5) (drop 4 bytes) (All-drop (λ x. x < 256) 4 bytes are))
       | false ↦ All-nil (λ (p : ℕ × ℕ). p.1 < 256)
     ]
 

@@ -110,7 +110,7 @@ heads : {x y : List ℕ} {xs ys : List (List ℕ)} → x ∷ xs ≡ y ∷ ys →
 heads e = cc e
 
 -- never both
-not_blank : (blank behind : List (List ℕ)) (more : List ℕ) → All (λ l. l ≡ []) (blank ++ more ∷ behind) → more ≡ []
+pub not_blank : (blank behind : List (List ℕ)) (more : List ℕ) → All (λ l. l ≡ []) (blank ++ more ∷ behind) → more ≡ []
 not_blank blank behind more all_blank =
     let fits : length blank < length (blank ++ more ∷ behind) = omega (arith, length-append blank (more ∷ behind)) in
     let here = All-get_or (λ l. l ≡ []) (blank ++ more ∷ behind) (length blank) [] fits all_blank in

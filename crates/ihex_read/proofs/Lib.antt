@@ -8,3 +8,7 @@ pub mod TextLemmas
 pub mod PlainLemmas
 pub mod LawLemmas
 pub mod ByteLemmas
+pub mod PieceLemmas
+pub mod FrontLemmas
+pub mod StageLemmas
+pub mod ReaderLemmas

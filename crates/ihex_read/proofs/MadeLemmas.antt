@@ -133,3 +133,9 @@ made_accepted (Ok x) rules lines line bytes base new_base image new_image made r
     let new_base_is = based ∙ ap (base_behind base) read in
     let new_image_is = written_to ∙ ap (λ r. written image (placed_by base r)) read in
     rw (new_base_is, new_image_is) more
+
+-- an end record places nothing
+pub placed_of-end : (before : List (List ℕ)) (line : List ℕ) → type_of (record_of line) ≡ 1 → placed_of (before ++ line ∷ []) ≡ placed_of before
+placed_of-end before line one = placed_of-push before line
+    ∙ ap (λ n. placed_of before ++ (if n == 0 then enumerate_from (base_of before + offset_of (record_of line)) (data_of (record_of line)) else [])) one
+    ∙ append-nil (placed_of before)

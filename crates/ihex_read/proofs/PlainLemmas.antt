@@ -1,7 +1,6 @@
 -- The image of a text with data and end records alone.
-use Rattle.std.proofs.Common.{◌≡◌, ℕ, ◌+◌, ◌<◌, ◌≤◌, false, List, [], ◌∷◌, ◌++◌, length, refl, sym, ◌∙◌, ap, subst, append_assoc, length-append, arith}
-use Rattle.std.specs.Prelude.{◌==◌, if◌then◌else◌, Option, None, Some, All}
-use Rattle.std.specs.List.{enumerate_from}
+use Rattle.std.proofs.Common.{◌≡◌, ℕ, ◌<◌, ◌≤◌, false, List, [], ◌∷◌, ◌++◌, length, refl, sym, ◌∙◌, ap, subst, append_assoc, length-append, arith}
+use Rattle.std.specs.Prelude.{◌==◌, Option, None, Some, All}
 use Rattle.std.proofs.lemmas.Bool.Decides.{nat_tests}
 use Rattle.std.proofs.lemmas.List.{append-nil}
 use Rattle.std.proofs.lemmas.List.Elements.{All-nil, All-cons, All-append, All-push, All-weaker, All-get_or}
@@ -9,11 +8,11 @@ use Rattle.std.proofs.Math.Seq.{get_or-append_seam}
 use Rattle.ihex_read.specs.declared.rule_set.Rules.{Rules}
 use Rattle.ihex_read.specs.declared.fault.HexFault.{HexFault}
 use Rattle.ihex_read.specs.declared.record.LineKind.TheVariants.{Data, Address, End}
-use Rattle.ihex_read.specs.ImageText.{base_of, placed_of, fault_of, is_end, IsOpen, Ends, IsPlainImage}
+use Rattle.ihex_read.specs.ImageText.{fault_of, is_end, IsOpen, Ends, IsPlainImage}
 use Rattle.ihex_read.specs.Lines.{lines_of}
 use Rattle.ihex_read.specs.Loading.{Made, kind_of, line_kind}
-use Rattle.ihex_read.specs.Record.{record_of, type_of, offset_of, data_of}
-use Rattle.ihex_read.proofs.MadeLemmas.{placed_of-push}
+use Rattle.ihex_read.specs.Record.{record_of, type_of}
+use Rattle.ihex_read.proofs.MadeLemmas.{placed_of-end}
 use Rattle.ihex_read.proofs.TextLemmas.{open_more, one_end, no_end_behind_fault, no_end_among_open}
 use Rattle.ihex_read.proofs.WrittenLemmas.{Holds}
 
@@ -120,12 +119,6 @@ none_at_trailing rules text rest behind line own base image read first accepted 
     let ends = ends_here rules text rest behind line own base image read first accepted kind in
     let same = one_end rules (lines_of text) read.before found.0 line found.1 (lines_of behind) found.2 ends found.3 in
     trailing (subst (All (λ l. l ≡ [])) (sym same.2) found.4)
-
--- an end record places nothing
-placed_of-end : (before : List (List ℕ)) (line : List ℕ) → type_of (record_of line) ≡ 1 → placed_of (before ++ line ∷ []) ≡ placed_of before
-placed_of-end before line one = placed_of-push before line
-    ∙ ap (λ n. placed_of before ++ (if n == 0 then enumerate_from (base_of before + offset_of (record_of line)) (data_of (record_of line)) else [])) one
-    ∙ append-nil (placed_of before)
 
 -- the image that the lines made
 pub plain_image : (rules : Rules) (text rest behind line : List ℕ) (own : Rules) (base new_base : ℕ) (image new_image : List (Option ℕ))

@@ -8,7 +8,7 @@ use Rattle.ihex_read.specs.declared.rule_set.Rules.{Rules}
 use Rattle.ihex_read.specs.declared.fault.HexFault.{HexFault}
 use Rattle.ihex_read.specs.ImageText.{fault_of, is_end, IsOpen, Ends}
 
-both_ends : (b : Bool) → b ≡ true → b ≡ false → ⊥
+pub both_ends : (b : Bool) → b ≡ true → b ≡ false → ⊥
 both_ends true h g = cc g
 both_ends false h g = cc h
 

@@ -1,5 +1,5 @@
 -- A memory image: the list of what stands at the addresses from 0 to FFFFh.
-use Rattle.std.specs.Prelude.{ℕ, ◌<◌, List, Option, None, Some}
+use Rattle.std.specs.Prelude.{ℕ, ◌+◌, ◌%◌, ◌<◌, List, Option, None, Some, IsSome}
 use Rattle.std.specs.List.{slice_index_or}
 
 -- the byte at an address; there is none behind the last
@@ -10,3 +10,7 @@ byte_at image at = slice_index_or image at None
 abbrev pub IsByte : Option ℕ → Type 0
 IsByte None = Unit {0}
 IsByte (Some b) = b < 256
+
+-- the image has a byte at one of so many addresses from one on, which go on at 0 behind FFFFh
+abbrev pub Meets : List (Option ℕ) → ℕ → ℕ → Type 0
+Meets image lo len = (i : ℕ) × (i < len) × IsSome (byte_at image ((lo + i) % 65536))

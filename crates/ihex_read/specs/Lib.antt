@@ -4,3 +4,5 @@ pub mod ImageText
 pub mod Lines
 pub mod Record
 pub mod Loading
+pub mod Reading
+pub mod Stages

@@ -1,7 +1,7 @@
 //! A memory image: a byte or none at each of the 65,536 addresses.
 
-ghost use Rattle.std.specs.Prelude.{◌≡◌, IfOk, length};
-ghost use Rattle.ihex_read.specs.Image.{byte_at};
+ghost use Rattle.std.specs.Prelude.{◌≡◌, ◌↔◌, length, IfOk, IsTrue};
+ghost use Rattle.ihex_read.specs.Image.{byte_at, Meets};
 
 use std::alloc::Global;
 use std::marker::Model;
@@ -46,5 +46,18 @@ impl Image {
         ensures { result ≡ byte_at self.now at }
     {
         self.bytes[usize::from(at)]
+    }
+
+    /// Whether the image has a byte at one of the `len` addresses from `lo` on, modulo 65,536.
+    pub fn meets(&self, lo: u16, len: u32) -> bool
+        ensures { IsTrue result ↔ Meets self.now lo len }
+    {
+        for i in 0..len.min(65536) {
+            let at = (u32::from(lo) + i) % 65536;
+            if self.bytes[at as usize].is_some() {
+                return true;
+            }
+        }
+        false
     }
 }

@@ -1,5 +1,8 @@
 //! The faults of an image text.
 
+ghost use Rattle.std.specs.Prelude.{◌≡◌};
+
+use std::alloc::{AllocError, AllocFailed};
 use thiserror::Error;
 
 /// What is wrong with a line of an image text. Where several are, the first of this list is told.
@@ -51,4 +54,24 @@ pub enum HexError {
     Bad { line: u32, fault: HexFault },
     #[error("out of memory")]
     Memory,
+}
+
+impl From<AllocError> for HexError {
+    ghost use Rattle.ihex_read.specs.declared.fault.HexError.TheVariants.{Memory};
+
+    ghost from_gives = { λ _ e. e ≡ Memory };
+
+    fn from(_error: AllocError) -> HexError {
+        HexError::Memory
+    }
+}
+
+impl<T: Drop> From<AllocFailed<T>> for HexError {
+    ghost use Rattle.ihex_read.specs.declared.fault.HexError.TheVariants.{Memory};
+
+    ghost from_gives = { λ _ e. e ≡ Memory };
+
+    fn from(_error: AllocFailed<T>) -> HexError {
+        HexError::Memory
+    }
 }

@@ -1,9 +1,23 @@
 //! Intel HEX: what memory image a text denotes, or which of its lines is at fault. The records are those of Intel's
 //! Hexadecimal Object File Format Specification, Revision A, 1988.
+//!
+//! A text is a list of lines, and `specs/ImageText.antt` says which image it denotes (`Denotes`) and which of its lines
+//! is the first at fault (`FirstFault`). [`image_or_fault`] is the law that each list of lines has exactly one of the
+//! two.
+//!
+//! Proved of [`Reader`], however the text is cut into pieces:
+//!
+//! - [`Reader::end`] answers an image that the text denotes, or its first faulty line with its fault.
+//! - [`Reader::feed`] answers the first faulty line exactly where that is whole, with its line feed, in what was fed.
+//!   Where a second text is expected it uses no byte behind the end record's line feed.
+//! - After an error each later call answers the same one. Want of memory comes in `new` and `feed` alone.
+//!
+//! A reader keeps the line that has begun, the image and a few numbers. It reads a text in linear time.
 #![tactic(auto)]
 
 mod address_map;
 mod fault;
+mod feeding;
 mod law;
 mod lines;
 mod loading;
@@ -11,9 +25,11 @@ mod placing;
 mod plain;
 mod record;
 mod rule_set;
+mod stage;
 
 pub use address_map::Image;
 pub use fault::{HexError, HexFault};
+pub use feeding::{MOST_BYTES, Reader};
 pub use law::{image_or_fault, images_have_bytes};
 pub use plain::image_of;
 pub use rule_set::{Rules, Tail};

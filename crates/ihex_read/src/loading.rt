@@ -1,6 +1,6 @@
 //! The image that the lines make so far, and the next line.
 
-ghost use Rattle.std.specs.Prelude.{◌≡◌, ◌+◌, ◌*◌, ◌^◌, ◌<◌, ◌≤◌, ◌++◌, ◌∷◌, [], List, ℕ, length, slice_index, IfOk, OnOk};
+ghost use Rattle.std.specs.Prelude.{◌≡◌, ◌+◌, ◌*◌, ◌^◌, ◌<◌, ◌≤◌, ◌++◌, ◌∷◌, [], List, ℕ, length, slice_index, IfOk, OnOk, OnErr};
 ghost use Rattle.std.specs.List.{enumerate_from};
 ghost use Rattle.std.specs.Result.{result_err};
 ghost use Rattle.ihex_read.specs.Alone.{IsWhole};
@@ -45,6 +45,8 @@ impl Loader {
         ensures made { (lines : List (List ℕ)) → Made lines self.old.base self.old.image.items
             → OnOk result (Made (lines ++ line.now ∷ []) self.new.base self.new.image.items) }
         ensures kind { IfOk result (λ kind. kind ≡ line_kind line.now) }
+        ensures image_stays { OnErr result (self.new.image.items ≡ self.old.image.items) }
+        ensures base_stays { OnErr result (self.new.base ≡ self.old.base) }
         ensures rules { self.new.rules ≡ self.old.rules }
     {
         if line.is_empty() {
@@ -62,6 +64,8 @@ impl Loader {
         ensures image { OnOk result (self.new.image.items ≡ written self.old.image.items (placed_by self.old.base bytes.now)) }
         ensures base { OnOk result (self.new.base ≡ base_behind self.old.base bytes.now) }
         ensures kind { IfOk result (λ kind. kind ≡ kind_of (type_of bytes.now)) }
+        ensures image_stays { OnErr result (self.new.image.items ≡ self.old.image.items) }
+        ensures base_stays { OnErr result (self.new.base ≡ self.old.base) }
         ensures rules { self.new.rules ≡ self.old.rules }
     {
         match bytes[3] {
@@ -95,6 +99,7 @@ impl Loader {
         requires { start < 2 ^ 33 }
         ensures fault { result_err result ≡ row_fault self.old.rules self.old.image.items (enumerate_from start bytes.now) }
         ensures image { OnOk result (self.new.image.items ≡ written self.old.image.items (enumerate_from start bytes.now)) }
+        ensures image_stays { OnErr result (self.new.image.items ≡ self.old.image.items) }
         ensures base { self.new.base ≡ self.old.base }
         ensures rules { self.new.rules ≡ self.old.rules }
     {

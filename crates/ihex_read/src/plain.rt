@@ -1,10 +1,11 @@
 //! Images without extended addresses.
 
-ghost use Rattle.std.specs.Prelude.{List, Option, ℕ, IfOk, MatchOption};
+ghost use Rattle.std.specs.Prelude.{◌≡◌, ◌<◌, ◌∷◌, ◌↔◌, [], ℕ, List, Option, length, All, IsTrue, IfOk, MatchOption};
 ghost use Rattle.ihex_read.specs.ImageText.{IsRamRange, IsPlainImage};
+ghost use Rattle.ihex_read.specs.Lines as lines;
 
 use crate::address_map::Image;
-use crate::lines::{are_blank, split_line};
+use crate::lines::{line_feed, without_return};
 use crate::loading::Loader;
 use crate::record::LineKind;
 use crate::rule_set::Rules;
@@ -36,4 +37,31 @@ pub fn image_of(alloc: Global, text: &[u8], rules: Rules) -> Result<Option<Image
         rest = behind;
     }
     Ok(None)
+}
+
+/// The first line of a text that has one, and the text behind it.
+fn split_line(text: &[u8]) -> (&[u8], &[u8])
+    requires { 0 < length text.now }
+    ensures first { lines.lines_of text.now ≡ result.0.now ∷ lines.lines_of result.1.now }
+    ensures shorter { length result.1.now < length text.now }
+{
+    match line_feed(text) {
+        Some(at) => (without_return(&text[..at]), &text[at + 1..]),
+        None => (without_return(text), &text[text.len()..]),
+    }
+}
+
+/// Whether each line of a text is blank.
+fn are_blank(text: &[u8]) -> bool
+    ensures { IsTrue result ↔ All (λ line. line ≡ []) (lines.lines_of text.now) }
+{
+    let mut rest = text;
+    while !rest.is_empty() {
+        let (line, behind) = split_line(rest);
+        if !line.is_empty() {
+            return false;
+        }
+        rest = behind;
+    }
+    true
 }

@@ -2,7 +2,7 @@ use Rattle.std.proofs.Common.{length, ◌≡◌, arith}
 use Rattle.std.proofs.lemmas.Bool.Decides.{nat_tests}
 use Rattle.ihex_read.specs.Lines.{lines_of}
 use Rattle.ihex_read.proofs.LinesLemmas.{blank_first}
-use Rattle.ihex_read.proofs.lines.are_blank.Goals as goal
+use Rattle.ihex_read.proofs.plain.are_blank.Goals as goal
 
 pub loop-rest-preserved : goal.loop-rest-preserved
 loop-rest-preserved c =

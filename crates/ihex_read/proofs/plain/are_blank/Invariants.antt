@@ -1,7 +1,7 @@
 use Rattle.std.proofs.Common.{◌≡◌, ◌↔◌, [], length}
 use Rattle.std.specs.Prelude.{All}
 use Rattle.ihex_read.specs.Lines.{lines_of}
-use Rattle.ihex_read.proofs.lines.are_blank.Given as goal
+use Rattle.ihex_read.proofs.plain.are_blank.Given as goal
 
 -- the rest decides
 abbrev pub invariant-loop-rest : goal.invariant-loop-rest

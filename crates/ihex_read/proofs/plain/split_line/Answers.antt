@@ -2,7 +2,7 @@ use Rattle.std.proofs.Common.{sym, length, ◌+◌}
 use Rattle.std.proofs.lemmas.List.{take_rest}
 use Rattle.std.proofs.Math.Seq.{drop-length}
 use Rattle.ihex_read.proofs.LinesLemmas.{lines_of-feed, lines_of-no_feed}
-use Rattle.ihex_read.proofs.lines.split_line.Goals as goal
+use Rattle.ihex_read.proofs.plain.split_line.Goals as goal
 
 pub returns-in-Some-clause-first : goal.returns-in-Some-clause-first
 returns-in-Some-clause-first c =
