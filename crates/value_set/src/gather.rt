@@ -1,0 +1,3 @@
+//! Sets from lists of numbers.
+
+ghost use Rattle.std.specs.Prelude.{◌≡◌, ◌<◌, ◌≤◌, ℕ};

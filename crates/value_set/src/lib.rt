@@ -1,0 +1,10 @@
+//! Sets of 8-bit and of 16-bit numbers, as an analysis of machine code holds them: short lists, and runs with a stride.
+#![tactic(auto)]
+
+mod divisor;
+mod few;
+mod form;
+mod gather;
+
+pub use few::Few;
+pub use form::{Form, Progression};
