@@ -1,1 +1,7 @@
 pub mod Divisors
+pub mod Members
+pub mod Rounds
+pub mod Making
+pub mod Spans
+pub mod Inclusion
+pub mod Tests

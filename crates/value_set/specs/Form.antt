@@ -1,6 +1,6 @@
 -- Sets of numbers below a modulus m, which is 256 or 65536. A set is a list of 1 to 16 ascending numbers, or a run of at
 -- least 17: strided intervals that go round at the modulus, as in Balakrishnan and Reps, "WYSINWYX", 2010.
-use Rattle.std.specs.Prelude.{◌≡◌, ℕ, ◌+◌, ◌-◌, ◌*◌, ◌%◌, ◌<◌, ◌≤◌, ◌==◌, nat_lt, nat_le, if◌then◌else◌, Bool, List, [], ◌∷◌, length, slice_index, map}
+use Rattle.std.specs.Prelude.{◌≡◌, ℕ, ◌+◌, ◌-◌, ◌*◌, ◌%◌, ◌/◌, ◌<◌, ◌≤◌, ◌==◌, nat_lt, nat_le, if◌then◌else◌, Bool, List, [], ◌∷◌, length, slice_index, map}
 use Rattle.std.specs.List.{range_with_len, fold, Contains, list_any, list_all}
 use Rattle.value_set.specs.Gcd.{gcd}
 use Rattle.value_set.specs.declared.form.Progression.{Progression}
@@ -80,6 +80,34 @@ hull_base m (x ∷ xs) = behind_widest x (x + m - slice_index (x ∷ xs) (length
 abbrev pub common_stride : (m from : ℕ) → List ℕ → ℕ
 common_stride m from xs = fold (λ g v. gcd g (above m from v)) 0 xs
 
+-- the greater of two numbers
+abbrev pub greater : ℕ → ℕ → ℕ
+greater a b = if nat_lt a b then b else a
+
 -- the greatest of these distances
 abbrev pub farthest : (m from : ℕ) → List ℕ → ℕ
-farthest m from xs = fold (λ most v. if nat_lt most (above m from v) then above m from v else most) 0 xs
+farthest m from xs = fold (λ most v. greater most (above m from v)) 0 xs
+
+-- the run that ascending numbers are drawn from: it begins behind their widest gap. Of one number the stride is 0.
+unfoldable pub hull : ℕ → List ℕ → Progression
+hull m xs = record {
+  base = hull_base m xs;
+  stride = common_stride m (hull_base m xs) xs;
+  count = farthest m (hull_base m xs) xs / common_stride m (hull_base m xs) xs + 1;
+}
+
+-- the run that a set is drawn from
+abbrev pub span : ℕ → Form → Progression
+span m (Values xs) = hull m xs
+span m (Run p) = p
+
+-- the set of some numbers: they themselves where they are few, else the run that they are drawn from
+unfoldable pub gather : ℕ → List ℕ → Form
+gather m xs =
+    if nat_le (length (ascending xs)) 16 then Values (ascending xs)
+    else make m (hull m (ascending xs)).base (hull m (ascending xs)).stride (hull m (ascending xs)).count
+
+-- All numbers with the remainder of the base modulo the greatest common divisor of stride and m. Since m is a power of
+-- two, that divisor is the greatest power of two that divides both, and for stride 0 it is m.
+unfoldable pub class : (m base stride : ℕ) → Form
+class m base stride = make m (base % gcd stride m) (gcd stride m) (m / gcd stride m)

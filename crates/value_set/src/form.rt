@@ -21,3 +21,11 @@ pub enum Form {
     /// A run of at least 17 numbers.
     Run(Progression),
 }
+
+/// The numbers from a base upward in steps of a stride, up to a distance that is their end.
+#[derive(Clone, Copy, Debug, PartialEq, Eq)]
+pub struct Stretch {
+    pub base: u32,
+    pub stride: u32,
+    pub end: u32,
+}

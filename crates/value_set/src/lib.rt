@@ -1,10 +1,11 @@
 //! Sets of 8-bit and of 16-bit numbers, as an analysis of machine code holds them: short lists, and runs with a stride.
 #![tactic(auto)]
 
+mod circle;
 mod divisor;
 mod few;
 mod form;
-mod gather;
+mod member;
 
 pub use few::Few;
 pub use form::{Form, Progression};

@@ -1,3 +1,0 @@
-//! Sets from lists of numbers.
-
-ghost use Rattle.std.specs.Prelude.{◌≡◌, ◌<◌, ◌≤◌, ℕ};
