@@ -7,16 +7,9 @@ use Rattle.std.proofs.Math.Nat.{mod-lt, div-zero, mul-le-mul_right, div-mul-le_s
 use Rattle.value_set.specs.declared.form.Progression.{Progression}
 use Rattle.value_set.specs.declared.form.Form.{Form}
 use Rattle.value_set.specs.declared.form.Form.TheVariants.{Values, Run}
-use Rattle.value_set.specs.Form.{make, steps, members, Has, ascending, IsNormal, IsNormalRun, above}
+use Rattle.value_set.specs.Form.{make, steps, members, Has, ascending, IsNormal, IsNormalRun, Fits, above}
 use Rattle.value_set.proofs.Members.{IsIn, InRun, in_from_Contains, Contains_from_in, in_ascending, put_all_has, Ascends-put_all, length-put_all, ascending_some, length-steps, in_steps, steps_has}
 use Rattle.value_set.proofs.Rounds.{run_base_mod, run_base_plain, whole_remainder, whole_has, run_below}
-
--- a run that goes round less than once
-pub record Fits (m stride count : ℕ) : Type 0 where
-  pub positive : 0 < m
-  pub some : 1 ≤ count
-  pub once : (count - 1) * stride < m
-  pub strides : 1 < count → 1 ≤ stride
 
 pub make-few : (m b d c : ℕ) → c ≤ 16 → make m b d c ≡ Values (ascending (steps m b d c))
 unfolding make

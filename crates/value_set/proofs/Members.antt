@@ -1,12 +1,12 @@
 -- Lists of ascending numbers and their members.
-use Rattle.std.proofs.Common.{◌≡◌, ℕ, ◌+◌, ◌*◌, ◌%◌, ◌<◌, ◌≤◌, ◌++◌, true, false, List, [], ◌∷◌, length, refl, sym, ◌∙◌, ap, subst, inl, inr, cond, arith, ltb, eqb, get_or}
+use Rattle.std.proofs.Common.{◌≡◌, ℕ, ◌+◌, ◌*◌, ◌%◌, ◌<◌, ◌≤◌, ◌++◌, true, false, List, [], ◌∷◌, length, refl, sym, ◌∙◌, ap, subst, inl, inr, cond, arith, ltb, eqb, get_or, take, append_assoc, append-nil}
 use Prim.Native.Nat.{zero, suc}
 use Rattle.std.specs.Prelude.{◌⊎◌, ◌↔◌, map}
-use Rattle.std.specs.List.{Contains, fold, range_with_len}
+use Rattle.std.specs.List.{Contains, fold, range_with_len, insert}
 use Rattle.std.proofs.lemmas.Bool.Decides.{nat_tests}
 use Rattle.std.proofs.lemmas.Bool.{cases_order, lt-ltb, le-ltb, eq-eqb, ne_eqb}
-use Rattle.std.proofs.lemmas.List.{length-map, get_or-map}
-use Rattle.std.proofs.lemmas.List.FromFn.{length-map-range_with_len, get_or-map-range_with_len}
+use Rattle.std.proofs.lemmas.List.{take_more}
+use Rattle.std.proofs.lemmas.List.FromFn.{length-map-range_with_len, get_or-map-range_with_len, map-range_with_len_more}
 use Rattle.value_set.specs.Form.{put, put_all, ascending, Ascends, steps}
 
 abbrev pub IsIn : ℕ → List ℕ → Type 0
@@ -159,10 +159,10 @@ Ascends-in low m v [] a h = absurd h
 Ascends-in low m v (x ∷ xs) a (inl e) = (omega arith, omega arith)
 Ascends-in low m v (x ∷ xs) a (inr h) = let rest = Ascends-in (x + 1) m v xs a.2 h in (omega arith, rest.1)
 
--- ascending numbers put in their places are as they were
-put_at_end : (low m w : ℕ) (xs : List ℕ) → Ascends low w xs → put w xs ≡ xs ++ w ∷ []
-put_at_end low m w [] a = put-nil w
-put_at_end low m w (x ∷ xs) a = put-above w x xs a.1 ∙ ap (λ (rest : List ℕ). x ∷ rest) (put_at_end (x + 1) m w xs a.2)
+-- a number above all others is put at their end
+put_above_all : (w : ℕ) (xs : List ℕ) → ((v : ℕ) → IsIn v xs → v < w) → put w xs ≡ xs ++ w ∷ []
+put_above_all w [] below = put-nil w
+put_above_all w (x ∷ xs) below = put-above w x xs (below x (inl refl)) ∙ ap (λ (rest : List ℕ). x ∷ rest) (put_above_all w xs (λ v i. below v (inr i)))
 
 tail_same : (low m x : ℕ) (xs ys : List ℕ) → Ascends low m (x ∷ xs) → Ascends low m (x ∷ ys)
     → ((v : ℕ) → IsIn v (x ∷ xs) → IsIn v (x ∷ ys)) → (v : ℕ) → IsIn v xs → IsIn v ys
@@ -212,3 +212,53 @@ in_steps m base stride count v (i, below, is) =
 pub steps_has : (m base stride count v : ℕ) → InRun m base stride count v → Contains (steps m base stride count) v
 steps_has m base stride count v (i, below, is) =
     (i, omega (arith, length-steps m base stride count, below), get_or-steps m base stride count i v below ∙ sym is)
+
+-- ---- a number found or placed by a search
+
+pub Ascends-at : (low m i : ℕ) (xs : List ℕ) → Ascends low m xs → i < length xs → (low ≤ get_or xs i 0) × (get_or xs i 0 < m)
+Ascends-at low m i [] a h = absurd (omega arith)
+Ascends-at low m zero (x ∷ xs) a h = (a.0, a.1)
+Ascends-at low m (suc i) (x ∷ xs) a h = let rest = Ascends-at (x + 1) m i xs a.2 (omega arith) in (omega (arith, rest.0, a.0), rest.1)
+
+pub Ascends-order : (low m i j : ℕ) (xs : List ℕ) → Ascends low m xs → i ≤ j → j < length xs → get_or xs i 0 ≤ get_or xs j 0
+Ascends-order low m i j [] a h k = absurd (omega arith)
+Ascends-order low m zero zero (x ∷ xs) a h k = omega arith
+Ascends-order low m zero (suc j) (x ∷ xs) a h k = let rest = Ascends-at (x + 1) m j xs a.2 (omega arith) in omega (arith, rest.0)
+Ascends-order low m (suc i) zero (x ∷ xs) a h k = absurd (omega arith)
+Ascends-order low m (suc i) (suc j) (x ∷ xs) a h k = Ascends-order (x + 1) m i j xs a.2 (omega arith) (omega arith)
+
+pub put_found : (low m v i : ℕ) (xs : List ℕ) → Ascends low m xs → i < length xs → get_or xs i 0 ≡ v → put v xs ≡ xs
+put_found low m v i [] a h e = absurd (omega arith)
+put_found low m v zero (x ∷ xs) a h e = put-same v x xs (sym e)
+put_found low m v (suc i) (x ∷ xs) a h e = let high = Ascends-at (x + 1) m i xs a.2 (omega arith) in
+    put-above v x xs (omega (arith, high.0, e)) ∙ ap (λ (rest : List ℕ). x ∷ rest) (put_found (x + 1) m v i xs a.2 (omega arith) e)
+
+pub put_insert : (v at : ℕ) (xs : List ℕ) → at ≤ length xs → ((k : ℕ) → k < at → get_or xs k 0 < v) → ((k : ℕ) → at ≤ k → k < length xs → v < get_or xs k 0)
+    → insert xs at v ≡ put v xs
+put_insert v zero [] h before behind = sym (put-nil v)
+put_insert v (suc at) [] h before behind = absurd (omega arith)
+put_insert v zero (x ∷ xs) h before behind = sym (put-below v x xs (behind 0 (omega arith) (omega arith)))
+put_insert v (suc at) (x ∷ xs) h before behind =
+    ap (λ (rest : List ℕ). x ∷ rest) (put_insert v at xs (omega arith) (λ k l. before (suc k) (omega arith)) (λ k l r. behind (suc k) (omega arith) (omega arith)))
+    ∙ sym (put-above v x xs (before 0 (omega arith)))
+
+pub put_all-push : (held xs : List ℕ) (v : ℕ) → put_all held (xs ++ v ∷ []) ≡ put v (put_all held xs)
+put_all-push held xs v = put_all-append held xs (v ∷ [])
+
+pub ascending_more : (xs : List ℕ) (i d : ℕ) → i < length xs → ascending (take (i + 1) xs) ≡ put (get_or xs i d) (ascending (take i xs))
+ascending_more xs i d h = ap (λ (ys : List ℕ). ascending ys) (take_more xs i d h) ∙ put_all-push [] (take i xs) (get_or xs i d)
+
+-- ascending numbers stay as they are
+put_all_ascending : (low m : ℕ) (held xs : List ℕ) → ((v : ℕ) → IsIn v held → v < low) → Ascends 0 m held → Ascends low m xs → put_all held xs ≡ held ++ xs
+put_all_ascending low m held [] below rises a = sym (append-nil held)
+put_all_ascending low m held (x ∷ xs) below rises a =
+    let next : put x held ≡ held ++ x ∷ [] = put_above_all x held (λ v i. omega (arith, below v i, a.0)) in
+    let step = put_all_ascending (x + 1) m (put x held) xs (λ v i. elim (in_put x v held i) [ inl e ↦ omega (arith, e) | inr r ↦ omega (arith, below v r, a.0) ]) (Ascends-put 0 m x held (omega arith) a.1 rises) a.2 in
+    step ∙ ap (λ (ys : List ℕ). ys ++ xs) next ∙ append_assoc held (x ∷ []) xs
+
+pub ascending_same : (m : ℕ) (xs : List ℕ) → Ascends 0 m xs → ascending xs ≡ xs
+ascending_same m xs a = put_all_ascending 0 m [] xs (λ v i. absurd i) tt a
+
+pub steps_more : (m base stride count : ℕ) → steps m base stride (count + 1) ≡ steps m base stride count ++ (base + count * stride) % m ∷ []
+unfolding steps
+steps_more m base stride count = map-range_with_len_more (λ (i : ℕ). (base + i * stride) % m) 0 count count (omega arith)

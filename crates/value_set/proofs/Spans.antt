@@ -9,11 +9,11 @@ use Rattle.value_set.specs.Gcd.{gcd}
 use Rattle.value_set.specs.declared.form.Progression.{Progression}
 use Rattle.value_set.specs.declared.form.Form.{Form}
 use Rattle.value_set.specs.declared.form.Form.TheVariants.{Values, Run}
-use Rattle.value_set.specs.Form.{make, steps, members, Has, ascending, Ascends, IsNormal, IsNormalRun, above, behind_widest, hull_base, common_stride, greater, farthest, hull, span, gather, class}
+use Rattle.value_set.specs.Form.{make, steps, members, Has, ascending, Ascends, IsNormal, IsNormalRun, above, behind_widest, hull_base, common_stride, greater, farthest, hull, span, Fits, IsSpan, set_of, gather, class}
 use Rattle.value_set.proofs.Divisors.{gcd_left, gcd_right}
 use Rattle.value_set.proofs.Members.{IsIn, InRun, in_from_Contains, Contains_from_in, in_ascending, put_all_has, Ascends-put_all, Ascends-in, ascending_some, in_steps, steps_has}
 use Rattle.value_set.proofs.Rounds.{above_below, above_back, run_from_offset, run_below, whole_has, base_mod}
-use Rattle.value_set.proofs.Making.{Fits, fits_to, make_has, make_normal}
+use Rattle.value_set.proofs.Making.{fits_to, make_has, make_normal}
 
 pub greater_left : (a b : ℕ) → a ≤ greater a b
 greater_left a b = elim (cases_lt a b) [ inl low ↦ rw (lt-ltb a b low) (omega arith) | inr high ↦ rw (le-ltb a b high) (omega arith) ]
@@ -90,14 +90,7 @@ reached m b g end v h k div low = let found = multiple g (above m b v) end div l
 
 -- ---- the span of a set
 
--- a run of numbers below m that goes round less than once
-pub record IsSpan (m : ℕ) (p : Progression) : Type 0 where
-  pub below : p.base < m
-  pub some : 1 ≤ p.count
-  pub once : (p.count - 1) * p.stride < m
-  pub strides : 1 < p.count → 1 ≤ p.stride
-
-pub hull_is : (m : ℕ) (xs : List ℕ) → 1 ≤ length xs → Ascends 0 m xs → IsSpan m (hull m xs)
+pub hull_is : (m : ℕ) (xs : List ℕ) → 1 ≤ length xs → Ascends 0 m xs → IsSpan m (hull m xs).base (hull m xs).stride (hull m xs).count
 unfolding hull
 hull_is m xs h a =
     let low = Ascends-in 0 m (hull_base m xs) xs a (hull_base_in m xs h) in
@@ -113,7 +106,7 @@ hull_has m v xs h a i =
     reached m (hull_base m xs) (common_stride m (hull_base m xs) xs) (farthest m (hull_base m xs) xs) v low.1 here.1
     (stride_divides m (hull_base m xs) 0 v xs i) (farthest_has m (hull_base m xs) 0 v xs i)
 
-pub span_is : (m : ℕ) (set : Form) → IsNormal m set → IsSpan m (span m set)
+pub span_is : (m : ℕ) (set : Form) → IsNormal m set → IsSpan m (span m set).base (span m set).stride (span m set).count
 span_is m (Values xs) n = hull_is m xs n.0 n.2
 span_is m (Run p) n = record { below = n.below; some = omega (arith, n.long); once = n.once; strides = λ _. n.strides }
 
@@ -121,34 +114,33 @@ pub span_has : (m v : ℕ) (set : Form) → IsNormal m set → Has m set v → I
 span_has m v (Values xs) n h = hull_has m v xs n.0 n.2 (in_from_Contains xs v h)
 span_has m v (Run p) n h = in_steps m p.base p.stride p.count v h
 
-pub span_fits : (m : ℕ) (p : Progression) → IsSpan m p → Fits m p.stride p.count
-span_fits m p s = record { positive = omega (arith, s.below); some = s.some; once = s.once; strides = s.strides }
+pub span_fits : (m base stride count : ℕ) → IsSpan m base stride count → Fits m stride count
+span_fits m base stride count s = record { positive = omega (arith, s.below); some = s.some; once = s.once; strides = s.strides }
 
 -- ---- gather
 
-pub gather-few : (m : ℕ) (xs : List ℕ) → length (ascending xs) ≤ 16 → gather m xs ≡ Values (ascending xs)
-unfolding gather
-gather-few m xs h = rw (le-leb (length (ascending xs)) 16 h) refl
+pub set_of-few : (m : ℕ) (xs : List ℕ) → length xs ≤ 16 → set_of m xs ≡ Values xs
+unfolding set_of
+set_of-few m xs h = rw (le-leb (length xs) 16 h) refl
 
-pub gather-many : (m : ℕ) (xs : List ℕ) → 16 < length (ascending xs)
-    → gather m xs ≡ make m (hull m (ascending xs)).base (hull m (ascending xs)).stride (hull m (ascending xs)).count
-unfolding gather
-gather-many m xs h = rw (lt-leb (length (ascending xs)) 16 h) refl
+pub set_of-many : (m : ℕ) (xs : List ℕ) → 16 < length xs → set_of m xs ≡ make m (hull m xs).base (hull m xs).stride (hull m xs).count
+unfolding set_of
+set_of-many m xs h = rw (lt-leb (length xs) 16 h) refl
 
 pub gather_normal : (m : ℕ) (xs : List ℕ) → 1 ≤ length xs → ((v : ℕ) → IsIn v xs → v < m) → IsNormal m (gather m xs)
 gather_normal m xs h below = let some = ascending_some xs h in let rises = Ascends-put_all m [] xs below tt in
     elim (cases_lt 16 (length (ascending xs))) [
-      inr few ↦ rw (gather-few m xs few) (some, few, rises)
-      | inl many ↦ rw (gather-many m xs many) (make_normal m _ _ _ (span_fits m (hull m (ascending xs)) (hull_is m (ascending xs) some rises)))
+      inr few ↦ rw (set_of-few m (ascending xs) few) (some, few, rises)
+      | inl many ↦ rw (set_of-many m (ascending xs) many) (make_normal m _ _ _ (span_fits m _ _ _ (hull_is m (ascending xs) some rises)))
     ]
 
 pub gather_has : (m v : ℕ) (xs : List ℕ) → 1 ≤ length xs → ((v : ℕ) → IsIn v xs → v < m) → IsIn v xs → Has m (gather m xs) v
 gather_has m v xs h below i = let some = ascending_some xs h in let rises = Ascends-put_all m [] xs below tt in
     let there = put_all_has v [] xs i in
     elim (cases_lt 16 (length (ascending xs))) [
-      inr few ↦ rw (gather-few m xs few) (Contains_from_in (ascending xs) v there)
-      | inl many ↦ rw (gather-many m xs many)
-      (make_has m _ _ _ v (span_fits m (hull m (ascending xs)) (hull_is m (ascending xs) some rises)) (hull_has m v (ascending xs) some rises there))
+      inr few ↦ rw (set_of-few m (ascending xs) few) (Contains_from_in (ascending xs) v there)
+      | inl many ↦ rw (set_of-many m (ascending xs) many)
+      (make_has m _ _ _ v (span_fits m _ _ _ (hull_is m (ascending xs) some rises)) (hull_has m v (ascending xs) some rises there))
     ]
 
 -- ---- class

@@ -60,6 +60,13 @@ make m base stride count =
     if nat_le count 16 then Values (ascending (steps m base stride count))
     else Run (record { base = if count * stride == m then base % stride else base % m; stride = stride; count = count })
 
+-- such a run goes round less than once
+pub record Fits (m stride count : ℕ) : Type 0 where
+  pub positive : 0 < m
+  pub some : 1 ≤ count
+  pub once : (count - 1) * stride < m
+  pub strides : 1 < count → 1 ≤ stride
+
 -- how far v stands above a number, upward round the circle modulo m
 abbrev pub above : (m from v : ℕ) → ℕ
 above m from v = (v + m - from) % m
@@ -101,11 +108,20 @@ abbrev pub span : ℕ → Form → Progression
 span m (Values xs) = hull m xs
 span m (Run p) = p
 
--- the set of some numbers: they themselves where they are few, else the run that they are drawn from
-unfoldable pub gather : ℕ → List ℕ → Form
-gather m xs =
-    if nat_le (length (ascending xs)) 16 then Values (ascending xs)
-    else make m (hull m (ascending xs)).base (hull m (ascending xs)).stride (hull m (ascending xs)).count
+-- a run that begins below m and goes round less than once
+pub record IsSpan (m base stride count : ℕ) : Type 0 where
+  pub below : base < m
+  pub some : 1 ≤ count
+  pub once : (count - 1) * stride < m
+  pub strides : 1 < count → 1 ≤ stride
+
+-- the set of some ascending numbers: they themselves where they are few, else the run that they are drawn from
+unfoldable pub set_of : ℕ → List ℕ → Form
+set_of m xs = if nat_le (length xs) 16 then Values xs else make m (hull m xs).base (hull m xs).stride (hull m xs).count
+
+-- the set of some numbers
+abbrev pub gather : ℕ → List ℕ → Form
+gather m xs = set_of m (ascending xs)
 
 -- All numbers with the remainder of the base modulo the greatest common divisor of stride and m. Since m is a power of
 -- two, that divisor is the greatest power of two that divides both, and for stride 0 it is m.
