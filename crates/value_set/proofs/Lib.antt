@@ -5,3 +5,4 @@ pub mod Making
 pub mod Spans
 pub mod Inclusion
 pub mod Tests
+pub mod Gathers

@@ -5,6 +5,7 @@ mod circle;
 mod divisor;
 mod few;
 mod form;
+mod gathering;
 mod member;
 
 pub use few::Few;
