@@ -18,7 +18,7 @@ use Rattle.value_set.specs.declared.form.Form.{Form}
 use Rattle.value_set.specs.declared.form.Form.TheVariants.{Values, Run}
 use Rattle.value_set.proofs.Making.{make-few, make-whole, make-open}
 use Rattle.value_set.proofs.Divisors.{gcd_left, gcd_right, gcd-zero}
-use Rattle.value_set.proofs.Members.{IsIn, Contains_from_in, Ascends-in, Ascends-at, Ascends-order, Ascends-lower, Ascends-put_all, length-put_all, length-steps, in_steps, put_found, put_insert, put_all-push, steps_more}
+use Rattle.value_set.proofs.Members.{IsIn, Contains_from_in, Ascends-in, Ascends-at, Ascends-order, Ascends-lower, Ascends-put, length-put, Ascends-put_all, length-put_all, length-steps, in_steps, put_found, put_insert, put_all-push, steps_more}
 use Rattle.value_set.proofs.Rounds.{above_below, product_below, run_below}
 use Rattle.value_set.proofs.Spans.{hull_base_in, hull_is, span_fits, widest-wider, widest-narrow, widest-nil}
 
@@ -51,6 +51,12 @@ there m v place xs ys same a h =
     let h' : IsBinarySearchResult (λ y. nat_cmp y v) ys (Ok place) = subst (λ (zs : List ℕ). IsBinarySearchResult (λ y. nat_cmp y v) zs (Ok place)) same h in
     let found = searched ys v (Ok place) h' (λ i j l k. Ascends-order 0 m i j ys a l k) in
     sym (put_found 0 m v place ys a found.0 found.1)
+
+pub put_ascends : (m v : ℕ) (xs ys : List ℕ) → ys ≡ put v xs → v < m → Ascends 0 m xs → Ascends 0 m ys
+put_ascends m v xs ys is h a = subst (λ (zs : List ℕ). Ascends 0 m zs) (sym is) (Ascends-put 0 m v xs (omega arith) h a)
+
+pub put_longer : (v : ℕ) (xs ys : List ℕ) → ys ≡ put v xs → length ys ≤ length xs + 1
+put_longer v xs ys is = omega (arith, ap length is, length-put v xs)
 
 -- ---- the numbers of a run
 
@@ -114,9 +120,6 @@ pub steps_none : (m base stride : ℕ) → [] ≡ ascending (steps m base stride
 unfolding steps
 steps_none m base stride = refl
 
-pub hull_fits : (m : ℕ) (xs : List ℕ) (p : Progression) → p ≡ hull m xs → 1 ≤ length xs → Ascends 0 m xs → Fits m p.stride p.count
-hull_fits m xs p is h a = rw is (span_fits m (hull m xs).base (hull m xs).stride (hull m xs).count (hull_is m xs h a))
-
 pub made_whole : (m b d c base : ℕ) → 16 < c → c * d ≡ m → base ≡ b % d → Run (record { base = base; stride = d; count = c }) ≡ make m b d c
 made_whole m b d c base h e is = ap (λ (n : ℕ). Run (record { base = n; stride = d; count = c })) is ∙ sym (make-whole m b d c h e)
 
@@ -131,3 +134,8 @@ hull_made m base stride far count xs b s f k =
     let f' : far ≡ farthest m (hull_base m xs) xs = f ∙ ap (λ (n : ℕ). farthest m n xs) b in
     let k' : count ≡ farthest m (hull_base m xs) xs / common_stride m (hull_base m xs) xs + 1 = k ∙ ap (λ (n : ℕ). n / stride + 1) f' ∙ ap (λ (n : ℕ). farthest m (hull_base m xs) xs / n + 1) s' in
     cc (b, s', k')
+
+pub hull_spans : (m base stride far count : ℕ) (xs : List ℕ) → base ≡ hull_base m xs → stride ≡ common_stride m base xs → far ≡ farthest m base xs
+    → count ≡ far / stride + 1 → 1 ≤ length xs → Ascends 0 m xs → IsSpan m base stride count
+hull_spans m base stride far count xs b s f k h a =
+    subst (λ (p : Progression). IsSpan m p.base p.stride p.count) (sym (hull_made m base stride far count xs b s f k)) (hull_is m xs h a)

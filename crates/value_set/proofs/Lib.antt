@@ -6,3 +6,4 @@ pub mod Spans
 pub mod Inclusion
 pub mod Tests
 pub mod Gathers
+pub mod Joins

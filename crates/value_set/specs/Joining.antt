@@ -1,8 +1,8 @@
--- The join and the widening of two sets modulo m, and the cut of a set to a window.
-use Rattle.std.specs.Prelude.{◌≡◌, ℕ, ◌+◌, ◌-◌, ◌*◌, ◌%◌, ◌/◌, ◌<◌, ◌≤◌, ◌==◌, ◌&&◌, ◌||◌, not, nat_lt, nat_le, if◌then◌else◌, Bool, List, [], ◌∷◌, ◌++◌, length, Option, Some, None, min, unwrap_or}
-use Rattle.std.specs.List.{fold, filter, list_any, list_all}
+-- The join of two sets modulo m.
+use Rattle.std.specs.Prelude.{ℕ, ◌+◌, ◌-◌, ◌*◌, ◌/◌, ◌==◌, nat_lt, nat_le, if◌then◌else◌, Bool, true, false, List, [], ◌∷◌, ◌++◌, length, Option, Some, None}
+use Rattle.std.specs.List.{list_any, list_all}
 use Rattle.value_set.specs.Gcd.{gcd}
-use Rattle.value_set.specs.Form.{members, make, above, span, hull, gather, ascending, class, greater}
+use Rattle.value_set.specs.Form.{members, make, above, span, hull, ascending, class, greater}
 use Rattle.value_set.specs.declared.form.Progression.{Progression}
 use Rattle.value_set.specs.declared.form.Stretch.{Stretch}
 use Rattle.value_set.specs.declared.form.Form.{Form}
@@ -30,9 +30,14 @@ candidate m first second = record {
 abbrev pub stretched : ℕ → Stretch → Form
 stretched m s = make m s.base s.stride (s.end / s.stride + 1)
 
--- Of two stretches that don't go round, the one that ends earlier; of equal ends the one with the lesser base.
+-- Whether the other of two stretches is taken: it doesn't go round, and it ends earlier than one, which may go round; of
+-- equal ends the one with the lesser base is taken.
 abbrev pub is_second : (m : ℕ) (one other : Stretch) → Bool
-is_second m one other = nat_lt other.end m && (not (nat_lt one.end m) || (nat_lt other.end one.end || (other.end == one.end && nat_lt other.base one.base)))
+is_second m one other =
+    if nat_le m other.end then false
+    else if nat_le m one.end then true
+    else if other.end == one.end then nat_lt other.base one.base
+    else nat_lt other.end one.end
 
 unfoldable pub choose : (m : ℕ) (one other : Stretch) → Form
 choose m one other =
@@ -43,12 +48,18 @@ choose m one other =
 abbrev pub join_spans : (m : ℕ) (first second : Progression) → Form
 join_spans m first second = choose m (candidate m first second) (candidate m second first)
 
+-- the members of two lists together, where they are few
+abbrev pub few_together : List ℕ → List ℕ → Option (List ℕ)
+few_together xs ys = if nat_le (length (ascending (xs ++ ys))) 16 then Some (ascending (xs ++ ys)) else None
+
+abbrev pub values_or : Option (List ℕ) → Form → Form
+values_or None form = form
+values_or (Some xs) form = Values xs
+
 -- Neither is within the other: all members where they are few together, else one run that both are drawn from. A run
 -- alone isn't few.
 unfoldable pub join_apart : ℕ → Form → Form → Form
-join_apart m (Values xs) (Values ys) =
-    if nat_le (length (ascending (xs ++ ys))) 16 then Values (ascending (xs ++ ys))
-    else join_spans m (hull m xs) (hull m ys)
+join_apart m (Values xs) (Values ys) = values_or (few_together xs ys) (join_spans m (hull m xs) (hull m ys))
 join_apart m (Values xs) (Run q) = join_spans m (hull m xs) q
 join_apart m (Run p) second = join_spans m p (span m second)
 

@@ -3,7 +3,7 @@
 ghost use Rattle.std.specs.Prelude.{◌≡◌, ℕ, ◌+◌, ◌-◌, ◌*◌, ◌/◌, ◌%◌, ◌<◌, ◌≤◌, [], ◌∷◌, length, take};
 ghost use Rattle.std.specs.Prelude.{slice_index};
 ghost use Rattle.value_set.specs.Form as forms;
-ghost use Rattle.value_set.specs.Form.{Ascends, Fits};
+ghost use Rattle.value_set.specs.Form.{Ascends, Fits, IsSpan};
 
 use crate::circle::above;
 use crate::divisor::greatest_common_divisor;
@@ -19,7 +19,9 @@ pub const ROOM: usize = 256;
 pub fn put(values: &mut ArrayVec<u16, ROOM>, value: u16)
     requires room { length values.old.items < 256 }
     requires ascending { Ascends 0 65536 values.old.items }
-    ensures { values.new.items ≡ forms.put value values.old.items }
+    ensures items { values.new.items ≡ forms.put value values.old.items }
+    ensures still { Ascends 0 65536 values.new.items }
+    ensures longer { length values.new.items ≤ length values.old.items + 1 }
 {
     match values.as_slice().binary_search(&value) {
         Ok(_) => {}
@@ -46,7 +48,8 @@ pub fn hull(modulus: u32, values: &[u16]) -> Progression
     requires small { modulus ≤ 65536 }
     requires some { 1 ≤ length values.now }
     requires ascending { Ascends 0 modulus values.now }
-    ensures { result ≡ forms.hull modulus values.now }
+    ensures value { result ≡ forms.hull modulus values.now }
+    ensures form { IsSpan modulus result.base result.stride result.count }
 {
     let base = hull_base(modulus, values);
     let stride = common_stride(modulus, base, values);

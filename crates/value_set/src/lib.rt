@@ -6,6 +6,7 @@ mod divisor;
 mod few;
 mod form;
 mod gathering;
+mod joining;
 mod member;
 
 pub use few::Few;

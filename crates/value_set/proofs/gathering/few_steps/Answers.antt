@@ -14,7 +14,7 @@ put-requires-clause-ascending c = subst (λ (xs : List ℕ). Ascends 0 65536 xs)
     (Ascends-wider 0 c.args.modulus 65536 _ c.requires.small (steps_ascend c.args.modulus c.args.base c.args.stride c.loop-place.place c.requires.fits.positive))
 
 pub loop-place-preserved : goal.loop-place-preserved
-loop-place-preserved c = c.put.ensures ∙ ap (λ (xs : List ℕ). put ((c.args.base + c.loop-place.place * c.args.stride) % c.args.modulus) xs) c.loop-place.invariant ∙ sym (one_more_step c.args.modulus c.args.base c.args.stride c.loop-place.place)
+loop-place-preserved c = c.put.ensures.items ∙ ap (λ (xs : List ℕ). put ((c.args.base + c.loop-place.place * c.args.stride) % c.args.modulus) xs) c.loop-place.invariant ∙ sym (one_more_step c.args.modulus c.args.base c.args.stride c.loop-place.place)
 
 pub from_slice-requires : goal.from_slice-requires
 from_slice-requires c = omega (arith, steps_room c.args.modulus c.args.base c.args.stride c.loop-place.place, ap length c.loop-place.invariant, ap length c.as_slice.ensures.value)
