@@ -2,3 +2,6 @@ pub mod Few
 pub mod Form
 pub mod Gcd
 pub mod Joining
+pub mod Widening
+pub mod Cutting
+pub mod Summing
