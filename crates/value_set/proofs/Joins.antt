@@ -112,7 +112,7 @@ rest_of m p q v s t (j, short, is) =
       is ∙ ap (λ (b : ℕ). (b + j * q.stride) % m) back ∙ base_mod m (p.base + above m p.base q.base) (j * q.stride) ∙ ap (λ (n : ℕ). n % m) sum,
     )
 
-at_multiple : (m b g end k v : ℕ) → b < m → end < m → g ∣ k → k ≤ end → v ≡ (b + k) % m → Has m (make m b g (end / g + 1)) v
+pub at_multiple : (m b g end k v : ℕ) → b < m → end < m → g ∣ k → k ≤ end → v ≡ (b + k) % m → Has m (make m b g (end / g + 1)) v
 at_multiple m b g end k v h low div short is =
     let pos : 0 < m = omega arith in
     let here = mod-lt (b + k) {m = m} pos in

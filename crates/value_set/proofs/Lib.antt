@@ -7,3 +7,6 @@ pub mod Inclusion
 pub mod Tests
 pub mod Gathers
 pub mod Joins
+pub mod Widens
+pub mod Cuts
+pub mod Sums

@@ -76,7 +76,7 @@ farthest_below m b r (x ∷ xs) pos h = farthest_below m b (greater r (above m b
 
 -- ---- steps up to an end
 
-multiple : (g a end : ℕ) → g ∣ a → a ≤ end → (i : ℕ) × (i < end / g + 1) × (a ≡ i * g)
+pub multiple : (g a end : ℕ) → g ∣ a → a ≤ end → (i : ℕ) × (i < end / g + 1) × (a ≡ i * g)
 multiple zero a end div low = (0, omega arith, eq-zero_of_zero-dvd div)
 multiple (suc g) a end div low =
     let back : a / suc g * suc g ≡ a = div-mul_cancel (suc g) div in

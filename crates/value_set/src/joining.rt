@@ -164,7 +164,8 @@ pub fn join(modulus: u32, first: &Form, second: &Form) -> Form
     requires small { modulus ≤ 65536 }
     requires first_normal { IsNormal modulus first.now }
     requires second_normal { IsNormal modulus second.now }
-    ensures { result ≡ joins.join modulus first.now second.now }
+    ensures value { result ≡ joins.join modulus first.now second.now }
+    ensures normal { IsNormal modulus result }
 {
     if within(modulus, second, first) {
         return *first;

@@ -8,6 +8,8 @@ mod form;
 mod gathering;
 mod joining;
 mod member;
+mod number;
+mod widening;
 
 pub use few::Few;
 pub use form::{Form, Progression};
