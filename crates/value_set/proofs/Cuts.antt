@@ -11,17 +11,12 @@ use Rattle.value_set.specs.declared.form.Form.TheVariants.{Values, Run}
 use Rattle.value_set.specs.Form.{make, members, Has, Includes, IsNormal, IsNormalRun, Ascends, Fits, above}
 use Rattle.value_set.specs.Joining.{join}
 use Rattle.value_set.specs.Widening.{lesser}
-use Rattle.value_set.specs.Cutting.{list_or_none, count_below, part, join_parts, front_count, behind_base, cut_run, cut}
+use Rattle.value_set.specs.Cutting.{IfThere, list_or_none, count_below, part, join_parts, front_count, behind_base, cut_run, cut}
 use Rattle.value_set.proofs.Members.{IsIn, InRun, in_from_Contains, Contains_from_in, Ascends-lower, in_steps, steps_has}
 use Rattle.value_set.proofs.Rounds.{mod_low, mod_once, mod_cases, above_back, above_sum, above_below, product_below, base_mod}
 use Rattle.value_set.proofs.Making.{in_make, make_has, make_normal}
 use Rattle.value_set.proofs.Inclusion.{seen}
 use Rattle.value_set.proofs.Joins.{join_includes_first, join_includes_second, join_normal}
-
--- a fact of what there is
-abbrev pub IfThere : (Form → Type 0) → Option Form → Type 0
-IfThere P None = Unit {0}
-IfThere P (Some set) = P set
 
 abbrev pub InWindow : (m : ℕ) (set : Form) (low len v : ℕ) → Type 0
 InWindow m set low len v = Has m set v × (above m low v < len)
@@ -102,7 +97,7 @@ part-none m base stride count h = rw (eq-eqb count 0 h) refl
 pub part-some : (m base stride count : ℕ) → (count ≡ 0 → ⊥) → part m base stride count ≡ Some (make m base stride count)
 part-some m base stride count h = rw (ne_eqb count 0 h) refl
 
-part_normal : (m base stride count : ℕ) → (1 ≤ count → Fits m stride count) → IfThere (λ set. IsNormal m set) (part m base stride count)
+pub part_normal : (m base stride count : ℕ) → (1 ≤ count → Fits m stride count) → IfThere (λ set. IsNormal m set) (part m base stride count)
 part_normal m base stride count fits = elim (cases_eq count 0) [
   inl none ↦ rw (part-none m base stride count none) tt
   | inr some ↦ rw (part-some m base stride count some) (make_normal m base stride count (fits (omega (arith, some))))
@@ -312,3 +307,28 @@ none_cut m (Values xs) low len n h nobody = none_from_list (filter (λ v. ltb (a
     (λ v i. let found = in_filtered (λ v. ltb (above m low v) len) v xs i in nobody v (Contains_from_in xs v found.0) (ltb-true (above m low v) len found.1))
 none_cut m (Run p) low len n h nobody = cut_run-is m p low len ∙ none_joined m (front_part m p low len) (behind_part m p low len)
     (front_empty m p low len (n, h) nobody) (behind_empty m p low len (n, h) nobody)
+
+-- ---- as the code finds them
+
+pub count_is-most : (end base stride count most : ℕ) → base < end → most ≡ (end - 1 - base) / stride → most < count → most + 1 ≡ count_below end base stride count
+count_is-most end base stride count most h is low = rw (count_below-some end base stride count h, ← is) (elim (cases_lt (most + 1) count) [
+  inl under ↦ rw (lt-ltb (most + 1) count under) refl
+  | inr at ↦ rw (le-ltb (most + 1) count at) (omega arith)
+])
+
+pub count_is-all : (end base stride count most : ℕ) → base < end → most ≡ (end - 1 - base) / stride → count ≤ most → count ≡ count_below end base stride count
+count_is-all end base stride count most h is high = rw (count_below-some end base stride count h, ← is) (let over : count ≤ most + 1 = omega arith in rw (le-ltb (most + 1) count over) refl)
+
+pub cut_made : (m low len base front turned near far : ℕ) (p : Progression) (first second : Option Form) → base ≡ above m low p.base → front ≡ count_below m base p.stride p.count
+    → turned ≡ base + front * p.stride - m → near ≡ count_below len base p.stride front → far ≡ count_below len turned p.stride (p.count - front)
+    → first ≡ part m p.base p.stride near → second ≡ part m ((low + turned) % m) p.stride far → join_parts m first second ≡ cut_run m p low len
+unfolding cut_run
+cut_made m low len base front turned near far p first second a b c d e f g = cc
+
+pub cut-list : (m : ℕ) (set : Form) (xs kept : List ℕ) (low len : ℕ) → set ≡ Values xs → kept ≡ filter (λ v. ltb (above m low v) len) xs → list_or_none kept ≡ cut m set low len
+unfolding cut
+cut-list m set xs kept low len is k = rw is (ap list_or_none k)
+
+pub cut-run : (m : ℕ) (set : Form) (p : Progression) (low len : ℕ) → set ≡ Run p → cut_run m p low len ≡ cut m set low len
+unfolding cut
+cut-run m set p low len is = rw is refl

@@ -2,13 +2,16 @@
 use Rattle.std.proofs.Common.{◌≡◌, ℕ, ◌+◌, ◌-◌, ◌*◌, ◌%◌, ◌/◌, ◌<◌, ◌≤◌, Bool, true, false, List, [], ◌∷◌, length, refl, sym, ◌∙◌, ap, subst, inl, inr, arith, cond, eqb, Option, Some, None}
 use Prim.Native.Nat.{zero, suc, ◌∣◌}
 use Rattle.std.specs.Prelude.{◌⊎◌, ◌||◌, unwrap_or, option_map, ◌==◌, nat_le}
-use Rattle.std.specs.List.{fold}
-use Rattle.std.proofs.lemmas.Bool.{cases_lt, cases_eq, cases_Bool, eqb-true, eq-eqb, ne_eqb, lt-leb, le-leb, lt-ltb, le-ltb, or_parts, leb-false}
+use Rattle.std.specs.List.{fold, All}
+use Rattle.std.specs.Prelude.{map}
+use Rattle.std.proofs.lemmas.List.Elements.{All-head, All-tail}
+use Rattle.std.proofs.lemmas.List.{length-map}
+use Rattle.std.proofs.lemmas.Bool.{cases_lt, cases_eq, cases_Bool, eqb-true, eqb-false, eq-eqb, ne_eqb, lt-leb, le-leb, lt-ltb, le-ltb, or_parts, or_left, or_right, or_from, leb-false}
 use Rattle.std.proofs.Math.Nat.{mod-lt, dvd-zero, dvd-mul_left, div-mul-le_self, dvd-add, dvd-sub, dvd-mul_left_of_dvd, dvd_refl, mul-le-mul_right}
 use Rattle.value_set.specs.declared.form.Progression.{Progression}
 use Rattle.value_set.specs.declared.form.Form.{Form}
 use Rattle.value_set.specs.declared.form.Form.TheVariants.{Values, Run}
-use Rattle.value_set.specs.Form.{make, Has, Includes, IsNormal, IsSpan, above, greater, span, class}
+use Rattle.value_set.specs.Form.{make, Has, Includes, IsNormal, IsSpan, Fits, above, greater, span, class}
 use Rattle.value_set.specs.Joining.{is_within, reach, join}
 use Rattle.value_set.specs.Widening.{nearer_below, mark_at_most, lesser, nearer_above, mark_above, last_of, down_to, up_to, first_widened, last_widened, widened_between, widen_span, widen}
 use Rattle.value_set.proofs.Members.{InRun}
@@ -47,6 +50,35 @@ above_found m bound best (x ∷ xs) was low = above_found m bound (nearer_above 
 
 pub mark_above_found : (m bound mark : ℕ) (marks : List ℕ) → AllBelow m marks → mark_above bound marks ≡ Some mark → (bound < mark) × (mark < m)
 mark_above_found m bound mark marks low is = subst (λ (found : Option ℕ). FoundAbove m bound found) is (above_found m bound None marks tt low)
+
+-- a mark that was found is at most the bound
+abbrev FoundBelow : (bound : ℕ) → Option ℕ → Type 0
+FoundBelow bound None = Unit {0}
+FoundBelow bound (Some mark) = mark ≤ bound
+
+greater_at_most : (a b bound : ℕ) → a ≤ bound → b ≤ bound → greater a b ≤ bound
+greater_at_most a b bound h k = elim (cases_lt a b) [ inl low ↦ rw (lt-ltb a b low) k | inr high ↦ rw (le-ltb a b high) h ]
+
+held_below : (bound : ℕ) (best : Option ℕ) → FoundBelow bound best → unwrap_or best 0 ≤ bound
+held_below bound None was = omega arith
+held_below bound (Some b) was = was
+
+nearer_below_is : (bound : ℕ) (best : Option ℕ) (mark : ℕ) → FoundBelow bound best → FoundBelow bound (nearer_below bound best mark)
+nearer_below_is bound best mark was = elim (cases_lt bound mark) [
+  inl high ↦ rw (lt-ltb bound mark high) was
+  | inr under ↦ rw (le-ltb bound mark under) (greater_at_most (unwrap_or best 0) mark bound (held_below bound best was) under)
+]
+
+below_found : (bound : ℕ) (best : Option ℕ) (marks : List ℕ) → FoundBelow bound best → FoundBelow bound (fold (nearer_below bound) best marks)
+below_found bound best [] was = was
+below_found bound best (x ∷ xs) was = below_found bound (nearer_below bound best x) xs (nearer_below_is bound best x was)
+
+pub mark_at_most_found : (bound mark : ℕ) (marks : List ℕ) → Some mark ≡ mark_at_most bound marks → mark ≤ bound
+mark_at_most_found bound mark marks is = subst (λ (found : Option ℕ). FoundBelow bound found) (sym is) (below_found bound None marks tt)
+
+pub AllBelow_from : {X : Type 0} (f : X → ℕ) (m : ℕ) (xs : List X) → All (λ n. f n < m) xs → AllBelow m (map f xs)
+AllBelow_from f m [] h = tt
+AllBelow_from f m (x ∷ xs) h = (All-head (λ n. f n < m) x xs h, AllBelow_from f m xs (All-tail (λ n. f n < m) x xs h))
 
 -- ---- down and up in steps
 
@@ -175,3 +207,78 @@ pub widen_normal : (m : ℕ) (held new : Form) (marks : List ℕ) → IsNormal m
 widen_normal m held new marks n low = let below = (span_is m held n).below in
     widen_cases m held new marks (λ set. IsNormal m set) (λ inside. n)
     (widen_span_normal m (span m (join m held new)) (span m held) marks (omega (arith, below)) low)
+
+-- ---- as the code finds them
+
+pub first_kept : (run held : Progression) (marks : List ℕ) → run.base ≡ held.base → Some run.base ≡ first_widened run held marks
+unfolding first_widened
+first_kept run held marks h = rw (eq-eqb run.base held.base h) refl
+
+pub first_moved : (run held : Progression) (marks : List ℕ) (mark : ℕ) → (run.base ≡ held.base → ⊥) → Some mark ≡ mark_at_most run.base marks
+    → Some (down_to run.base run.stride mark) ≡ first_widened run held marks
+unfolding first_widened
+first_moved run held marks mark h is = rw (ne_eqb run.base held.base h) (ap (λ (found : Option ℕ). option_map (down_to run.base run.stride) found) is)
+
+pub first_missing : (run held : Progression) (marks : List ℕ) → (run.base ≡ held.base → ⊥) → None ≡ mark_at_most run.base marks → None ≡ first_widened run held marks
+unfolding first_widened
+first_missing run held marks h is = rw (ne_eqb run.base held.base h) (ap (λ (found : Option ℕ). option_map (down_to run.base run.stride) found) is)
+
+pub last_kept : (m last held_last : ℕ) (run held : Progression) (marks : List ℕ) → last ≡ last_of run → held_last ≡ last_of held → last ≡ held_last % m → Some last ≡ last_widened m run held marks
+unfolding last_widened
+last_kept m last held_last run held marks a b h =
+    let same : last_of run ≡ last_of held % m = sym a ∙ h ∙ ap (λ (n : ℕ). n % m) b in rw (eq-eqb (last_of run) (last_of held % m) same) (ap Some a)
+
+other_last : (m last held_last : ℕ) (run held : Progression) → last ≡ last_of run → held_last ≡ last_of held → (last ≡ held_last % m → ⊥) → last_of run ≡ last_of held % m → ⊥
+other_last m last held_last run held a b h same = h (a ∙ same ∙ ap (λ (n : ℕ). n % m) (sym b))
+
+pub last_moved : (m last held_last mark : ℕ) (run held : Progression) (marks : List ℕ) → last ≡ last_of run → held_last ≡ last_of held → (last ≡ held_last % m → ⊥)
+    → Some mark ≡ mark_above last marks → Some (up_to last run.stride mark) ≡ last_widened m run held marks
+unfolding last_widened
+last_moved m last held_last mark run held marks a b h is =
+    rw (ne_eqb (last_of run) (last_of held % m) (other_last m last held_last run held a b h))
+    (ap (λ (found : Option ℕ). option_map (up_to last run.stride) found) is ∙ ap (λ (n : ℕ). option_map (up_to n run.stride) (mark_above n marks)) a)
+
+pub last_missing : (m last held_last : ℕ) (run held : Progression) (marks : List ℕ) → last ≡ last_of run → held_last ≡ last_of held → (last ≡ held_last % m → ⊥)
+    → None ≡ mark_above last marks → None ≡ last_widened m run held marks
+unfolding last_widened
+last_missing m last held_last run held marks a b h is =
+    rw (ne_eqb (last_of run) (last_of held % m) (other_last m last held_last run held a b h))
+    (ap (λ (found : Option ℕ). option_map (up_to last run.stride) found) is ∙ ap (λ (n : ℕ). option_map (up_to n run.stride) (mark_above n marks)) a)
+
+pub mark_above_seen : (m bound mark : ℕ) (marks : List ℕ) → AllBelow m marks → Some mark ≡ mark_above bound marks → (bound < mark) × (mark < m)
+mark_above_seen m bound mark marks low is = mark_above_found m bound mark marks low (sym is)
+
+pub unmarked : (m : ℕ) (run held : Progression) (marks : List ℕ) → length marks ≡ 0 → class m run.base run.stride ≡ widen_span m run held marks
+unmarked m run held marks h = sym (widen_span-class m run held marks (or_left (eqb (length marks) 0) (nat_le m (last_of run)) (eq-eqb (length marks) 0 h)))
+
+pub round : (m last : ℕ) (run held : Progression) (marks : List ℕ) → last ≡ last_of run → m ≤ last → class m run.base run.stride ≡ widen_span m run held marks
+round m last run held marks a h = sym (widen_span-class m run held marks (or_right (eqb (length marks) 0) (nat_le m (last_of run)) (le-leb m (last_of run) (omega (arith, a, h)))))
+
+pub between : (m last : ℕ) (run held : Progression) (marks : List ℕ) (first final : Option ℕ) → (length marks ≡ 0 → ⊥) → last ≡ last_of run → last < m
+    → first ≡ first_widened run held marks → final ≡ last_widened m run held marks → widened_between m run first final ≡ widen_span m run held marks
+between m last run held marks first final some a h b c =
+    ap (λ (n : Option ℕ). widened_between m run n final) b ∙ ap (λ (n : Option ℕ). widened_between m run (first_widened run held marks) n) c
+    ∙ sym (widen_span-between m run held marks (or_from (eqb (length marks) 0) (nat_le m (last_of run)) (ne_eqb (length marks) 0 some) (lt-leb m (last_of run) (omega (arith, a, h)))))
+
+pub first_missed : (m last : ℕ) (run held : Progression) (marks : List ℕ) → (length marks ≡ 0 → ⊥) → last ≡ last_of run → last < m
+    → None ≡ first_widened run held marks → class m run.base run.stride ≡ widen_span m run held marks
+first_missed m last run held marks some a h b = between m last run held marks None (last_widened m run held marks) some a h b refl
+
+pub widened_fits : (m last first final : ℕ) (run held : Progression) (marks : List ℕ) → AllBelow m marks → last ≡ last_of run → last < m
+    → Some first ≡ first_widened run held marks → Some final ≡ last_widened m run held marks → (first ≤ run.base) × (last ≤ final) × (final < m) × Fits m run.stride ((final - first) / run.stride + 1)
+widened_fits m last first final run held marks low a h b c =
+    let f = first_cases run held marks first (sym b) in
+    let l = last_cases m run held marks final low (omega (arith, a, h)) (sym c) in
+    (f.0, omega (arith, l.0, a), l.1, fits_to m run.stride (final - first) (omega (arith, l.1)))
+
+pub no_marks : {X : Type 0} (f : X → ℕ) (xs : List X) (b : Bool) → b ≡ eqb (length xs) 0 → b ≡ true → length (map f xs) ≡ 0
+no_marks f xs b is h = length-map xs f ∙ eqb-true (length xs) 0 (sym is ∙ h)
+
+pub some_marks : {X : Type 0} (f : X → ℕ) (xs : List X) (b : Bool) → b ≡ eqb (length xs) 0 → b ≡ false → length (map f xs) ≡ 0 → ⊥
+some_marks f xs b is h none = eqb-false (length xs) 0 (sym is ∙ h) (sym (length-map xs f) ∙ none)
+
+pub widened_whole : (m : ℕ) (held new : Form) (marks : List ℕ) (joined : Form) (run held_run : Progression) → joined ≡ join m held new → run ≡ span m joined → held_run ≡ span m held
+    → is_within m new held ≡ false → widen_span m run held_run marks ≡ widen m held new marks
+widened_whole m held new marks joined run held_run a b c outside =
+    ap (λ (p : Progression). widen_span m p held_run marks) (b ∙ ap (λ (set : Form). span m set) a)
+    ∙ ap (λ (p : Progression). widen_span m (span m (join m held new)) p marks) c ∙ sym (widen-beyond m held new marks outside)

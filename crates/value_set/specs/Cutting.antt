@@ -8,6 +8,11 @@ use Rattle.value_set.specs.declared.form.Progression.{Progression}
 use Rattle.value_set.specs.declared.form.Form.{Form}
 use Rattle.value_set.specs.declared.form.Form.TheVariants.{Values, Run}
 
+-- a fact of the set that there is
+abbrev pub IfThere : (Form → Type 0) → Option Form → Type 0
+IfThere P None = Unit {0}
+IfThere P (Some set) = P set
+
 abbrev pub list_or_none : List ℕ → Option Form
 list_or_none [] = None
 list_or_none (x ∷ xs) = Some (Values (x ∷ xs))

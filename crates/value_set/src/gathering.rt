@@ -3,7 +3,7 @@
 ghost use Rattle.std.specs.Prelude.{◌≡◌, ℕ, ◌+◌, ◌-◌, ◌*◌, ◌/◌, ◌%◌, ◌<◌, ◌≤◌, [], ◌∷◌, length, take};
 ghost use Rattle.std.specs.Prelude.{slice_index};
 ghost use Rattle.value_set.specs.Form as forms;
-ghost use Rattle.value_set.specs.Form.{Ascends, Fits, IsSpan};
+ghost use Rattle.value_set.specs.Form.{Ascends, Fits, IsNormal, IsSpan};
 
 use crate::circle::above;
 use crate::divisor::greatest_common_divisor;
@@ -131,7 +131,8 @@ pub fn make(modulus: u32, base: u32, stride: u32, count: u32) -> Form
     requires small { modulus ≤ 65536 }
     requires base_small { base < 131072 }
     requires fits { Fits modulus stride count }
-    ensures { result ≡ forms.make modulus base stride count }
+    ensures value { result ≡ forms.make modulus base stride count }
+    ensures form { IsNormal modulus result }
 {
     if count <= LONGEST as u32 {
         return Form::Values(few_steps(modulus, base, stride, count));

@@ -2,6 +2,7 @@
 #![tactic(auto)]
 
 mod circle;
+mod cutting;
 mod divisor;
 mod few;
 mod form;

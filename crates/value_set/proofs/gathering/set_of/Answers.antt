@@ -12,5 +12,5 @@ pub make-requires-clause-fits : goal.make-requires-clause-fits
 make-requires-clause-fits c = span_fits c.args.modulus _ _ _ c.hull-run.ensures.form
 
 pub returns : goal.returns
-returns c = c.make.ensures ∙ ap (λ (p : Progression). make c.args.modulus p.base p.stride p.count) c.hull-run.ensures.value
+returns c = c.make.ensures.value ∙ ap (λ (p : Progression). make c.args.modulus p.base p.stride p.count) c.hull-run.ensures.value
     ∙ sym (set_of-many c.args.modulus c.args.values.now c.if-values-le-LONGEST.false)

@@ -20,4 +20,4 @@ pub make-requires-clause-fits : goal.make-requires-clause-fits
 make-requires-clause-fits c = rw c.greatest_common_divisor-stride.ensures (class_fits c.args.modulus c.args.stride c.requires.positive)
 
 pub returns : goal.returns
-returns c = c.make.ensures ∙ class-is c.args.modulus c.args.base c.args.stride c.greatest_common_divisor-stride.result c.greatest_common_divisor-stride.ensures
+returns c = c.make.ensures.value ∙ class-is c.args.modulus c.args.base c.args.stride c.greatest_common_divisor-stride.result c.greatest_common_divisor-stride.ensures
