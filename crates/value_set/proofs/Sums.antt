@@ -1,5 +1,7 @@
 -- The set of a sum, a difference or any operation has each result, in the one form.
-use Rattle.std.proofs.Common.{◌≡◌, ℕ, ◌+◌, ◌-◌, ◌*◌, ◌%◌, ◌/◌, ◌<◌, ◌≤◌, ◌++◌, Bool, true, false, List, [], ◌∷◌, length, refl, sym, ◌∙◌, ap, subst, inl, inr, arith, cond}
+use Rattle.std.proofs.Common.{◌≡◌, ℕ, ◌+◌, ◌-◌, ◌*◌, ◌%◌, ◌/◌, ◌<◌, ◌≤◌, ◌++◌, Bool, true, false, List, [], ◌∷◌, length, take, get_or, append-nil, refl, sym, ◌∙◌, ap, subst, inl, inr, arith, cond}
+use Rattle.std.proofs.lemmas.List.{take_more, take_all, map-append}
+use Rattle.std.proofs.lemmas.Grind.{flat_map-append}
 use Prim.Native.Nat.{zero, suc, ◌∣◌}
 use Rattle.std.specs.Prelude.{◌⊎◌, map}
 use Rattle.std.specs.List.{flat_map}
@@ -10,11 +12,12 @@ use Rattle.value_set.specs.Gcd.{gcd}
 use Rattle.value_set.specs.declared.form.Progression.{Progression}
 use Rattle.value_set.specs.declared.form.Form.{Form}
 use Rattle.value_set.specs.declared.form.Form.TheVariants.{Values, Run}
-use Rattle.value_set.specs.Form.{make, members, Has, Includes, gather, IsNormal, IsSpan, Fits, above, span, class}
+use Rattle.value_set.specs.Form.{make, members, Has, Includes, gather, set_of, put, put_all, ascending, Ascends, IsNormal, IsSpan, Fits, above, span, class}
 use Rattle.value_set.specs.Joining.{reach}
 use Rattle.value_set.specs.Summing.{single, results, combine, count_of, sum_answer, difference_answer, add_spans, negated, add, sub, twice}
+use Rattle.value_set.specs.Operations.{StaysBelow, sum_stays, difference_stays}
 use Rattle.value_set.proofs.Divisors.{gcd_left, gcd_right}
-use Rattle.value_set.proofs.Members.{IsIn, InRun, in_from_Contains, Contains_from_in, in_steps, length-steps}
+use Rattle.value_set.proofs.Members.{IsIn, InRun, in_from_Contains, Contains_from_in, in_steps, length-steps, put_all-append, put_all-push, Ascends-put_all, ascending_some}
 use Rattle.value_set.proofs.Rounds.{mod_low, mod_once, mod_cases, base_mod, run_below, product_below}
 use Rattle.value_set.proofs.Making.{fits_to, make_has, make_normal}
 use Rattle.value_set.proofs.Spans.{multiple, span_is, span_has, gather_normal, gather_has, class_normal, class_reached}
@@ -70,10 +73,6 @@ results_are f v xs ys zs h =
     let b = in_flat (λ y. map (λ z. f a.0 y z) zs) v ys a.2 in
     let c = in_mapped (λ z. f a.0 b.0 z) v zs b.2 in
     (a.0, b.0, c.0, a.1, b.1, c.1, c.2)
-
--- each result of numbers below m is below m
-abbrev pub StaysBelow : ℕ → (ℕ → ℕ → ℕ → ℕ) → Type 0
-StaysBelow m answer = (x y z : ℕ) → x < m → y < m → z < m → answer x y z < m
 
 first_in : (xs : List ℕ) → 1 ≤ length xs → (v : ℕ) × IsIn v xs
 first_in [] h = absurd (omega arith)
@@ -204,12 +203,6 @@ single_normal m v h = (omega arith, omega arith, (omega arith, h, tt))
 positive : (m : ℕ) (set : Form) → IsNormal m set → 0 < m
 positive m set n = let low = (span_is m set n).below in omega (arith, low)
 
-pub sum_stays : (m : ℕ) → StaysBelow m (sum_answer m)
-sum_stays m x y z h k l = mod-lt (x + y) {m = m} (omega arith)
-
-pub difference_stays : (m : ℕ) → StaysBelow m (difference_answer m)
-difference_stays m x y z h k l = mod-lt (x + m - y) {m = m} (omega arith)
-
 pub add_normal : (m : ℕ) (a b : Form) → IsNormal m a → IsNormal m b → IsNormal m (add m a b)
 add_normal m a b n k = elim (cases_lt 256 (count_of m a * count_of m b)) [
   inr few ↦ rw (add-few m a b few) (combine_normal m (sum_answer m) a b (single 0) n k (single_normal m 0 (positive m a n)) (sum_stays m))
@@ -279,3 +272,97 @@ twice_has m (Run p) v n h =
       inl low ↦ rw (twice-once m p low) (make_has m (2 * p.base) (2 * p.stride) p.count ((v + v) % m) (twice_fits m p n low) (run.0, run.1, sum))
       | inr high ↦ rw (twice-round m p high) (class_reached m (2 * p.base) (2 * p.stride) ((v + v) % m) (run.0 * (2 * p.stride)) (positive m (Run p) n) sum (dvd-mul_left (2 * p.stride) run.0))
     ]
+
+-- ---- as the code finds them
+
+pub row_more : (held zs : List ℕ) (f : ℕ → ℕ) (i : ℕ) → i < length zs → put_all held (map f (take (i + 1) zs)) ≡ put (f (get_or zs i 0)) (put_all held (map f (take i zs)))
+row_more held zs f i h =
+    ap (λ (ys : List ℕ). put_all held (map f ys)) (take_more zs i 0 h) ∙ ap (λ (ys : List ℕ). put_all held ys) (map-append f (take i zs) (get_or zs i 0 ∷ []))
+    ∙ put_all-push held (map f (take i zs)) (f (get_or zs i 0))
+
+pub rows_more : (held ys : List ℕ) (f : ℕ → List ℕ) (i : ℕ) → i < length ys → put_all held (flat_map f (take (i + 1) ys)) ≡ put_all (put_all held (flat_map f (take i ys))) (f (get_or ys i 0))
+rows_more held ys f i h =
+    ap (λ (zs : List ℕ). put_all held (flat_map f zs)) (take_more ys i 0 h) ∙ ap (λ (zs : List ℕ). put_all held zs) (flat_map-append f (take i ys) (get_or ys i 0 ∷ []) ∙ ap (λ (zs : List ℕ). flat_map f (take i ys) ++ zs) (append-nil (f (get_or ys i 0))))
+    ∙ put_all-append held (flat_map f (take i ys)) (f (get_or ys i 0))
+
+pub combine-is : (m : ℕ) (answer : ℕ → ℕ → ℕ → ℕ) (a b c : Form) (values : List ℕ) → values ≡ ascending (results answer (members m a) (members m b) (members m c)) → set_of m values ≡ combine m answer a b c
+unfolding combine
+combine-is m answer a b c values is = ap (λ (xs : List ℕ). set_of m xs) is
+
+pub results_ascend : (m : ℕ) (answer : ℕ → ℕ → ℕ → ℕ) (a b c : Form) → IsNormal m a → IsNormal m b → IsNormal m c → StaysBelow m answer
+    → Ascends 0 m (ascending (results answer (members m a) (members m b) (members m c))) × (1 ≤ length (ascending (results answer (members m a) (members m b) (members m c))))
+results_ascend m answer a b c n k l stays =
+    (Ascends-put_all m [] (results answer (members m a) (members m b) (members m c)) (λ v h. results_below m answer a b c v n k l stays h) tt,
+     ascending_some (results answer (members m a) (members m b) (members m c)) (some_results m answer a b c n k l))
+
+pub all_results : (answer : ℕ → ℕ → ℕ → ℕ) (i : ℕ) (values given xs ys zs : List ℕ) → values ≡ ascending (results answer (take i xs) ys zs) → given ≡ values → length xs ≤ i
+    → given ≡ ascending (results answer xs ys zs)
+all_results answer i values given xs ys zs is same h = same ∙ is ∙ ap (λ (ws : List ℕ). ascending (results answer ws ys zs)) (take_all i xs h)
+
+pub spans_once : (m base stride end first second count : ℕ) (p q : Progression) → base ≡ p.base + q.base → stride ≡ gcd p.stride q.stride → first ≡ reach p → second ≡ reach q
+    → end ≡ first + second → end < m → count ≡ end / stride + 1 → make m base stride count ≡ add_spans m p q
+unfolding add_spans
+spans_once m base stride end first second count p q a b f s e low c =
+    let sum : end ≡ reach p + reach q = e ∙ ap (λ (n : ℕ). n + second) f ∙ ap (λ (n : ℕ). reach p + n) s in
+    rw (lt-ltb (reach p + reach q) m (omega (arith, low, sum))) (
+      ap (λ (n : ℕ). make m n stride count) a ∙ ap (λ (n : ℕ). make m (p.base + q.base) n count) b
+      ∙ ap (λ (n : ℕ). make m (p.base + q.base) (gcd p.stride q.stride) n) (c ∙ ap (λ (n : ℕ). n / stride + 1) sum ∙ ap (λ (n : ℕ). (reach p + reach q) / n + 1) b))
+
+pub spans_round : (m base stride end first second : ℕ) (p q : Progression) → base ≡ p.base + q.base → stride ≡ gcd p.stride q.stride → first ≡ reach p → second ≡ reach q
+    → end ≡ first + second → m ≤ end → class m base stride ≡ add_spans m p q
+unfolding add_spans
+spans_round m base stride end first second p q a b f s e high =
+    let sum : end ≡ reach p + reach q = e ∙ ap (λ (n : ℕ). n + second) f ∙ ap (λ (n : ℕ). reach p + n) s in
+    rw (le-ltb (reach p + reach q) m (omega (arith, high, sum))) (ap (λ (n : ℕ). class m n stride) a ∙ ap (λ (n : ℕ). class m (p.base + q.base) n) b)
+
+pub negated_made : (m last : ℕ) (p : Progression) → last ≡ (p.base + reach p) % m → let made : Progression = record { base = (m - last) % m; stride = p.stride; count = p.count } in made ≡ negated m p
+unfolding negated
+negated_made m last p is = ap (λ (n : ℕ). let made : Progression = record { base = (m - n) % m; stride = p.stride; count = p.count } in made) is
+
+pub added_few : (m : ℕ) (a b carry : Form) → count_of m a * count_of m b ≤ 256 → carry ≡ single 0 → combine m (sum_answer m) a b carry ≡ add m a b
+added_few m a b carry few is = ap (λ (c : Form). combine m (sum_answer m) a b c) is ∙ sym (add-few m a b few)
+
+pub added_many : (m : ℕ) (a b : Form) (p q : Progression) → (count_of m a * count_of m b ≤ 256 → ⊥) → p ≡ span m a → q ≡ span m b → add_spans m p q ≡ add m a b
+added_many m a b p q many s t =
+    let more : 256 < count_of m a * count_of m b = elim (cases_lt 256 (count_of m a * count_of m b)) [ inl over ↦ over | inr few ↦ absurd (many few) ] in
+    ap (λ (n : Progression). add_spans m n q) s ∙ ap (λ (n : Progression). add_spans m (span m a) n) t ∙ sym (add-many m a b more)
+
+pub taken_few : (m : ℕ) (a b carry : Form) → count_of m a * count_of m b ≤ 256 → carry ≡ single 0 → combine m (difference_answer m) a b carry ≡ sub m a b
+taken_few m a b carry few is = ap (λ (c : Form). combine m (difference_answer m) a b c) is ∙ sym (sub-few m a b few)
+
+pub taken_many : (m : ℕ) (a b : Form) (p q down : Progression) → (count_of m a * count_of m b ≤ 256 → ⊥) → p ≡ span m a → q ≡ span m b → down ≡ negated m q → add_spans m p down ≡ sub m a b
+taken_many m a b p q down many s t d =
+    let more : 256 < count_of m a * count_of m b = elim (cases_lt 256 (count_of m a * count_of m b)) [ inl over ↦ over | inr few ↦ absurd (many few) ] in
+    ap (λ (n : Progression). add_spans m n down) s ∙ ap (λ (n : Progression). add_spans m (span m a) n) (d ∙ ap (λ (n : Progression). negated m n) t) ∙ sym (sub-many m a b more)
+
+pub few_with_one : (m n : ℕ) (a b carry : Form) → count_of m a * count_of m b ≤ 256 → carry ≡ single n → count_of m a * (count_of m b * count_of m carry) ≤ 256
+few_with_one m n a b carry few is =
+    let one : count_of m carry ≡ 1 = rw is refl in
+    let e : count_of m b * count_of m carry ≡ count_of m b = ap (λ (k : ℕ). count_of m b * k) one ∙ (let u : count_of m b * 1 ≡ count_of m b = omega arith in u) in
+    subst (λ (k : ℕ). count_of m a * k ≤ 256) (sym e) few
+
+pub carry_normal : (m n : ℕ) (carry : Form) → n < m → carry ≡ single n → IsNormal m carry
+carry_normal m n carry h is = subst (λ (set : Form). IsNormal m set) (sym is) (single_normal m n h)
+
+pub modulus_positive : (m : ℕ) (set : Form) → IsNormal m set → 0 < m
+modulus_positive m set n = positive m set n
+
+pub twice_of_list : (m i : ℕ) (values given list xs : List ℕ) → values ≡ ascending (map (λ v. (v + v) % m) (take i list)) → length list ≤ i → given ≡ values → list ≡ xs
+    → given ≡ ascending (map (λ v. (v + v) % m) xs)
+twice_of_list m i values given list xs is h same are =
+    same ∙ is ∙ ap (λ (ys : List ℕ). ascending (map (λ v. (v + v) % m) ys)) (take_all i list h ∙ are)
+
+pub twice_set : (m : ℕ) (given xs : List ℕ) → given ≡ ascending (map (λ v. (v + v) % m) xs) → set_of m given ≡ twice m (Values xs)
+twice_set m given xs is = ap (λ (ys : List ℕ). set_of m ys) is ∙ sym (twice-list m xs)
+
+pub twice_ascends : (m : ℕ) (xs : List ℕ) → IsNormal m (Values xs) → Ascends 0 m (ascending (map (λ v. (v + v) % m) xs)) × (1 ≤ length (ascending (map (λ v. (v + v) % m) xs)))
+twice_ascends m xs n = (
+    Ascends-put_all m [] (map (λ v. (v + v) % m) xs) (λ v h. doubled_below m v xs (positive m (Values xs) n) h) tt,
+    ascending_some (map (λ v. (v + v) % m) xs) (doubled_some (λ v. (v + v) % m) xs n.0),
+  )
+
+pub twice_made : (m far : ℕ) (p : Progression) → far ≡ reach p → 2 * far < m → make m (2 * p.base) (2 * p.stride) p.count ≡ twice m (Run p)
+twice_made m far p is low = sym (twice-once m p (omega (arith, is, low)))
+
+pub twice_class : (m far : ℕ) (p : Progression) → far ≡ reach p → m ≤ 2 * far → class m (2 * p.base) (2 * p.stride) ≡ twice m (Run p)
+twice_class m far p is high = sym (twice-round m p (omega (arith, is, high)))

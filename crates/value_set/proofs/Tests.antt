@@ -123,3 +123,6 @@ each_fails m i v smaller larger short is refused inside = refused (inside v (i, 
 
 pub nth_below : (m i v : ℕ) (set : Form) → IsNormal m set → i < length (members m set) → v ≡ slice_index (members m set) i → v < m
 nth_below m i v set n short is = member_below m v set n (i, short, get_or_default_zero (members m set) i v short ∙ sym is)
+
+pub listed_nth : (m i : ℕ) (set : Form) (xs ys : List ℕ) → set ≡ Values xs → ys ≡ xs → slice_index ys i ≡ slice_index (members m set) i
+listed_nth m i set xs ys is same = rw (is, same) refl

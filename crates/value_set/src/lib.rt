@@ -2,6 +2,7 @@
 #![tactic(auto)]
 
 mod circle;
+mod combining;
 mod cutting;
 mod divisor;
 mod few;
@@ -10,6 +11,7 @@ mod gathering;
 mod joining;
 mod member;
 mod number;
+mod summing;
 mod widening;
 
 pub use few::Few;

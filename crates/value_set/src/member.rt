@@ -22,7 +22,8 @@ pub fn nth(modulus: u32, set: &Form, place: u32) -> u16
     requires small { modulus ≤ 65536 }
     requires normal { IsNormal modulus set.now }
     requires there { place < length (members modulus set.now) }
-    ensures { result ≡ slice_index (members modulus set.now) place }
+    ensures value { result ≡ slice_index (members modulus set.now) place }
+    ensures below { result < modulus }
 {
     match set {
         Form::Values(values) => values.as_slice()[place as usize],
