@@ -10,3 +10,5 @@ pub mod Joins
 pub mod Widens
 pub mod Cuts
 pub mod Sums
+pub mod Equal
+pub mod Collects

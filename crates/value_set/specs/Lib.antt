@@ -1,3 +1,4 @@
+pub mod Collecting
 pub mod Few
 pub mod Form
 pub mod Gcd

@@ -2,6 +2,7 @@
 #![tactic(auto)]
 
 mod circle;
+mod collecting;
 mod combining;
 mod cutting;
 mod divisor;
