@@ -13,7 +13,7 @@ use Rattle.value_set.proofs.Members.{IsIn, in_from_Contains, Contains_from_in, i
 use Rattle.value_set.proofs.Widens.{AllBelow, AllBelow_from}
 use Rattle.value_set.proofs.Gathers.{Ascends-wider}
 
-all_below_in : (m v : ℕ) (xs : List ℕ) → AllBelow m xs → IsIn v xs → v < m
+pub all_below_in : (m v : ℕ) (xs : List ℕ) → AllBelow m xs → IsIn v xs → v < m
 all_below_in m v [] h i = absurd i
 all_below_in m v (x ∷ xs) h (inl e) = omega (arith, h.0, e)
 all_below_in m v (x ∷ xs) h (inr i) = all_below_in m v xs h.1 i

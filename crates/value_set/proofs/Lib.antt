@@ -12,3 +12,5 @@ pub mod Cuts
 pub mod Sums
 pub mod Equal
 pub mod Collects
+pub mod Singles
+pub mod Promises
