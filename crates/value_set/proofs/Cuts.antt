@@ -1,20 +1,18 @@
 -- A cut has each member in the window, in the one form, and it is there exactly where some member is.
-use Rattle.std.proofs.Common.{◌≡◌, ℕ, ◌+◌, ◌-◌, ◌*◌, ◌%◌, ◌/◌, ◌<◌, ◌≤◌, Bool, true, false, List, [], ◌∷◌, length, refl, sym, ◌∙◌, ap, subst, inl, inr, arith, cond, ltb, eqb, Option, Some, None}
-use Prim.Native.Nat.{zero, suc, ◌∣◌}
-use Rattle.std.specs.Prelude.{◌⊎◌, ◌↔◌}
+use Rattle.std.proofs.Common.{◌≡◌, ℕ, ◌+◌, ◌-◌, ◌*◌, ◌%◌, ◌/◌, ◌<◌, ◌≤◌, Bool, true, List, [], ◌∷◌, length, refl, sym, ◌∙◌, ap, subst, inl, inr, arith, ltb, Option, Some, None}
 use Rattle.std.specs.List.{filter}
-use Rattle.std.proofs.lemmas.Bool.{cases_lt, cases_eq, cases_Bool, eqb-true, eq-eqb, ne_eqb, lt-ltb, le-ltb, ltb-true, ltb-false}
-use Rattle.std.proofs.Math.Nat.{mod-lt, add-mod-mod, le-div_iff_mul-le, div-mul-le_self, lt-div-mul-add, mul-le-mul_right}
+use Rattle.std.proofs.lemmas.Bool.{cases_lt, cases_eq, cases_Bool, eq-eqb, ne_eqb, lt-ltb, le-ltb, ltb-true}
+use Rattle.std.proofs.Math.Nat.{mod-lt, le-div_iff_mul-le, mul-le-mul_right}
 use Rattle.value_set.specs.declared.form.Progression.{Progression}
 use Rattle.value_set.specs.declared.form.Form.{Form}
 use Rattle.value_set.specs.declared.form.Form.TheVariants.{Values, Run}
-use Rattle.value_set.specs.Form.{make, members, Has, Includes, IsNormal, IsNormalRun, Ascends, Fits, above}
+use Rattle.value_set.specs.Form.{make, Has, IsNormal, IsNormalRun, Ascends, Fits, above}
 use Rattle.value_set.specs.Joining.{join}
 use Rattle.value_set.specs.Widening.{lesser}
 use Rattle.value_set.specs.Cutting.{IfThere, list_or_none, count_below, part, join_parts, front_count, behind_base, cut_run, cut}
 use Rattle.value_set.proofs.Members.{IsIn, InRun, in_from_Contains, Contains_from_in, Ascends-lower, in_steps, steps_has}
-use Rattle.value_set.proofs.Rounds.{mod_low, mod_once, mod_cases, above_back, above_sum, above_below, product_below, base_mod}
-use Rattle.value_set.proofs.Making.{in_make, make_has, make_normal}
+use Rattle.value_set.proofs.Rounds.{mod_low, mod_once, mod_cases, above_back, above_below, product_below, base_mod}
+use Rattle.value_set.proofs.Making.{make_has, make_normal}
 use Rattle.value_set.proofs.Inclusion.{seen}
 use Rattle.value_set.proofs.Joins.{join_includes_first, join_includes_second, join_normal}
 
@@ -31,14 +29,14 @@ filtered_in test v (x ∷ xs) (inr i) h = elim (cases_Bool (test x)) [ inl t ↦
 in_filtered : (test : ℕ → Bool) (v : ℕ) (xs : List ℕ) → IsIn v (filter test xs) → IsIn v xs × (test v ≡ true)
 in_filtered test v [] i = absurd i
 in_filtered test v (x ∷ xs) i = elim (cases_Bool (test x)) [
-  inl t ↦ elim (rw t at i) [ inl e ↦ (inl e, ap test (sym e) ∙ t) | inr r ↦ let rest = in_filtered test v xs r in (inr rest.0, rest.1) ]
+  | inl t ↦ elim (rw t at i) [ inl e ↦ (inl e, ap test (sym e) ∙ t) | inr r ↦ let rest = in_filtered test v xs r in (inr rest.0, rest.1) ]
   | inr f ↦ let rest = in_filtered test v xs (rw f at i) in (inr rest.0, rest.1)
 ]
 
 filtered_ascends : (test : ℕ → Bool) (low m : ℕ) (xs : List ℕ) → Ascends low m xs → Ascends low m (filter test xs)
 filtered_ascends test low m [] a = tt
 filtered_ascends test low m (x ∷ xs) a = elim (cases_Bool (test x)) [
-  inl t ↦ rw t (a.0, a.1, filtered_ascends test (x + 1) m xs a.2)
+  | inl t ↦ rw t (a.0, a.1, filtered_ascends test (x + 1) m xs a.2)
   | inr f ↦ rw f (Ascends-lower (x + 1) low m (filter test xs) (omega (arith, a.0)) (filtered_ascends test (x + 1) m xs a.2))
 ]
 
@@ -82,10 +80,10 @@ counted end base stride count i pos short low =
 
 pub count_tells : (end base stride count i : ℕ) → 0 < stride → i < count_below end base stride count → (i < count) × (base + i * stride < end)
 count_tells end base stride count i pos h = elim (cases_lt base end) [
-  inl low ↦
-  let found = below_lesser i count ((end - 1 - base) / stride + 1) (omega (arith, h, count_below-some end base stride count low)) in
-  let under = (le-div_iff_mul-le {k = stride} {x = i} {y = end - 1 - base} pos).0 (omega (arith, found.1)) in
-  (found.0, omega (arith, under, low))
+  | inl low ↦
+      let found = below_lesser i count ((end - 1 - base) / stride + 1) (omega (arith, h, count_below-some end base stride count low)) in
+      let under = (le-div_iff_mul-le {k = stride} {x = i} {y = end - 1 - base} pos).0 (omega (arith, found.1)) in
+      (found.0, omega (arith, under, low))
   | inr high ↦ absurd (omega (arith, h, count_below-none end base stride count high))
 ]
 
@@ -99,7 +97,7 @@ part-some m base stride count h = rw (ne_eqb count 0 h) refl
 
 pub part_normal : (m base stride count : ℕ) → (1 ≤ count → Fits m stride count) → IfThere (λ set. IsNormal m set) (part m base stride count)
 part_normal m base stride count fits = elim (cases_eq count 0) [
-  inl none ↦ rw (part-none m base stride count none) tt
+  | inl none ↦ rw (part-none m base stride count none) tt
   | inr some ↦ rw (part-some m base stride count some) (make_normal m base stride count (fits (omega (arith, some))))
 ]
 
@@ -156,7 +154,7 @@ fewer_fit m stride count fewer pos strides once less some =
 -- a count is not above the count that it is taken from
 count_less : (end base stride count : ℕ) → 0 < stride → count_below end base stride count ≤ count
 count_less end base stride count pos = elim (cases_lt count (count_below end base stride count)) [
-  inl above_it ↦ absurd (let t = count_tells end base stride count count pos above_it in omega (arith, t.0))
+  | inl above_it ↦ absurd (let t = count_tells end base stride count count pos above_it in omega (arith, t.0))
   | inr fine ↦ fine
 ]
 
@@ -168,7 +166,7 @@ front_holds m low i p pos h = count_tells m (above m low p.base) p.stride p.coun
 
 behind_starts : (m low : ℕ) (p : Progression) → 0 < p.stride → front_count m p low < p.count → m ≤ above m low p.base + front_count m p low * p.stride
 behind_starts m low p pos h = elim (cases_lt (above m low p.base + front_count m p low * p.stride) m) [
-  inl under ↦ absurd (let again = counted m (above m low p.base) p.stride p.count (front_count m p low) pos h under in omega (arith, again))
+  | inl under ↦ absurd (let again = counted m (above m low p.base) p.stride p.count (front_count m p low) pos h under in omega (arith, again))
   | inr over ↦ over
 ]
 
@@ -219,7 +217,7 @@ behind_has : (m low len i v : ℕ) (p : Progression) → Low m p low → i < p.c
 unfolding behind_part
 behind_has m low len i v p (n, h) short vm over at inside =
     let late : front_count m p low ≤ i = elim (cases_lt i (front_count m p low)) [
-      inl early ↦ absurd (let t = front_holds m low i p n.strides early in omega (arith, t.1, over))
+      | inl early ↦ absurd (let t = front_holds m low i p n.strides early in omega (arith, t.1, over))
       | inr fine ↦ fine
     ] in
     let starts = behind_starts m low p n.strides (omega (arith, late, short)) in
@@ -244,10 +242,10 @@ cut_run_has m p low len v l has inside =
     let once = product_below run.0 p.count p.stride m run.1 n.once in
     let near = above_below m low p.base pos in
     rw (cut_run-is m p low len) (elim (mod_cases (above m low p.base + run.0 * p.stride) m (omega (arith, once, near))) [
-      inl under ↦ joined_front m v (front_part m p low len) (behind_part m p low len) (front_normal m p low len l) (behind_normal m p low len l)
-      (front_has m low len run.0 v p l run.1 run.2 under.0 (omega (arith, at, under.1, inside)))
+      | inl under ↦ joined_front m v (front_part m p low len) (behind_part m p low len) (front_normal m p low len l) (behind_normal m p low len l)
+          (front_has m low len run.0 v p l run.1 run.2 under.0 (omega (arith, at, under.1, inside)))
       | inr over ↦ joined_behind m v (front_part m p low len) (behind_part m p low len) (front_normal m p low len l) (behind_normal m p low len l)
-      (behind_has m low len run.0 v p l run.1 vm over.0 (at ∙ over.1) inside)
+          (behind_has m low len run.0 v p l run.1 vm over.0 (at ∙ over.1) inside)
     ])
 
 cut_run_normal : (m : ℕ) (p : Progression) (low len : ℕ) → Low m p low → IfThere (λ set. IsNormal m set) (cut_run m p low len)
@@ -256,27 +254,27 @@ cut_run_normal m p low len l = rw (cut_run-is m p low len) (joined_normal m (fro
 front_empty : (m : ℕ) (p : Progression) (low len : ℕ) → Low m p low → ((v : ℕ) → Has m (Run p) v → above m low v < len → ⊥) → front_part m p low len ≡ None
 unfolding front_part
 front_empty m p low len (n, h) nobody = part-none m p.base p.stride _ (elim (cases_eq (count_below len (above m low p.base) p.stride (front_count m p low)) 0) [
-  inl none ↦ none
+  | inl none ↦ none
   | inr some ↦ absurd (
-    let here = count_tells len (above m low p.base) p.stride (front_count m p low) 0 n.strides (omega (arith, some)) in
-    let first = front_holds m low 0 p n.strides here.0 in
-    nobody ((p.base + 0 * p.stride) % m) (steps_has m p.base p.stride p.count _ (0, first.0, refl))
-    (omega (arith, number_seen m low 0 p h n.below, mod_low (above m low p.base + 0 * p.stride) m first.1, here.1)))
+      let here = count_tells len (above m low p.base) p.stride (front_count m p low) 0 n.strides (omega (arith, some)) in
+      let first = front_holds m low 0 p n.strides here.0 in
+      nobody ((p.base + 0 * p.stride) % m) (steps_has m p.base p.stride p.count _ (0, first.0, refl))
+      (omega (arith, number_seen m low 0 p h n.below, mod_low (above m low p.base + 0 * p.stride) m first.1, here.1)))
 ])
 
 behind_empty : (m : ℕ) (p : Progression) (low len : ℕ) → Low m p low → ((v : ℕ) → Has m (Run p) v → above m low v < len → ⊥) → behind_part m p low len ≡ None
 unfolding behind_part
 behind_empty m p low len (n, h) nobody = part-none m ((low + behind_base m p low) % m) p.stride _
     (elim (cases_eq (count_below len (behind_base m p low) p.stride (p.count - front_count m p low)) 0) [
-      inl none ↦ none
+      | inl none ↦ none
       | inr some ↦ absurd (
-        let here = count_tells len (behind_base m p low) p.stride (p.count - front_count m p low) 0 n.strides (omega (arith, some)) in
-        let short : front_count m p low < p.count = omega (arith, here.0) in
-        let starts = behind_starts m low p n.strides short in
-        let once = product_below (front_count m p low) p.count p.stride m short n.once in
-        let near = above_below m low p.base (let pos : 0 < m = omega (arith, h) in pos) in
-        nobody ((p.base + front_count m p low * p.stride) % m) (steps_has m p.base p.stride p.count _ (front_count m p low, short, refl))
-        (omega (arith, number_seen m low (front_count m p low) p h n.below, mod_once (above m low p.base + front_count m p low * p.stride) m starts (omega (arith, once, near)), here.1)))
+          let here = count_tells len (behind_base m p low) p.stride (p.count - front_count m p low) 0 n.strides (omega (arith, some)) in
+          let short : front_count m p low < p.count = omega (arith, here.0) in
+          let starts = behind_starts m low p n.strides short in
+          let once = product_below (front_count m p low) p.count p.stride m short n.once in
+          let near = above_below m low p.base (let pos : 0 < m = omega (arith, h) in pos) in
+          nobody ((p.base + front_count m p low * p.stride) % m) (steps_has m p.base p.stride p.count _ (front_count m p low, short, refl))
+          (omega (arith, number_seen m low (front_count m p low) p h n.below, mod_once (above m low p.base + front_count m p low * p.stride) m starts (omega (arith, once, near)), here.1)))
     ])
 
 -- ---- cuts
@@ -312,7 +310,7 @@ none_cut m (Run p) low len n h nobody = cut_run-is m p low len ∙ none_joined m
 
 pub count_is-most : (end base stride count most : ℕ) → base < end → most ≡ (end - 1 - base) / stride → most < count → most + 1 ≡ count_below end base stride count
 count_is-most end base stride count most h is low = rw (count_below-some end base stride count h, ← is) (elim (cases_lt (most + 1) count) [
-  inl under ↦ rw (lt-ltb (most + 1) count under) refl
+  | inl under ↦ rw (lt-ltb (most + 1) count under) refl
   | inr at ↦ rw (le-ltb (most + 1) count at) (omega arith)
 ])
 

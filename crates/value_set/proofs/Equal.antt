@@ -1,14 +1,14 @@
 -- Sets with the same members are equal.
-use Rattle.std.proofs.Common.{◌≡◌, ℕ, ◌+◌, ◌-◌, ◌*◌, ◌%◌, ◌/◌, ◌<◌, ◌≤◌, Bool, true, false, List, [], ◌∷◌, length, refl, sym, ◌∙◌, ap, subst, inl, inr, arith, cond, eqb}
+use Rattle.std.proofs.Common.{◌≡◌, ℕ, ◌+◌, ◌-◌, ◌*◌, ◌%◌, ◌/◌, ◌<◌, ◌≤◌, List, [], ◌∷◌, length, refl, sym, ◌∙◌, ap, subst, inl, inr, arith, cond, eqb}
 use Prim.Native.Nat.{zero, suc, ◌∣◌}
 use Rattle.std.specs.Prelude.{◌⊎◌}
-use Rattle.std.proofs.lemmas.Bool.{cases_lt, cases_eq, cases_order, eq-eqb, ne_eqb}
-use Rattle.std.proofs.Math.Nat.{dvd_antisymm, le_of_mul-le-mul_right, lt_of_mul-lt-mul_right, lt-div-mul-add, mod-mod_of_dvd, div-mul_cancel, mul-le-mul_right, mod-lt, mod-eq-zero_of_dvd, add-mod-mod}
+use Rattle.std.proofs.lemmas.Bool.{cases_eq, eq-eqb, ne_eqb}
+use Rattle.std.proofs.Math.Nat.{dvd_antisymm, le_of_mul-le-mul_right, lt_of_mul-lt-mul_right, lt-div-mul-add, mod-mod_of_dvd, div-mul_cancel, mul-le-mul_right, mod-eq-zero_of_dvd, add-mod-mod}
 use Rattle.value_set.specs.declared.form.Progression.{Progression}
 use Rattle.value_set.specs.declared.form.Form.{Form}
 use Rattle.value_set.specs.declared.form.Form.TheVariants.{Values, Run}
-use Rattle.value_set.specs.Form.{members, Has, Includes, IsNormal, IsNormalRun, above}
-use Rattle.value_set.proofs.Members.{IsIn, InRun, in_from_Contains, Contains_from_in, same_ascending, steps_has}
+use Rattle.value_set.specs.Form.{Includes, IsNormal, IsNormalRun, above}
+use Rattle.value_set.proofs.Members.{IsIn, in_from_Contains, Contains_from_in, same_ascending, steps_has}
 use Rattle.value_set.proofs.Rounds.{mod_low, above_below, above_back, above_sum, product_below}
 use Rattle.value_set.proofs.Inclusion.{Fitting}
 use Rattle.value_set.proofs.Tests.{runs_fit}
@@ -23,7 +23,7 @@ removed_length : (v : ℕ) (xs : List ℕ) → IsIn v xs → length (remove v xs
 unfolding remove
 removed_length v [] h = absurd h
 removed_length v (x ∷ xs) h = elim (cases_eq x v) [
-  inl same ↦ rw (eq-eqb x v same) (omega arith)
+  | inl same ↦ rw (eq-eqb x v same) (omega arith)
   | inr other ↦ rw (ne_eqb x v other) (elim h [ inl e ↦ absurd (other e) | inr rest ↦ let step = removed_length v xs rest in omega (arith, step) ])
 ]
 
@@ -31,7 +31,7 @@ removed_keeps : (v w : ℕ) (xs : List ℕ) → (w ≡ v → ⊥) → IsIn w xs 
 unfolding remove
 removed_keeps v w [] apart h = absurd h
 removed_keeps v w (x ∷ xs) apart h = elim (cases_eq x v) [
-  inl same ↦ rw (eq-eqb x v same) (elim h [ inl e ↦ absurd (apart (sym e ∙ same)) | inr rest ↦ rest ])
+  | inl same ↦ rw (eq-eqb x v same) (elim h [ inl e ↦ absurd (apart (sym e ∙ same)) | inr rest ↦ rest ])
   | inr other ↦ rw (ne_eqb x v other) (elim h [ inl e ↦ inl e | inr rest ↦ inr (removed_keeps v w xs apart rest) ])
 ]
 
@@ -60,26 +60,26 @@ run_over_list m p xs n inside = room_for p.count (λ i. (p.base + i * p.stride) 
 
 not_more : (m o d c n : ℕ) → 0 < d → o < m → 1 ≤ n → (c - 1) * d < m → Fitting m o d c d ((n - 1) * d) → c ≤ n
 not_more m o d c n pos low some once fits = elim fits.2 [
-  inl straight ↦ let less = le_of_mul-le-mul_right {m = c - 1} {n = n - 1} {k = d} (omega (arith, straight.1)) pos in omega (arith, less)
+  | inl straight ↦ let less = le_of_mul-le-mul_right {m = c - 1} {n = n - 1} {k = d} (omega (arith, straight.1)) pos in omega (arith, less)
   | inr round ↦
-  let beyond = lt-div-mul-add {a = m - 1 - o} {b = d} pos in
-  let less = lt_of_mul-lt-mul_right d {m = c - 1} {n = n - 1 + 1} (let e : (n - 1 + 1) * d ≡ (n - 1) * d + d = omega arith in omega (arith, e, once, round.2, beyond)) in
-  omega (arith, less)
+      let beyond = lt-div-mul-add {a = m - 1 - o} {b = d} pos in
+      let less = lt_of_mul-lt-mul_right d {m = c - 1} {n = n - 1 + 1} (let e : (n - 1 + 1) * d ≡ (n - 1) * d + d = omega arith in omega (arith, e, once, round.2, beyond)) in
+      omega (arith, less)
 ]
 
 -- with one stride and one count there is no offset, or the run closes the round
 closed : (m o d c : ℕ) → 0 < d → o < m → 1 ≤ c → (c - 1) * d < m → Fitting m o d c d ((c - 1) * d) → (o ≡ 0) ⊎ ((d ∣ m) × (c * d ≡ m))
 closed m o d c pos low some once fits = elim fits.2 [
-  inl straight ↦ inl (omega (arith, straight.1))
+  | inl straight ↦ inl (omega (arith, straight.1))
   | inr round ↦
-  let beyond = lt-div-mul-add {a = m - 1 - o} {b = d} pos in
-  let whole : m / d * d ≡ m = div-mul_cancel d round.1 in
-  let one : (c - 1 + 1) * d ≡ (c - 1) * d + d = omega arith in
-  let back : c - 1 + 1 ≡ c = omega arith in
-  let more = lt_of_mul-lt-mul_right d {m = c - 1} {n = m / d} (omega (arith, whole, once)) in
-  let less = le_of_mul-le-mul_right {m = m / d} {n = c - 1 + 1} {k = d} (omega (arith, whole, one, round.2, beyond)) pos in
-  let e : c ≡ m / d = omega (arith, more, less) in
-  inr (round.1, ap (λ (k : ℕ). k * d) e ∙ whole)
+      let beyond = lt-div-mul-add {a = m - 1 - o} {b = d} pos in
+      let whole : m / d * d ≡ m = div-mul_cancel d round.1 in
+      let one : (c - 1 + 1) * d ≡ (c - 1) * d + d = omega arith in
+      let back : c - 1 + 1 ≡ c = omega arith in
+      let more = lt_of_mul-lt-mul_right d {m = c - 1} {n = m / d} (omega (arith, whole, once)) in
+      let less = le_of_mul-le-mul_right {m = m / d} {n = c - 1 + 1} {k = d} (omega (arith, whole, one, round.2, beyond)) pos in
+      let e : c ≡ m / d = omega (arith, more, less) in
+      inr (round.1, ap (λ (k : ℕ). k * d) e ∙ whole)
 ]
 
 same_base : (m : ℕ) (p q : Progression) → IsNormalRun m p.base p.stride p.count → IsNormalRun m q.base q.stride q.count → p.stride ≡ q.stride → p.count ≡ q.count
@@ -89,14 +89,14 @@ same_base m p q n k strides counts fits =
     let low = above_below m q.base p.base pos in
     let back = above_back m q.base p.base k.below n.below in
     elim (closed m (above m q.base p.base) p.stride p.count n.strides low (let l = n.long in omega (arith, l)) n.once fits) [
-      inl none ↦ sym back ∙ ap (λ (o : ℕ). (q.base + o) % m) none ∙ (let e : q.base + 0 ≡ q.base = omega arith in ap (λ (w : ℕ). w % m) e) ∙ mod_low q.base m k.below
+      | inl none ↦ sym back ∙ ap (λ (o : ℕ). (q.base + o) % m) none ∙ (let e : q.base + 0 ≡ q.base = omega arith in ap (λ (w : ℕ). w % m) e) ∙ mod_low q.base m k.below
       | inr whole ↦
-      let small : p.base < p.stride = n.least whole.1 in
-      let small_too : q.base < p.stride = (let l = k.least (ap (λ (c : ℕ). c * q.stride) (sym counts) ∙ ap (λ (d : ℕ). p.count * d) (sym strides) ∙ whole.1) in omega (arith, l, strides)) in
-      let none : above m q.base p.base % p.stride ≡ 0 = mod-eq-zero_of_dvd p.stride fits.0 in
-      let step : (q.base + above m q.base p.base) % p.stride ≡ q.base % p.stride =
-      sym (add-mod-mod q.base (above m q.base p.base) p.stride) ∙ (let e : q.base + above m q.base p.base % p.stride ≡ q.base = omega (arith, none) in ap (λ (w : ℕ). w % p.stride) e) in
-      sym (mod_low p.base p.stride small) ∙ ap (λ (w : ℕ). w % p.stride) (sym back) ∙ mod-mod_of_dvd p.stride (q.base + above m q.base p.base) whole.0 ∙ step ∙ mod_low q.base p.stride small_too
+          let small : p.base < p.stride = n.least whole.1 in
+          let small_too : q.base < p.stride = (let l = k.least (ap (λ (c : ℕ). c * q.stride) (sym counts) ∙ ap (λ (d : ℕ). p.count * d) (sym strides) ∙ whole.1) in omega (arith, l, strides)) in
+          let none : above m q.base p.base % p.stride ≡ 0 = mod-eq-zero_of_dvd p.stride fits.0 in
+          let step : (q.base + above m q.base p.base) % p.stride ≡ q.base % p.stride =
+          sym (add-mod-mod q.base (above m q.base p.base) p.stride) ∙ (let e : q.base + above m q.base p.base % p.stride ≡ q.base = omega (arith, none) in ap (λ (w : ℕ). w % p.stride) e) in
+          sym (mod_low p.base p.stride small) ∙ ap (λ (w : ℕ). w % p.stride) (sym back) ∙ mod-mod_of_dvd p.stride (q.base + above m q.base p.base) whole.0 ∙ step ∙ mod_low q.base p.stride small_too
     ]
 
 same_runs : (m : ℕ) (p q : Progression) → IsNormalRun m p.base p.stride p.count → IsNormalRun m q.base q.stride q.count → Includes m (Run q) (Run p) → Includes m (Run p) (Run q) → Run p ≡ Run q

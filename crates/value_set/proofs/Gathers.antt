@@ -1,30 +1,28 @@
 -- What the loops that gather numbers keep.
-use Rattle.std.proofs.Common.{◌≡◌, ℕ, ◌+◌, ◌-◌, ◌*◌, ◌%◌, ◌/◌, ◌<◌, ◌≤◌, List, [], ◌∷◌, ◌++◌, length, take, drop, get_or, refl, sym, ◌∙◌, ap, subst, inl, inr, arith}
-use Prim.Native.Nat.{zero, suc, ◌∣◌}
-use Rattle.std.specs.Prelude.{slice_index, Ok, Err, Result}
+use Rattle.std.proofs.Common.{◌≡◌, ℕ, ◌+◌, ◌-◌, ◌*◌, ◌%◌, ◌/◌, ◌<◌, ◌≤◌, List, [], ◌∷◌, length, drop, get_or, refl, sym, ◌∙◌, ap, subst, inl, inr, arith}
+use Prim.Native.Nat.{suc}
+use Rattle.std.specs.Prelude.{Ok, Err}
 use Rattle.std.specs.List.{fold, insert}
 use Rattle.std.specs.List.Sorted.{IsBinarySearchResult}
 use Rattle.std.specs.Ordering.{nat_cmp}
 use Rattle.std.proofs.Common.{drop-cons}
 use Rattle.std.proofs.lemmas.List.{drop_all}
 use Rattle.std.proofs.lemmas.List.Sorted.{searched}
-use Rattle.std.proofs.lemmas.Grind.{get_or_default_zero}
-use Rattle.std.proofs.lemmas.Bool.{cases_lt, cases_eq}
-use Rattle.std.proofs.Math.Nat.{le_of_dvd, mul-le-mul_right}
+use Rattle.std.proofs.lemmas.Bool.{cases_eq}
+use Rattle.std.proofs.Math.Nat.{le_of_dvd}
 use Rattle.value_set.specs.Gcd.{gcd}
-use Rattle.value_set.specs.Form.{put, put_all, ascending, steps, Ascends, Fits, IsSpan, above, behind_widest, hull_base, common_stride, farthest, hull, set_of, make}
+use Rattle.value_set.specs.Form.{put, ascending, steps, Ascends, IsSpan, above, behind_widest, hull_base, common_stride, farthest, hull, make}
 use Rattle.value_set.specs.declared.form.Progression.{Progression}
-use Rattle.value_set.specs.declared.form.Form.{Form}
-use Rattle.value_set.specs.declared.form.Form.TheVariants.{Values, Run}
-use Rattle.value_set.proofs.Making.{make-few, make-whole, make-open}
-use Rattle.value_set.proofs.Divisors.{gcd_left, gcd_right, gcd-zero}
-use Rattle.value_set.proofs.Members.{IsIn, Contains_from_in, Ascends-in, Ascends-at, Ascends-order, Ascends-lower, Ascends-put, length-put, Ascends-put_all, length-put_all, length-steps, in_steps, put_found, put_insert, put_all-push, steps_more}
-use Rattle.value_set.proofs.Rounds.{above_below, product_below, run_below}
-use Rattle.value_set.proofs.Spans.{hull_base_in, hull_is, span_fits, widest-wider, widest-narrow, widest-nil}
+use Rattle.value_set.specs.declared.form.Form.TheVariants.{Run}
+use Rattle.value_set.proofs.Making.{make-whole, make-open}
+use Rattle.value_set.proofs.Divisors.{gcd_right, gcd-zero}
+use Rattle.value_set.proofs.Members.{Contains_from_in, Ascends-in, Ascends-order, Ascends-lower, Ascends-put, length-put, Ascends-put_all, length-put_all, length-steps, in_steps, put_found, put_insert, put_all-push, steps_more}
+use Rattle.value_set.proofs.Rounds.{above_below, run_below}
+use Rattle.value_set.proofs.Spans.{hull_base_in, hull_is, widest-wider, widest-narrow, widest-nil}
 
 pub gcd_below : (a b m : ℕ) → a < m → b < m → gcd a b < m
 gcd_below a b m h k = elim (cases_eq b 0) [
-  inl none ↦ let e = gcd-zero a b none in omega (arith, e)
+  | inl none ↦ let e = gcd-zero a b none in omega (arith, e)
   | inr some ↦ let low = le_of_dvd {m = gcd a b} {n = b} (omega (arith, some)) (gcd_right a b) in omega (arith, low)
 ]
 

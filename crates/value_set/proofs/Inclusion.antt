@@ -1,13 +1,12 @@
 -- When each number of one run is one of another.
 use Rattle.std.proofs.Common.{◌≡◌, ℕ, ◌+◌, ◌-◌, ◌*◌, ◌%◌, ◌/◌, ◌<◌, ◌≤◌, refl, sym, ◌∙◌, ap, subst, inl, inr, arith}
-use Prim.Native.Nat.{zero, suc, ◌∣◌}
+use Prim.Native.Nat.{suc, ◌∣◌}
 use Rattle.std.specs.Prelude.{◌⊎◌}
 use Rattle.std.proofs.lemmas.Bool.{cases_lt}
 use Rattle.std.proofs.Math.Nat.{mod-lt, add-mod-mod, dvd-mul_left, dvd-mul_left_of_dvd, dvd-add, dvd-sub, div-mul-le_self, lt-div-mul-add, le-div_iff_mul-le, lt_of_mul-lt-mul_right, mul-le-mul_right, mul-div_left}
-use Rattle.value_set.specs.declared.form.Progression.{Progression}
 use Rattle.value_set.specs.Form.{above}
 use Rattle.value_set.proofs.Members.{InRun}
-use Rattle.value_set.proofs.Rounds.{mod_low, mod_once, above_below, above_back, above_sum, product_below, run_offset, run_below, base_mod}
+use Rattle.value_set.proofs.Rounds.{mod_low, mod_once, above_sum, run_offset, run_below, base_mod}
 use Rattle.value_set.proofs.Spans.{reached}
 
 -- Seen from the second base: the first run starts at o, and its stride and the start are multiples of the second stride.
@@ -31,15 +30,18 @@ fitting_point m o d c g end i low pos once short fits =
     let most : i * d ≤ (c - 1) * d = mul-le-mul_right {m = i} {n = c - 1} d (omega arith) in
     let whole : g ∣ o + i * d = dvd-add g fits.0 (dvd-mul_left_of_dvd g fits.1 i) in
     elim (cases_lt (o + i * d) m) [
-      inl under ↦ rw (mod_low (o + i * d) m under) (whole, elim fits.2 [
-        inl straight ↦ omega (arith, straight.1, most)
-        | inr round ↦
-        let front : i ≤ (m - 1 - o) / d = (le-div_iff_mul-le {k = d} {x = i} {y = m - 1 - o} pos).1 (omega arith) in
-        let step = mul-le-mul_right {m = i} {n = (m - 1 - o) / d} d front in
-        omega (arith, step, round.2)
-      ])
+      | inl under ↦ rw (mod_low (o + i * d) m under) (
+        whole,
+        elim fits.2 [
+          | inl straight ↦ omega (arith, straight.1, most)
+          | inr round ↦
+              let front : i ≤ (m - 1 - o) / d = (le-div_iff_mul-le {k = d} {x = i} {y = m - 1 - o} pos).1 (omega arith) in
+              let step = mul-le-mul_right {m = i} {n = (m - 1 - o) / d} d front in
+              omega (arith, step, round.2)
+        ],
+      )
       | inr over ↦ rw (mod_once (o + i * d) m over (omega (arith, most, once))) (elim fits.2 [
-        inl straight ↦ absurd (omega (arith, straight.0, most))
+        | inl straight ↦ absurd (omega (arith, straight.0, most))
         | inr round ↦ (dvd-sub g whole round.1, omega (arith, round.2, most, once))
       ])
     ]
@@ -75,18 +77,18 @@ stride_fits m o d c g end low long once at =
     let start : g ∣ o = subst (λ (n : ℕ). g ∣ n) none (at 0 (omega arith)).0 in
     let one : 1 * d ≡ d = omega arith in
     elim (cases_lt (o + d) m) [
-      inl under ↦
-      let e : (o + 1 * d) % m ≡ o + d = ap (λ (n : ℕ). (o + n) % m) one ∙ mod_low (o + d) m under in
-      let next : g ∣ o + d = subst (λ (n : ℕ). g ∣ n) e (at 1 (omega arith)).0 in
-      let rest : o + d - o ≡ d = omega arith in
-      subst (λ (n : ℕ). g ∣ n) rest (dvd-sub g next start)
+      | inl under ↦
+          let e : (o + 1 * d) % m ≡ o + d = ap (λ (n : ℕ). (o + n) % m) one ∙ mod_low (o + d) m under in
+          let next : g ∣ o + d = subst (λ (n : ℕ). g ∣ n) e (at 1 (omega arith)).0 in
+          let rest : o + d - o ≡ d = omega arith in
+          subst (λ (n : ℕ). g ∣ n) rest (dvd-sub g next start)
       | inr over ↦
-      let e : (o + 1 * d) % m ≡ o + d - m = ap (λ (n : ℕ). (o + n) % m) one ∙ mod_once (o + d) m over (omega (arith, two, once)) in
-      let f : (o + 2 * d) % m ≡ o + 2 * d - m = mod_once (o + 2 * d) m (omega arith) (omega (arith, two, once)) in
-      let next : g ∣ o + d - m = subst (λ (n : ℕ). g ∣ n) e (at 1 (omega arith)).0 in
-      let after : g ∣ o + 2 * d - m = subst (λ (n : ℕ). g ∣ n) f (at 2 (omega arith)).0 in
-      let rest : o + 2 * d - m - (o + d - m) ≡ d = omega arith in
-      subst (λ (n : ℕ). g ∣ n) rest (dvd-sub g after next)
+          let e : (o + 1 * d) % m ≡ o + d - m = ap (λ (n : ℕ). (o + n) % m) one ∙ mod_once (o + d) m over (omega (arith, two, once)) in
+          let f : (o + 2 * d) % m ≡ o + 2 * d - m = mod_once (o + 2 * d) m (omega arith) (omega (arith, two, once)) in
+          let next : g ∣ o + d - m = subst (λ (n : ℕ). g ∣ n) e (at 1 (omega arith)).0 in
+          let after : g ∣ o + 2 * d - m = subst (λ (n : ℕ). g ∣ n) f (at 2 (omega arith)).0 in
+          let rest : o + 2 * d - m - (o + d - m) ≡ d = omega arith in
+          subst (λ (n : ℕ). g ∣ n) rest (dvd-sub g after next)
     ]
 
 turn_fits : (m o d c g end : ℕ) → o < m → 0 < d → 1 ≤ c → (c - 1) * d < m → m ≤ o + (c - 1) * d → g ∣ d → Points m o d c g end
@@ -113,8 +115,11 @@ fitting m b o d c e n h low pos long once once_too inside =
     let at = points m b o d c e n h low once_too inside in
     let strides = stride_fits m o d c e ((n - 1) * e) low long once at in
     let none : (o + 0 * d) % m ≡ o = (let z : o + 0 * d ≡ o = omega arith in ap (λ (k : ℕ). k % m) z ∙ mod_low o m low) in
-    let start : e ∣ o = subst (λ (k : ℕ). e ∣ k) none (at 0 (omega arith)).0 in
-    (start, strides, elim (cases_lt (o + (c - 1) * d) m) [
-      inl straight ↦ inl (straight, let last = at (c - 1) (omega arith) in omega (arith, last.1, mod_low (o + (c - 1) * d) m straight))
-      | inr round ↦ let turn = turn_fits m o d c e ((n - 1) * e) low pos (omega arith) once round strides at in inr (round, turn.0, turn.1)
-    ])
+    let start : e ∣ o = subst (λ (k : ℕ). e ∣ k) none (at 0 (omega arith)).0 in (
+      start,
+      strides,
+      elim (cases_lt (o + (c - 1) * d) m) [
+        | inl straight ↦ inl (straight, let last = at (c - 1) (omega arith) in omega (arith, last.1, mod_low (o + (c - 1) * d) m straight))
+        | inr round ↦ let turn = turn_fits m o d c e ((n - 1) * e) low pos (omega arith) once round strides at in inr (round, turn.0, turn.1)
+      ],
+    )

@@ -1,11 +1,11 @@
 -- The join includes both sets, in the one form.
-use Rattle.std.proofs.Common.{◌≡◌, ℕ, ◌+◌, ◌-◌, ◌*◌, ◌%◌, ◌/◌, ◌<◌, ◌≤◌, ◌++◌, Bool, true, false, List, [], ◌∷◌, length, refl, sym, ◌∙◌, ap, subst, inl, inr, arith, cond, eqb, Option, Some, None}
-use Prim.Native.Nat.{zero, suc, ◌∣◌}
-use Rattle.std.specs.Prelude.{◌⊎◌, ◌&&◌, ◌||◌}
+use Rattle.std.proofs.Common.{◌≡◌, ℕ, ◌+◌, ◌-◌, ◌*◌, ◌%◌, ◌/◌, ◌<◌, ◌≤◌, ◌++◌, Bool, true, false, List, [], ◌∷◌, length, refl, sym, ◌∙◌, ap, subst, inl, inr, arith, eqb, Option, Some, None}
+use Prim.Native.Nat.{◌∣◌}
+use Rattle.std.specs.Prelude.{◌⊎◌}
 use Rattle.std.specs.List.{list_any, list_all}
 use Rattle.std.proofs.Common.{length-append}
-use Rattle.std.proofs.lemmas.Bool.{cases_lt, cases_eq, cases_Bool, eqb-true, eq-eqb, or_cases, or_left, or_right, and_parts, and_from, true_from_ne_false, lt-leb, le-leb, lt-ltb, le-ltb}
-use Rattle.std.proofs.Math.Nat.{mod-lt, le_of_dvd, dvd_trans, dvd-add, dvd-mul_left_of_dvd, mul-le-mul_right, add-mod-mod}
+use Rattle.std.proofs.lemmas.Bool.{cases_lt, cases_Bool, eqb-true, eq-eqb, or_cases, or_left, or_right, and_parts, and_from, lt-leb, le-leb, lt-ltb, le-ltb}
+use Rattle.std.proofs.Math.Nat.{mod-lt, le_of_dvd, dvd_trans, dvd-add, dvd-mul_left_of_dvd, mul-le-mul_right}
 use Rattle.value_set.specs.Gcd.{gcd}
 use Rattle.value_set.specs.declared.form.Progression.{Progression}
 use Rattle.value_set.specs.declared.form.Stretch.{Stretch}
@@ -14,11 +14,10 @@ use Rattle.value_set.specs.declared.form.Form.TheVariants.{Values, Run}
 use Rattle.value_set.specs.Form.{make, members, Has, Includes, ascending, Ascends, IsNormal, IsSpan, above, greater, hull, span, class}
 use Rattle.value_set.specs.Joining.{is_in, is_within, reach, candidate, stretched, is_second, choose, join_spans, few_together, values_or, join_apart, join}
 use Rattle.value_set.proofs.Divisors.{gcd_left, gcd_right}
-use Rattle.value_set.proofs.Members.{IsIn, InRun, in_from_Contains, Contains_from_in, put_all_has, Ascends-put_all, Ascends-in, ascending_some, in_steps}
-use Rattle.value_set.proofs.Rounds.{mod_low, above_back, above_below, above_sum, run_offset, run_below, base_mod}
+use Rattle.value_set.proofs.Members.{IsIn, InRun, in_from_Contains, Contains_from_in, put_all_has, Ascends-put_all, Ascends-in, ascending_some}
+use Rattle.value_set.proofs.Rounds.{above_back, above_sum, base_mod}
 use Rattle.value_set.proofs.Making.{fits_to, make_has, make_normal}
 use Rattle.value_set.proofs.Spans.{greater_left, greater_right, reached, span_is, span_has, class_normal, class_reached}
-use Rattle.value_set.proofs.Inclusion.{seen}
 
 -- ---- the test of inclusion
 
@@ -104,8 +103,7 @@ rest_of m p q v s t (j, short, is) =
     let o = above m p.base q.base in
     let most = mul-le-mul_right {m = j} {n = q.count - 1} q.stride (omega (arith, short)) in
     let back : q.base ≡ (p.base + above m p.base q.base) % m = sym (above_back m p.base q.base s.below t.below) in
-    let sum : p.base + above m p.base q.base + j * q.stride ≡ p.base + (above m p.base q.base + j * q.stride) = omega arith in
-    (
+    let sum : p.base + above m p.base q.base + j * q.stride ≡ p.base + (above m p.base q.base + j * q.stride) = omega arith in (
       above m p.base q.base + j * q.stride,
       omega (arith, most),
       dvd-add _ (stride_offset m p q) (dvd-mul_left_of_dvd _ (stride_second m p q) j),
@@ -154,9 +152,9 @@ pub choose_cases : (m : ℕ) (one other : Stretch) (P : Form → Type 0) → (ot
     → P (class m one.base one.stride) → P (choose m one other)
 unfolding choose
 choose_cases m one other P second first neither = elim (cases_Bool (is_second m one other)) [
-  inl agreed ↦ rw agreed (second (second_below m one other agreed))
+  | inl agreed ↦ rw agreed (second (second_below m one other agreed))
   | inr refused ↦ rw refused (elim (cases_lt one.end m) [
-    inl low ↦ rw (lt-ltb one.end m low) (first low)
+    | inl low ↦ rw (lt-ltb one.end m low) (first low)
     | inr high ↦ rw (le-ltb one.end m high) neither
   ])
 ]
@@ -191,7 +189,7 @@ in_one_of v (x ∷ xs) ys (inr h) = elim (in_one_of v xs ys h) [ inl a ↦ inl (
 
 few_cases : (xs ys : List ℕ) → ((length (ascending (xs ++ ys)) ≤ 16) × (few_together xs ys ≡ Some (ascending (xs ++ ys)))) ⊎ (few_together xs ys ≡ None)
 few_cases xs ys = elim (cases_lt 16 (length (ascending (xs ++ ys)))) [
-  inr few ↦ inl (few, rw (le-leb (length (ascending (xs ++ ys))) 16 few) refl)
+  | inr few ↦ inl (few, rw (le-leb (length (ascending (xs ++ ys))) 16 few) refl)
   | inl many ↦ inr (rw (lt-leb (length (ascending (xs ++ ys))) 16 many) refl)
 ]
 
@@ -210,7 +208,7 @@ apart-run m p second = refl
 apart_cases : (m : ℕ) (first second : Form) (P : Form → Type 0) → ((xs ys : List ℕ) → first ≡ Values xs → second ≡ Values ys → length (ascending (xs ++ ys)) ≤ 16 → P (Values (ascending (xs ++ ys))))
     → P (join_spans m (span m first) (span m second)) → P (join_apart m first second)
 apart_cases m (Values xs) (Values ys) P few spans = elim (few_cases xs ys) [
-  inl short ↦ rw (apart-lists m xs ys, short.1) (few xs ys refl refl short.0)
+  | inl short ↦ rw (apart-lists m xs ys, short.1) (few xs ys refl refl short.0)
   | inr long ↦ rw (apart-lists m xs ys, long) spans
 ]
 apart_cases m (Values xs) (Run q) P few spans = rw (apart-list_run m xs q) spans
@@ -243,9 +241,9 @@ apart_normal m first second n k = apart_cases m first second (λ set. IsNormal m
 join_cases : (m : ℕ) (first second : Form) (P : Form → Type 0) → (Includes m first second → P first) → (Includes m second first → P second)
     → P (join_apart m first second) → P (join m first second)
 join_cases m first second P one other neither = elim (cases_Bool (is_within m second first)) [
-  inl agreed ↦ rw (join-first m first second agreed) (one (includes_from_test m second first agreed))
+  | inl agreed ↦ rw (join-first m first second agreed) (one (includes_from_test m second first agreed))
   | inr refused ↦ elim (cases_Bool (is_within m first second)) [
-    inl agreed ↦ rw (join-second m first second refused agreed) (other (includes_from_test m first second agreed))
+    | inl agreed ↦ rw (join-second m first second refused agreed) (other (includes_from_test m first second agreed))
     | inr both ↦ rw (join-neither m first second refused both) neither
   ]
 ]

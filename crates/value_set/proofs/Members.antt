@@ -1,9 +1,8 @@
 -- Lists of ascending numbers and their members.
-use Rattle.std.proofs.Common.{◌≡◌, ℕ, ◌+◌, ◌*◌, ◌%◌, ◌<◌, ◌≤◌, ◌++◌, true, false, List, [], ◌∷◌, length, refl, sym, ◌∙◌, ap, subst, inl, inr, cond, arith, ltb, eqb, get_or, take, append_assoc, append-nil}
+use Rattle.std.proofs.Common.{◌≡◌, ℕ, ◌+◌, ◌*◌, ◌%◌, ◌<◌, ◌≤◌, ◌++◌, List, [], ◌∷◌, length, refl, sym, ◌∙◌, ap, subst, inl, inr, arith, get_or, take, append_assoc, append-nil}
 use Prim.Native.Nat.{zero, suc}
-use Rattle.std.specs.Prelude.{◌⊎◌, ◌↔◌, map}
-use Rattle.std.specs.List.{Contains, fold, range_with_len, insert}
-use Rattle.std.proofs.lemmas.Bool.Decides.{nat_tests}
+use Rattle.std.specs.Prelude.{◌⊎◌}
+use Rattle.std.specs.List.{Contains, insert}
 use Rattle.std.proofs.lemmas.Bool.{cases_order, lt-ltb, le-ltb, eq-eqb, ne_eqb}
 use Rattle.std.proofs.lemmas.List.{take_more}
 use Rattle.std.proofs.lemmas.List.FromFn.{length-map-range_with_len, get_or-map-range_with_len, map-range_with_len_more}
@@ -47,11 +46,11 @@ put-nil v = refl
 pub in_put : (w v : ℕ) (xs : List ℕ) → IsIn v (put w xs) → (w ≡ v) ⊎ IsIn v xs
 in_put w v [] h = rw (put-nil w) at h
 in_put w v (x ∷ xs) h = elim (cases_order w x) [
-  inl same ↦ inr (rw (put-same w x xs same) at h)
+  | inl same ↦ inr (rw (put-same w x xs same) at h)
   | inr other ↦ elim other [
-    inl below ↦ rw (put-below w x xs below) at h
+    | inl below ↦ rw (put-below w x xs below) at h
     | inr above ↦ elim (rw (put-above w x xs above) at h) [
-      inl e ↦ inr (inl e)
+      | inl e ↦ inr (inl e)
       | inr rest ↦ elim (in_put w v xs rest) [ inl e ↦ inl e | inr r ↦ inr (inr r) ]
     ]
   ]
@@ -60,9 +59,9 @@ in_put w v (x ∷ xs) h = elim (cases_order w x) [
 pub put_itself : (w : ℕ) (xs : List ℕ) → IsIn w (put w xs)
 put_itself w [] = rw (put-nil w) (inl refl)
 put_itself w (x ∷ xs) = elim (cases_order w x) [
-  inl same ↦ rw (put-same w x xs same) (inl (sym same))
+  | inl same ↦ rw (put-same w x xs same) (inl (sym same))
   | inr other ↦ elim other [
-    inl below ↦ rw (put-below w x xs below) (inl refl)
+    | inl below ↦ rw (put-below w x xs below) (inl refl)
     | inr above ↦ rw (put-above w x xs above) (inr (put_itself w xs))
   ]
 ]
@@ -70,9 +69,9 @@ put_itself w (x ∷ xs) = elim (cases_order w x) [
 pub put_keeps : (w v : ℕ) (xs : List ℕ) → IsIn v xs → IsIn v (put w xs)
 put_keeps w v [] h = absurd h
 put_keeps w v (x ∷ xs) h = elim (cases_order w x) [
-  inl same ↦ rw (put-same w x xs same) h
+  | inl same ↦ rw (put-same w x xs same) h
   | inr other ↦ elim other [
-    inl below ↦ rw (put-below w x xs below) (inr h)
+    | inl below ↦ rw (put-below w x xs below) (inr h)
     | inr above ↦ rw (put-above w x xs above) (elim h [ inl e ↦ inl e | inr rest ↦ inr (put_keeps w v xs rest) ])
   ]
 ]
@@ -84,9 +83,9 @@ Ascends-lower low lower m (x ∷ xs) h a = (omega arith, a.1, a.2)
 pub Ascends-put : (low m w : ℕ) (xs : List ℕ) → low ≤ w → w < m → Ascends low m xs → Ascends low m (put w xs)
 Ascends-put low m w [] h k a = rw (put-nil w) (h, k, tt)
 Ascends-put low m w (x ∷ xs) h k a = elim (cases_order w x) [
-  inl same ↦ rw (put-same w x xs same) a
+  | inl same ↦ rw (put-same w x xs same) a
   | inr other ↦ elim other [
-    inl below ↦ rw (put-below w x xs below) (h, k, (omega arith, a.1, a.2))
+    | inl below ↦ rw (put-below w x xs below) (h, k, (omega arith, a.1, a.2))
     | inr above ↦ rw (put-above w x xs above) (a.0, a.1, Ascends-put (x + 1) m w xs (omega arith) k a.2)
   ]
 ]
@@ -94,9 +93,9 @@ Ascends-put low m w (x ∷ xs) h k a = elim (cases_order w x) [
 pub length-put : (w : ℕ) (xs : List ℕ) → length (put w xs) ≤ length xs + 1
 length-put w [] = rw (put-nil w) (omega arith)
 length-put w (x ∷ xs) = elim (cases_order w x) [
-  inl same ↦ rw (put-same w x xs same) (omega arith)
+  | inl same ↦ rw (put-same w x xs same) (omega arith)
   | inr other ↦ elim other [
-    inl below ↦ rw (put-below w x xs below) (omega arith)
+    | inl below ↦ rw (put-below w x xs below) (omega arith)
     | inr above ↦ let step = length-put w xs in rw (put-above w x xs above) (omega (arith, step))
   ]
 ]
@@ -104,9 +103,9 @@ length-put w (x ∷ xs) = elim (cases_order w x) [
 pub put_some : (w : ℕ) (xs : List ℕ) → 1 ≤ length (put w xs)
 put_some w [] = rw (put-nil w) (omega arith)
 put_some w (x ∷ xs) = elim (cases_order w x) [
-  inl same ↦ rw (put-same w x xs same) (omega arith)
+  | inl same ↦ rw (put-same w x xs same) (omega arith)
   | inr other ↦ elim other [
-    inl below ↦ rw (put-below w x xs below) (omega arith)
+    | inl below ↦ rw (put-below w x xs below) (omega arith)
     | inr above ↦ rw (put-above w x xs above) (omega arith)
   ]
 ]
@@ -116,7 +115,7 @@ put_some w (x ∷ xs) = elim (cases_order w x) [
 pub in_put_all : (v : ℕ) (held xs : List ℕ) → IsIn v (put_all held xs) → IsIn v held ⊎ IsIn v xs
 in_put_all v held [] h = inl h
 in_put_all v held (x ∷ xs) h = elim (in_put_all v (put x held) xs h) [
-  inl was ↦ elim (in_put x v held was) [ inl e ↦ inr (inl e) | inr r ↦ inl r ]
+  | inl was ↦ elim (in_put x v held was) [ inl e ↦ inr (inl e) | inr r ↦ inl r ]
   | inr rest ↦ inr (inr rest)
 ]
 
@@ -167,7 +166,7 @@ put_above_all w (x ∷ xs) below = put-above w x xs (below x (inl refl)) ∙ ap 
 tail_same : (low m x : ℕ) (xs ys : List ℕ) → Ascends low m (x ∷ xs) → Ascends low m (x ∷ ys)
     → ((v : ℕ) → IsIn v (x ∷ xs) → IsIn v (x ∷ ys)) → (v : ℕ) → IsIn v xs → IsIn v ys
 tail_same low m x xs ys a b to v h = elim (to v (inr h)) [
-  inl e ↦ absurd (let high = Ascends-in (x + 1) m v xs a.2 h in omega (arith, high.0, e))
+  | inl e ↦ absurd (let high = Ascends-in (x + 1) m v xs a.2 h in omega (arith, high.0, e))
   | inr r ↦ r
 ]
 
@@ -179,9 +178,9 @@ same_ascending low m (x ∷ xs) [] a b to back = absurd (to x (inl refl))
 same_ascending low m (x ∷ xs) (y ∷ ys) a b to back =
     let first_to = Ascends-in low m x (y ∷ ys) b (to x (inl refl)) in
     let e : x ≡ y = elim (to x (inl refl)) [
-      inl same ↦ sym same
+      | inl same ↦ sym same
       | inr later ↦ elim (back y (inl refl)) [
-        inl same ↦ same
+        | inl same ↦ same
         | inr earlier ↦ absurd (let p = Ascends-in (y + 1) m x ys b.2 later in let q = Ascends-in (x + 1) m y xs a.2 earlier in omega (arith, p.0, q.0))
       ]
     ] in

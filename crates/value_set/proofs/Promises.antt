@@ -1,21 +1,21 @@
 -- What is promised of the calls, over what they answer.
-use Rattle.std.proofs.Common.{◌≡◌, ℕ, ◌+◌, ◌-◌, ◌*◌, ◌%◌, ◌<◌, ◌≤◌, Bool, true, false, List, [], ◌∷◌, length, map, refl, sym, ◌∙◌, ap, subst, inl, inr, arith, get_or, Some, None, Option}
+use Rattle.std.proofs.Common.{◌≡◌, ℕ, ◌+◌, ◌-◌, ◌*◌, ◌%◌, ◌<◌, ◌≤◌, true, false, List, [], ◌∷◌, length, map, refl, sym, ◌∙◌, ap, subst, inl, inr, arith, get_or, Some, None, Option}
 use Prim.Native.Nat.{zero, suc}
-use Rattle.std.specs.Prelude.{◌⊎◌, ◌↔◌}
+use Rattle.std.specs.Prelude.{◌↔◌}
 use Rattle.std.specs.List.{Contains, All}
 use Rattle.std.proofs.lemmas.Bool.{cases_lt, true≢false}
 use Rattle.std.proofs.lemmas.List.{length-map}
 use Rattle.std.proofs.Math.Nat.{mul-le-mul_left}
 use Rattle.value_set.specs.declared.form.Form.{Form}
 use Rattle.value_set.specs.declared.form.Form.TheVariants.{Values, Run}
-use Rattle.value_set.specs.Form.{make, steps, members, Has, Includes, gather, Ascends, IsNormal, Fits, above}
+use Rattle.value_set.specs.Form.{make, steps, members, Has, gather, Ascends, IsNormal, Fits, above}
 use Rattle.value_set.specs.Collecting.{IsNoRun}
 use Rattle.value_set.specs.Cutting.{IfThere, cut}
-use Rattle.value_set.proofs.Members.{IsIn, InRun, in_from_Contains, Contains_from_in, in_steps, steps_has, length-steps}
+use Rattle.value_set.proofs.Members.{IsIn, in_steps, steps_has, length-steps}
 use Rattle.value_set.proofs.Rounds.{mod_low}
 use Rattle.value_set.proofs.Making.{in_make, make_has}
 use Rattle.value_set.proofs.Spans.{gather_normal, gather_has}
-use Rattle.value_set.proofs.Widens.{AllBelow, AllBelow_from}
+use Rattle.value_set.proofs.Widens.{AllBelow_from}
 use Rattle.value_set.proofs.Collects.{all_below_in}
 use Rattle.value_set.proofs.Cuts.{cut_has, cut_normal, cut_none, none_cut}
 
@@ -35,9 +35,9 @@ run_fits m stride count pos not_none = record {
 
 pub run_exact : (m base stride count v : ℕ) (set : Form) → set ≡ make m base stride count → Fits m stride count → Has m set v ↔ Contains (steps m base stride count) v
 run_exact m base stride count v set is fits = (
-    λ h. steps_has m base stride count v (in_make m base stride count v fits (subst (λ (s : Form). Has m s v) is h)),
-    λ h. subst (λ (s : Form). Has m s v) (sym is) (make_has m base stride count v fits (in_steps m base stride count v h)),
-  )
+  λ h. steps_has m base stride count v (in_make m base stride count v fits (subst (λ (s : Form). Has m s v) is h)),
+  λ h. subst (λ (s : Form). Has m s v) (sym is) (make_has m base stride count v fits (in_steps m base stride count v h)),
+)
 
 in_map : {X : Type 0} (f : X → ℕ) (xs : List X) (k : ℕ) (d : X) → k < length xs → IsIn (f (get_or xs k d)) (map f xs)
 in_map f [] k d h = absurd (omega arith)
@@ -75,7 +75,7 @@ cut_some_holds m set part low len v n h is has inside =
 
 pub cut_is_none : (m : ℕ) (set : Form) (low len v : ℕ) → IsNormal m set → low < m → None ≡ cut m set low len → Has m set v → len ≤ above m low v
 cut_is_none m set low len v n h is has = elim (cases_lt (above m low v) len) [
-  inl inside ↦ absurd (cut_none m set low len v n h (sym is) has inside)
+  | inl inside ↦ absurd (cut_none m set low len v n h (sym is) has inside)
   | inr outside ↦ outside
 ]
 

@@ -1,9 +1,9 @@
 -- Numbers on the circle modulo m, and the runs there.
-use Rattle.std.proofs.Common.{◌≡◌, ℕ, ◌+◌, ◌-◌, ◌*◌, ◌%◌, ◌/◌, ◌<◌, ◌≤◌, refl, sym, ◌∙◌, ap, subst, inl, inr, arith}
-use Prim.Native.Nat.{zero, suc, ◌∣◌}
+use Rattle.std.proofs.Common.{◌≡◌, ℕ, ◌+◌, ◌-◌, ◌*◌, ◌%◌, ◌/◌, ◌<◌, ◌≤◌, sym, ◌∙◌, ap, subst, inl, inr, arith}
+use Prim.Native.Nat.{◌∣◌}
 use Rattle.std.specs.Prelude.{◌⊎◌}
 use Rattle.std.proofs.lemmas.Bool.{cases_lt}
-use Rattle.std.proofs.Math.Nat.{mod-eq_of_lt, mod-eq-sub-mod, mod-lt, mod-add-mod, add-mod-mod, mod-mod, mod-mod_of_dvd, add-mul-mod_self_right, dvd-mul_left, dvd-sub, dvd-add, div-add-mod', dvd_of_mod-eq-zero, mod-eq-zero_of_dvd, div-mul_cancel, div-lt_iff_lt-mul, mul-le-mul_right, mul-div_left, mul-mod_left}
+use Rattle.std.proofs.Math.Nat.{mod-eq_of_lt, mod-eq-sub-mod, mod-lt, mod-add-mod, mod-mod_of_dvd, add-mul-mod_self_right, dvd-mul_left, dvd-sub, div-add-mod', dvd_of_mod-eq-zero, div-mul_cancel, div-lt_iff_lt-mul, mul-le-mul_right, mul-div_left, mul-mod_left}
 use Rattle.value_set.specs.Form.{above}
 use Rattle.value_set.proofs.Members.{InRun}
 
@@ -23,13 +23,13 @@ above_below m from v h = mod-lt _ h
 -- the distance to a sum
 pub above_sum : (m b k : ℕ) → b < m → k < m → above m b ((b + k) % m) ≡ k
 above_sum m b k h l = elim (mod_cases (b + k) m (omega arith)) [
-  inl low ↦ rw low.1 (let e : b + k + m - b ≡ k + m = omega arith in rw e (mod_once (k + m) m (omega arith) (omega arith) ∙ (omega arith)))
+  | inl low ↦ rw low.1 (let e : b + k + m - b ≡ k + m = omega arith in rw e (mod_once (k + m) m (omega arith) (omega arith) ∙ (omega arith)))
   | inr high ↦ rw high.1 (let e : b + k - m + m - b ≡ k = omega arith in rw e (mod_low k m l))
 ]
 
 pub above_back : (m b v : ℕ) → b < m → v < m → (b + above m b v) % m ≡ v
 above_back m b v h k = elim (mod_cases (v + m - b) m (omega arith)) [
-  inl low ↦ rw low.1 (let e : b + (v + m - b) ≡ v + m = omega arith in rw e (mod_once (v + m) m (omega arith) (omega arith) ∙ (omega arith)))
+  | inl low ↦ rw low.1 (let e : b + (v + m - b) ≡ v + m = omega arith in rw e (mod_once (v + m) m (omega arith) (omega arith) ∙ (omega arith)))
   | inr high ↦ rw high.1 (let e : b + (v + m - b - m) ≡ v = omega arith in rw e (mod_low v m k))
 ]
 

@@ -1,8 +1,7 @@
 -- Of one number with one number there is one result.
-use Rattle.std.proofs.Common.{◌≡◌, ℕ, ◌+◌, ◌-◌, ◌*◌, ◌%◌, ◌<◌, ◌≤◌, List, [], ◌∷◌, length, refl, sym, ◌∙◌, ap, subst, arith}
+use Rattle.std.proofs.Common.{◌≡◌, ℕ, ◌+◌, ◌-◌, ◌%◌, [], ◌∷◌, refl, ◌∙◌, arith}
 use Rattle.value_set.specs.declared.form.Form.{Form}
-use Rattle.value_set.specs.declared.form.Form.TheVariants.{Values, Run}
-use Rattle.value_set.specs.Form.{put, ascending, set_of, gather}
+use Rattle.value_set.specs.Form.{put, gather}
 use Rattle.value_set.specs.Summing.{single, combine, sum_answer, difference_answer, add, sub, twice}
 use Rattle.value_set.proofs.Spans.{set_of-few}
 use Rattle.value_set.proofs.Sums.{add-few, sub-few, twice-list}

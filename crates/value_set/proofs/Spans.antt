@@ -1,18 +1,17 @@
 -- The runs that sets are drawn from.
-use Rattle.std.proofs.Common.{◌≡◌, ℕ, ◌+◌, ◌-◌, ◌*◌, ◌%◌, ◌/◌, ◌<◌, ◌≤◌, true, false, List, [], ◌∷◌, length, refl, sym, ◌∙◌, ap, subst, inl, inr, arith, ltb, cond}
+use Rattle.std.proofs.Common.{◌≡◌, ℕ, ◌+◌, ◌-◌, ◌*◌, ◌%◌, ◌/◌, ◌<◌, ◌≤◌, List, [], ◌∷◌, length, refl, sym, ◌∙◌, ap, subst, inl, inr, arith}
 use Prim.Native.Nat.{zero, suc, ◌∣◌}
-use Rattle.std.specs.Prelude.{◌⊎◌, nat_lt, slice_index}
+use Rattle.std.specs.Prelude.{slice_index}
 use Rattle.std.specs.List.{fold}
 use Rattle.std.proofs.lemmas.Bool.{cases_lt, cases_eq, lt-ltb, le-ltb, lt-leb, le-leb}
-use Rattle.std.proofs.Math.Nat.{mod-lt, mod-mod, le-div_iff_mul-le, dvd_trans, dvd_refl, div-mul_cancel, mod-mod_of_dvd, add-mod, mod-add-mod, add-mod-mod, dvd-mul_left, dvd-mul_left_of_dvd, dvd-add, eq-zero_of_zero-dvd, pos_of_dvd_of_pos, mod-eq-zero_of_dvd, mul-le-mul_right}
+use Rattle.std.proofs.Math.Nat.{mod-lt, mod-mod, le-div_iff_mul-le, dvd_trans, dvd_refl, div-mul_cancel, mod-mod_of_dvd, add-mod-mod, eq-zero_of_zero-dvd, pos_of_dvd_of_pos, mod-eq-zero_of_dvd}
 use Rattle.value_set.specs.Gcd.{gcd}
-use Rattle.value_set.specs.declared.form.Progression.{Progression}
 use Rattle.value_set.specs.declared.form.Form.{Form}
 use Rattle.value_set.specs.declared.form.Form.TheVariants.{Values, Run}
-use Rattle.value_set.specs.Form.{make, steps, members, Has, ascending, Ascends, IsNormal, IsNormalRun, above, behind_widest, hull_base, common_stride, greater, farthest, hull, span, Fits, IsSpan, set_of, gather, class}
+use Rattle.value_set.specs.Form.{make, Has, ascending, Ascends, IsNormal, above, behind_widest, hull_base, common_stride, greater, farthest, hull, span, Fits, IsSpan, set_of, gather, class}
 use Rattle.value_set.proofs.Divisors.{gcd_left, gcd_right}
-use Rattle.value_set.proofs.Members.{IsIn, InRun, in_from_Contains, Contains_from_in, in_ascending, put_all_has, Ascends-put_all, Ascends-in, ascending_some, in_steps, steps_has}
-use Rattle.value_set.proofs.Rounds.{above_below, above_back, run_from_offset, run_below, whole_has, base_mod}
+use Rattle.value_set.proofs.Members.{IsIn, InRun, in_from_Contains, Contains_from_in, put_all_has, Ascends-put_all, Ascends-in, ascending_some, in_steps}
+use Rattle.value_set.proofs.Rounds.{above_below, run_from_offset, whole_has}
 use Rattle.value_set.proofs.Making.{fits_to, make_has, make_normal}
 
 pub greater_left : (a b : ℕ) → a ≤ greater a b
@@ -41,7 +40,7 @@ widest-nil best width previous = refl
 widest_in : (best width previous : ℕ) (xs : List ℕ) → IsIn (behind_widest best width previous xs) (best ∷ xs)
 widest_in best width previous [] = inl (sym (widest-nil best width previous))
 widest_in best width previous (x ∷ xs) = elim (cases_lt width (x - previous)) [
-  inl wider ↦ subst (λ (w : ℕ). IsIn w (best ∷ x ∷ xs)) (sym (widest-wider best width previous x xs wider)) (inr (widest_in x (x - previous) x xs))
+  | inl wider ↦ subst (λ (w : ℕ). IsIn w (best ∷ x ∷ xs)) (sym (widest-wider best width previous x xs wider)) (inr (widest_in x (x - previous) x xs))
   | inr narrow ↦ subst (λ (w : ℕ). IsIn w (best ∷ x ∷ xs)) (sym (widest-narrow best width previous x xs narrow)) (elim (widest_in best width x xs) [ inl e ↦ inl e | inr r ↦ inr (inr r) ])
 ]
 
@@ -130,7 +129,7 @@ set_of-many m xs h = rw (lt-leb (length xs) 16 h) refl
 pub gather_normal : (m : ℕ) (xs : List ℕ) → 1 ≤ length xs → ((v : ℕ) → IsIn v xs → v < m) → IsNormal m (gather m xs)
 gather_normal m xs h below = let some = ascending_some xs h in let rises = Ascends-put_all m [] xs below tt in
     elim (cases_lt 16 (length (ascending xs))) [
-      inr few ↦ rw (set_of-few m (ascending xs) few) (some, few, rises)
+      | inr few ↦ rw (set_of-few m (ascending xs) few) (some, few, rises)
       | inl many ↦ rw (set_of-many m (ascending xs) many) (make_normal m _ _ _ (span_fits m _ _ _ (hull_is m (ascending xs) some rises)))
     ]
 
@@ -138,9 +137,9 @@ pub gather_has : (m v : ℕ) (xs : List ℕ) → 1 ≤ length xs → ((v : ℕ) 
 gather_has m v xs h below i = let some = ascending_some xs h in let rises = Ascends-put_all m [] xs below tt in
     let there = put_all_has v [] xs i in
     elim (cases_lt 16 (length (ascending xs))) [
-      inr few ↦ rw (set_of-few m (ascending xs) few) (Contains_from_in (ascending xs) v there)
+      | inr few ↦ rw (set_of-few m (ascending xs) few) (Contains_from_in (ascending xs) v there)
       | inl many ↦ rw (set_of-many m (ascending xs) many)
-      (make_has m _ _ _ v (span_fits m _ _ _ (hull_is m (ascending xs) some rises)) (hull_has m v (ascending xs) some rises there))
+          (make_has m _ _ _ v (span_fits m _ _ _ (hull_is m (ascending xs) some rises)) (hull_has m v (ascending xs) some rises there))
     ]
 
 -- ---- class
@@ -157,7 +156,7 @@ class_fits m d pos =
     let gpos : 0 < gcd d m = divisor_positive m d pos in
     let whole : m / gcd d m * gcd d m ≡ m = div-mul_cancel (gcd d m) (gcd_right d m) in
     let some : 1 ≤ m / gcd d m = elim (cases_eq (m / gcd d m) 0) [
-      inl none ↦ absurd (let z : m / gcd d m * gcd d m ≡ 0 * gcd d m = ap (λ (n : ℕ). n * gcd d m) none in omega (arith, z, whole))
+      | inl none ↦ absurd (let z : m / gcd d m * gcd d m ≡ 0 * gcd d m = ap (λ (n : ℕ). n * gcd d m) none in omega (arith, z, whole))
       | inr other ↦ omega (arith, other)
     ] in
     let step : (m / gcd d m - 1) * gcd d m < m = less_one (m / gcd d m) (gcd d m) m whole some gpos in

@@ -1,24 +1,23 @@
 -- The set of a sum, a difference or any operation has each result, in the one form.
-use Rattle.std.proofs.Common.{◌≡◌, ℕ, ◌+◌, ◌-◌, ◌*◌, ◌%◌, ◌/◌, ◌<◌, ◌≤◌, ◌++◌, Bool, true, false, List, [], ◌∷◌, length, take, get_or, append-nil, refl, sym, ◌∙◌, ap, subst, inl, inr, arith, cond}
+use Rattle.std.proofs.Common.{◌≡◌, ℕ, ◌+◌, ◌-◌, ◌*◌, ◌%◌, ◌/◌, ◌<◌, ◌≤◌, ◌++◌, List, [], ◌∷◌, length, take, get_or, append-nil, refl, sym, ◌∙◌, ap, subst, inl, inr, arith}
 use Rattle.std.proofs.lemmas.List.{take_more, take_all, map-append}
 use Rattle.std.proofs.lemmas.Grind.{flat_map-append}
-use Prim.Native.Nat.{zero, suc, ◌∣◌}
+use Prim.Native.Nat.{◌∣◌}
 use Rattle.std.specs.Prelude.{◌⊎◌, map}
 use Rattle.std.specs.List.{flat_map}
-use Rattle.std.proofs.Common.{length-append}
 use Rattle.std.proofs.lemmas.Bool.{cases_lt, lt-ltb, le-ltb, lt-leb, le-leb}
-use Rattle.std.proofs.Math.Nat.{mod-lt, dvd_trans, dvd-add, dvd-mul_left, dvd-mul_left_of_dvd, mul-le-mul_right, add-mod-mod, mod-add-mod, add-mod_right, mod-mod}
+use Rattle.std.proofs.Math.Nat.{mod-lt, dvd-add, dvd-mul_left, dvd-mul_left_of_dvd, mul-le-mul_right, add-mod-mod, add-mod_right}
 use Rattle.value_set.specs.Gcd.{gcd}
 use Rattle.value_set.specs.declared.form.Progression.{Progression}
 use Rattle.value_set.specs.declared.form.Form.{Form}
 use Rattle.value_set.specs.declared.form.Form.TheVariants.{Values, Run}
-use Rattle.value_set.specs.Form.{make, members, Has, Includes, gather, set_of, put, put_all, ascending, Ascends, IsNormal, IsSpan, Fits, above, span, class}
+use Rattle.value_set.specs.Form.{make, members, Has, gather, set_of, put, put_all, ascending, Ascends, IsNormal, Fits, span, class}
 use Rattle.value_set.specs.Joining.{reach}
 use Rattle.value_set.specs.Summing.{single, results, combine, count_of, sum_answer, difference_answer, add_spans, negated, add, sub, twice}
 use Rattle.value_set.specs.Operations.{StaysBelow, sum_stays, difference_stays}
 use Rattle.value_set.proofs.Divisors.{gcd_left, gcd_right}
-use Rattle.value_set.proofs.Members.{IsIn, InRun, in_from_Contains, Contains_from_in, in_steps, length-steps, put_all-append, put_all-push, Ascends-put_all, ascending_some}
-use Rattle.value_set.proofs.Rounds.{mod_low, mod_once, mod_cases, base_mod, run_below, product_below}
+use Rattle.value_set.proofs.Members.{IsIn, in_from_Contains, Contains_from_in, in_steps, length-steps, put_all-append, put_all-push, Ascends-put_all, ascending_some}
+use Rattle.value_set.proofs.Rounds.{mod_cases, base_mod, run_below, product_below}
 use Rattle.value_set.proofs.Making.{fits_to, make_has, make_normal}
 use Rattle.value_set.proofs.Spans.{multiple, span_is, span_has, gather_normal, gather_has, class_normal, class_reached}
 use Rattle.value_set.proofs.Joins.{IsRun, InSpan}
@@ -58,7 +57,7 @@ flat_in f x v (y ∷ ys) (inr h) i = in_append_right v (f y) (flat_map f ys) (fl
 in_flat : (f : ℕ → List ℕ) (v : ℕ) (xs : List ℕ) → IsIn v (flat_map f xs) → (x : ℕ) × IsIn x xs × IsIn v (f x)
 in_flat f v [] h = absurd h
 in_flat f v (y ∷ ys) h = elim (in_append v (f y) (flat_map f ys) h) [
-  inl here ↦ (y, inl refl, here)
+  | inl here ↦ (y, inl refl, here)
   | inr later ↦ let rest = in_flat f v ys later in (rest.0, inr rest.1, rest.2)
 ]
 
@@ -120,7 +119,7 @@ pub add_spans_cases : (m : ℕ) (p q : Progression) (P : Form → Type 0) → (r
     → P (class m (p.base + q.base) (gcd p.stride q.stride)) → P (add_spans m p q)
 unfolding add_spans
 add_spans_cases m p q P one all = elim (cases_lt (reach p + reach q) m) [
-  inl low ↦ rw (lt-ltb (reach p + reach q) m low) (one low)
+  | inl low ↦ rw (lt-ltb (reach p + reach q) m low) (one low)
   | inr high ↦ rw (le-ltb (reach p + reach q) m high) all
 ]
 
@@ -156,9 +155,9 @@ negated_is m p s = record { below = mod-lt (m - (p.base + reach p) % m) {m = m} 
 
 turned : (m last y k : ℕ) → last < m → y < m → k < m → (y + k) % m ≡ last → (m - y) % m ≡ ((m - last) % m + k) % m
 turned m last y k a b c h = elim (mod_cases (y + k) m (omega arith)) [
-  inl low ↦ let e : m - y ≡ m - last + k = omega (arith, h, low.1) in ap (λ (n : ℕ). n % m) e ∙ sym (base_mod m (m - last) k)
+  | inl low ↦ let e : m - y ≡ m - last + k = omega (arith, h, low.1) in ap (λ (n : ℕ). n % m) e ∙ sym (base_mod m (m - last) k)
   | inr high ↦ let e : m - y + m ≡ m - last + k = omega (arith, h, high.1, high.0) in
-  sym (add-mod_right (m - y) m) ∙ ap (λ (n : ℕ). n % m) e ∙ sym (base_mod m (m - last) k)
+      sym (add-mod_right (m - y) m) ∙ ap (λ (n : ℕ). n % m) e ∙ sym (base_mod m (m - last) k)
 ]
 
 pub negated_has : (m : ℕ) (p : Progression) (y : ℕ) → IsRun m p → InSpan m p y → InSpan m (negated m p) ((m - y) % m)
@@ -205,28 +204,28 @@ positive m set n = let low = (span_is m set n).below in omega (arith, low)
 
 pub add_normal : (m : ℕ) (a b : Form) → IsNormal m a → IsNormal m b → IsNormal m (add m a b)
 add_normal m a b n k = elim (cases_lt 256 (count_of m a * count_of m b)) [
-  inr few ↦ rw (add-few m a b few) (combine_normal m (sum_answer m) a b (single 0) n k (single_normal m 0 (positive m a n)) (sum_stays m))
+  | inr few ↦ rw (add-few m a b few) (combine_normal m (sum_answer m) a b (single 0) n k (single_normal m 0 (positive m a n)) (sum_stays m))
   | inl many ↦ rw (add-many m a b many) (add_spans_normal m (span m a) (span m b) (positive m a n))
 ]
 
 pub add_has : (m : ℕ) (a b : Form) (x y : ℕ) → IsNormal m a → IsNormal m b → Has m a x → Has m b y → Has m (add m a b) ((x + y) % m)
 add_has m a b x y n k h i = elim (cases_lt 256 (count_of m a * count_of m b)) [
-  inr few ↦ rw (add-few m a b few) (combine_has m (sum_answer m) a b (single 0) x y 0 n k (single_normal m 0 (positive m a n)) (sum_stays m) h i (0, omega arith, refl))
+  | inr few ↦ rw (add-few m a b few) (combine_has m (sum_answer m) a b (single 0) x y 0 n k (single_normal m 0 (positive m a n)) (sum_stays m) h i (0, omega arith, refl))
   | inl many ↦ rw (add-many m a b many) (add_spans_has m (span m a) (span m b) x y (span_is m a n) (span_is m b k) (span_has m x a n h) (span_has m y b k i))
 ]
 
 pub sub_normal : (m : ℕ) (a b : Form) → IsNormal m a → IsNormal m b → IsNormal m (sub m a b)
 sub_normal m a b n k = elim (cases_lt 256 (count_of m a * count_of m b)) [
-  inr few ↦ rw (sub-few m a b few) (combine_normal m (difference_answer m) a b (single 0) n k (single_normal m 0 (positive m a n)) (difference_stays m))
+  | inr few ↦ rw (sub-few m a b few) (combine_normal m (difference_answer m) a b (single 0) n k (single_normal m 0 (positive m a n)) (difference_stays m))
   | inl many ↦ rw (sub-many m a b many) (add_spans_normal m (span m a) (negated m (span m b)) (positive m a n))
 ]
 
 pub sub_has : (m : ℕ) (a b : Form) (x y : ℕ) → IsNormal m a → IsNormal m b → Has m a x → Has m b y → Has m (sub m a b) ((x + m - y) % m)
 sub_has m a b x y n k h i = elim (cases_lt 256 (count_of m a * count_of m b)) [
-  inr few ↦ rw (sub-few m a b few) (combine_has m (difference_answer m) a b (single 0) x y 0 n k (single_normal m 0 (positive m a n)) (difference_stays m) h i (0, omega arith, refl))
+  | inr few ↦ rw (sub-few m a b few) (combine_has m (difference_answer m) a b (single 0) x y 0 n k (single_normal m 0 (positive m a n)) (difference_stays m) h i (0, omega arith, refl))
   | inl many ↦ rw (sub-many m a b many) (subst (λ (v : ℕ). Has m (add_spans m (span m a) (negated m (span m b))) v) (minus_mod m x y (member_below m y b k i))
-  (add_spans_has m (span m a) (negated m (span m b)) x ((m - y) % m) (span_is m a n) (negated_is m (span m b) (span_is m b k)) (span_has m x a n h)
-  (negated_has m (span m b) y (span_is m b k) (span_has m y b k i))))
+      (add_spans_has m (span m a) (negated m (span m b)) x ((m - y) % m) (span_is m a n) (negated_is m (span m b) (span_is m b k)) (span_has m x a n h)
+      (negated_has m (span m b) y (span_is m b k) (span_has m y b k i))))
 ]
 
 pub twice-list : (m : ℕ) (xs : List ℕ) → twice m (Values xs) ≡ gather m (map (λ v. (v + v) % m) xs)
@@ -257,7 +256,7 @@ pub twice_normal : (m : ℕ) (set : Form) → IsNormal m set → IsNormal m (twi
 twice_normal m (Values xs) n = rw (twice-list m xs) (gather_normal m (map (λ v. (v + v) % m) xs) (doubled_some (λ v. (v + v) % m) xs n.0)
     (λ v h. doubled_below m v xs (positive m (Values xs) n) h))
 twice_normal m (Run p) n = elim (cases_lt (2 * reach p) m) [
-  inl low ↦ rw (twice-once m p low) (make_normal m (2 * p.base) (2 * p.stride) p.count (twice_fits m p n low))
+  | inl low ↦ rw (twice-once m p low) (make_normal m (2 * p.base) (2 * p.stride) p.count (twice_fits m p n low))
   | inr high ↦ rw (twice-round m p high) (class_normal m (2 * p.base) (2 * p.stride) (positive m (Run p) n))
 ]
 
@@ -269,7 +268,7 @@ twice_has m (Run p) v n h =
     let regroup : p.base + run.0 * p.stride + (p.base + run.0 * p.stride) ≡ 2 * p.base + run.0 * (2 * p.stride) = omega arith in
     let sum : (v + v) % m ≡ (2 * p.base + run.0 * (2 * p.stride)) % m = sum_mod m (p.base + run.0 * p.stride) (p.base + run.0 * p.stride) v v run.2 run.2 ∙ ap (λ (k : ℕ). k % m) regroup in
     elim (cases_lt (2 * reach p) m) [
-      inl low ↦ rw (twice-once m p low) (make_has m (2 * p.base) (2 * p.stride) p.count ((v + v) % m) (twice_fits m p n low) (run.0, run.1, sum))
+      | inl low ↦ rw (twice-once m p low) (make_has m (2 * p.base) (2 * p.stride) p.count ((v + v) % m) (twice_fits m p n low) (run.0, run.1, sum))
       | inr high ↦ rw (twice-round m p high) (class_reached m (2 * p.base) (2 * p.stride) ((v + v) % m) (run.0 * (2 * p.stride)) (positive m (Run p) n) sum (dvd-mul_left (2 * p.stride) run.0))
     ]
 
@@ -291,9 +290,10 @@ combine-is m answer a b c values is = ap (λ (xs : List ℕ). set_of m xs) is
 
 pub results_ascend : (m : ℕ) (answer : ℕ → ℕ → ℕ → ℕ) (a b c : Form) → IsNormal m a → IsNormal m b → IsNormal m c → StaysBelow m answer
     → Ascends 0 m (ascending (results answer (members m a) (members m b) (members m c))) × (1 ≤ length (ascending (results answer (members m a) (members m b) (members m c))))
-results_ascend m answer a b c n k l stays =
-    (Ascends-put_all m [] (results answer (members m a) (members m b) (members m c)) (λ v h. results_below m answer a b c v n k l stays h) tt,
-     ascending_some (results answer (members m a) (members m b) (members m c)) (some_results m answer a b c n k l))
+results_ascend m answer a b c n k l stays = (
+  Ascends-put_all m [] (results answer (members m a) (members m b) (members m c)) (λ v h. results_below m answer a b c v n k l stays h) tt,
+  ascending_some (results answer (members m a) (members m b) (members m c)) (some_results m answer a b c n k l),
+)
 
 pub all_results : (answer : ℕ → ℕ → ℕ → ℕ) (i : ℕ) (values given xs ys zs : List ℕ) → values ≡ ascending (results answer (take i xs) ys zs) → given ≡ values → length xs ≤ i
     → given ≡ ascending (results answer xs ys zs)
@@ -305,8 +305,8 @@ unfolding add_spans
 spans_once m base stride end first second count p q a b f s e low c =
     let sum : end ≡ reach p + reach q = e ∙ ap (λ (n : ℕ). n + second) f ∙ ap (λ (n : ℕ). reach p + n) s in
     rw (lt-ltb (reach p + reach q) m (omega (arith, low, sum))) (
-      ap (λ (n : ℕ). make m n stride count) a ∙ ap (λ (n : ℕ). make m (p.base + q.base) n count) b
-      ∙ ap (λ (n : ℕ). make m (p.base + q.base) (gcd p.stride q.stride) n) (c ∙ ap (λ (n : ℕ). n / stride + 1) sum ∙ ap (λ (n : ℕ). (reach p + reach q) / n + 1) b))
+    ap (λ (n : ℕ). make m n stride count) a ∙ ap (λ (n : ℕ). make m (p.base + q.base) n count) b
+    ∙ ap (λ (n : ℕ). make m (p.base + q.base) (gcd p.stride q.stride) n) (c ∙ ap (λ (n : ℕ). n / stride + 1) sum ∙ ap (λ (n : ℕ). (reach p + reach q) / n + 1) b))
 
 pub spans_round : (m base stride end first second : ℕ) (p q : Progression) → base ≡ p.base + q.base → stride ≡ gcd p.stride q.stride → first ≡ reach p → second ≡ reach q
     → end ≡ first + second → m ≤ end → class m base stride ≡ add_spans m p q
@@ -357,9 +357,9 @@ twice_set m given xs is = ap (λ (ys : List ℕ). set_of m ys) is ∙ sym (twice
 
 pub twice_ascends : (m : ℕ) (xs : List ℕ) → IsNormal m (Values xs) → Ascends 0 m (ascending (map (λ v. (v + v) % m) xs)) × (1 ≤ length (ascending (map (λ v. (v + v) % m) xs)))
 twice_ascends m xs n = (
-    Ascends-put_all m [] (map (λ v. (v + v) % m) xs) (λ v h. doubled_below m v xs (positive m (Values xs) n) h) tt,
-    ascending_some (map (λ v. (v + v) % m) xs) (doubled_some (λ v. (v + v) % m) xs n.0),
-  )
+  Ascends-put_all m [] (map (λ v. (v + v) % m) xs) (λ v h. doubled_below m v xs (positive m (Values xs) n) h) tt,
+  ascending_some (map (λ v. (v + v) % m) xs) (doubled_some (λ v. (v + v) % m) xs n.0),
+)
 
 pub twice_made : (m far : ℕ) (p : Progression) → far ≡ reach p → 2 * far < m → make m (2 * p.base) (2 * p.stride) p.count ≡ twice m (Run p)
 twice_made m far p is low = sym (twice-once m p (omega (arith, is, low)))

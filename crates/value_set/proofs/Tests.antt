@@ -1,8 +1,7 @@
 -- The tests of members and of inclusion, as the code makes them.
-use Rattle.std.proofs.Common.{◌≡◌, ℕ, ◌+◌, ◌-◌, ◌*◌, ◌%◌, ◌/◌, ◌<◌, ◌≤◌, Bool, true, false, List, length, refl, sym, ◌∙◌, ap, subst, inl, inr, arith, IsTrue, ltb, leb, get_or}
-use Prim.Native.Nat.{zero, suc, ◌∣◌}
-use Rattle.std.specs.Prelude.{◌⊎◌, ◌↔◌, slice_index}
-use Rattle.std.specs.List.{Contains}
+use Rattle.std.proofs.Common.{◌≡◌, ℕ, ◌+◌, ◌-◌, ◌*◌, ◌%◌, ◌/◌, ◌<◌, ◌≤◌, Bool, true, false, List, length, refl, sym, ◌∙◌, ap, subst, inl, inr, arith, IsTrue, ltb, leb}
+use Prim.Native.Nat.{◌∣◌}
+use Rattle.std.specs.Prelude.{◌↔◌, slice_index}
 use Rattle.std.proofs.lemmas.Bool.{ltb-true, lt-ltb, leb-true, le-leb, false≢true, iff_false}
 use Rattle.std.proofs.lemmas.Grind.{get_or_default_zero}
 use Rattle.std.proofs.Common.{below_more}
@@ -10,9 +9,9 @@ use Rattle.std.proofs.Math.Nat.{dvd_of_mod-eq-zero, mod-eq-zero_of_dvd}
 use Rattle.value_set.specs.declared.form.Progression.{Progression}
 use Rattle.value_set.specs.declared.form.Form.{Form}
 use Rattle.value_set.specs.declared.form.Form.TheVariants.{Values, Run}
-use Rattle.value_set.specs.Form.{steps, members, Has, Includes, IsNormal, IsNormalRun, Ascends, above}
-use Rattle.value_set.proofs.Members.{IsIn, InRun, in_from_Contains, Ascends-in, length-steps, get_or-steps, in_steps, steps_has}
-use Rattle.value_set.proofs.Rounds.{above_below, above_back, run_test, run_tested, run_offset, run_below, product_below}
+use Rattle.value_set.specs.Form.{members, Has, Includes, IsNormal, IsNormalRun, above}
+use Rattle.value_set.proofs.Members.{InRun, in_from_Contains, Ascends-in, length-steps, get_or-steps, in_steps, steps_has}
+use Rattle.value_set.proofs.Rounds.{above_below, above_back, run_test, run_tested, run_below}
 use Rattle.value_set.proofs.Inclusion.{Fitting, included, fitting}
 
 -- ---- members
@@ -36,11 +35,11 @@ not_in_run m v far p n low is apart h =
 pub in_run : (m v far : ℕ) (p : Progression) → IsNormalRun m p.base p.stride p.count → v < m → far ≡ above m p.base v
     → p.stride ∣ far → IsTrue (ltb (far / p.stride) p.count) ↔ Has m (Run p) v
 in_run m v far p n low is whole = (
-    λ t. steps_has m p.base p.stride p.count v (run_tested m p.base p.stride p.count v n.below low n.strides
-    (let none = mod-eq-zero_of_dvd p.stride whole in rw (← is) none) (let short = ltb-true (far / p.stride) p.count t in rw (← is) short)),
-    λ h. let found = run_test m p.base p.stride p.count v n.below n.strides n.once (in_steps m p.base p.stride p.count v h) in
-    lt-ltb (far / p.stride) p.count (rw is found.1),
-  )
+  λ t. steps_has m p.base p.stride p.count v (run_tested m p.base p.stride p.count v n.below low n.strides
+      (let none = mod-eq-zero_of_dvd p.stride whole in rw (← is) none) (let short = ltb-true (far / p.stride) p.count t in rw (← is) short)),
+  λ h. let found = run_test m p.base p.stride p.count v n.below n.strides n.once (in_steps m p.base p.stride p.count v h) in
+      lt-ltb (far / p.stride) p.count (rw is found.1),
+)
 
 -- ---- inclusion of runs
 
@@ -80,29 +79,29 @@ pub within_straight : (m : ℕ) (p q : Progression) (o last end : ℕ) → IsNor
     → o ≡ above m q.base p.base → q.stride ∣ o → q.stride ∣ p.stride → last ≡ o + (p.count - 1) * p.stride → end ≡ (q.count - 1) * q.stride → last < m
     → IsTrue (leb last end) ↔ Includes m (Run q) (Run p)
 within_straight m p q o last end n k is start strides last_is end_is low = (
-    λ t. fit_includes m p q o n k is (start, strides, inl (omega (arith, last_is), omega (arith, last_is, end_is, leb-true last end t))),
-    λ inside. le-leb last end (elim (runs_fit m p q o n k is inside).2 [
-      inl straight ↦ omega (arith, straight.1, last_is, end_is)
-      | inr round ↦ absurd (omega (arith, round.0, last_is))
-    ]),
-  )
+  λ t. fit_includes m p q o n k is (start, strides, inl (omega (arith, last_is), omega (arith, last_is, end_is, leb-true last end t))),
+  λ inside. le-leb last end (elim (runs_fit m p q o n k is inside).2 [
+    | inl straight ↦ omega (arith, straight.1, last_is, end_is)
+    | inr round ↦ absurd (omega (arith, round.0, last_is))
+  ]),
+)
 
 -- it goes round
 pub within_round : (m : ℕ) (p q : Progression) (o last turn end : ℕ) → IsNormalRun m p.base p.stride p.count → IsNormalRun m q.base q.stride q.count
     → o ≡ above m q.base p.base → q.stride ∣ o → q.stride ∣ p.stride → last ≡ o + (p.count - 1) * p.stride → end ≡ (q.count - 1) * q.stride → m ≤ last
     → q.stride ∣ m → turn ≡ o + (m - 1 - o) / p.stride * p.stride → IsTrue (leb turn end) ↔ Includes m (Run q) (Run p)
 within_round m p q o last turn end n k is start strides last_is end_is high whole turn_is = (
-    λ t. fit_includes m p q o n k is (start, strides, inr (omega (arith, last_is), whole, omega (arith, turn_is, end_is, leb-true turn end t))),
-    λ inside. le-leb turn end (elim (runs_fit m p q o n k is inside).2 [
-      inl straight ↦ absurd (omega (arith, straight.0, last_is))
-      | inr round ↦ omega (arith, round.2, turn_is, end_is)
-    ]),
-  )
+  λ t. fit_includes m p q o n k is (start, strides, inr (omega (arith, last_is), whole, omega (arith, turn_is, end_is, leb-true turn end t))),
+  λ inside. le-leb turn end (elim (runs_fit m p q o n k is inside).2 [
+    | inl straight ↦ absurd (omega (arith, straight.0, last_is))
+    | inr round ↦ omega (arith, round.2, turn_is, end_is)
+  ]),
+)
 
 pub within_no_turn : (m : ℕ) (p q : Progression) (o last : ℕ) → IsNormalRun m p.base p.stride p.count → IsNormalRun m q.base q.stride q.count
     → o ≡ above m q.base p.base → last ≡ o + (p.count - 1) * p.stride → m ≤ last → (q.stride ∣ m → ⊥) → Includes m (Run q) (Run p) → ⊥
 within_no_turn m p q o last n k is last_is high refused inside = elim (runs_fit m p q o n k is inside).2 [
-  inl straight ↦ absurd (omega (arith, straight.0, last_is))
+  | inl straight ↦ absurd (omega (arith, straight.0, last_is))
   | inr round ↦ refused round.1
 ]
 

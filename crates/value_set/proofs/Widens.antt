@@ -1,24 +1,22 @@
 -- Widening holds both sets, in the one form.
-use Rattle.std.proofs.Common.{◌≡◌, ℕ, ◌+◌, ◌-◌, ◌*◌, ◌%◌, ◌/◌, ◌<◌, ◌≤◌, Bool, true, false, List, [], ◌∷◌, length, refl, sym, ◌∙◌, ap, subst, inl, inr, arith, cond, eqb, Option, Some, None}
-use Prim.Native.Nat.{zero, suc, ◌∣◌}
-use Rattle.std.specs.Prelude.{◌⊎◌, ◌||◌, unwrap_or, option_map, ◌==◌, nat_le}
+use Rattle.std.proofs.Common.{◌≡◌, ℕ, ◌+◌, ◌-◌, ◌*◌, ◌%◌, ◌/◌, ◌<◌, ◌≤◌, Bool, true, false, List, [], ◌∷◌, length, refl, sym, ◌∙◌, ap, subst, inl, inr, arith, eqb, Option, Some, None}
+use Prim.Native.Nat.{◌∣◌}
+use Rattle.std.specs.Prelude.{◌||◌, unwrap_or, option_map, nat_le}
 use Rattle.std.specs.List.{fold, All}
 use Rattle.std.specs.Prelude.{map}
 use Rattle.std.proofs.lemmas.List.Elements.{All-head, All-tail}
 use Rattle.std.proofs.lemmas.List.{length-map}
 use Rattle.std.proofs.lemmas.Bool.{cases_lt, cases_eq, cases_Bool, eqb-true, eqb-false, eq-eqb, ne_eqb, lt-leb, le-leb, lt-ltb, le-ltb, or_parts, or_left, or_right, or_from, leb-false}
-use Rattle.std.proofs.Math.Nat.{mod-lt, dvd-zero, dvd-mul_left, div-mul-le_self, dvd-add, dvd-sub, dvd-mul_left_of_dvd, dvd_refl, mul-le-mul_right}
+use Rattle.std.proofs.Math.Nat.{dvd-zero, dvd-mul_left, div-mul-le_self, dvd-add, mul-le-mul_right}
 use Rattle.value_set.specs.declared.form.Progression.{Progression}
 use Rattle.value_set.specs.declared.form.Form.{Form}
-use Rattle.value_set.specs.declared.form.Form.TheVariants.{Values, Run}
-use Rattle.value_set.specs.Form.{make, Has, Includes, IsNormal, IsSpan, Fits, above, greater, span, class}
-use Rattle.value_set.specs.Joining.{is_within, reach, join}
+use Rattle.value_set.specs.Form.{make, Has, Includes, IsNormal, Fits, greater, span, class}
+use Rattle.value_set.specs.Joining.{is_within, join}
 use Rattle.value_set.specs.Widening.{nearer_below, mark_at_most, lesser, nearer_above, mark_above, last_of, down_to, up_to, first_widened, last_widened, widened_between, widen_span, widen}
 use Rattle.value_set.proofs.Members.{InRun}
-use Rattle.value_set.proofs.Rounds.{mod_low, above_sum, run_below}
-use Rattle.value_set.proofs.Making.{fits_to, make_has, make_normal}
-use Rattle.value_set.proofs.Spans.{reached, span_is, span_has, class_normal, class_reached}
-use Rattle.value_set.proofs.Joins.{IsRun, InSpan, at_multiple, includes_from_test, test_from_includes, join_includes_first, join_includes_second, join_normal}
+use Rattle.value_set.proofs.Making.{fits_to, make_normal}
+use Rattle.value_set.proofs.Spans.{span_is, span_has, class_normal, class_reached}
+use Rattle.value_set.proofs.Joins.{IsRun, InSpan, at_multiple, includes_from_test, join_includes_first, join_includes_second, join_normal}
 
 -- ---- marks
 
@@ -40,7 +38,7 @@ held_above m bound mark (Some b) was high low = was
 
 nearer_above_is : (m bound : ℕ) (best : Option ℕ) (mark : ℕ) → FoundAbove m bound best → mark < m → FoundAbove m bound (nearer_above bound best mark)
 nearer_above_is m bound best mark was low = elim (cases_lt bound mark) [
-  inl high ↦ rw (lt-ltb bound mark high) (lesser_cases (unwrap_or best mark) mark (λ n. (bound < n) × (n < m)) (held_above m bound mark best was high low) (high, low))
+  | inl high ↦ rw (lt-ltb bound mark high) (lesser_cases (unwrap_or best mark) mark (λ n. (bound < n) × (n < m)) (held_above m bound mark best was high low) (high, low))
   | inr under ↦ rw (le-ltb bound mark under) was
 ]
 
@@ -65,7 +63,7 @@ held_below bound (Some b) was = was
 
 nearer_below_is : (bound : ℕ) (best : Option ℕ) (mark : ℕ) → FoundBelow bound best → FoundBelow bound (nearer_below bound best mark)
 nearer_below_is bound best mark was = elim (cases_lt bound mark) [
-  inl high ↦ rw (lt-ltb bound mark high) was
+  | inl high ↦ rw (lt-ltb bound mark high) was
   | inr under ↦ rw (le-ltb bound mark under) (greater_at_most (unwrap_or best 0) mark bound (held_below bound best was) under)
 ]
 
@@ -106,10 +104,10 @@ up_mark m last stride top (Some mark) high h =
 first_cases : (run held : Progression) (marks : List ℕ) (first : ℕ) → first_widened run held marks ≡ Some first → (first ≤ run.base) × (run.stride ∣ run.base - first)
 unfolding first_widened
 first_cases run held marks first h = elim (cases_eq run.base held.base) [
-  inl same ↦ let e : Some run.base ≡ Some first = rw (eq-eqb run.base held.base same) at h in
-  let f : first ≡ run.base = cc e in
-  let none : 0 ≡ run.base - first = omega (arith, f) in
-  (omega (arith, f), subst (λ (n : ℕ). run.stride ∣ n) none (dvd-zero run.stride))
+  | inl same ↦ let e : Some run.base ≡ Some first = rw (eq-eqb run.base held.base same) at h in
+      let f : first ≡ run.base = cc e in
+      let none : 0 ≡ run.base - first = omega (arith, f) in
+      (omega (arith, f), subst (λ (n : ℕ). run.stride ∣ n) none (dvd-zero run.stride))
   | inr other ↦ down_mark run.base run.stride first (mark_at_most run.base marks) (rw (ne_eqb run.base held.base other) at h)
 ]
 
@@ -117,8 +115,8 @@ last_cases : (m : ℕ) (run held : Progression) (marks : List ℕ) (last : ℕ) 
     → (last_of run ≤ last) × (last < m)
 unfolding last_widened
 last_cases m run held marks last low once h = elim (cases_eq (last_of run) (last_of held % m)) [
-  inl same ↦ let e : Some (last_of run) ≡ Some last = rw (eq-eqb (last_of run) (last_of held % m) same) at h in
-  let f : last ≡ last_of run = cc e in (omega (arith, f), omega (arith, f, once))
+  | inl same ↦ let e : Some (last_of run) ≡ Some last = rw (eq-eqb (last_of run) (last_of held % m) same) at h in
+      let f : last ≡ last_of run = cc e in (omega (arith, f), omega (arith, f, once))
   | inr other ↦ up_mark m (last_of run) run.stride last (mark_above (last_of run) marks) (λ mark is. mark_above_found m (last_of run) mark marks low is) (rw (ne_eqb (last_of run) (last_of held % m) other) at h)
 ]
 
@@ -161,18 +159,18 @@ widen_span-between m run held marks h = rw h refl
 
 pub widen_span_has : (m : ℕ) (run held : Progression) (marks : List ℕ) (v : ℕ) → IsRun m run → AllBelow m marks → InSpan m run v → Has m (widen_span m run held marks) v
 widen_span_has m run held marks v s low h = elim (cases_Bool ((eqb (length marks) 0) || nat_le m (last_of run))) [
-  inl all ↦ rw (widen_span-class m run held marks all) (class_of_run m run v (let b = s.below in omega (arith, b)) h)
+  | inl all ↦ rw (widen_span-class m run held marks all) (class_of_run m run v (let b = s.below in omega (arith, b)) h)
   | inr marked ↦ let once : last_of run < m = leb-false m (last_of run) (or_parts (eqb (length marks) 0) (nat_le m (last_of run)) marked).1 in
-  rw (widen_span-between m run held marks marked) (between_has m run v (first_widened run held marks) (last_widened m run held marks) s once
-  (λ n is. first_cases run held marks n is) (λ n is. last_cases m run held marks n low once is) h)
+      rw (widen_span-between m run held marks marked) (between_has m run v (first_widened run held marks) (last_widened m run held marks) s once
+      (λ n is. first_cases run held marks n is) (λ n is. last_cases m run held marks n low once is) h)
 ]
 
 pub widen_span_normal : (m : ℕ) (run held : Progression) (marks : List ℕ) → 0 < m → AllBelow m marks → IsNormal m (widen_span m run held marks)
 widen_span_normal m run held marks pos low = elim (cases_Bool ((eqb (length marks) 0) || nat_le m (last_of run))) [
-  inl all ↦ rw (widen_span-class m run held marks all) (class_normal m run.base run.stride pos)
+  | inl all ↦ rw (widen_span-class m run held marks all) (class_normal m run.base run.stride pos)
   | inr marked ↦ let once : last_of run < m = leb-false m (last_of run) (or_parts (eqb (length marks) 0) (nat_le m (last_of run)) marked).1 in
-  rw (widen_span-between m run held marks marked) (between_normal m run (first_widened run held marks) (last_widened m run held marks) pos
-  (λ n is. (last_cases m run held marks n low once is).1))
+      rw (widen_span-between m run held marks marked) (between_normal m run (first_widened run held marks) (last_widened m run held marks) pos
+      (λ n is. (last_cases m run held marks n low once is).1))
 ]
 
 pub widen-within : (m : ℕ) (held new : Form) (marks : List ℕ) → is_within m new held ≡ true → widen m held new marks ≡ held
@@ -186,7 +184,7 @@ widen-beyond m held new marks h = rw h refl
 widen_cases : (m : ℕ) (held new : Form) (marks : List ℕ) (P : Form → Type 0) → (Includes m held new → P held) → P (widen_span m (span m (join m held new)) (span m held) marks)
     → P (widen m held new marks)
 widen_cases m held new marks P kept wider = elim (cases_Bool (is_within m new held)) [
-  inl inside ↦ rw (widen-within m held new marks inside) (kept (includes_from_test m new held inside))
+  | inl inside ↦ rw (widen-within m held new marks inside) (kept (includes_from_test m new held inside))
   | inr outside ↦ rw (widen-beyond m held new marks outside) wider
 ]
 

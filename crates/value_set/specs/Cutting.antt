@@ -1,5 +1,5 @@
 -- The cut of a set to a window: the numbers less than a length above its low end, round the circle modulo m.
-use Rattle.std.specs.Prelude.{ℕ, ◌+◌, ◌-◌, ◌*◌, ◌/◌, ◌%◌, ◌==◌, nat_lt, if◌then◌else◌, List, [], ◌∷◌, length, Option, Some, None}
+use Rattle.std.specs.Prelude.{ℕ, ◌+◌, ◌-◌, ◌*◌, ◌/◌, ◌%◌, ◌==◌, nat_lt, if◌then◌else◌, List, [], ◌∷◌, Option, Some, None}
 use Rattle.std.specs.List.{filter}
 use Rattle.value_set.specs.Form.{make, above}
 use Rattle.value_set.specs.Joining.{join}

@@ -1,7 +1,7 @@
 -- Sets of numbers below a modulus m, which is 256 or 65536. A set is a list of 1 to 16 ascending numbers, or a run of at
 -- least 17: strided intervals that go round at the modulus, as in Balakrishnan and Reps, "WYSINWYX", 2010.
-use Rattle.std.specs.Prelude.{◌≡◌, ℕ, ◌+◌, ◌-◌, ◌*◌, ◌%◌, ◌/◌, ◌<◌, ◌≤◌, ◌==◌, nat_lt, nat_le, if◌then◌else◌, Bool, List, [], ◌∷◌, length, slice_index, map}
-use Rattle.std.specs.List.{range_with_len, fold, Contains, list_any, list_all}
+use Rattle.std.specs.Prelude.{◌≡◌, ℕ, ◌+◌, ◌-◌, ◌*◌, ◌%◌, ◌/◌, ◌<◌, ◌≤◌, ◌==◌, nat_lt, nat_le, if◌then◌else◌, List, [], ◌∷◌, length, slice_index, map}
+use Rattle.std.specs.List.{range_with_len, fold, Contains}
 use Rattle.value_set.specs.Gcd.{gcd}
 use Rattle.value_set.specs.declared.form.Progression.{Progression}
 use Rattle.value_set.specs.declared.form.Form.{Form}

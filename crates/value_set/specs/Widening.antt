@@ -1,5 +1,5 @@
 -- Widening: a set that holds both sets, and whose ends are stopped only by marks, so that it can't grow often.
-use Rattle.std.specs.Prelude.{ℕ, ◌+◌, ◌-◌, ◌*◌, ◌/◌, ◌%◌, ◌==◌, ◌||◌, nat_lt, nat_le, if◌then◌else◌, Bool, List, length, Option, Some, None, unwrap_or, option_map}
+use Rattle.std.specs.Prelude.{ℕ, ◌+◌, ◌-◌, ◌*◌, ◌/◌, ◌%◌, ◌==◌, ◌||◌, nat_lt, nat_le, if◌then◌else◌, List, length, Option, Some, None, unwrap_or, option_map}
 use Rattle.std.specs.List.{fold}
 use Rattle.value_set.specs.Form.{make, span, class, greater}
 use Rattle.value_set.specs.Joining.{is_within, reach, join}

@@ -13,10 +13,7 @@ ghost use Rattle.value_set.specs.Summing.{single};
 
 use crate::combining::Operation;
 use crate::form::Form;
-use crate::member;
-use crate::sets;
-use crate::summing;
-
+use crate::{member, sets, summing};
 use std::marker::Model;
 
 /// How many 8-bit numbers there are.

@@ -8,7 +8,6 @@ ghost use Rattle.value_set.specs.Collecting.{IsNoRun, Marks, HasMarked};
 use crate::form::Form;
 use crate::gathering::{ROOM, make, put, set_of};
 use crate::number::Number;
-
 use arrayvec::ArrayVec;
 
 /// How many numbers of 16 bits there are.

@@ -10,7 +10,6 @@ ghost use Rattle.value_set.specs.Summing as sums;
 use crate::form::Form;
 use crate::gathering::{ROOM, put, set_of};
 use crate::member::{count, nth};
-
 use arrayvec::ArrayVec;
 
 /// An operation on two numbers and a carry below a modulus. One that has no carry is combined with the set of 0.
@@ -31,7 +30,13 @@ pub trait Operation {
 }
 
 /// The set of all results, of at most 256 combinations.
-pub fn combine<O: Operation>(modulus: u32, operation: &O, first: &Form, second: &Form, carry: &Form) -> Form
+pub fn combine<O: Operation>(
+    modulus: u32,
+    operation: &O,
+    first: &Form,
+    second: &Form,
+    carry: &Form,
+) -> Form
     requires small { modulus ≤ 65536 }
     requires first_normal { IsNormal modulus first.now }
     requires second_normal { IsNormal modulus second.now }
@@ -42,13 +47,27 @@ pub fn combine<O: Operation>(modulus: u32, operation: &O, first: &Form, second: 
 {
     let mut values = ArrayVec::new();
     for place in 0..count(modulus, first) {
-        put_second(modulus, operation, nth(modulus, first, place), second, carry, &mut values);
+        put_second(
+            modulus,
+            operation,
+            nth(modulus, first, place),
+            second,
+            carry,
+            &mut values,
+        );
     }
     set_of(modulus, values.as_slice())
 }
 
 /// Puts the results of one first number.
-fn put_second<O: Operation>(modulus: u32, operation: &O, x: u16, second: &Form, carry: &Form, values: &mut ArrayVec<u16, ROOM>)
+fn put_second<O: Operation>(
+    modulus: u32,
+    operation: &O,
+    x: u16,
+    second: &Form,
+    carry: &Form,
+    values: &mut ArrayVec<u16, ROOM>,
+)
     requires small { modulus ≤ 65536 }
     requires second_normal { IsNormal modulus second.now }
     requires carry_normal { IsNormal modulus carry.now }
@@ -61,12 +80,26 @@ fn put_second<O: Operation>(modulus: u32, operation: &O, x: u16, second: &Form, 
     ensures longer { length values.new.items ≤ length values.old.items + length (members modulus second.now) * length (members modulus carry.now) }
 {
     for place in 0..count(modulus, second) {
-        put_carry(modulus, operation, x, nth(modulus, second, place), carry, values);
+        put_carry(
+            modulus,
+            operation,
+            x,
+            nth(modulus, second, place),
+            carry,
+            values,
+        );
     }
 }
 
 /// Puts the results of one first and one second number.
-fn put_carry<O: Operation>(modulus: u32, operation: &O, x: u16, y: u16, carry: &Form, values: &mut ArrayVec<u16, ROOM>)
+fn put_carry<O: Operation>(
+    modulus: u32,
+    operation: &O,
+    x: u16,
+    y: u16,
+    carry: &Form,
+    values: &mut ArrayVec<u16, ROOM>,
+)
     requires small { modulus ≤ 65536 }
     requires carry_normal { IsNormal modulus carry.now }
     requires width { O.modulus operation.now ≡ modulus }

@@ -111,5 +111,9 @@ pub fn cut(modulus: u32, set: &Form, low: u32, len: u32) -> Option<Form>
 fn list_or_none(values: &Few) -> Option<Form>
     ensures { result ≡ cuts.list_or_none values.now }
 {
-    if values.is_empty() { None } else { Some(Form::Values(*values)) }
+    if values.is_empty() {
+        None
+    } else {
+        Some(Form::Values(*values))
+    }
 }

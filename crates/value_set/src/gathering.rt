@@ -9,7 +9,6 @@ use crate::circle::above;
 use crate::divisor::greatest_common_divisor;
 use crate::few::{Few, LONGEST};
 use crate::form::{Form, Progression};
-
 use arrayvec::ArrayVec;
 
 /// How many numbers are gathered at once.

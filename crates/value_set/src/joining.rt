@@ -11,7 +11,6 @@ use crate::few::{Few, LONGEST};
 use crate::form::{Form, Progression, Stretch};
 use crate::gathering::{ROOM, hull, make, put, steps_to};
 use crate::member::within;
-
 use arrayvec::ArrayVec;
 
 /// The run that a set is drawn from.
@@ -142,7 +141,11 @@ fn join_apart(modulus: u32, first: &Form, second: &Form) -> Form
 {
     match (first, second) {
         (Form::Values(one), Form::Values(other)) => join_lists(modulus, one, other),
-        (Form::Values(one), Form::Run(run)) => join_spans(modulus, &hull(modulus, one.as_slice()), run),
+        (Form::Values(one), Form::Run(run)) => join_spans(
+            modulus,
+            &hull(modulus, one.as_slice()),
+            run,
+        ),
         (Form::Run(run), _) => join_spans(modulus, run, &span(modulus, second)),
     }
 }
@@ -155,7 +158,11 @@ fn join_lists(modulus: u32, first: &Few, second: &Few) -> Form
 {
     match few_together(first, second) {
         Some(values) => Form::Values(values),
-        None => join_spans(modulus, &hull(modulus, first.as_slice()), &hull(modulus, second.as_slice())),
+        None => join_spans(
+            modulus,
+            &hull(modulus, first.as_slice()),
+            &hull(modulus, second.as_slice()),
+        ),
     }
 }
 

@@ -18,8 +18,8 @@ mod summing;
 mod widening;
 mod words;
 
-pub use few::Few;
-pub use form::{Form, Progression};
 pub use bytes::Vs8;
 pub use combining::Operation;
+pub use few::Few;
+pub use form::{Form, Progression};
 pub use words::Vs16;

@@ -11,17 +11,10 @@ ghost use Rattle.value_set.specs.Cutting as cuts;
 ghost use Rattle.value_set.specs.Summing as sums;
 ghost use Rattle.value_set.specs.Summing.{single};
 
-use crate::collecting;
-use crate::combining;
 use crate::combining::Operation;
-use crate::cutting;
 use crate::form::Form;
-use crate::gathering;
-use crate::joining;
-use crate::member;
 use crate::number::Number;
-use crate::summing;
-use crate::widening;
+use crate::{collecting, combining, cutting, gathering, joining, member, summing, widening};
 
 /// The set of all numbers below the modulus.
 pub fn any(modulus: u32) -> Form
@@ -156,7 +149,13 @@ pub fn cut(modulus: u32, set: &Form, low: u16, len: u32) -> Option<Form>
 }
 
 /// All results of an operation, of at most 256 combinations.
-pub fn combine<O: Operation>(modulus: u32, operation: &O, first: &Form, second: &Form, carry: &Form) -> Form
+pub fn combine<O: Operation>(
+    modulus: u32,
+    operation: &O,
+    first: &Form,
+    second: &Form,
+    carry: &Form,
+) -> Form
     requires small { modulus ≤ 65536 }
     requires first_normal { IsNormal modulus first.now }
     requires second_normal { IsNormal modulus second.now }
@@ -177,5 +176,4 @@ pub fn same_members(modulus: u32, first: &Form, second: &Form)
     requires second_normal { IsNormal modulus second.now }
     requires same { (v : ℕ) → Has modulus first.now v ↔ Has modulus second.now v }
     ensures { first.now ≡ second.now }
-{
-}
+{}

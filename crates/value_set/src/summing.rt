@@ -13,7 +13,6 @@ use crate::form::{Form, Progression};
 use crate::gathering::{ROOM, make, put, set_of, steps_to};
 use crate::joining::{class, span};
 use crate::member::count;
-
 use arrayvec::ArrayVec;
 
 /// The sum of two numbers.

@@ -107,7 +107,12 @@ fn first_widened<N: Number>(run: &Progression, held: &Progression, marks: &[N]) 
 }
 
 /// The last number of the widened run.
-fn last_widened<N: Number>(modulus: u32, run: &Progression, held: &Progression, marks: &[N]) -> Option<u32>
+fn last_widened<N: Number>(
+    modulus: u32,
+    run: &Progression,
+    held: &Progression,
+    marks: &[N],
+) -> Option<u32>
     requires small { modulus ≤ 65536 }
     requires run_span { IsSpan modulus run.now.base run.now.stride run.now.count }
     requires held_span { IsSpan modulus held.now.base held.now.stride held.now.count }
@@ -141,7 +146,12 @@ fn widen_span<N: Number>(modulus: u32, run: &Progression, held: &Progression, ma
     }
     match first_widened(run, held, marks) {
         Some(first) => match last_widened(modulus, run, held, marks) {
-            Some(last) => make(modulus, first, run.stride as u32, steps_to(last - first, run.stride as u32)),
+            Some(last) => make(
+                modulus,
+                first,
+                run.stride as u32,
+                steps_to(last - first, run.stride as u32),
+            ),
             None => class(modulus, run.base as u32, run.stride as u32),
         },
         None => class(modulus, run.base as u32, run.stride as u32),

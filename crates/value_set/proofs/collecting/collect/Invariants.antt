@@ -1,4 +1,4 @@
-use Rattle.std.proofs.Common.{◌≡◌, ◌≤◌, length}
+use Rattle.std.proofs.Common.{◌≤◌, length}
 use Rattle.value_set.specs.Collecting.{HasMarked}
 use Rattle.value_set.proofs.collecting.collect.Given as goal
 

@@ -1,4 +1,4 @@
-use Rattle.std.proofs.Common.{arith, ap, subst, sym, List, ℕ, length, ◌≤◌, ◌∙◌}
+use Rattle.std.proofs.Common.{ap, subst, sym, List, ℕ, length, ◌≤◌, ◌∙◌}
 use Rattle.value_set.specs.Form.{Ascends, set_of}
 use Rattle.value_set.proofs.Collects.{gathered_fits, gathered_all}
 use Rattle.value_set.proofs.collecting.gather_short.Goals as goal

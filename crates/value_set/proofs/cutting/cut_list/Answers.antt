@@ -1,4 +1,4 @@
-use Rattle.std.proofs.Common.{arith, ap, length, slice_index, ◌∙◌, List, ℕ, ◌<◌, subst, sym}
+use Rattle.std.proofs.Common.{arith, ap, length}
 use Rattle.value_set.proofs.Members.{Ascends-at}
 use Rattle.value_set.proofs.cutting.cut_list.Goals as goal
 

@@ -1,4 +1,4 @@
-use Rattle.std.proofs.Common.{arith, ◌∙◌, sym}
+use Rattle.std.proofs.Common.{arith}
 use Rattle.value_set.proofs.Divisors.{gcd-step, gcd-zero}
 use Rattle.value_set.proofs.divisor.greatest_common_divisor.Goals as goal
 

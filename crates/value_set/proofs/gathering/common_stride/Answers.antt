@@ -1,5 +1,4 @@
 use Rattle.std.proofs.Common.{arith}
-use Rattle.std.proofs.lemmas.Grind.{common_steps}
 use Rattle.std.proofs.lemmas.List.Sums.{fold_more}
 use Rattle.value_set.specs.Gcd.{gcd}
 use Rattle.value_set.specs.Form.{above}

@@ -1,5 +1,5 @@
 use Rattle.std.proofs.Common.{arith, ap, ◌∙◌, subst, sym, length, List, ℕ, ◌+◌, ◌*◌, ◌%◌}
-use Rattle.value_set.specs.Form.{Ascends, ascending, steps, put}
+use Rattle.value_set.specs.Form.{Ascends, put}
 use Rattle.value_set.proofs.Gathers.{steps_none, steps_ascend, steps_room, one_more_step, Ascends-wider}
 use Rattle.value_set.proofs.gathering.few_steps.Goals as goal
 

@@ -1,4 +1,3 @@
-use Rattle.std.proofs.Common.{arith}
 use Rattle.value_set.proofs.Gathers.{hull_made, hull_spans}
 use Rattle.value_set.proofs.gathering.hull.Goals as goal
 

@@ -1,6 +1,5 @@
 use Rattle.std.proofs.Common.{arith, sym, ◌∙◌, length, ◌-◌}
 use Rattle.std.proofs.lemmas.List.{take_rest}
-use Rattle.value_set.specs.Form.{Ascends}
 use Rattle.value_set.proofs.Members.{Ascends-at}
 use Rattle.value_set.proofs.Gathers.{hull_base-from, hull_base_below, Ascends-rest, Ascends-next, gap_wider, gap_narrow, gap_end}
 use Rattle.value_set.proofs.gathering.hull_base.Goals as goal
@@ -17,14 +16,14 @@ loop-value-init c = record {
 
 pub loop-value-preserved : goal.loop-value-preserved
 loop-value-preserved c = elim c.if-width-gap.branch [
-  then-width-gap w ↦ record {
+  | then-width-gap w ↦ record {
     rest_decides = gap_wider c.loop-value.base c.loop-value.width c.loop-value.previous c.loop-value.value-index c.if-width-gap.base c.if-width-gap.width _
-    c.loop-value-test.true w.if-width-gap.true w.base-is w.width-is ∙ c.loop-value.invariant.rest_decides;
+        c.loop-value-test.true w.if-width-gap.true w.base-is w.width-is ∙ c.loop-value.invariant.rest_decides;
     rest_ascends = (Ascends-next c.loop-value.previous c.args.modulus c.loop-value.value-index _ c.loop-value-test.true c.loop-value.invariant.rest_ascends).2;
   }
   | else-width-gap w ↦ record {
     rest_decides = gap_narrow c.loop-value.base c.loop-value.width c.loop-value.previous c.loop-value.value-index c.if-width-gap.base c.if-width-gap.width _
-    c.loop-value-test.true w.if-width-gap.false w.base-is w.width-is ∙ c.loop-value.invariant.rest_decides;
+        c.loop-value-test.true w.if-width-gap.false w.base-is w.width-is ∙ c.loop-value.invariant.rest_decides;
     rest_ascends = (Ascends-next c.loop-value.previous c.args.modulus c.loop-value.value-index _ c.loop-value-test.true c.loop-value.invariant.rest_ascends).2;
   }
 ]

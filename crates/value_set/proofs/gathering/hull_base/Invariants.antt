@@ -1,4 +1,4 @@
-use Rattle.std.proofs.Common.{◌≡◌, ◌<◌, drop, length}
+use Rattle.std.proofs.Common.{◌≡◌, drop}
 use Rattle.value_set.specs.Form.{hull_base, behind_widest, Ascends}
 use Rattle.value_set.proofs.gathering.hull_base.Given as goal
 

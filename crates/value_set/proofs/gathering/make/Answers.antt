@@ -1,7 +1,7 @@
-use Rattle.std.proofs.Common.{arith, ap, ◌∙◌, sym, subst}
+use Rattle.std.proofs.Common.{ap, ◌∙◌, sym, subst}
 use Rattle.value_set.specs.declared.form.Form.{Form}
 use Rattle.value_set.specs.Form.{IsNormal}
-use Rattle.value_set.specs.declared.form.Form.TheVariants.{Values, Run}
+use Rattle.value_set.specs.declared.form.Form.TheVariants.{Values}
 use Rattle.value_set.proofs.Making.{make-few, make_normal}
 use Rattle.value_set.proofs.Gathers.{made_whole, made_open}
 use Rattle.value_set.proofs.gathering.make.Goals as goal
@@ -12,7 +12,7 @@ returns-then-count-clause-value c = ap Values c.few_steps.ensures ∙ sym (make-
 
 pub returns-clause-value : goal.returns-clause-value
 returns-clause-value c = elim c.if-count-stride.branch [
-  then-count-stride w ↦ made_whole c.args.modulus c.args.base c.args.stride c.args.count c.if-count-stride.base c.if-count.false w.if-count-stride.true w.base-is
+  | then-count-stride w ↦ made_whole c.args.modulus c.args.base c.args.stride c.args.count c.if-count-stride.base c.if-count.false w.if-count-stride.true w.base-is
   | else-count-stride w ↦ made_open c.args.modulus c.args.base c.args.stride c.args.count c.if-count-stride.base c.if-count.false w.if-count-stride.false w.base-is
 ]
 
@@ -23,7 +23,7 @@ returns-then-count-clause-form c = subst (λ (set : Form). IsNormal c.args.modul
 
 pub returns-clause-form : goal.returns-clause-form
 returns-clause-form c = subst (λ (set : Form). IsNormal c.args.modulus set) (sym (elim c.if-count-stride.branch [
-    then-count-stride w ↦ made_whole c.args.modulus c.args.base c.args.stride c.args.count c.if-count-stride.base c.if-count.false w.if-count-stride.true w.base-is
-    | else-count-stride w ↦ made_open c.args.modulus c.args.base c.args.stride c.args.count c.if-count-stride.base c.if-count.false w.if-count-stride.false w.base-is
-  ]))
+  | then-count-stride w ↦ made_whole c.args.modulus c.args.base c.args.stride c.args.count c.if-count-stride.base c.if-count.false w.if-count-stride.true w.base-is
+  | else-count-stride w ↦ made_open c.args.modulus c.args.base c.args.stride c.args.count c.if-count-stride.base c.if-count.false w.if-count-stride.false w.base-is
+]))
     (make_normal c.args.modulus c.args.base c.args.stride c.args.count c.requires.fits)

@@ -1,6 +1,6 @@
-use Rattle.std.proofs.Common.{arith, ap, ◌∙◌, sym}
+use Rattle.std.proofs.Common.{ap, ◌∙◌, sym}
 use Rattle.value_set.specs.declared.form.Progression.{Progression}
-use Rattle.value_set.specs.declared.form.Form.TheVariants.{Values, Run}
+use Rattle.value_set.specs.declared.form.Form.TheVariants.{Values}
 use Rattle.value_set.specs.Form.{make}
 use Rattle.value_set.proofs.Spans.{set_of-few, set_of-many, span_fits}
 use Rattle.value_set.proofs.gathering.set_of.Goals as goal

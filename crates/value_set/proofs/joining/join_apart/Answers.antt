@@ -1,4 +1,4 @@
-use Rattle.std.proofs.Common.{◌∙◌, sym, ap}
+use Rattle.std.proofs.Common.{◌∙◌}
 use Rattle.value_set.proofs.Joins.{list_and_run, run_and_any}
 use Rattle.value_set.proofs.joining.join_apart.Goals as goal
 

@@ -1,8 +1,5 @@
-use Rattle.std.proofs.Common.{◌∙◌, sym, ap, List, ℕ}
-use Rattle.value_set.specs.declared.form.Progression.{Progression}
-use Rattle.value_set.specs.Form.{hull}
-use Rattle.value_set.specs.Joining.{values_or, join_spans}
-use Rattle.value_set.proofs.Joins.{apart-lists, hulls_same, values_found, values_missing}
+use Rattle.std.proofs.Common.{◌∙◌}
+use Rattle.value_set.proofs.Joins.{hulls_same, values_found, values_missing}
 use Rattle.value_set.proofs.joining.join_lists.Goals as goal
 
 pub returns-in-Some : goal.returns-in-Some

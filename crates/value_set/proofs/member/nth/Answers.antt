@@ -1,4 +1,4 @@
-use Rattle.std.proofs.Common.{sym, ◌∙◌, arith}
+use Rattle.std.proofs.Common.{◌∙◌, arith}
 use Rattle.value_set.proofs.Tests.{count_of_run, nth_in_run, nth_below, listed_nth}
 use Rattle.value_set.proofs.member.nth.Goals as goal
 

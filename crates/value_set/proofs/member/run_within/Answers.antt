@@ -1,4 +1,4 @@
-use Rattle.std.proofs.Common.{arith, ap, ◌+◌, ◌∙◌}
+use Rattle.std.proofs.Common.{ap, ◌+◌}
 use Rattle.value_set.proofs.Tests.{never, denied, runs_fit, within_straight, within_round, within_no_turn}
 use Rattle.value_set.proofs.member.run_within.Goals as goal
 

@@ -1,4 +1,4 @@
-use Rattle.std.proofs.Common.{subst, sym, ◌∙◌, ◌+◌, ◌-◌, ◌%◌}
+use Rattle.std.proofs.Common.{subst, sym, ◌∙◌, ◌+◌, ◌%◌}
 use Rattle.value_set.specs.declared.form.Form.{Form}
 use Rattle.value_set.specs.Form.{Has, IsNormal}
 use Rattle.value_set.proofs.Sums.{add_normal, add_has}

@@ -1,5 +1,5 @@
-use Rattle.std.proofs.Common.{arith, ap, ◌∙◌, sym, map, Some, None, refl, ℕ, ◌-◌}
-use Rattle.value_set.specs.Form.{make, Fits}
+use Rattle.std.proofs.Common.{arith, ap, ◌∙◌, map, Some, None, ℕ}
+use Rattle.value_set.specs.Form.{make}
 use Rattle.value_set.proofs.Widens.{no_marks, some_marks, unmarked, round, between, first_missed, widened_fits, AllBelow_from}
 use Rattle.value_set.proofs.widening.widen_span.Goals as goal
 
