@@ -23,3 +23,8 @@ pub use combining::Operation;
 pub use few::Few;
 pub use form::{Form, Progression};
 pub use words::Vs16;
+
+#[cfg(test)]
+mod brute;
+#[cfg(test)]
+mod tests;
