@@ -11,7 +11,7 @@ use Rattle.value_set.specs.Form.{Includes, IsNormal, IsNormalRun, above}
 use Rattle.value_set.proofs.Members.{IsIn, in_from_Contains, Contains_from_in, same_ascending, steps_has}
 use Rattle.value_set.proofs.Rounds.{mod_low, above_below, above_back, above_sum, product_below}
 use Rattle.value_set.proofs.Inclusion.{Fitting}
-use Rattle.value_set.proofs.Tests.{runs_fit}
+use Rattle.value_set.proofs.Answering.{runs_fit}
 
 -- ---- a run has more members than a list
 

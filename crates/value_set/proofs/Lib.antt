@@ -4,7 +4,7 @@ pub mod Rounds
 pub mod Making
 pub mod Spans
 pub mod Inclusion
-pub mod Tests
+pub mod Answering
 pub mod Gathers
 pub mod Joins
 pub mod Widens

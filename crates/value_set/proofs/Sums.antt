@@ -21,7 +21,7 @@ use Rattle.value_set.proofs.Rounds.{mod_cases, base_mod, run_below, product_belo
 use Rattle.value_set.proofs.Making.{fits_to, make_has, make_normal}
 use Rattle.value_set.proofs.Spans.{multiple, span_is, span_has, gather_normal, gather_has, class_normal, class_reached}
 use Rattle.value_set.proofs.Joins.{IsRun, InSpan}
-use Rattle.value_set.proofs.Tests.{member_below}
+use Rattle.value_set.proofs.Answering.{member_below}
 
 -- ---- results of an operation
 

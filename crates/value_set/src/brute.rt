@@ -82,14 +82,12 @@ fn all_sums(alloc: Global, set: &Vs8, other: &Vs8) -> Result<Vec<u8>, Fail> {
 }
 
 fn check_alone(rt: &impl Abort, set: &Vs8) {
-    let mut count = 0;
-    for (value, marked) in (0..=u8::MAX).zip(marks(set)) {
+    let all = marks(set);
+    let count = all.iter().filter(|marked| **marked).count();
+    assert_eq!(rt; set.count() as usize, count);
+    for (value, marked) in (0..=u8::MAX).zip(all) {
         assert_eq!(rt; set.has(value), marked);
-        if marked {
-            count += 1;
-        }
     }
-    assert_eq!(rt; set.count(), count);
 }
 
 fn check_results(rt: &impl Abort, set: &Vs8, other: &Vs8) {

@@ -1,5 +1,5 @@
 use Rattle.std.proofs.Common.{◌∙◌, sym}
-use Rattle.value_set.proofs.Tests.{denied}
+use Rattle.value_set.proofs.Answering.{denied}
 use Rattle.value_set.proofs.Joins.{test_from_includes, test_fails, join-first, join-second, join-neither, join_normal}
 use Rattle.value_set.proofs.joining.join.Goals as goal
 

@@ -1,5 +1,5 @@
 use Rattle.std.proofs.Common.{sym}
-use Rattle.value_set.proofs.Tests.{count_of_run}
+use Rattle.value_set.proofs.Answering.{count_of_run}
 use Rattle.value_set.proofs.member.count.Goals as goal
 
 pub returns-in-Run : goal.returns-in-Run

@@ -1,5 +1,5 @@
 use Rattle.std.proofs.Common.{arith}
-use Rattle.value_set.proofs.Tests.{never, always, denied, each_more, each_all, each_fails, nth_below}
+use Rattle.value_set.proofs.Answering.{never, always, denied, each_more, each_all, each_fails, nth_below}
 use Rattle.value_set.proofs.member.each_is_in.Goals as goal
 
 pub has-requires-clause-below : goal.has-requires-clause-below

@@ -1,5 +1,5 @@
 use Rattle.std.proofs.Common.{◌∙◌, arith}
-use Rattle.value_set.proofs.Tests.{count_of_run, nth_in_run, nth_below, listed_nth}
+use Rattle.value_set.proofs.Answering.{count_of_run, nth_in_run, nth_below, listed_nth}
 use Rattle.value_set.proofs.member.nth.Goals as goal
 
 pub nth_of_run-requires-clause-there : goal.nth_of_run-requires-clause-there

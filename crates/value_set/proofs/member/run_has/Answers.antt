@@ -1,4 +1,4 @@
-use Rattle.value_set.proofs.Tests.{never, denied, not_in_run, in_run}
+use Rattle.value_set.proofs.Answering.{never, denied, not_in_run, in_run}
 use Rattle.value_set.proofs.member.run_has.Goals as goal
 
 pub returns-then-not-divides : goal.returns-then-not-divides

@@ -1,5 +1,5 @@
 use Rattle.std.proofs.Common.{ap, ◌+◌}
-use Rattle.value_set.proofs.Tests.{never, denied, runs_fit, within_straight, within_round, within_no_turn}
+use Rattle.value_set.proofs.Answering.{never, denied, runs_fit, within_straight, within_round, within_no_turn}
 use Rattle.value_set.proofs.member.run_within.Goals as goal
 
 pub returns-then-not-divides : goal.returns-then-not-divides

@@ -1,5 +1,5 @@
 use Rattle.std.proofs.Common.{◌∙◌}
-use Rattle.value_set.proofs.Tests.{denied}
+use Rattle.value_set.proofs.Answering.{denied}
 use Rattle.value_set.proofs.Sums.{added_few, added_many, few_with_one, carry_normal, modulus_positive}
 use Rattle.value_set.proofs.summing.add.Goals as goal
 

@@ -1,5 +1,5 @@
 use Rattle.std.proofs.Common.{◌∙◌, sym, map}
-use Rattle.value_set.proofs.Tests.{denied}
+use Rattle.value_set.proofs.Answering.{denied}
 use Rattle.value_set.proofs.Joins.{test_from_includes, test_fails}
 use Rattle.value_set.proofs.Widens.{widen-within, widened_whole}
 use Rattle.value_set.proofs.widening.widen.Goals as goal
