@@ -16,9 +16,6 @@ use Rattle.value_set.proofs.Making.{make_has, make_normal}
 use Rattle.value_set.proofs.Inclusion.{seen}
 use Rattle.value_set.proofs.Joins.{join_includes_first, join_includes_second, join_normal}
 
-abbrev pub InWindow : (m : ℕ) (set : Form) (low len v : ℕ) → Type 0
-InWindow m set low len v = Has m set v × (above m low v < len)
-
 -- ---- lists
 
 filtered_in : (test : ℕ → Bool) (v : ℕ) (xs : List ℕ) → IsIn v xs → test v ≡ true → IsIn v (filter test xs)
@@ -134,9 +131,6 @@ none_joined m None behind h k = k
 none_joined m (Some a) behind h k = cc h
 
 -- ---- runs
-
-abbrev from_low : (m : ℕ) (p : Progression) (low : ℕ) → ℕ
-from_low m p low = above m low p.base
 
 -- the base, seen from the low end
 base_seen : (m low : ℕ) (p : Progression) → low < m → p.base < m → (low + above m low p.base) % m ≡ p.base
