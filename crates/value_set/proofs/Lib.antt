@@ -1,0 +1,16 @@
+pub mod Divisors
+pub mod Members
+pub mod Rounds
+pub mod Making
+pub mod Spans
+pub mod Inclusion
+pub mod Answering
+pub mod Gathers
+pub mod Joins
+pub mod Widens
+pub mod Cuts
+pub mod Sums
+pub mod Equal
+pub mod Collects
+pub mod Singles
+pub mod Promises

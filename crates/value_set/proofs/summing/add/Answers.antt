@@ -1,0 +1,18 @@
+use Rattle.std.proofs.Common.{◌∙◌}
+use Rattle.value_set.proofs.Answering.{denied}
+use Rattle.value_set.proofs.Sums.{added_few, added_many, few_with_one, carry_normal, modulus_positive}
+use Rattle.value_set.proofs.summing.add.Goals as goal
+
+pub combine-requires-clause-carry_normal : goal.combine-requires-clause-carry_normal
+combine-requires-clause-carry_normal c = carry_normal c.args.modulus 0 c.single.result (modulus_positive c.args.modulus c.args.first.now c.requires.first_normal) c.single.ensures
+
+pub combine-requires-clause-few : goal.combine-requires-clause-few
+combine-requires-clause-few c = few_with_one c.args.modulus 0 c.args.first.now c.args.second.now c.single.result (c.has_few_results.ensures.0 c.if-has_few_results.true) c.single.ensures
+
+pub returns-then-has_few_results : goal.returns-then-has_few_results
+returns-then-has_few_results c = c.combine.ensures ∙ added_few c.args.modulus c.args.first.now c.args.second.now c.single.result
+    (c.has_few_results.ensures.0 c.if-has_few_results.true) c.single.ensures
+
+pub returns : goal.returns
+returns c = c.add_spans.ensures ∙ added_many c.args.modulus c.args.first.now c.args.second.now c.span.result c.span-2.result
+    (denied _ _ c.has_few_results.ensures c.if-has_few_results.false) c.span.ensures.value c.span-2.ensures.value

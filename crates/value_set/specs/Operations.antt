@@ -1,0 +1,14 @@
+-- Operations whose results stay below the modulus.
+use Rattle.std.specs.Prelude.{ℕ, ◌+◌, ◌-◌, ◌%◌, ◌<◌}
+use Rattle.std.proofs.Common.{arith}
+use Rattle.std.proofs.Math.Nat.{mod-lt}
+
+-- each result of numbers below m is below m
+abbrev pub StaysBelow : ℕ → (ℕ → ℕ → ℕ → ℕ) → Type 0
+StaysBelow m answer = (x y z : ℕ) → x < m → y < m → z < m → answer x y z < m
+
+pub sum_stays : (m : ℕ) → StaysBelow m (λ x y z. (x + y) % m)
+sum_stays m x y z h k l = mod-lt (x + y) {m = m} (omega arith)
+
+pub difference_stays : (m : ℕ) → StaysBelow m (λ x y z. (x + m - y) % m)
+difference_stays m x y z h k l = mod-lt (x + m - y) {m = m} (omega arith)

@@ -1,0 +1,37 @@
+//! Distances on the circle modulo a modulus, and runs there.
+
+ghost use Rattle.std.specs.Prelude.{◌≡◌, ◌+◌, ◌-◌, ◌*◌, ◌%◌, ◌<◌, ◌≤◌, ◌↔◌, IsTrue};
+ghost use Prim.Native.Nat.{◌∣◌};
+ghost use Rattle.value_set.specs.Form as forms;
+ghost use Rattle.value_set.specs.Joining as joining;
+
+use crate::form::Progression;
+
+/// How far a number stands above another, upward round the circle.
+pub fn above(modulus: u32, from: u32, value: u32) -> u32
+    requires positive { 0 < modulus }
+    requires small { modulus ≤ 65536 }
+    requires from_below { from < modulus }
+    requires below { value < modulus }
+    ensures distance { result ≡ forms.above modulus from value }
+    ensures around { result < modulus }
+{
+    (value + modulus - from) % modulus
+}
+
+/// Whether a number is a multiple of another.
+pub fn divides(divisor: u32, number: u32) -> bool
+    requires { 0 < divisor }
+    ensures { IsTrue result ↔ (divisor ∣ number) }
+{
+    number % divisor == 0
+}
+
+/// The distance from the first number of a run to its last.
+pub fn reach(run: &Progression) -> u32
+    requires some { 1 ≤ run.now.count }
+    requires small { (run.now.count - 1) * run.now.stride < 65536 }
+    ensures { result ≡ joining.reach run.now }
+{
+    (run.count - 1) * run.stride as u32
+}

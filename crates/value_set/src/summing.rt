@@ -1,0 +1,171 @@
+//! Sums and differences of sets.
+
+ghost use Rattle.std.specs.Prelude.{◌≡◌, ℕ, ◌+◌, ◌-◌, ◌*◌, ◌%◌, ◌<◌, ◌≤◌, ◌↔◌, IsTrue, length, map};
+ghost use Rattle.value_set.specs.Form as forms;
+ghost use Rattle.value_set.specs.Form.{Ascends, IsNormal, IsNormalRun, IsSpan, members};
+ghost use Rattle.value_set.specs.Summing as sums;
+
+use crate::circle::reach;
+use crate::combining::{Operation, combine};
+use crate::divisor::greatest_common_divisor;
+use crate::few::Few;
+use crate::form::{Form, Progression};
+use crate::gathering::{ROOM, make, put, set_of, steps_to};
+use crate::joining::{class, span};
+use crate::member::count;
+use arrayvec::ArrayVec;
+
+/// The sum of two numbers.
+#[derive(Clone, Copy)]
+struct Sum {
+    modulus: u32,
+}
+
+impl Operation for Sum {
+    ghost use Rattle.value_set.specs.Operations.{sum_stays};
+
+    ghost modulus = { λ operation. operation.modulus };
+
+    ghost answer = { λ operation x y carry. (x + y) % operation.modulus };
+
+    fn apply(&self, x: u16, y: u16, _carry: u16) -> u16 {
+        ((x as u32 + y as u32) % self.modulus) as u16
+    }
+
+    ghost stays_below = { λ operation. sum_stays operation.modulus };
+}
+
+/// The difference of two numbers.
+#[derive(Clone, Copy)]
+struct Difference {
+    modulus: u32,
+}
+
+impl Operation for Difference {
+    ghost use Rattle.value_set.specs.Operations.{difference_stays};
+
+    ghost modulus = { λ operation. operation.modulus };
+
+    ghost answer = { λ operation x y carry. (x + operation.modulus - y) % operation.modulus };
+
+    fn apply(&self, x: u16, y: u16, _carry: u16) -> u16 {
+        ((x as u32 + self.modulus - y as u32) % self.modulus) as u16
+    }
+
+    ghost stays_below = { λ operation. difference_stays operation.modulus };
+}
+
+/// The set of one number.
+pub fn single(value: u16) -> Form
+    ensures { result ≡ sums.single value }
+{
+    let mut values = Few::new();
+    values.push(value);
+    Form::Values(values)
+}
+
+/// Whether two sets have at most 256 combinations.
+fn has_few_results(modulus: u32, first: &Form, second: &Form) -> bool
+    requires first_normal { IsNormal modulus first.now }
+    requires second_normal { IsNormal modulus second.now }
+    ensures { IsTrue result ↔ (length (members modulus first.now) * length (members modulus second.now) ≤ 256) }
+{
+    u64::from(count(modulus, first)) * u64::from(count(modulus, second)) <= ROOM as u64
+}
+
+/// One run with the sums of two.
+fn add_spans(modulus: u32, first: &Progression, second: &Progression) -> Form
+    requires small { modulus ≤ 65536 }
+    requires first_span { IsSpan modulus first.now.base first.now.stride first.now.count }
+    requires second_span { IsSpan modulus second.now.base second.now.stride second.now.count }
+    ensures { result ≡ sums.add_spans modulus first.now second.now }
+{
+    let base = first.base as u32 + second.base as u32;
+    let stride = greatest_common_divisor(first.stride as u32, second.stride as u32);
+    let end = reach(first) + reach(second);
+    if end < modulus {
+        let count = steps_to(end, stride);
+        return make(modulus, base, stride, count);
+    }
+    class(modulus, base, stride)
+}
+
+/// The run that goes down from 0 where a run goes up.
+fn negated(modulus: u32, run: &Progression) -> Progression
+    requires small { modulus ≤ 65536 }
+    requires normal { IsSpan modulus run.now.base run.now.stride run.now.count }
+    ensures value { result ≡ sums.negated modulus run.now }
+    ensures form { IsSpan modulus result.base result.stride result.count }
+{
+    let last = (run.base as u32 + reach(run)) % modulus;
+    Progression {
+        base: ((modulus - last) % modulus) as u16,
+        stride: run.stride,
+        count: run.count,
+    }
+}
+
+/// The sums of the members of two sets.
+pub fn add(modulus: u32, first: &Form, second: &Form) -> Form
+    requires small { modulus ≤ 65536 }
+    requires first_normal { IsNormal modulus first.now }
+    requires second_normal { IsNormal modulus second.now }
+    ensures { result ≡ sums.add modulus first.now second.now }
+{
+    if has_few_results(modulus, first, second) {
+        return combine(modulus, &Sum { modulus }, first, second, &single(0));
+    }
+    add_spans(modulus, &span(modulus, first), &span(modulus, second))
+}
+
+/// The differences of the members of two sets.
+pub fn sub(modulus: u32, first: &Form, second: &Form) -> Form
+    requires small { modulus ≤ 65536 }
+    requires first_normal { IsNormal modulus first.now }
+    requires second_normal { IsNormal modulus second.now }
+    ensures { result ≡ sums.sub modulus first.now second.now }
+{
+    if has_few_results(modulus, first, second) {
+        return combine(modulus, &Difference { modulus }, first, second, &single(0));
+    }
+    let down = negated(modulus, &span(modulus, second));
+    add_spans(modulus, &span(modulus, first), &down)
+}
+
+/// The sums of each member with itself.
+pub fn twice(modulus: u32, set: &Form) -> Form
+    requires small { modulus ≤ 65536 }
+    requires normal { IsNormal modulus set.now }
+    ensures { result ≡ sums.twice modulus set.now }
+{
+    match set {
+        Form::Values(values) => twice_list(modulus, values),
+        Form::Run(run) => twice_run(modulus, run),
+    }
+}
+
+fn twice_list(modulus: u32, list: &Few) -> Form
+    requires small { modulus ≤ 65536 }
+    requires normal { IsNormal modulus (Form.Values list.now) }
+    ensures { result ≡ sums.twice modulus (Form.Values list.now) }
+{
+    let mut values = ArrayVec::new();
+    for value in list.as_slice() {
+        let number = *value as u32;
+        put(&mut values, ((number + number) % modulus) as u16);
+    }
+    set_of(modulus, values.as_slice())
+}
+
+fn twice_run(modulus: u32, run: &Progression) -> Form
+    requires small { modulus ≤ 65536 }
+    requires normal { IsNormalRun modulus run.now.base run.now.stride run.now.count }
+    ensures { result ≡ sums.twice modulus (Form.Run run.now) }
+{
+    let base = 2 * run.base as u32;
+    let stride = 2 * run.stride as u32;
+    if 2 * reach(run) < modulus {
+        return make(modulus, base, stride, run.count);
+    }
+    class(modulus, base, stride)
+}
