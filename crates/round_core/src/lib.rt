@@ -1,16 +1,15 @@
 //! The book of an analysis: nodes with their states, the works of units, and the journal of what was done.
 #![tactic(auto)]
 
-mod agenda;
-mod book;
-mod claim;
 mod event;
+mod nodes;
 mod place;
-mod post;
+mod reserved;
 mod ticket;
+mod turns;
 mod versions;
+mod works;
 
-pub use book::Book;
 pub use event::Event;
 pub use ticket::{Claimed, Done, Ticket};
 pub use versions::Versions;

@@ -1,0 +1,53 @@
+-- Cases of tests and of optional places.
+use Rattle.std.specs.Prelude.{◌≡◌, ℕ, zero, suc, ◌+◌, ◌<◌, ◌≤◌, ◌⊎◌, Bool, true, false, if◌then◌else◌, Option, None, Some, List, [], ◌∷◌, map, length, slice_get, slice_index_or}
+use Rattle.std.specs.Option.{option_map}
+use Rattle.std.proofs.Common.{refl, inl, inr, ap, sym, arith, ltb}
+use Rattle.std.proofs.lemmas.Bool.Decides.{nat_tests}
+
+pub truth : (b : Bool) → (b ≡ true) ⊎ (b ≡ false)
+truth true = inl refl
+truth false = inr refl
+
+pub if_true : {X : Type 0} → (b : Bool) (x y : X) → b ≡ true → (if b then x else y) ≡ x
+if_true true x y h = refl
+if_true false x y h = absurd (cc)
+
+pub if_false : {X : Type 0} → (b : Bool) (x y : X) → b ≡ false → (if b then x else y) ≡ y
+if_false true x y h = absurd (cc)
+if_false false x y h = refl
+
+pub next_place : (o : Option ℕ) (i : ℕ) → option_map (λ place. place + 1) o ≡ Some i → (j : ℕ) × (o ≡ Some j) × (j + 1 ≡ i)
+next_place None i h = absurd (cc)
+next_place (Some j) i h = let e : j + 1 ≡ i = cc in (j, refl, e)
+
+pub no_place : (o : Option ℕ) → option_map (λ place. place + 1) o ≡ None → o ≡ None
+no_place None h = refl
+no_place (Some j) h = absurd (cc)
+
+-- an item at an index
+pub get-index : {X : Type 0} → (xs : List X) (i : ℕ) (x : X) → i < length xs → x ≡ slice_index_or xs i x → slice_get xs i ≡ Some x
+get-index [] i x h e = absurd (omega arith)
+get-index (y ∷ xs) zero x h e = ap (λ t. Some t) (sym e)
+get-index (y ∷ xs) (suc i) x h e = let below : i < length xs = omega arith in get-index xs i x below e
+
+pub get-none : {X : Type 0} → (xs : List X) (i : ℕ) → slice_get xs i ≡ None → length xs ≤ i
+get-none [] i h = omega arith
+get-none (y ∷ xs) zero h = absurd (cc)
+get-none (y ∷ xs) (suc i) h = let e = get-none xs i h in omega arith
+
+pub get-bound : {X : Type 0} → (xs : List X) (i : ℕ) (x : X) → slice_get xs i ≡ Some x → i < length xs
+get-bound [] i x h = absurd (cc)
+get-bound (y ∷ xs) zero x h = omega arith
+get-bound (y ∷ xs) (suc i) x h = let e = get-bound xs i x h in omega arith
+
+pub get-map : {X Y : Type 0} → (f : X → Y) (xs : List X) (i : ℕ) (y : Y) → slice_get (map f xs) i ≡ Some y → (x : X) × (slice_get xs i ≡ Some x) × (y ≡ f x)
+get-map f [] i y h = absurd (cc)
+get-map f (x ∷ xs) zero y h = let e : y ≡ f x = cc in (x, refl, e)
+get-map f (x ∷ xs) (suc i) y h = get-map f xs i y h
+
+pub length-parts : {X Y : Type 0} → (f : X → Y) (xs : List X) → length (map f xs) ≡ length xs
+length-parts f [] = refl
+length-parts f (x ∷ xs) = let e = length-parts f xs in omega arith
+
+pub test_true : (i n : ℕ) → true ≡ ltb i n → i < n
+test_true i n h = grind (arith, nat_tests)

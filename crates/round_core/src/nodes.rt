@@ -1,0 +1,119 @@
+//! The nodes of a book.
+
+ghost use Rattle.std.specs.Prelude.{◌≡◌, ◌≤◌, ◌+◌, ◌<◌, [], map, IfOk, OnOk, IfSome, MatchOption, length, slice_get, Some, None};
+ghost use Rattle.std.specs.Option.{option_map};
+ghost use Rattle.round_core.specs.Machine.{Held, held_at, with_held, place_of};
+
+use crate::reserved::put_reserved;
+use call_context::Node;
+use indexmap::IndexMap;
+use std::alloc::Global;
+use std::marker::Model;
+use vsa_io::Memory;
+
+/// Nodes with their states and how often those rose, in the order of first posts.
+#[derive(Drop)]
+pub struct Nodes<A> {
+    rises: IndexMap<Node, u32>,
+    states: Vec<(Node, A)>,
+}
+
+impl<A> Model for Nodes<A> {
+    ghost use Rattle.std.specs.Prelude.{◌-◌, min, vec_len, vec_capacity};
+    ghost use Rattle.indexmap.specs.IndexMap.{spare};
+    ghost use Rattle.round_core.specs.Rows.{Rows};
+    ghost use Rattle.round_core.specs.Machine.{Held};
+    ghost use Rattle.round_core.specs.Nodes.{rows_of, AreRowsOf};
+
+    ghost Value = { Rows (Held A) };
+
+    ghost view = { λ table. record {
+      rows = rows_of table.rises.entries table.states.items;
+      room = min (spare table.rises) (vec_capacity table.states - vec_len table.states);
+    } };
+
+    ghost invariant = { λ table. AreRowsOf table.rises.entries table.states.items };
+}
+
+impl<A> Nodes<A> {
+    /// None.
+    pub fn new(alloc: Global) -> Self
+        ensures { result.rows ≡ [] }
+    {
+        Nodes {
+            rises: IndexMap::new(alloc),
+            states: Vec::new(alloc),
+        }
+    }
+
+    /// The nodes with their states.
+    pub fn as_slice(&self) -> &[(Node, A)]
+        ensures { result.now ≡ map (λ row. (row.node, row.state)) self.now.rows }
+    {
+        self.states.as_slice()
+    }
+
+    /// The same as a vector.
+    pub fn into_vec(self) -> Vec<(Node, A)>
+        ensures { result.items ≡ map (λ row. (row.node, row.state)) self.rows }
+    {
+        self.states
+    }
+
+    /// The state of a node, and how often it rose.
+    pub fn find(&self, node: &Node) -> Option<(&A, u32)>
+        ensures { MatchOption result (held_at self.now.rows node.now ≡ None) (λ found. held_at self.now.rows node.now ≡ Some (record { node = node.now; state = found.0.now; rises = found.1 })) }
+    {
+        let (index, _, rises) = self.rises.get_full(node)?;
+        let (_, state) = self.states.get(index)?;
+        Some((state, *rises))
+    }
+
+    /// How many there are.
+    pub fn len(&self) -> usize
+        ensures { result ≡ length self.now.rows }
+    {
+        self.states.len()
+    }
+
+    /// The place of a node.
+    pub fn place(&self, node: &Node) -> Option<usize>
+        ensures { result ≡ place_of self.now.rows node.now }
+    {
+        self.rises.get_index_of(node)
+    }
+
+    /// The node at a place, with its state.
+    pub fn at(&self, place: usize) -> Option<(&Node, &A)>
+        ensures { MatchOption result (length self.now.rows ≤ place) (λ found. (row : Held A) × (slice_get self.now.rows place ≡ Some row) × (found.0.now ≡ row.node) × (found.1.now ≡ row.state)) }
+    {
+        let (node, state) = self.states.get(place)?;
+        Some((node, state))
+    }
+
+    /// Room for more of them. The rows stay as they are.
+    pub fn reserve(&mut self, more: usize) -> Result<(), Memory>
+        ensures rows { self.new.rows ≡ self.old.rows }
+        ensures room { OnOk result (more ≤ self.new.room) }
+    {
+        self.rises.reserve(more)?;
+        self.states.reserve(more)?;
+        Ok(())
+    }
+
+    /// Puts a row in the place of the one with its node, or last. There is room for it.
+    pub fn set(&mut self, node: Node, state: A, rises: u32)
+    where
+        A: Drop,
+        requires { 0 < self.old.room }
+        ensures rows { self.new.rows ≡ with_held self.old.rows (record { node = node; state = state; rises = rises }) }
+        ensures room { self.old.room ≤ self.new.room + 1 }
+    {
+        let index = self.rises.get_index_of(&node);
+        put_reserved(&mut self.states, index, (node, state));
+        match self.rises.insert(node, rises) {
+            Ok(_) => {}
+            Err(_) => unreachable!(),
+        }
+    }
+}
