@@ -1,3 +1,6 @@
 pub mod Cases
 pub mod NodesLemmas
 pub mod WorksLemmas
+pub mod TurnsLemmas
+pub mod PlaceLemmas
+pub mod ListLemmas

@@ -6,3 +6,4 @@ pub mod Reserved
 pub mod Rows
 pub mod Works
 pub mod Turns
+pub mod Agenda
