@@ -1,5 +1,5 @@
 -- Cases of tests and of optional places.
-use Rattle.std.specs.Prelude.{◌≡◌, ℕ, zero, suc, ◌+◌, ◌<◌, ◌≤◌, ◌⊎◌, Bool, true, false, if◌then◌else◌, Option, None, Some, List, [], ◌∷◌, map, length, slice_get, slice_index_or}
+use Rattle.std.specs.Prelude.{◌≡◌, ℕ, zero, suc, ◌+◌, ◌<◌, ◌≤◌, ◌⊎◌, Bool, true, false, if◌then◌else◌, Option, None, Some, List, [], ◌∷◌, map, length, slice_get, slice_index_or, Result, Ok, Err, OnOk, is_some}
 use Rattle.std.specs.Option.{option_map}
 use Rattle.std.proofs.Common.{refl, inl, inr, ap, sym, arith, ltb}
 use Rattle.std.proofs.lemmas.Bool.Decides.{nat_tests}
@@ -51,3 +51,12 @@ length-parts f (x ∷ xs) = let e = length-parts f xs in omega arith
 
 pub test_true : (i n : ℕ) → true ≡ ltb i n → i < n
 test_true i n h = grind (arith, nat_tests)
+
+-- what follows on success
+pub on_ok : {T E : Type 0} (P Q : Type 0) → (r : Result T E) → OnOk r (P → Q) → P → OnOk r Q
+on_ok P Q (Ok x) f p = f p
+on_ok P Q (Err e) f p = tt
+
+pub is_none_of : {X : Type 0} → (o : Option X) → false ≡ is_some o → o ≡ None
+is_none_of None h = refl
+is_none_of (Some x) h = absurd (cc)

@@ -4,3 +4,4 @@ pub mod WorksLemmas
 pub mod TurnsLemmas
 pub mod PlaceLemmas
 pub mod ListLemmas
+pub mod PlacesLemmas

@@ -57,20 +57,20 @@ cmp-equal (Back a x) (One b) h = absurd (cc)
 cmp-equal (Back a x) (Back b y) h =
     let e = both_equal (nat_cmp a b) (nat_cmp x y) h in ap₂ (λ n m. Back n m) (nat_equal a b e.0) (nat_equal x y e.1)
 
+added_at : (o : Ordering) (k x : Place) (xs more : List Place) → (o ≡ Equal → k ≡ x) → IsIn k more → IsIn k (match_ordering o (k ∷ x ∷ xs) (x ∷ xs) (x ∷ more))
+added_at Less k x xs more e h = inl refl
+added_at Equal k x xs more e h = inl (e refl)
+added_at Greater k x xs more e h = inr h
+
 pub insert_key-added : (ks : List Place) (k : Place) → IsIn k (insert_key place_cmp ks k)
 insert_key-added [] k = inl refl
-insert_key-added (x ∷ xs) k = cases (place_cmp k x) refl
-  where
-    cases : (o : Ordering) → place_cmp k x ≡ o → IsIn k (match_ordering o (k ∷ x ∷ xs) (x ∷ xs) (x ∷ insert_key place_cmp xs k))
-    cases Less e = inl refl
-    cases Equal e = inl (cmp-equal k x e)
-    cases Greater e = inr (insert_key-added xs k)
+insert_key-added (x ∷ xs) k = added_at (place_cmp k x) k x xs _ (cmp-equal k x) (insert_key-added xs k)
+
+kept_at : (o : Ordering) (k x p : Place) (xs more : List Place) → (IsIn p xs → IsIn p more) → IsIn p (x ∷ xs) → IsIn p (match_ordering o (k ∷ x ∷ xs) (x ∷ xs) (x ∷ more))
+kept_at Less k x p xs more e h = inr h
+kept_at Equal k x p xs more e h = h
+kept_at Greater k x p xs more e h = elim h [ inl s ↦ inl s | inr r ↦ inr (e r) ]
 
 pub insert_key-kept : (ks : List Place) (k p : Place) → IsIn p ks → IsIn p (insert_key place_cmp ks k)
 insert_key-kept [] k p h = absurd h
-insert_key-kept (x ∷ xs) k p h = cases (place_cmp k x)
-  where
-    cases : (o : Ordering) → IsIn p (match_ordering o (k ∷ x ∷ xs) (x ∷ xs) (x ∷ insert_key place_cmp xs k))
-    cases Less = inr h
-    cases Equal = h
-    cases Greater = elim h [ inl e ↦ inl e | inr r ↦ inr (insert_key-kept xs k p r) ]
+insert_key-kept (x ∷ xs) k p h = kept_at (place_cmp k x) k x p xs _ (insert_key-kept xs k p) h

@@ -7,3 +7,4 @@ pub mod Rows
 pub mod Works
 pub mod Turns
 pub mod Agenda
+pub mod Claims

@@ -1,9 +1,11 @@
 //! The book of an analysis: nodes with their states, the works of units, and the journal of what was done.
 #![tactic(auto)]
 
+mod agenda;
 mod candidates;
 mod event;
 mod nodes;
+mod parts;
 mod place;
 mod places;
 mod reserved;

@@ -2,10 +2,11 @@
 
 ghost use Rattle.std.specs.Prelude.{◌≡◌, ◌≤◌, ◌+◌, ◌<◌, [], map, IfOk, OnOk, IfSome, MatchOption, length, slice_get, Some, None};
 ghost use Rattle.std.specs.Option.{option_map};
-ghost use Rattle.round_core.specs.Machine.{Held, held_at, with_held, place_of};
+ghost use Rattle.round_core.specs.Machine.{Held, held_at, with_held, place_of, version_of, versions_of};
 
 use crate::reserved::put_reserved;
-use call_context::Node;
+use crate::versions::Versions;
+use call_context::{Node, Unit};
 use indexmap::IndexMap;
 use std::alloc::Global;
 use std::marker::Model;
@@ -89,6 +90,32 @@ impl<A> Nodes<A> {
     {
         let (node, state) = self.states.get(place)?;
         Some((node, state))
+    }
+
+    /// How often the state of a node has risen.
+    pub fn version(&self, node: &Node) -> u32
+        ensures { result ≡ version_of self.now.rows node.now }
+    {
+        match self.find(node) {
+            Some((_, rises)) => rises,
+            None => 0,
+        }
+    }
+
+    /// The versions of a unit's inputs.
+    pub fn versions(&self, unit: &Unit) -> Versions
+        ensures { result ≡ versions_of self.now.rows unit.now }
+    {
+        match unit {
+            Unit::One(node) => Versions {
+                at: self.version(node),
+                exit: 0,
+            },
+            Unit::Back(node, exit) => Versions {
+                at: self.version(node),
+                exit: self.version(exit),
+            },
+        }
     }
 
     /// Room for more of them. The rows stay as they are.

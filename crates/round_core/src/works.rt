@@ -2,11 +2,11 @@
 
 ghost use Rattle.std.specs.Prelude.{◌≡◌, ◌≤◌, ◌+◌, ◌<◌, [], map, IfOk, OnOk, IfSome, MatchOption, length, slice_get, Some, None};
 ghost use Rattle.std.specs.Option.{option_map};
-ghost use Rattle.round_core.specs.Machine.{Done, done_at, with_done};
+ghost use Rattle.round_core.specs.Machine.{Done, done_at, with_done, waits_for};
 
 use crate::reserved::put_reserved;
 use crate::versions::Versions;
-use call_context::Unit;
+use call_context::{Frame, Node, Unit};
 use chip_law::Work;
 use indexmap::IndexMap;
 use std::alloc::Global;
@@ -69,6 +69,16 @@ impl<A> Works<A> {
         let (index, _, versions) = self.versions.get_full(unit)?;
         let (_, work) = self.works.get(index)?;
         Some((work, *versions))
+    }
+
+    /// Whether the last work of a location waits for a frame.
+    pub fn waits_for(&self, node: &Node, frame: &Frame) -> bool
+        ensures { result ≡ waits_for self.now.rows node.now frame.now }
+    {
+        match self.find(&Unit::One(*node)) {
+            Some((work, _)) => work.waits.as_slice().contains(frame),
+            None => false,
+        }
     }
 
     /// Room for more of them. The rows stay as they are.
