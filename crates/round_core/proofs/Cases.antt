@@ -1,5 +1,5 @@
 -- Cases of tests and of optional places.
-use Rattle.std.specs.Prelude.{◌≡◌, ℕ, zero, suc, ◌+◌, ◌<◌, ◌≤◌, ◌⊎◌, Bool, true, false, if◌then◌else◌, Option, None, Some, List, [], ◌∷◌, map, length, slice_get, slice_index_or, Result, Ok, Err, OnOk, is_some}
+use Rattle.std.specs.Prelude.{◌≡◌, ℕ, zero, suc, ◌+◌, ◌<◌, ◌≤◌, ◌⊎◌, Bool, true, false, if◌then◌else◌, Option, None, Some, List, [], ◌∷◌, map, length, slice_get, slice_index_or, Result, Ok, Err, OnOk, is_some, option_and_then}
 use Rattle.std.specs.Option.{option_map}
 use Rattle.std.proofs.Common.{refl, inl, inr, ap, sym, arith, ltb}
 use Rattle.std.proofs.lemmas.Bool.Decides.{nat_tests}
@@ -60,3 +60,19 @@ on_ok P Q (Err e) f p = tt
 pub is_none_of : {X : Type 0} → (o : Option X) → false ≡ is_some o → o ≡ None
 is_none_of None h = refl
 is_none_of (Some x) h = absurd (cc)
+
+pub then_some : {X Y : Type 0} → (f : X → Option Y) (o : Option X) (y : Y) → option_and_then f o ≡ Some y → (x : X) × (o ≡ Some x) × (f x ≡ Some y)
+then_some f None y h = absurd (cc)
+then_some f (Some x) y h = (x, refl, h)
+
+pub map_some : {X Y : Type 0} → (f : X → Y) (o : Option X) (y : Y) → option_map f o ≡ Some y → (x : X) × (o ≡ Some x) × (f x ≡ y)
+map_some f None y h = absurd (cc)
+map_some f (Some x) y h = let e : f x ≡ y = cc in (x, refl, e)
+
+pub if_some : {X : Type 0} → (b : Bool) (x y : X) → (if b then Some x else None) ≡ Some y → (b ≡ true) × (x ≡ y)
+if_some true x y h = let e : x ≡ y = cc in (refl, e)
+if_some false x y h = absurd (cc)
+
+pub unless_some : {X : Type 0} → (b : Bool) (o : Option X) (y : X) → (if b then None else o) ≡ Some y → (b ≡ false) × (o ≡ Some y)
+unless_some true o y h = absurd (cc)
+unless_some false o y h = (refl, h)

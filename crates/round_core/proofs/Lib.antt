@@ -5,3 +5,4 @@ pub mod TurnsLemmas
 pub mod PlaceLemmas
 pub mod ListLemmas
 pub mod PlacesLemmas
+pub mod ClaimLemmas

@@ -8,3 +8,4 @@ pub mod Works
 pub mod Turns
 pub mod Agenda
 pub mod Claims
+pub mod Shown
