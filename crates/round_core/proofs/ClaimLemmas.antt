@@ -177,7 +177,33 @@ module _ {A : Type 0} where
 
   -- the order of units is the order of their places
   pub before-places : (hs : List (Held A)) (u v : WorkUnit) (p q : Place) → placed hs u ≡ Some p → placed hs v ≡ Some q → ComesBefore hs u v → IsBefore p q
-  before-places hs (unit.One n) (unit.One m) p q e f h = ?
-  before-places hs (unit.One n) (unit.Back m y) p q e f h = ?
+  before-places hs (unit.One n) (unit.One m) p q e f h =
+      let i = map_some (λ (i : ℕ). place.One i) (place_of hs n) p e in
+      let j = map_some (λ (i : ℕ). place.One i) (place_of hs m) q f in
+      let less : IsBelow (Some i.0) (Some j.0) = subst (λ o. IsBelow (Some i.0) o) j.1 (subst (λ o. IsBelow o (place_of hs m)) i.1 h) in
+      let at : IsBefore p (place.One j.0) = subst (λ r. IsBefore r (place.One j.0)) i.2 less in
+      subst (λ r. IsBefore p r) j.2 at
+  before-places hs (unit.One n) (unit.Back m y) p q e f h =
+      let i = map_some (λ (i : ℕ). place.One i) (place_of hs n) p e in
+      let j = then_some (λ (i : ℕ). option_map (λ j. place.Back i j) (place_of hs y)) (place_of hs m) q f in
+      let k = map_some (λ (k : ℕ). place.Back j.0 k) (place_of hs y) q j.2 in
+      let at : IsBefore p (place.Back j.0 k.0) = subst (λ r. IsBefore r (place.Back j.0 k.0)) i.2 tt in
+      subst (λ r. IsBefore p r) k.2 at
   before-places hs (unit.Back n x) (unit.One m) p q e f h = absurd h
-  before-places hs (unit.Back n x) (unit.Back m y) p q e f h = ?
+  before-places hs (unit.Back n x) (unit.Back m y) p q e f h =
+      let i = then_some (λ (i : ℕ). option_map (λ j. place.Back i j) (place_of hs x)) (place_of hs n) p e in
+      let l = map_some (λ (k : ℕ). place.Back i.0 k) (place_of hs x) p i.2 in
+      let j = then_some (λ (i : ℕ). option_map (λ j. place.Back i j) (place_of hs y)) (place_of hs m) q f in
+      let k = map_some (λ (k : ℕ). place.Back j.0 k) (place_of hs y) q j.2 in
+      let less : (i.0 < j.0) ⊎ ((i.0 ≡ j.0) × (l.0 < k.0)) = elim h [
+          inl a ↦ inl (below _ _ i.0 j.0 i.1 j.1 a)
+        | inr a ↦ inr (same_place _ _ i.0 j.0 i.1 j.1 a.0, below _ _ l.0 k.0 l.1 k.1 a.1)
+        ] in
+      let at : IsBefore p (place.Back j.0 k.0) = subst (λ r. IsBefore r (place.Back j.0 k.0)) l.2 less in
+      subst (λ r. IsBefore p r) k.2 at
+    where
+      below : (o u : Option ℕ) (a c : ℕ) → o ≡ Some a → u ≡ Some c → IsBelow o u → a < c
+      below o u a c e f h =
+          let g : IsBelow (Some a) (Some c) = subst (λ t. IsBelow (Some a) t) f (subst (λ t. IsBelow t u) e h) in g
+      same_place : (o u : Option ℕ) (a c : ℕ) → o ≡ Some a → u ≡ Some c → o ≡ u → a ≡ c
+      same_place o u a c e f h = let g : Some a ≡ Some c = sym e ∙ h ∙ f in cc

@@ -6,3 +6,6 @@ pub mod PlaceLemmas
 pub mod ListLemmas
 pub mod PlacesLemmas
 pub mod ClaimLemmas
+pub mod ShownLemmas
+pub mod OutLemmas
+pub mod MachineLemmas

@@ -1,5 +1,7 @@
 -- The order of places, and sets of them.
-use Rattle.std.specs.Prelude.{◌≡◌, ℕ, zero, suc, ◌+◌, ◌<◌, ◌⊎◌, Bool, true, false, List, [], ◌∷◌, length, slice_index, slice_index_or}
+use Rattle.std.specs.Prelude.{◌≡◌, ℕ, zero, suc, ◌+◌, ◌<◌, ◌⊎◌, Bool, true, false, List, [], ◌∷◌, length, slice_index, slice_index_or, slice_get, Option, None, Some, IfSome, IsSome, ◌↔◌}
+use Rattle.std.specs.Option.{option_map}
+use Rattle.std.specs.Borrow.{Bor}
 use Rattle.std.proofs.Common.{refl, sym, ◌∙◌, ap, subst, inl, inr, arith}
 use Rattle.std.proofs.Math.Path.{ap₂}
 use Rattle.std.proofs.lemmas.Bool.Decides.{nat_tests}
@@ -74,3 +76,13 @@ kept_at Greater k x p xs more e h = elim h [ inl s ↦ inl s | inr r ↦ inr (e 
 pub insert_key-kept : (ks : List Place) (k p : Place) → IsIn p ks → IsIn p (insert_key place_cmp ks k)
 insert_key-kept [] k p h = absurd h
 insert_key-kept (x ∷ xs) k p h = kept_at (place_cmp k x) k x p xs _ (insert_key-kept xs k p) h
+
+-- what is known of a first candidate
+pub of_copied : (P : Place → Type 0) (r : Option (Bor Place)) (p : Place) → IfSome r (λ k. P k.now) → Some p ≡ option_map (λ k. k.now) r → P p
+of_copied P None p h e = absurd (cc)
+of_copied P (Some k) p h e = let same : k.now ≡ p = cc in subst P same h
+
+pub popped : (old new : List Place) (r : Option Place) (p : Place) → slice_get old 0 ≡ Some p → IfSome r (λ k. old ≡ k ∷ new) → IsSome r ↔ (0 < length old) → old ≡ p ∷ new
+popped [] new r p g h v = absurd (cc)
+popped (x ∷ old) new None p g h v = let some : false ≡ true = v.1 (omega arith) in absurd (cc)
+popped (x ∷ old) new (Some k) p g h v = let e : x ≡ p = cc in let d : old ≡ new = cc in ap₂ (λ a b. a ∷ b) e d

@@ -7,7 +7,7 @@ use Rattle.call_context.specs.declared.node.Unit.{Unit as WorkUnit}
 use Rattle.round_core.specs.declared.place.Place.{Place}
 use Rattle.round_core.specs.declared.parts.Parts.{Parts}
 use Rattle.round_core.specs.Machine.{BookState, Held, Out, held_at, out_at, place_of, waits_for, IsClaimable}
-use Rattle.round_core.specs.Claims.{placed}
+use Rattle.round_core.specs.Claims.{placed, claimable_at}
 use Rattle.round_core.specs.Agenda.{IsIn, places_in}
 use Rattle.round_core.specs.Turns.{place_out}
 
@@ -39,6 +39,10 @@ module _ {A : Type 0} where
     pub expected : (unit : WorkUnit) → IsClaimable b unit → IsExpected b.nodes p.agenda.candidates.keys p.turns.returned unit
     pub waiting : (node : Node) (frame : Frame) → waits_for b.done node frame ≡ true → (place : ℕ) × (place_of b.nodes node ≡ Some place) × IsIn place (places_in p.agenda.waiting frame)
     pub exits : (pc : ℕ) (frame : Frame) (place : ℕ) → place_of b.nodes (Exit pc frame) ≡ Some place → IsIn place (places_in p.agenda.exits frame)
+
+  -- the unit that is found at a place, where it can be claimed
+  abbrev pub found_at : Parts A → Place → Option WorkUnit
+  found_at p place = claimable_at p.nodes.rows p.works.rows p.turns.out place
 
   -- whatever book the first parts stand for, the second stand for it too
   abbrev pub StaysShown : Parts A → Parts A → Type 0

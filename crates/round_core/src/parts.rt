@@ -1,15 +1,19 @@
 //! What a book keeps.
 
-ghost use Rattle.std.specs.Prelude.{◌≡◌};
-ghost use Rattle.round_core.specs.Claims.{one_of, back_of, unit_at, due_of, claimable_at};
-ghost use Rattle.round_core.specs.Machine.{done_at, versions_of};
+ghost use Rattle.std.specs.Prelude.{◌≡◌, [], Some, MatchOption, OnOk, IsTrue, is_some, not};
+ghost use Rattle.std.specs.List.{list_any};
+ghost use Rattle.round_core.specs.Claims.{one_of, back_of, unit_at, due_of, claimable_at, placed};
+ghost use Rattle.round_core.specs.Machine.{BookState, done_at, versions_of, IsFirst, NoneClaimable};
+ghost use Rattle.round_core.specs.Shown.{Shows, StaysShown, found_at};
 
 use crate::agenda::Agenda;
+use crate::candidates::add_all;
 use crate::nodes::Nodes;
 use crate::place::Place;
 use crate::turns::Turns;
 use crate::works::Works;
 use call_context::{Node, Unit};
+use vsa_io::Memory;
 
 /// The nodes with their states, the last works of units, the units that are out with the journal, and the units that
 /// may be claimable.
@@ -90,5 +94,63 @@ impl<A> Parts<A> {
         } else {
             None
         }
+    }
+}
+
+impl<A> Parts<A> {
+    /// Puts the units that were given back among the candidates.
+    pub fn take_returned(&mut self) -> Result<(), Memory>
+        ensures shown { StaysShown self.old self.new }
+        ensures journal { self.new.turns.journal ≡ self.old.turns.journal }
+        ensures none_left { OnOk result (self.new.turns.returned ≡ []) }
+    {
+        add_all(&mut self.agenda.candidates, self.turns.returned())?;
+        self.turns.clear_returned();
+        Ok(())
+    }
+
+    /// The first unit that can be claimed, with its place. Candidates before it that can't be are forgotten.
+    pub fn first(&mut self) -> Option<(Place, Unit)>
+        requires { self.old.turns.returned ≡ [] }
+        ensures shown { StaysShown self.old self.new }
+        ensures turns { self.new.turns ≡ self.old.turns }
+        ensures found { (b : BookState A) → Shows b self.old → MatchOption result (NoneClaimable b) (λ found. IsFirst b found.1 × (placed b.nodes found.1 ≡ Some found.0)) }
+    {
+        while let Some(place) = self.agenda.candidates.first().copied() {
+            match self.claimable_at(place) {
+                Some(unit) => return Some((place, unit)),
+                None => {
+                    self.agenda.candidates.pop_first();
+                }
+            }
+        }
+        None
+    }
+
+    /// Whether a unit of these places can be claimed.
+    fn has_claimable_among(&self, places: &[Place]) -> bool
+        ensures { result ≡ list_any (λ place. is_some (found_at self.now place)) places.now }
+    {
+        places
+            .iter()
+            .any(|place| self.claimable_at(*place).is_some())
+    }
+
+    /// Whether a unit of a candidate can be claimed.
+    fn has_claimable_candidate(&self) -> bool
+        ensures { result ≡ list_any (λ place. is_some (found_at self.now place)) self.now.agenda.candidates.keys }
+    {
+        self.agenda
+            .candidates
+            .iter()
+            .any(|place| self.claimable_at(*place).is_some())
+    }
+
+    /// Whether a unit can be claimed.
+    pub fn has_claimable(&self) -> bool
+        ensures some { (b : BookState A) → Shows b self.now → IsTrue result → NoneClaimable b → ⊥ }
+        ensures none { (b : BookState A) → Shows b self.now → IsTrue (not result) → NoneClaimable b }
+    {
+        self.has_claimable_candidate() || self.has_claimable_among(self.turns.returned())
     }
 }
