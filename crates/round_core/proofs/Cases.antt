@@ -76,3 +76,15 @@ if_some false x y h = absurd (cc)
 pub unless_some : {X : Type 0} → (b : Bool) (o : Option X) (y : X) → (if b then None else o) ≡ Some y → (b ≡ false) × (o ≡ Some y)
 unless_some true o y h = absurd (cc)
 unless_some false o y h = (refl, h)
+
+pub on_ok_map : {T E : Type 0} (P Q : Type 0) → (r : Result T E) → (P → Q) → OnOk r P → OnOk r Q
+on_ok_map P Q (Ok x) f p = f p
+on_ok_map P Q (Err e) f p = tt
+
+pub on_ok_always : {T E : Type 0} (P : Type 0) → (r : Result T E) → P → OnOk r P
+on_ok_always P (Ok x) p = p
+on_ok_always P (Err e) p = tt
+
+pub on_ok_both : {T E : Type 0} (P Q : Type 0) → (r : Result T E) → OnOk r P → OnOk r Q → OnOk r (P × Q)
+on_ok_both P Q (Ok x) p q = (p, q)
+on_ok_both P Q (Err e) p q = tt

@@ -9,3 +9,5 @@ pub mod ClaimLemmas
 pub mod ShownLemmas
 pub mod OutLemmas
 pub mod MachineLemmas
+pub mod WaitLemmas
+pub mod OpenLemmas

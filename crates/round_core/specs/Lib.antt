@@ -9,3 +9,6 @@ pub mod Turns
 pub mod Agenda
 pub mod Claims
 pub mod Shown
+pub mod Expected
+pub mod Returns
+pub mod Opening

@@ -1,8 +1,9 @@
 //! Sets of places.
 
-ghost use Rattle.std.specs.Prelude.{◌≡◌, ℕ, ◌<◌, length, slice_index, OnOk};
+ghost use Rattle.std.specs.Prelude.{OnOk};
 ghost use Rattle.round_core.specs.declared.place.Place.{Place};
 ghost use Rattle.round_core.specs.Agenda.{IsIn, KeepsCandidates};
+ghost use Rattle.round_core.specs.Returns.{HasReturnsTo, HasReturnsFrom};
 
 use crate::place::Place;
 use std::collections::BTreeSet;
@@ -23,7 +24,7 @@ pub fn add_returns_to(
     node: usize,
     exits: &[usize],
 ) -> Result<(), Memory>
-    ensures added { OnOk result ((i : ℕ) → i < length exits.now → IsIn (Place.Back node (slice_index exits.now i)) candidates.new.keys) }
+    ensures added { OnOk result (HasReturnsTo candidates.new.keys node exits.now) }
     ensures kept { KeepsCandidates candidates.old.keys candidates.new.keys }
 {
     for exit in exits {
@@ -38,7 +39,7 @@ pub fn add_returns_from(
     nodes: &[usize],
     exit: usize,
 ) -> Result<(), Memory>
-    ensures added { OnOk result ((i : ℕ) → i < length nodes.now → IsIn (Place.Back (slice_index nodes.now i) exit) candidates.new.keys) }
+    ensures added { OnOk result (HasReturnsFrom candidates.new.keys nodes.now exit) }
     ensures kept { KeepsCandidates candidates.old.keys candidates.new.keys }
 {
     for node in nodes {

@@ -4,6 +4,7 @@
 mod agenda;
 mod candidates;
 mod event;
+mod expect;
 mod nodes;
 mod parts;
 mod place;

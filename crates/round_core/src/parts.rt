@@ -1,18 +1,21 @@
 //! What a book keeps.
 
-ghost use Rattle.std.specs.Prelude.{◌≡◌, [], Some, MatchOption, OnOk, IsTrue, is_some, not};
+ghost use Rattle.std.specs.Prelude.{◌≡◌, [], Some, IfOk, MatchOption, OnOk, IsTrue, is_some, not};
 ghost use Rattle.std.specs.List.{list_any};
 ghost use Rattle.round_core.specs.Claims.{one_of, back_of, unit_at, due_of, claimable_at, placed};
 ghost use Rattle.round_core.specs.Machine.{BookState, done_at, versions_of, IsFirst, NoneClaimable};
+ghost use Rattle.round_core.specs.Opening.{one_node};
 ghost use Rattle.round_core.specs.Shown.{Shows, StaysShown, found_at};
 
 use crate::agenda::Agenda;
 use crate::candidates::add_all;
+use crate::expect::expect_node;
 use crate::nodes::Nodes;
 use crate::place::Place;
 use crate::turns::Turns;
 use crate::works::Works;
 use call_context::{Node, Unit};
+use std::alloc::Global;
 use vsa_io::Memory;
 
 /// The nodes with their states, the last works of units, the units that are out with the journal, and the units that
@@ -32,6 +35,28 @@ fn one_of(node: &Node) -> Option<Unit>
     match node {
         Node::At(..) => Some(Unit::One(*node)),
         Node::Exit(..) => None,
+    }
+}
+
+impl<A: Drop> Parts<A> {
+    /// One node that rose once, and nothing else.
+    pub fn open(alloc: Global, node: Node, state: A) -> Result<Self, Memory>
+        ensures journal { IfOk result (λ parts. parts.turns.journal ≡ []) }
+        ensures shown { IfOk result (λ parts. Shows (one_node node state) parts) }
+    {
+        let node = &node;
+        let mut nodes = Nodes::new(alloc);
+        let works = Works::new(alloc);
+        let mut agenda = Agenda::new(alloc);
+        expect_node(&mut agenda, &works, node, 0)?;
+        nodes.reserve(1)?;
+        nodes.set(*node, state, 1);
+        Ok(Parts {
+            nodes,
+            works,
+            turns: Turns::new(alloc),
+            agenda,
+        })
     }
 }
 

@@ -1,0 +1,82 @@
+//! Candidates that a post adds.
+
+ghost use Rattle.std.specs.Prelude.{◌≡◌, ℕ, true, OnOk};
+ghost use Rattle.call_context.specs.declared.node.Frame.{Frame};
+ghost use Rattle.round_core.specs.Agenda.{IsIn, places_in, KeepsCandidates, KeepsPlaces};
+ghost use Rattle.round_core.specs.Expected.{Grows, ExpectsNode};
+ghost use Rattle.round_core.specs.Returns.{HasReturnsTo, HasReturnsFrom};
+ghost use Rattle.round_core.specs.Machine.{waits_for};
+
+use crate::agenda::Agenda;
+use crate::candidates::{add_candidate, add_returns_from, add_returns_to};
+use crate::place::Place;
+use crate::places::Places;
+use crate::works::Works;
+use call_context::{Frame, Node, Unit};
+use std::collections::BTreeSet;
+use vsa_io::Memory;
+
+/// Adds the returns to a node from the exits of frames.
+fn add_returns(
+    candidates: &mut BTreeSet<Place>,
+    exits: &Places,
+    node: usize,
+    frames: &[Frame],
+) -> Result<(), Memory>
+    ensures added { OnOk result ((frame : Frame) → IsIn frame frames.now → HasReturnsTo candidates.new.keys node (places_in exits.now frame)) }
+    ensures kept { KeepsCandidates candidates.old.keys candidates.new.keys }
+{
+    for frame in frames {
+        add_returns_to(candidates, node, exits.of(frame))?;
+    }
+    Ok(())
+}
+
+/// Adds the own work of a location, and the returns to it that its last work waits for.
+fn expect_location<A>(
+    candidates: &mut BTreeSet<Place>,
+    exits: &Places,
+    works: &Works<A>,
+    node: &Node,
+    place: usize,
+) -> Result<(), Memory>
+    ensures own { OnOk result (IsIn (Place.One place) candidates.new.keys) }
+    ensures returns { OnOk result ((frame : Frame) → waits_for works.now.rows node.now frame ≡ true → HasReturnsTo candidates.new.keys place (places_in exits.now frame)) }
+    ensures kept { KeepsCandidates candidates.old.keys candidates.new.keys }
+{
+    add_candidate(candidates, Place::One(place))?;
+    match works.find(&Unit::One(*node)) {
+        Some((work, _)) => add_returns(candidates, exits, place, work.waits.as_slice()),
+        None => Ok(()),
+    }
+}
+
+/// Notes an exit of a frame, and adds the returns from it.
+fn expect_exit(agenda: &mut Agenda, frame: &Frame, place: usize) -> Result<(), Memory>
+    ensures noted { OnOk result (IsIn place (places_in agenda.new.exits frame.now)) }
+    ensures returns { OnOk result (HasReturnsFrom agenda.new.candidates.keys (places_in agenda.old.waiting frame.now) place) }
+    ensures grows { Grows agenda.old agenda.new }
+    ensures waiting { agenda.new.waiting ≡ agenda.old.waiting }
+{
+    agenda.exits.add(frame, place)?;
+    add_returns_from(&mut agenda.candidates, agenda.waiting.of(frame), place)
+}
+
+/// Adds what may be claimable once a node has risen.
+pub fn expect_node<A>(
+    agenda: &mut Agenda,
+    works: &Works<A>,
+    node: &Node,
+    place: usize,
+) -> Result<(), Memory>
+    ensures expected { OnOk result (ExpectsNode works.now.rows agenda.old agenda.new node.now place) }
+    ensures grows { Grows agenda.old agenda.new }
+    ensures waiting { agenda.new.waiting ≡ agenda.old.waiting }
+{
+    match node {
+        Node::At(..) => {
+            expect_location(&mut agenda.candidates, &agenda.exits, works, node, place)
+        }
+        Node::Exit(_, frame) => expect_exit(agenda, frame, place),
+    }
+}
