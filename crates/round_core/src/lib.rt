@@ -2,6 +2,7 @@
 #![tactic(auto)]
 
 mod agenda;
+mod book;
 mod candidates;
 mod event;
 mod expect;
@@ -15,6 +16,7 @@ mod turns;
 mod versions;
 mod works;
 
+pub use book::Book;
 pub use event::Event;
 pub use ticket::{Claimed, Done, Ticket};
 pub use versions::Versions;

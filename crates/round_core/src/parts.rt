@@ -1,20 +1,22 @@
 //! What a book keeps.
 
-ghost use Rattle.std.specs.Prelude.{◌≡◌, [], Some, IfOk, MatchOption, OnOk, IsTrue, is_some, not};
+ghost use Rattle.std.specs.Prelude.{◌≡◌, [], Some, IfOk, MatchOption, OnOk, IsTrue, is_some, map, not, ◌↔◌};
 ghost use Rattle.std.specs.List.{list_any};
 ghost use Rattle.round_core.specs.Claims.{one_of, back_of, unit_at, due_of, claimable_at, placed};
-ghost use Rattle.round_core.specs.Machine.{BookState, done_at, versions_of, IsFirst, NoneClaimable};
+ghost use Rattle.round_core.specs.Machine.{BookState, done_at, versions_of, IsFirst, IsFinished, NoneClaimable};
 ghost use Rattle.round_core.specs.Opening.{one_node};
 ghost use Rattle.round_core.specs.Shown.{Shows, StaysShown, found_at};
 
 use crate::agenda::Agenda;
 use crate::candidates::add_all;
+use crate::event::Event;
 use crate::expect::expect_node;
 use crate::nodes::Nodes;
 use crate::place::Place;
 use crate::turns::Turns;
 use crate::works::Works;
 use call_context::{Node, Unit};
+use chip_law::Work;
 use std::alloc::Global;
 use vsa_io::Memory;
 
@@ -177,5 +179,31 @@ impl<A> Parts<A> {
         ensures none { (b : BookState A) → Shows b self.now → IsTrue (not result) → NoneClaimable b }
     {
         self.has_claimable_candidate() || self.has_claimable_among(self.turns.returned())
+    }
+}
+
+impl<A> Parts<A> {
+    /// Whether no unit is out and none can be claimed.
+    pub fn is_finished(&self) -> bool
+        ensures { (b : BookState A) → Shows b self.now → IsTrue result ↔ IsFinished b }
+    {
+        self.turns.is_empty() && !self.has_claimable()
+    }
+}
+
+impl<A: Drop> Parts<A> {
+    /// The nodes with their states, the last works, and the journal.
+    pub fn into_vecs(self) -> (Vec<(Node, A)>, Vec<(Unit, Work<A>)>, Vec<Event>)
+        ensures nodes { result.0.items ≡ map (λ row. (row.node, row.state)) self.nodes.rows }
+        ensures works { result.1.items ≡ map (λ row. (row.unit, row.work)) self.works.rows }
+        ensures journal { result.2.items ≡ self.turns.journal }
+    {
+        let Parts {
+            nodes,
+            works,
+            turns,
+            agenda: _,
+        } = self;
+        (nodes.into_vec(), works.into_vec(), turns.into_journal())
     }
 }
