@@ -1,7 +1,7 @@
 -- Cases of tests and of optional places.
-use Rattle.std.specs.Prelude.{◌≡◌, ℕ, zero, suc, ◌+◌, ◌<◌, ◌≤◌, ◌⊎◌, Bool, true, false, if◌then◌else◌, Option, None, Some, List, [], ◌∷◌, map, length, slice_get, slice_index_or, Result, Ok, Err, OnOk, is_some, option_and_then}
+use Rattle.std.specs.Prelude.{◌≡◌, ℕ, zero, suc, ◌+◌, ◌<◌, ◌≤◌, ◌⊎◌, Bool, true, false, if◌then◌else◌, Option, None, Some, List, [], ◌∷◌, map, length, slice_get, slice_index_or, Result, Ok, Err, OnOk, IfOk, IsSome, MatchOption, is_some, option_and_then}
 use Rattle.std.specs.Option.{option_map}
-use Rattle.std.proofs.Common.{refl, inl, inr, ap, sym, arith, ltb}
+use Rattle.std.proofs.Common.{refl, inl, inr, ap, sym, subst, arith, ltb}
 use Rattle.std.proofs.lemmas.Bool.Decides.{nat_tests}
 
 pub truth : (b : Bool) → (b ≡ true) ⊎ (b ≡ false)
@@ -88,3 +88,16 @@ on_ok_always P (Err e) p = tt
 pub on_ok_both : {T E : Type 0} (P Q : Type 0) → (r : Result T E) → OnOk r P → OnOk r Q → OnOk r (P × Q)
 on_ok_both P Q (Ok x) p q = (p, q)
 on_ok_both P Q (Err e) p q = tt
+
+pub if_ok_map : {T E : Type 0} (P Q : T → Type 0) → (r : Result T E) → ((x : T) → P x → Q x) → IfOk r P → IfOk r Q
+if_ok_map P Q (Ok x) f p = f x p
+if_ok_map P Q (Err e) f p = tt
+
+-- an optional value that is there
+pub is_some_of : {X : Type 0} → (o : Option X) (x : X) → o ≡ Some x → IsSome o
+is_some_of None x e = absurd (cc)
+is_some_of (Some y) x e = refl
+
+pub match_some : {X : Type 0} (P : Type 0) (Q : X → Type 0) → (o : Option X) (x : X) → o ≡ Some x → MatchOption o P Q → Q x
+match_some P Q None x e h = absurd (cc)
+match_some P Q (Some y) x e h = let same : y ≡ x = cc in subst Q same h

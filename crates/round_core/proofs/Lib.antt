@@ -11,3 +11,4 @@ pub mod OutLemmas
 pub mod MachineLemmas
 pub mod WaitLemmas
 pub mod OpenLemmas
+pub mod ClaimEvent

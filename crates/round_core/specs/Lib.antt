@@ -12,3 +12,4 @@ pub mod Shown
 pub mod Expected
 pub mod Returns
 pub mod Opening
+pub mod Tickets

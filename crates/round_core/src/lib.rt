@@ -4,6 +4,7 @@
 mod agenda;
 mod book;
 mod candidates;
+mod claim;
 mod event;
 mod expect;
 mod nodes;

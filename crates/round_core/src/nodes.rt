@@ -70,6 +70,11 @@ impl<A> Nodes<A> {
         Some((state, *rises))
     }
 
+    /// The allocator.
+    pub fn allocator(&self) -> Global {
+        *self.states.allocator()
+    }
+
     /// How many there are.
     pub fn len(&self) -> usize
         ensures { result ≡ length self.now.rows }

@@ -1,9 +1,10 @@
 //! What a book keeps.
 
-ghost use Rattle.std.specs.Prelude.{◌≡◌, [], Some, IfOk, MatchOption, OnOk, IsTrue, is_some, map, not, ◌↔◌};
+ghost use Rattle.std.specs.Prelude.{◌≡◌, ◌++◌, ◌∷◌, [], None, IsSome, OnErr, Some, IfOk, MatchOption, OnOk, IsTrue, is_some, map, not, ◌↔◌};
 ghost use Rattle.std.specs.List.{list_any};
 ghost use Rattle.round_core.specs.Claims.{one_of, back_of, unit_at, due_of, claimable_at, placed};
-ghost use Rattle.round_core.specs.Machine.{BookState, done_at, versions_of, IsFirst, IsFinished, NoneClaimable};
+ghost use Rattle.round_core.specs.Machine.{BookState, Out, done_at, out_at, versions_of, without, IsClaimable, IsFirst, IsFinished, NoneClaimable};
+ghost use Rattle.round_core.specs.Turns.{place_out};
 ghost use Rattle.round_core.specs.Opening.{one_node};
 ghost use Rattle.round_core.specs.Shown.{Shows, StaysShown, found_at};
 
@@ -205,5 +206,36 @@ impl<A: Drop> Parts<A> {
             agenda: _,
         } = self;
         (nodes.into_vec(), works.into_vec(), turns.into_journal())
+    }
+}
+
+impl<A> Parts<A> {
+    /// The first unit that can be claimed, with its place.
+    pub fn take_first(&mut self) -> Result<Option<(Place, Unit)>, Memory>
+        ensures shown { StaysShown self.old self.new }
+        ensures journal { self.new.turns.journal ≡ self.old.turns.journal }
+        ensures found { IfOk result (λ found. (b : BookState A) → Shows b self.old → MatchOption found (NoneClaimable b) (λ first. IsFirst b first.1 × (placed b.nodes first.1 ≡ Some first.0))) }
+    {
+        self.take_returned()?;
+        Ok(self.first())
+    }
+
+    /// Takes out a unit at its place.
+    pub fn take_out(&mut self, seat: u32, unit: &Unit, place: Place) -> Result<(), Memory>
+        requires { place_out self.old.turns.out unit.now ≡ None }
+        ensures journal { OnOk result (self.new.turns.journal ≡ self.old.turns.journal ++ Event.Claim seat unit.now ∷ []) }
+        ensures out { OnOk result ((b : BookState A) (o : Out A) → Shows b self.old → IsClaimable b unit.now → placed b.nodes unit.now ≡ Some place → o.unit ≡ unit.now → Shows (record b { out = b.out ++ o ∷ [] }) self.new) }
+        ensures refused { OnErr result (self.new ≡ self.old) }
+    {
+        self.turns.claim(seat, unit, place)
+    }
+
+    /// Takes home a unit without work.
+    pub fn give_back(&mut self, seat: u32, unit: &Unit)
+        requires { IsSome (place_out self.old.turns.out unit.now) }
+        ensures journal { self.new.turns.journal ≡ self.old.turns.journal ++ Event.GiveBack seat unit.now ∷ [] }
+        ensures home { (b : BookState A) (o : Out A) → Shows b self.old → out_at b.out unit.now ≡ Some o → Shows (record b { out = without b.out unit.now }) self.new }
+    {
+        self.turns.give_back(seat, unit);
     }
 }
