@@ -12,3 +12,4 @@ pub mod MachineLemmas
 pub mod WaitLemmas
 pub mod OpenLemmas
 pub mod ClaimEvent
+pub mod RaiseLemmas

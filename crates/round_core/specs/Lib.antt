@@ -13,3 +13,4 @@ pub mod Expected
 pub mod Returns
 pub mod Opening
 pub mod Tickets
+pub mod Raise
