@@ -101,3 +101,7 @@ is_some_of (Some y) x e = refl
 pub match_some : {X : Type 0} (P : Type 0) (Q : X → Type 0) → (o : Option X) (x : X) → o ≡ Some x → MatchOption o P Q → Q x
 match_some P Q None x e h = absurd (cc)
 match_some P Q (Some y) x e h = let same : y ≡ x = cc in subst Q same h
+
+pub match_none : {X : Type 0} (P : Type 0) (Q : X → Type 0) → (o : Option X) → o ≡ None → MatchOption o P Q → P
+match_none P Q None e h = h
+match_none P Q (Some y) e h = absurd (cc)

@@ -44,7 +44,7 @@ module _ {A : Type 0} where
           (i.0 + 1, if_false _ _ _ s ∙ ap (λ o. option_map (λ place. place + 1) o) i.1)
     ]
 
-  held-get : (hs : List (Held A)) (i : ℕ) (h : Held A) → slice_get hs i ≡ Some h → held_at hs h.node ≡ None → ⊥
+  pub held-get : (hs : List (Held A)) (i : ℕ) (h : Held A) → slice_get hs i ≡ Some h → held_at hs h.node ≡ None → ⊥
   held-get [] i h e n = absurd (cc)
   held-get (g ∷ hs) zero h e n =
       let same : g ≡ h = cc in

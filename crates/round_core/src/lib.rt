@@ -11,6 +11,7 @@ mod nodes;
 mod parts;
 mod place;
 mod places;
+mod raise;
 mod reserved;
 mod ticket;
 mod turns;

@@ -1,6 +1,6 @@
 //! The nodes of a book.
 
-ghost use Rattle.std.specs.Prelude.{◌≡◌, ◌≤◌, ◌+◌, ◌<◌, [], map, IfOk, OnOk, IfSome, MatchOption, length, slice_get, Some, None};
+ghost use Rattle.std.specs.Prelude.{◌≡◌, ◌≤◌, ◌+◌, ◌<◌, [], map, IfOk, OnOk, IfSome, MatchOption, length, slice_get, Some, None, ◌^◌};
 ghost use Rattle.std.specs.Option.{option_map};
 ghost use Rattle.round_core.specs.Machine.{Held, held_at, with_held, place_of, version_of, versions_of};
 
@@ -77,9 +77,10 @@ impl<A> Nodes<A> {
 
     /// How many there are.
     pub fn len(&self) -> usize
-        ensures { result ≡ length self.now.rows }
+        ensures len { result ≡ length self.now.rows }
+        ensures small { result < 2 ^ 63 }
     {
-        self.states.len()
+        self.rises.len()
     }
 
     /// The place of a node.
@@ -147,5 +148,16 @@ impl<A> Nodes<A> {
             Ok(_) => {}
             Err(_) => unreachable!(),
         }
+    }
+
+    /// Puts a row in the place of the one with its node, or last.
+    pub fn insert(&mut self, node: Node, state: A, rises: u32) -> Result<(), Memory>
+    where
+        A: Drop,
+        ensures { OnOk result (self.new.rows ≡ with_held self.old.rows (record { node = node; state = state; rises = rises })) }
+    {
+        self.reserve(1)?;
+        self.set(node, state, rises);
+        Ok(())
     }
 }
