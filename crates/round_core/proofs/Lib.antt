@@ -13,3 +13,4 @@ pub mod WaitLemmas
 pub mod OpenLemmas
 pub mod ClaimEvent
 pub mod RaiseLemmas
+pub mod ExpectLemmas

@@ -122,8 +122,9 @@ pub fn expect_raised<A>(
 {
     let mut next = nodes.len();
     for index in 0..raised.len() {
-        if let Some((node, _)) = raised.at(index) {
-            next = expect_row(agenda, works, nodes, node, next)?;
+        match raised.at(index) {
+            Some((node, _)) => next = expect_row(agenda, works, nodes, node, next)?,
+            None => unreachable!(),
         }
     }
     Ok(())
