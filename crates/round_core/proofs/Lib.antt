@@ -14,3 +14,5 @@ pub mod OpenLemmas
 pub mod ClaimEvent
 pub mod RaiseLemmas
 pub mod ExpectLemmas
+pub mod PostLemmas
+pub mod SetAllLemmas

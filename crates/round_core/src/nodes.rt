@@ -1,8 +1,12 @@
 //! The nodes of a book.
 
-ghost use Rattle.std.specs.Prelude.{◌≡◌, ◌≤◌, ◌+◌, ◌<◌, [], map, IfOk, OnOk, IfSome, MatchOption, length, slice_get, Some, None, ◌^◌};
+ghost use Rattle.std.specs.Prelude.{◌≡◌, ◌≤◌, ◌+◌, ◌<◌, [], map, IfOk, OnOk, IfSome, MatchOption, length, slice_get, Some, None, ◌^◌, ℕ};
 ghost use Rattle.std.specs.Option.{option_map};
 ghost use Rattle.round_core.specs.Machine.{Held, held_at, with_held, place_of, version_of, versions_of};
+ghost use Rattle.std.specs.Map.{lookup};
+ghost use Rattle.call_context.specs.DerivedSame.{node_eq};
+ghost use Rattle.round_core.specs.Raise.{with_all};
+ghost use Rattle.round_core.specs.Shown.{AreDistinct};
 
 use crate::reserved::put_reserved;
 use crate::versions::Versions;
@@ -17,6 +21,16 @@ use vsa_io::Memory;
 pub struct Nodes<A> {
     rises: IndexMap<Node, u32>,
     states: Vec<(Node, A)>,
+}
+
+/// How often a node rose, where that is known.
+fn rises_of(rises: &IndexMap<Node, u32>, node: &Node) -> u32
+    ensures { (count : ℕ) → lookup (node_eq node.now) rises.now.entries ≡ Some count → result ≡ count }
+{
+    match rises.get(node) {
+        Some(count) => *count,
+        None => 0,
+    }
 }
 
 impl<A> Model for Nodes<A> {
@@ -159,5 +173,20 @@ impl<A> Nodes<A> {
         self.reserve(1)?;
         self.set(node, state, rises);
         Ok(())
+    }
+
+    /// Puts other rows in their places. There is room for them.
+    pub fn set_all(&mut self, more: Nodes<A>)
+    where
+        A: Drop,
+        requires room { length more.rows ≤ self.old.room }
+        requires distinct { AreDistinct more.rows }
+        ensures { self.new.rows ≡ with_all self.old.rows more.rows }
+    {
+        let Nodes { rises, states } = more;
+        for (node, state) in states {
+            let rises = rises_of(&rises, &node);
+            self.set(node, state, rises);
+        }
     }
 }
