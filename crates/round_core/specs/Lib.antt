@@ -14,3 +14,4 @@ pub mod Returns
 pub mod Opening
 pub mod Tickets
 pub mod Raise
+pub mod Prepared

@@ -11,6 +11,7 @@ mod nodes;
 mod parts;
 mod place;
 mod places;
+mod post;
 mod raise;
 mod reserved;
 mod ticket;

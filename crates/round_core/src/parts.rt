@@ -1,22 +1,25 @@
 //! What a book keeps.
 
-ghost use Rattle.std.specs.Prelude.{◌≡◌, ◌++◌, ◌∷◌, [], None, IsSome, OnErr, Some, IfOk, MatchOption, OnOk, IsTrue, is_some, map, not, ◌↔◌};
+ghost use Rattle.std.specs.Prelude.{◌≡◌, ◌<◌, ◌≤◌, length, ◌++◌, ◌∷◌, [], None, IsSome, OnErr, Some, IfOk, MatchOption, OnOk, IsTrue, is_some, map, not, ◌↔◌};
 ghost use Rattle.std.specs.List.{list_any};
 ghost use Rattle.round_core.specs.Claims.{one_of, back_of, unit_at, due_of, claimable_at, placed};
-ghost use Rattle.round_core.specs.Machine.{BookState, Out, done_at, out_at, versions_of, without, IsClaimable, IsFirst, IsFinished, NoneClaimable};
-ghost use Rattle.round_core.specs.Turns.{place_out};
+ghost use Rattle.round_core.specs.Machine.{BookState, Out, done_at, out_at, versions_of, with_done, without, IsClaimable, IsFirst, IsFinished, NoneClaimable};
+ghost use Rattle.round_core.specs.Turns.{place_out, TakesHome};
 ghost use Rattle.round_core.specs.Opening.{one_node};
-ghost use Rattle.round_core.specs.Shown.{Shows, StaysShown, found_at};
+ghost use Rattle.round_core.specs.Shown.{AreDistinct, Shows, StaysShown, found_at};
+ghost use Rattle.round_core.specs.Prepared.{IsPrepared};
+ghost use Rattle.round_core.specs.Raise.{with_all};
 
 use crate::agenda::Agenda;
 use crate::candidates::add_all;
 use crate::event::Event;
-use crate::expect::expect_node;
+use crate::expect::{expect_node, expect_raised, expect_unit};
 use crate::nodes::Nodes;
 use crate::place::Place;
 use crate::turns::Turns;
+use crate::versions::Versions;
 use crate::works::Works;
-use call_context::{Node, Unit};
+use call_context::{Frame, Node, Unit};
 use chip_law::Work;
 use std::alloc::Global;
 use vsa_io::Memory;
@@ -237,5 +240,54 @@ impl<A> Parts<A> {
         ensures home { (b : BookState A) (o : Out A) → Shows b self.old → out_at b.out unit.now ≡ Some o → Shows (record b { out = without b.out unit.now }) self.new }
     {
         self.turns.give_back(seat, unit);
+    }
+}
+
+impl<A> Parts<A> {
+    /// Makes room for raised nodes and a work, and adds what these make claimable. It changes nothing that the parts
+    /// stand for.
+    pub fn prepare(
+        &mut self,
+        unit: &Unit,
+        frames: &[Frame],
+        raised: &Nodes<A>,
+    ) -> Result<(), Memory>
+        requires { AreDistinct raised.now.rows }
+        ensures shown { StaysShown self.old self.new }
+        ensures journal { self.new.turns.journal ≡ self.old.turns.journal }
+        ensures prepared { OnOk result (IsPrepared self.old self.new unit.now frames.now raised.now.rows) }
+    {
+        expect_raised(&mut self.agenda, &self.works, &self.nodes, raised)?;
+        expect_unit(&mut self.agenda, &self.nodes, unit, frames)?;
+        self.nodes.reserve(raised.len())?;
+        self.works.reserve(1)?;
+        Ok(())
+    }
+}
+
+impl<A: Drop> Parts<A> {
+    /// Takes in the raised nodes and the work of a unit that is out, for which there is room.
+    pub fn post(
+        &mut self,
+        raised: Nodes<A>,
+        seat: u32,
+        unit: &Unit,
+        work: Work<A>,
+        versions: Versions,
+    )
+        requires out { IsSome (place_out self.old.turns.out unit.now) }
+        requires distinct { AreDistinct raised.rows }
+        requires room { length raised.rows ≤ self.old.nodes.room }
+        requires work_room { 0 < self.old.works.room }
+        ensures nodes { self.new.nodes.rows ≡ with_all self.old.nodes.rows raised.rows }
+        ensures works { self.new.works.rows ≡ with_done self.old.works.rows (record { unit = unit.now; work = work; versions = versions }) }
+        ensures journal { self.new.turns.journal ≡ self.old.turns.journal ++ Event.Post seat unit.now ∷ [] }
+        ensures out { TakesHome self.old.turns.out unit.now self.new.turns.out }
+        ensures returned { self.new.turns.returned ≡ self.old.turns.returned }
+        ensures agenda { self.new.agenda ≡ self.old.agenda }
+    {
+        self.nodes.set_all(raised);
+        self.works.set(*unit, work, versions);
+        self.turns.post(seat, unit);
     }
 }

@@ -13,7 +13,7 @@ set-requires g c =
 
 pub loop-node-init : goal.loop-node-init
 loop-node-init g c =
-    let all : into_iter_items c.into_iter-node-iterator.result ≡ c.more.inside.states.items = c.into_iter-node-iterator.ensures.into_iter_gives in
+    let all : into_iter_items c.into_iter-node-iterator.result ≡ c.more.inside.states.items = c.into_iter-node-iterator.ensures.into_iter_gives.0 in
     (c.args.more.rows,
      all ∙ c.more.invariant.bigs_are ∙ ap (λ v. map big_part v.rows) c.more.view_is,
      refl, c.requires.room, found-in c.args.more.rows c.requires.distinct)
@@ -28,4 +28,4 @@ loop-node-preserved g c =
         c.rises_of-rises.ensures c.set.ensures.rows c.set.ensures.room i.2 i.3 i.4
 
 pub returns : goal.returns
-returns g c = let i = c.loop-node.invariant in set-end _ _ i.0 _ i.1 c.in-None.ensures.steps.0 i.2
+returns g c = let i = c.loop-node.invariant in set-end _ _ i.0 _ i.1 (sym c.loop-node.node-iterator.rest.ok.0 ∙ c.in-None.ensures.steps.0) i.2
