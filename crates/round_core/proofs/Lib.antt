@@ -16,3 +16,4 @@ pub mod RaiseLemmas
 pub mod ExpectLemmas
 pub mod PostLemmas
 pub mod SetAllLemmas
+pub mod PostEvent
