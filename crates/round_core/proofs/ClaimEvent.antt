@@ -47,9 +47,10 @@ module _ {S A : Type 0} (m : Meaning S A) where
       let b = replay m journal in
       let k' : IsTicketOf b.nodes seat u t = subst (λ hs. IsTicketOf hs seat u t) s.nodes k in
       let back = claim-behind journal p'.turns.journal seat u t e k' in
-      let home : out_at b.out t.unit ≡ None = ap (λ v. out_at b.out v) k.unit_is ∙ first.claimable.at_home in
-      (subst (λ c. Shows c p') (sym back) s',
-       ap (λ c. out_at c.out t.unit) back ∙ out_at-last b.out t t.unit home ∙ if_true _ _ _ (same_unit-refl t.unit))
+      let home : out_at b.out t.unit ≡ None = ap (λ v. out_at b.out v) k.unit_is ∙ first.claimable.at_home in (
+        subst (λ c. Shows c p') (sym back) s',
+        ap (λ c. out_at c.out t.unit) back ∙ out_at-last b.out t t.unit home ∙ if_true _ _ _ (same_unit-refl t.unit),
+      )
 
   -- the book behind a give-back
   pub given_back : (journal : List Event) (p' : Parts A) (seat : ℕ) (u : WorkUnit) → p'.turns.journal ≡ journal ++ GiveBack seat u ∷ []
@@ -66,13 +67,16 @@ module _ {S A B : Type 0} (meaning : B → Meaning S A) where
       → IsFirst (replay (meaning base) journal) u → t.unit ≡ u → t.seat ≡ seat → journal' ≡ journal ++ Claim seat u ∷ []
       → out_at (replay (meaning base) journal').out t.unit ≡ Some t
       → IsFirst (replay (meaning k.base) k.journal) t.unit × (t.seat ≡ seat) × (kept base journal' ≡ with_event k (Claim seat t.unit))
-        × (out_at (replay (meaning k.base) journal').out t.unit ≡ Some t)
+      × (out_at (replay (meaning k.base) journal').out t.unit ≡ Some t)
   answer-is k base journal journal' seat u t e first own seated more out =
       let P : Kept B → Type 0 = λ c. IsFirst (replay (meaning c.base) c.journal) t.unit × (t.seat ≡ seat) × (kept base journal' ≡ with_event c (Claim seat t.unit))
-        × (out_at (replay (meaning c.base) journal').out t.unit ≡ Some t) in
-      subst P e
-          (subst (λ v. IsFirst (replay (meaning base) journal) v) (sym own) first, seated,
-           ap (λ j. kept base j) (more ∙ ap (λ v. journal ++ Claim seat v ∷ []) (sym own)), out)
+      × (out_at (replay (meaning c.base) journal').out t.unit ≡ Some t) in
+      subst P e (
+        subst (λ v. IsFirst (replay (meaning base) journal) v) (sym own) first,
+        seated,
+        ap (λ j. kept base j) (more ∙ ap (λ v. journal ++ Claim seat v ∷ []) (sym own)),
+        out,
+      )
 
   pub legal-out : (k : Kept B) (base : B) (journal : List Event) (t : Out A) → kept base journal ≡ k
       → out_at (replay (meaning k.base) k.journal).out t.unit ≡ Some t → out_at (replay (meaning base) journal).out t.unit ≡ Some t

@@ -24,25 +24,25 @@ module _ {A : Type 0} where
   pub held-place : (hs : List (Held A)) (n : Node) (i : ℕ) → place_of hs n ≡ Some i → (h : Held A) × (held_at hs n ≡ Some h) × (slice_get hs i ≡ Some h) × (h.node ≡ n)
   held-place [] n i p = absurd (cc)
   held-place (h ∷ hs) n i p = elim (truth (same_node n h.node)) [
-      inl s ↦
-          let here : Some 0 ≡ Some i = sym (if_true _ _ _ s) ∙ p in
-          let z : 0 ≡ i = cc in
-          (h, if_true _ _ _ s, subst (λ k. slice_get (h ∷ hs) k ≡ Some h) z refl, sym (same_node-eq n h.node s))
+    | inl s ↦
+        let here : Some 0 ≡ Some i = sym (if_true _ _ _ s) ∙ p in
+        let z : 0 ≡ i = cc in
+        (h, if_true _ _ _ s, subst (λ k. slice_get (h ∷ hs) k ≡ Some h) z refl, sym (same_node-eq n h.node s))
     | inr s ↦
-          let m = next_place (place_of hs n) i (sym (if_false _ _ _ s) ∙ p) in
-          let below : suc m.0 ≡ i = omega arith in
-          let rest = held-place hs n m.0 m.1 in
-          (rest.0, if_false _ _ _ s ∙ rest.1, subst (λ k. slice_get (h ∷ hs) k ≡ Some rest.0) below rest.2, rest.3)
-    ]
+        let m = next_place (place_of hs n) i (sym (if_false _ _ _ s) ∙ p) in
+        let below : suc m.0 ≡ i = omega arith in
+        let rest = held-place hs n m.0 m.1 in
+        (rest.0, if_false _ _ _ s ∙ rest.1, subst (λ k. slice_get (h ∷ hs) k ≡ Some rest.0) below rest.2, rest.3)
+  ]
 
   pub place-held : (hs : List (Held A)) (n : Node) (h : Held A) → held_at hs n ≡ Some h → (i : ℕ) × (place_of hs n ≡ Some i)
   place-held [] n h e = absurd (cc)
   place-held (g ∷ hs) n h e = elim (truth (same_node n g.node)) [
-      inl s ↦ (0, if_true _ _ _ s)
+    | inl s ↦ (0, if_true _ _ _ s)
     | inr s ↦
-          let i = place-held hs n h (sym (if_false _ _ _ s) ∙ e) in
-          (i.0 + 1, if_false _ _ _ s ∙ ap (λ o. option_map (λ place. place + 1) o) i.1)
-    ]
+        let i = place-held hs n h (sym (if_false _ _ _ s) ∙ e) in
+        (i.0 + 1, if_false _ _ _ s ∙ ap (λ o. option_map (λ place. place + 1) o) i.1)
+  ]
 
   pub held-get : (hs : List (Held A)) (i : ℕ) (h : Held A) → slice_get hs i ≡ Some h → held_at hs h.node ≡ None → ⊥
   held-get [] i h e n = absurd (cc)
@@ -51,9 +51,9 @@ module _ {A : Type 0} where
       let s : same_node h.node g.node ≡ true = subst (λ k. same_node h.node k.node ≡ true) (sym same) (same_node-refl h.node) in
       let bad : Some g ≡ None = sym (if_true _ _ _ s) ∙ n in absurd (cc)
   held-get (g ∷ hs) (suc i) h e n = elim (truth (same_node h.node g.node)) [
-      inl s ↦ let bad : Some g ≡ None = sym (if_true _ _ _ s) ∙ n in absurd (cc)
+    | inl s ↦ let bad : Some g ≡ None = sym (if_true _ _ _ s) ∙ n in absurd (cc)
     | inr s ↦ held-get hs i h e (sym (if_false _ _ _ s) ∙ n)
-    ]
+  ]
 
   -- in a list without repeats, a row's node has the row's place
   pub get-place : (hs : List (Held A)) → AreDistinct hs → (i : ℕ) (h : Held A) → slice_get hs i ≡ Some h → (place_of hs h.node ≡ Some i) × (held_at hs h.node ≡ Some h)
@@ -63,21 +63,21 @@ module _ {A : Type 0} where
       let s : same_node h.node g.node ≡ true = subst (λ k. same_node h.node k.node ≡ true) (sym same) (same_node-refl h.node) in
       (if_true _ _ _ s, if_true _ _ _ s ∙ ap (λ t. Some t) same)
   get-place (g ∷ hs) d (suc i) h e = elim (truth (same_node h.node g.node)) [
-      inl s ↦
-          let same : h.node ≡ g.node = same_node-eq h.node g.node s in
-          absurd (held-get hs i h e (subst (λ n. held_at hs n ≡ None) (sym same) d.0))
+    | inl s ↦
+        let same : h.node ≡ g.node = same_node-eq h.node g.node s in
+        absurd (held-get hs i h e (subst (λ n. held_at hs n ≡ None) (sym same) d.0))
     | inr s ↦
-          let r = get-place hs d.1 i h e in
-          let up : i + 1 ≡ suc i = omega arith in
-          (if_false _ _ _ s ∙ ap (λ o. option_map (λ place. place + 1) o) r.0 ∙ ap (λ k. Some k) up, if_false _ _ _ s ∙ r.1)
-    ]
+        let r = get-place hs d.1 i h e in
+        let up : i + 1 ≡ suc i = omega arith in
+        (if_false _ _ _ s ∙ ap (λ o. option_map (λ place. place + 1) o) r.0 ∙ ap (λ k. Some k) up, if_false _ _ _ s ∙ r.1)
+  ]
 
   due-true : (d : Option (Done A)) (now : Versions) → due_of d now ≡ true → MatchOption d (Unit {0}) (λ x. HasRisen x.versions now)
   due-true None now h = tt
   due-true (Some d) now h = elim (truth (nat_lt d.versions.at now.at)) [
-      inl s ↦ inl (below _ _ s)
+    | inl s ↦ inl (below _ _ s)
     | inr s ↦ inr (below _ _ (ap (λ b. b || nat_lt d.versions.exit now.exit) (sym s) ∙ h))
-    ]
+  ]
     where
       below : (a b : ℕ) → nat_lt a b ≡ true → a < b
       below a b e = grind (arith, nat_tests)
@@ -85,12 +85,13 @@ module _ {A : Type 0} where
   due-is : (d : Option (Done A)) (now : Versions) → MatchOption d (Unit {0}) (λ x. HasRisen x.versions now) → due_of d now ≡ true
   due-is None now h = refl
   due-is (Some d) now h = elim h [
-      inl less ↦ let e : nat_lt d.versions.at now.at ≡ true = test _ _ less in ap (λ b. b || nat_lt d.versions.exit now.exit) e
+    | inl less ↦ let e : nat_lt d.versions.at now.at ≡ true = test _ _ less in ap (λ b. b || nat_lt d.versions.exit now.exit) e
     | inr less ↦ let e : nat_lt d.versions.exit now.exit ≡ true = test _ _ less in either _ _ e
-    ]
+  ]
     where
       test : (a b : ℕ) → a < b → nat_lt a b ≡ true
       test a b e = grind (arith, nat_tests)
+
       either : (p q : Bool) → q ≡ true → (p || q) ≡ true
       either true q e = refl
       either false q e = e
@@ -120,10 +121,12 @@ module _ {A : Type 0} where
           let s = then_some (λ (g : Held A). back_of b.done r.0.node g.node) (slice_get b.nodes x) u r.2 in
           let at = get-place b.nodes distinct n r.0 r.1 in
           let ax = get-place b.nodes distinct x s.0 s.1 in
-          let k = back-unit r.0.node s.0.node r.0 s.0 u at.1 ax.1 s.2 in
-          (k.0, ap (λ v. placed b.nodes v) k.1
-              ∙ ap (λ o. option_and_then (λ i. option_map (λ j. place.Back i j) (place_of b.nodes s.0.node)) o) at.0
-              ∙ ap (λ o. option_map (λ j. place.Back n j) o) ax.0)
+          let k = back-unit r.0.node s.0.node r.0 s.0 u at.1 ax.1 s.2 in (
+            k.0,
+            ap (λ v. placed b.nodes v) k.1
+                ∙ ap (λ o. option_and_then (λ i. option_map (λ j. place.Back i j) (place_of b.nodes s.0.node)) o) at.0
+                ∙ ap (λ o. option_map (λ j. place.Back n j) o) ax.0,
+          )
 
       -- a unit of the book stands at its place
       pub known-unit_at : (u : WorkUnit) (p : Place) → IsUnit b u → placed b.nodes u ≡ Some p → unit_at b.nodes b.done p ≡ Some u
@@ -131,7 +134,7 @@ module _ {A : Type 0} where
           let i = map_some (λ (i : ℕ). place.One i) (place_of b.nodes (At pc calls frame)) p e in
           let h = held-place b.nodes (At pc calls frame) i.0 i.1 in
           subst (λ q. unit_at b.nodes b.done q ≡ Some (unit.One (At pc calls frame))) i.2
-              (ap (λ o. option_and_then (λ (g : Held A). one_of g.node) o) h.2 ∙ ap (λ n. one_of n) h.3)
+          (ap (λ o. option_and_then (λ (g : Held A). one_of g.node) o) h.2 ∙ ap (λ n. one_of n) h.3)
       known-unit_at (unit.One (Exit pc frame)) p k e = absurd k
       known-unit_at (unit.Back (At pc calls frame) (Exit from left)) p k e =
           let i = then_some (λ (i : ℕ). option_map (λ j. place.Back i j) (place_of b.nodes (Exit from left))) (place_of b.nodes (At pc calls frame)) p e in
@@ -139,11 +142,11 @@ module _ {A : Type 0} where
           let h = held-place b.nodes (At pc calls frame) i.0 i.1 in
           let g = held-place b.nodes (Exit from left) j.0 j.1 in
           subst (λ q. unit_at b.nodes b.done q ≡ Some (unit.Back (At pc calls frame) (Exit from left))) j.2
-              (ap (λ o. option_and_then (λ (t : Held A). option_and_then (λ (s : Held A). back_of b.done t.node s.node) (slice_get b.nodes j.0)) o) h.2
-              ∙ ap (λ o. option_and_then (λ (s : Held A). back_of b.done h.0.node s.node) o) g.2
-              ∙ ap (λ n. back_of b.done n g.0.node) h.3
-              ∙ ap (λ n. back_of b.done (At pc calls frame) n) g.3
-              ∙ if_true _ _ _ k.4)
+          (ap (λ o. option_and_then (λ (t : Held A). option_and_then (λ (s : Held A). back_of b.done t.node s.node) (slice_get b.nodes j.0)) o) h.2
+          ∙ ap (λ o. option_and_then (λ (s : Held A). back_of b.done h.0.node s.node) o) g.2
+          ∙ ap (λ n. back_of b.done n g.0.node) h.3
+          ∙ ap (λ n. back_of b.done (At pc calls frame) n) g.3
+          ∙ if_true _ _ _ k.4)
       known-unit_at (unit.Back (At pc calls frame) (At from calls' frame')) p k e = absurd k
       known-unit_at (unit.Back (Exit pc frame) x) p k e = absurd k
 
@@ -196,14 +199,15 @@ module _ {A : Type 0} where
       let j = then_some (λ (i : ℕ). option_map (λ j. place.Back i j) (place_of hs y)) (place_of hs m) q f in
       let k = map_some (λ (k : ℕ). place.Back j.0 k) (place_of hs y) q j.2 in
       let less : (i.0 < j.0) ⊎ ((i.0 ≡ j.0) × (l.0 < k.0)) = elim h [
-          inl a ↦ inl (below _ _ i.0 j.0 i.1 j.1 a)
+        | inl a ↦ inl (below _ _ i.0 j.0 i.1 j.1 a)
         | inr a ↦ inr (same_place _ _ i.0 j.0 i.1 j.1 a.0, below _ _ l.0 k.0 l.1 k.1 a.1)
-        ] in
+      ] in
       let at : IsBefore p (place.Back j.0 k.0) = subst (λ r. IsBefore r (place.Back j.0 k.0)) l.2 less in
       subst (λ r. IsBefore p r) k.2 at
     where
       below : (o u : Option ℕ) (a c : ℕ) → o ≡ Some a → u ≡ Some c → IsBelow o u → a < c
       below o u a c e f h =
           let g : IsBelow (Some a) (Some c) = subst (λ t. IsBelow (Some a) t) f (subst (λ t. IsBelow t u) e h) in g
+
       same_place : (o u : Option ℕ) (a c : ℕ) → o ≡ Some a → u ≡ Some c → o ≡ u → a ≡ c
       same_place o u a c e f h = let g : Some a ≡ Some c = sym e ∙ h ∙ f in cc

@@ -47,20 +47,20 @@ module _ {A : Type 0} where
   pub place-none : (hs : List (Held A)) (n : Node) → held_at hs n ≡ None → place_of hs n ≡ None
   place-none [] n e = refl
   place-none (h ∷ hs) n e = elim (truth (same_node n h.node)) [
-      inl s ↦ let bad : Some h ≡ None = sym (if_true _ _ _ s) ∙ e in absurd (cc)
+    | inl s ↦ let bad : Some h ≡ None = sym (if_true _ _ _ s) ∙ e in absurd (cc)
     | inr s ↦ if_false _ _ _ s ∙ ap (λ o. option_map (λ place. place + 1) o) (place-none hs n (sym (if_false _ _ _ s) ∙ e))
-    ]
+  ]
 
   -- a row's node is not among the rows before it
   fresh : (rows : List (Held A)) → AreDistinct rows → (i : ℕ) (x : Held A) → slice_get rows i ≡ Some x → held_at (take i rows) x.node ≡ None
   fresh [] d i x e = absurd (cc)
   fresh (h ∷ rows) d zero x e = refl
   fresh (h ∷ rows) d (suc i) x e = elim (truth (same_node x.node h.node)) [
-      inl s ↦
-          let same : x.node ≡ h.node = same_node-eq x.node h.node s in
-          absurd (held-get rows i x e (subst (λ n. held_at rows n ≡ None) (sym same) d.0))
+    | inl s ↦
+        let same : x.node ≡ h.node = same_node-eq x.node h.node s in
+        absurd (held-get rows i x e (subst (λ n. held_at rows n ≡ None) (sym same) d.0))
     | inr s ↦ if_false _ _ _ s ∙ fresh rows d.1 i x e
-    ]
+  ]
 
   -- the step over one row
   module _ (done : List (Done A)) (ns rows : List (Held A)) (d : AreDistinct rows) (i : ℕ) (x : Held A) (at : slice_get rows i ≡ Some x)
@@ -80,7 +80,7 @@ module _ {A : Type 0} where
         (p, place-with_held _ x x.node p there, r.1, r.0 ∙ n ∙ sym (length-there _ x p there))
     stepped None e r =
         let none : place_of (with_all ns (take i rows)) x.node ≡ None =
-            place-none _ x.node (held_at-with_all-none ns (take i rows) x.node (fresh rows d i x at) ∙ at-none x.node ns e) in
+        place-none _ x.node (held_at-with_all-none ns (take i rows) x.node (fresh rows d i x at) ∙ at-none x.node ns e) in
         (next, place-new _ x none ∙ ap (λ k. Some k) (sym n), r.1, r.0 ∙ ap (λ k. k + 1) n ∙ sym (length-new _ x none))
 
     module _ (r : MatchOption (place_of ns x.node) ((after ≡ next + 1) × ExpectsNode done mid new x.node next) (λ p. (after ≡ next) × ExpectsNode done mid new x.node p)) where
@@ -91,17 +91,19 @@ module _ {A : Type 0} where
       rows-step e row h =
           let s = stepped (place_of ns x.node) refl r in
           elim (IsIn-split row (take i rows) (x ∷ [])
-              (subst (λ t. IsIn row t) (take_more rows i x (get-bound rows i x at) ∙ ap (λ y. take i rows ++ y ∷ []) (get-at rows i x at)) h)) [
-            inl before ↦
+          (subst (λ t. IsIn row t) (take_more rows i x (get-bound rows i x at) ∙ ap (λ y. take i rows ++ y ∷ []) (get-at rows i x at)) h)) [
+            | inl before ↦
                 let k = e row before in
                 (k.0, ap (λ t. place_of t row.node) grown ∙ place-with_held _ x row.node k.0 k.1, node-later done old mid new row.node k.0 g' k.2)
-          | inr last ↦ elim last [
-                inl same ↦
-                    let own : ExpectsNode done old new x.node s.0 = node-earlier done old mid new x.node s.0 g s.2 in
-                    (s.0, ap (λ t. place_of t row.node) grown ∙ ap (λ y. place_of (with_held (with_all ns (take i rows)) x) y.node) same ∙ s.1,
-                     subst (λ y. ExpectsNode done old new y.node s.0) (sym same) own)
+            | inr last ↦ elim last [
+              | inl same ↦
+                  let own : ExpectsNode done old new x.node s.0 = node-earlier done old mid new x.node s.0 g s.2 in (
+                    s.0,
+                    ap (λ t. place_of t row.node) grown ∙ ap (λ y. place_of (with_held (with_all ns (take i rows)) x) y.node) same ∙ s.1,
+                    subst (λ y. ExpectsNode done old new y.node s.0) (sym same) own,
+                  )
               | inr none ↦ absurd none
-              ]
+            ]
           ]
 
 pub after-bound : (o : Option ℕ) (after next : ℕ) (P : Type 0) (Q : ℕ → Type 0) → MatchOption o ((after ≡ next + 1) × P) (λ p. (after ≡ next) × Q p) → after ≤ next + 1

@@ -23,15 +23,15 @@ use Rattle.round_core.proofs.Cases.{truth, if_true, if_false}
 module _ {A : Type 0} (node : Node) (state : A) where
   only : (n : Node) (i : ℕ) → place_of (one_node node state).nodes n ≡ Some i → (n ≡ node) × (i ≡ 0)
   only n i e = elim (truth (same_node n node)) [
-      inl s ↦ let z : Some 0 ≡ Some i = sym (if_true _ _ _ s) ∙ e in let f : i ≡ 0 = cc in (same_node-eq n node s, f)
+    | inl s ↦ let z : Some 0 ≡ Some i = sym (if_true _ _ _ s) ∙ e in let f : i ≡ 0 = cc in (same_node-eq n node s, f)
     | inr s ↦ let z : None ≡ Some i = sym (if_false _ _ _ s) ∙ e in absurd (cc)
-    ]
+  ]
 
   only_held : (n : Node) (h : Held A) → held_at (one_node node state).nodes n ≡ Some h → (n ≡ node) × (place_of (one_node node state).nodes n ≡ Some 0)
   only_held n h e = elim (truth (same_node n node)) [
-      inl s ↦ (same_node-eq n node s, if_true _ _ _ s)
+    | inl s ↦ (same_node-eq n node s, if_true _ _ _ s)
     | inr s ↦ let z : None ≡ Some h = sym (if_false _ _ _ s) ∙ e in absurd (cc)
-    ]
+  ]
 
   -- the parts that hold one node and expect it
   pub open-shown : (p : Parts A) (old : Agenda) → p.nodes.rows ≡ (one_node node state).nodes → p.works.rows ≡ [] → p.turns.out ≡ [] → p.turns.returned ≡ []
@@ -58,6 +58,7 @@ module _ {A : Type 0} (node : Node) (state : A) where
       expect (unit.Back (At pc calls frame) (Exit from left)) k = let bad : false ≡ true = k.4 in absurd (cc)
       expect (unit.Back (At pc calls frame) (At from calls' frame')) k = absurd k
       expect (unit.Back (Exit pc frame) x) k = absurd k
+
       exit : (pc : ℕ) (f : Frame) (i : ℕ) → place_of (one_node node state).nodes (Exit pc f) ≡ Some i → IsIn i (places_in p.agenda.exits f)
       exit pc f i at =
           let s = only (Exit pc f) i at in

@@ -44,9 +44,9 @@ cmp-before (One a) (One b) h = nat_greater a b h
 cmp-before (One a) (Back b y) h = absurd h
 cmp-before (Back a x) (One b) h = refl
 cmp-before (Back a x) (Back b y) h = elim h [
-    inl less ↦ ap (λ o. ordering_then o (nat_cmp x y)) (nat_greater a b less)
+  | inl less ↦ ap (λ o. ordering_then o (nat_cmp x y)) (nat_greater a b less)
   | inr same ↦ ap₂ (λ o u. ordering_then o u) (nat_same a b (sym same.0)) (nat_greater x y same.1)
-  ]
+]
 
 -- what comes before the least comes from no list above it
 pub not_before : (p q : Place) → is_gt (place_cmp p q) ≡ false → IsBefore q p → ⊥

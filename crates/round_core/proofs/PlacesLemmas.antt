@@ -21,9 +21,9 @@ module _ {V : Type 0} (items : V → List ℕ) where
   pub lookup-seen : (f : Frame) (es : List (Frame × V)) → lookup (same_frame f) (seen es) ≡ option_map items (lookup (frame_eq f) es)
   lookup-seen f [] = refl
   lookup-seen f (e ∷ es) = elim (truth (same_frame f e.0)) [
-      inl s ↦ if_true _ _ _ s ∙ ap (λ o. option_map items o) (sym (if_true _ _ _ (frame_eq-same f e.0 ∙ s)))
+    | inl s ↦ if_true _ _ _ s ∙ ap (λ o. option_map items o) (sym (if_true _ _ _ (frame_eq-same f e.0 ∙ s)))
     | inr s ↦ if_false _ _ _ s ∙ lookup-seen f es ∙ ap (λ o. option_map items o) (sym (if_false _ _ _ (frame_eq-same f e.0 ∙ s)))
-    ]
+  ]
 
   -- the places of a frame among the entries
   abbrev pub held : List (Frame × V) → Frame → List ℕ
@@ -45,12 +45,12 @@ module _ {V : Type 0} (items : V → List ℕ) where
   writes-kept old new f w e more q p h =
       let was : IsIn p (held old q) = subst (λ ps. IsIn p ps) (places-held old q) h in
       elim (truth (frame_eq f q)) [
-        inl s ↦
+        | inl s ↦
             let same : f ≡ q = same_frame-eq f q (sym (frame_eq-same f q) ∙ s) in
             let now : lookup (frame_eq q) new ≡ Some w = e q ∙ if_true _ _ _ s in
             subst (λ ps. IsIn p ps) (sym (places-held new q ∙ ap (λ o. unwrap_or (option_map items o) []) now))
-                (more p (subst (λ g. IsIn p (held old g)) (sym same) was))
-      | inr s ↦
+            (more p (subst (λ g. IsIn p (held old g)) (sym same) was))
+        | inr s ↦
             let now : lookup (frame_eq q) new ≡ lookup (frame_eq q) old = e q ∙ if_false _ _ _ s in
             subst (λ ps. IsIn p ps) (sym (places-held new q ∙ ap (λ o. unwrap_or (option_map items o) []) now)) was
       ]

@@ -29,11 +29,14 @@ module _ {A : Type 0} where
     count = ap (λ t. length t.out) ts ∙ s.count;
     apart = s.apart;
     expected = λ u k.
-        let x = s.expected u k in
-        (x.0, x.1, elim x.2 [
-            inl i ↦ inl (g.candidates x.0 i)
-          | inr i ↦ inr (subst (λ t. IsIn x.0 t.returned) (sym ts) i)
-          ]);
+        let x = s.expected u k in (
+          x.0,
+          x.1,
+          elim x.2 [
+            | inl i ↦ inl (g.candidates x.0 i)
+            | inr i ↦ inr (subst (λ t. IsIn x.0 t.returned) (sym ts) i)
+          ],
+        );
     waiting = λ n f w. let x = s.waiting n f w in (x.0, x.1, g.waiting f x.0 x.2);
     exits = λ pc f i at. g.exits f i (s.exits pc f i at);
   }
@@ -76,17 +79,17 @@ module _ {S A : Type 0} (m : Meaning S A) where
       let g = ready.agenda in
       let mid = g.0 in
       let er : ExpectsRows b.done p.agenda mid (with_all b.nodes raised) raised =
-          subst (λ ds. ExpectsRows ds p.agenda mid (with_all b.nodes raised) raised) s.done
-              (subst (λ hs. ExpectsRows p.works.rows p.agenda mid (with_all hs raised) raised) s.nodes g.1) in
+      subst (λ ds. ExpectsRows ds p.agenda mid (with_all b.nodes raised) raised) s.done
+      (subst (λ hs. ExpectsRows p.works.rows p.agenda mid (with_all hs raised) raised) s.nodes g.1) in
       let eu : ExpectsUnit mid p'.agenda b.nodes o.unit work.waits =
-          subst (λ a. ExpectsUnit mid a b.nodes o.unit work.waits) (sym agenda) (subst (λ hs. ExpectsUnit mid q.agenda hs o.unit work.waits) s.nodes g.3) in
+      subst (λ a. ExpectsUnit mid a b.nodes o.unit work.waits) (sym agenda) (subst (λ hs. ExpectsUnit mid q.agenda hs o.unit work.waits) s.nodes g.3) in
       let g2 : Grows mid p'.agenda = subst (λ a. Grows mid a) (sym agenda) g.4 in
       let came : TakesHome p.turns.out o.unit p'.turns.out = subst (λ t. TakesHome t.out o.unit p'.turns.out) ready.turns home in
       let shown = behind-shown b p p' o work raised mid s is ready.distinct er g.2 eu g2 came (returned ∙ ap (λ t. t.returned) ready.turns)
-          (nodes ∙ ap (λ hs. with_all hs raised) (ready.nodes ∙ s.nodes))
-          (works ∙ ap (λ ds. with_done ds (record { unit = o.unit; work = work; versions = o.versions })) (ready.works ∙ s.done)) in
+      (nodes ∙ ap (λ hs. with_all hs raised) (ready.nodes ∙ s.nodes))
+      (works ∙ ap (λ ds. with_done ds (record { unit = o.unit; work = work; versions = o.versions })) (ready.works ∙ s.done)) in
       let risen : with_all b.nodes raised ≡ all_raised m b.nodes work.posts =
-          subst (λ hs. with_all hs raised ≡ all_raised m hs work.posts) s.nodes rise in
+      subst (λ hs. with_all hs raised ≡ all_raised m hs work.posts) s.nodes rise in
       let back = post-behind journal p'.turns.journal seat o work raised
-          (event ∙ ap (λ t. t.journal ++ Post seat o.unit ∷ []) ready.turns ∙ ap (λ j. j ++ Post seat o.unit ∷ []) was) is own risen in
+      (event ∙ ap (λ t. t.journal ++ Post seat o.unit ∷ []) ready.turns ∙ ap (λ j. j ++ Post seat o.unit ∷ []) was) is own risen in
       subst (λ c. Shows c p') (sym back) shown

@@ -43,28 +43,28 @@ module _ {A : Type 0} where
   done_at-same : (ds : List (Done A)) (x : Done A) → done_at (with_done ds x) x.unit ≡ Some x
   done_at-same [] x = if_true _ _ _ (same_unit-refl x.unit)
   done_at-same (d ∷ ds) x = elim (truth (same_unit x.unit d.unit)) [
-      inl s ↦ ap (λ t. done_at t x.unit) (if_true _ _ _ s) ∙ if_true _ _ _ (same_unit-refl x.unit)
+    | inl s ↦ ap (λ t. done_at t x.unit) (if_true _ _ _ s) ∙ if_true _ _ _ (same_unit-refl x.unit)
     | inr s ↦ ap (λ t. done_at t x.unit) (if_false _ _ _ s) ∙ if_false _ _ _ s ∙ done_at-same ds x
-    ]
+  ]
 
   done_at-other : (ds : List (Done A)) (x : Done A) (v : WorkUnit) → same_unit v x.unit ≡ false → done_at (with_done ds x) v ≡ done_at ds v
   done_at-other [] x v o = if_false _ _ _ o
   done_at-other (d ∷ ds) x v o = elim (truth (same_unit x.unit d.unit)) [
-      inl s ↦
-          let e : x.unit ≡ d.unit = same_unit-eq x.unit d.unit s in
-          let n : same_unit v d.unit ≡ false = subst (λ w. same_unit v w ≡ false) e o in
-          ap (λ t. done_at t v) (if_true _ _ _ s) ∙ if_false _ _ _ o ∙ sym (if_false _ _ _ n)
+    | inl s ↦
+        let e : x.unit ≡ d.unit = same_unit-eq x.unit d.unit s in
+        let n : same_unit v d.unit ≡ false = subst (λ w. same_unit v w ≡ false) e o in
+        ap (λ t. done_at t v) (if_true _ _ _ s) ∙ if_false _ _ _ o ∙ sym (if_false _ _ _ n)
     | inr s ↦ ap (λ t. done_at t v) (if_false _ _ _ s) ∙ ap (λ r. if same_unit v d.unit then Some d else r) (done_at-other ds x v o)
-    ]
+  ]
 
   held-in : (hs : List (Held A)) (n : Node) (h : Held A) → held_at hs n ≡ Some h → IsIn h hs × (h.node ≡ n)
   held-in [] n h e = absurd (cc)
   held-in (g ∷ hs) n h e = elim (truth (same_node n g.node)) [
-      inl s ↦
-          let k : Some g ≡ Some h = sym (if_true _ _ _ s) ∙ e in
-          let same : h ≡ g = cc in (inl same, ap (λ t. t.node) same ∙ sym (same_node-eq n g.node s))
+    | inl s ↦
+        let k : Some g ≡ Some h = sym (if_true _ _ _ s) ∙ e in
+        let same : h ≡ g = cc in (inl same, ap (λ t. t.node) same ∙ sym (same_node-eq n g.node s))
     | inr s ↦ let r = held-in hs n h (sym (if_false _ _ _ s) ∙ e) in (inr r.0, r.1)
-    ]
+  ]
 
   placed-kept : (ns es : List (Held A)) (v : WorkUnit) (p : Place) → placed ns v ≡ Some p → placed (with_all ns es) v ≡ Some p
   placed-kept ns es (unit.One n) p e =
@@ -132,7 +132,7 @@ module _ {A : Type 0} (b : BookState A) (p p' : Parts A) (o : Out A) (work : Rat
   -- what the unit that came home expects, seen as a location's own work
   own : (n : Node) → unit.One n ≡ o.unit → (i : ℕ) → place_of b.nodes n ≡ Some i
       → IsIn (place.One i) p'.agenda.candidates.keys × ((f : Frame) → IsIn f work.waits → IsIn i (places_in p'.agenda.waiting f))
-        × ((f : Frame) → IsIn f work.waits → (x : ℕ) → IsIn x (places_in mid.exits f) → IsIn (place.Back i x) p'.agenda.candidates.keys)
+      × ((f : Frame) → IsIn f work.waits → (x : ℕ) → IsIn x (places_in mid.exits f) → IsIn (place.Back i x) p'.agenda.candidates.keys)
   own n e i at = let x : ExpectsUnit mid p'.agenda b.nodes (unit.One n) work.waits = subst (λ u. ExpectsUnit mid p'.agenda b.nodes u work.waits) (sym e) eu in x i at
 
   own-place : (n : Node) → unit.One n ≡ o.unit → (i : ℕ) × (place_of b.nodes n ≡ Some i)
@@ -158,9 +158,11 @@ module _ {A : Type 0} (b : BookState A) (p p' : Parts A) (o : Out A) (work : Rat
 
   was-expected : (v : WorkUnit) → IsClaimable b v → Expected v
   was-expected v k =
-      let x = s.expected v k in
-      (x.0, placed-kept b.nodes raised v x.0 x.1,
-       elim x.2 [ inl i ↦ inl (in-mid x.0 (g1.candidates x.0 i)) | inr i ↦ inr (subst (λ r. IsIn x.0 r) (sym ret) i) ])
+      let x = s.expected v k in (
+        x.0,
+        placed-kept b.nodes raised v x.0 x.1,
+        elim x.2 [ inl i ↦ inl (in-mid x.0 (g1.candidates x.0 i)) | inr i ↦ inr (subst (λ r. IsIn x.0 r) (sym ret) i) ],
+      )
 
   one-expected : (pc : ℕ) (calls : List ℕ) (frame : Frame) → IsClaimable behind (unit.One (At pc calls frame)) → Expected (unit.One (At pc calls frame))
   one-expected pc calls frame k = cases (held_at raised (At pc calls frame)) refl
@@ -169,14 +171,14 @@ module _ {A : Type 0} (b : BookState A) (p p' : Parts A) (o : Out A) (work : Rat
       cases (Some h) e =
           let x = risen-node (At pc calls frame) h e in (place.One x.0, one-placed behind.nodes (At pc calls frame) x.0 x.1, inl (in-mid _ x.2.0))
       cases None e = elim (truth (same_unit (unit.One (At pc calls frame)) o.unit)) [
-          inl t ↦
-              let u = same_unit-eq (unit.One (At pc calls frame)) o.unit t in
-              let i = own-place (At pc calls frame) u in
-              (place.One i.0, one-placed behind.nodes (At pc calls frame) i.0 (place-with_all raised b.nodes (At pc calls frame) i.0 i.1), inl (own (At pc calls frame) u i.0 i.1).0)
+        | inl t ↦
+            let u = same_unit-eq (unit.One (At pc calls frame)) o.unit t in
+            let i = own-place (At pc calls frame) u in
+            (place.One i.0, one-placed behind.nodes (At pc calls frame) i.0 (place-with_all raised b.nodes (At pc calls frame) i.0 i.1), inl (own (At pc calls frame) u i.0 i.1).0)
         | inr t ↦
-              let held = sym (held_at-with_all-none b.nodes raised (At pc calls frame) e) ∙ k.known.1 in
-              was-expected (unit.One (At pc calls frame)) (was-claimable (unit.One (At pc calls frame)) (k.known.0, held) t (ap (λ t. one_version t) (versions-same (At pc calls frame) e)) k)
-        ]
+            let held = sym (held_at-with_all-none b.nodes raised (At pc calls frame) e) ∙ k.known.1 in
+            was-expected (unit.One (At pc calls frame)) (was-claimable (unit.One (At pc calls frame)) (k.known.0, held) t (ap (λ t. one_version t) (versions-same (At pc calls frame) e)) k)
+      ]
 
   back-expected : (pc : ℕ) (calls : List ℕ) (frame : Frame) (from : ℕ) (left : Frame)
       → IsClaimable behind (unit.Back (At pc calls frame) (Exit from left)) → Expected (unit.Back (At pc calls frame) (Exit from left))
@@ -184,25 +186,30 @@ module _ {A : Type 0} (b : BookState A) (p p' : Parts A) (o : Out A) (work : Rat
     where
       waits : waits_for behind.done (At pc calls frame) left ≡ true
       waits = k.known.4
+
       exit-at : (j : ℕ) × (place_of behind.nodes (Exit from left) ≡ Some j)
       exit-at = place-held behind.nodes (Exit from left) k.known.1 k.known.3
+
       found : (i j : ℕ) → place_of behind.nodes (At pc calls frame) ≡ Some i → place_of behind.nodes (Exit from left) ≡ Some j → IsIn (place.Back i j) p'.agenda.candidates.keys → Expected (unit.Back (At pc calls frame) (Exit from left))
       found i j a c h = (place.Back i j, back-placed behind.nodes (At pc calls frame) (Exit from left) i j a c, inl h)
+
       quiet : waits_for b.done (At pc calls frame) left ≡ true → (i j : ℕ) → place_of b.nodes (At pc calls frame) ≡ Some i → place_of b.nodes (Exit from left) ≡ Some j → held_at raised (At pc calls frame) ≡ None → held_at raised (Exit from left) ≡ None → Expected (unit.Back (At pc calls frame) (Exit from left))
       quiet w i j a c e f = elim (truth (same_unit (unit.Back (At pc calls frame) (Exit from left)) o.unit)) [
-          inl t ↦
-              let u : ExpectsUnit mid p'.agenda b.nodes (unit.Back (At pc calls frame) (Exit from left)) work.waits = subst (λ z. ExpectsUnit mid p'.agenda b.nodes z work.waits) (sym (same_unit-eq (unit.Back (At pc calls frame) (Exit from left)) o.unit t)) eu in
-              found i j (place-with_all raised b.nodes (At pc calls frame) i a) (place-with_all raised b.nodes (Exit from left) j c) (u i j a c)
+        | inl t ↦
+            let u : ExpectsUnit mid p'.agenda b.nodes (unit.Back (At pc calls frame) (Exit from left)) work.waits = subst (λ z. ExpectsUnit mid p'.agenda b.nodes z work.waits) (sym (same_unit-eq (unit.Back (At pc calls frame) (Exit from left)) o.unit t)) eu in
+            found i j (place-with_all raised b.nodes (At pc calls frame) i a) (place-with_all raised b.nodes (Exit from left) j c) (u i j a c)
         | inr t ↦
-              let hn = sym (held_at-with_all-none b.nodes raised (At pc calls frame) e) ∙ k.known.2 in
-              let hx = sym (held_at-with_all-none b.nodes raised (Exit from left) f) ∙ k.known.3 in
-              was-expected (unit.Back (At pc calls frame) (Exit from left)) (was-claimable (unit.Back (At pc calls frame) (Exit from left)) (k.known.0, k.known.1, hn, hx, w) t (ap₂ (λ y z. two_versions y z) (versions-same (At pc calls frame) e) (versions-same (Exit from left) f)) k)
-        ]
+            let hn = sym (held_at-with_all-none b.nodes raised (At pc calls frame) e) ∙ k.known.2 in
+            let hx = sym (held_at-with_all-none b.nodes raised (Exit from left) f) ∙ k.known.3 in
+            was-expected (unit.Back (At pc calls frame) (Exit from left)) (was-claimable (unit.Back (At pc calls frame) (Exit from left)) (k.known.0, k.known.1, hn, hx, w) t (ap₂ (λ y z. two_versions y z) (versions-same (At pc calls frame) e) (versions-same (Exit from left) f)) k)
+      ]
+
       old-exit : waits_for b.done (At pc calls frame) left ≡ true → (i j : ℕ) → place_of b.nodes (At pc calls frame) ≡ Some i → place_of b.nodes (Exit from left) ≡ Some j → held_at raised (Exit from left) ≡ None → (r : Option (Held A)) → held_at raised (At pc calls frame) ≡ r → Expected (unit.Back (At pc calls frame) (Exit from left))
       old-exit w i j a c f (Some h) e =
           let q = risen-node (At pc calls frame) h e in
           found q.0 j q.1 (place-with_all raised b.nodes (Exit from left) j c) (in-mid _ (q.2.1 left w j (s.exits from left j c)))
       old-exit w i j a c f None e = quiet w i j a c e f
+
       other : waits_for b.done (At pc calls frame) left ≡ true → (r : Option (Held A)) → held_at raised (Exit from left) ≡ r → Expected (unit.Back (At pc calls frame) (Exit from left))
       other w (Some h) e =
           let q = risen-node (Exit from left) h e in
@@ -211,12 +218,13 @@ module _ {A : Type 0} (b : BookState A) (p p' : Parts A) (o : Out A) (work : Rat
       other w None e =
           let i = s.waiting (At pc calls frame) left w in
           old-exit w i.0 exit-at.0 i.1 (still-place (Exit from left) exit-at.0 e exit-at.1) e (held_at raised (At pc calls frame)) refl
+
       cases : (same_unit (unit.One (At pc calls frame)) o.unit ≡ true) ⊎ (same_unit (unit.One (At pc calls frame)) o.unit ≡ false) → Expected (unit.Back (At pc calls frame) (Exit from left))
       cases (inl t) =
           let u = same_unit-eq (unit.One (At pc calls frame)) o.unit t in
           let i = own-place (At pc calls frame) u in
           found i.0 exit-at.0 (place-with_all raised b.nodes (At pc calls frame) i.0 i.1) exit-at.1
-              ((own (At pc calls frame) u i.0 i.1).2 left (waits-own (At pc calls frame) left u waits) exit-at.0 (exits-mid from left exit-at.0 exit-at.1))
+          ((own (At pc calls frame) u i.0 i.1).2 left (waits-own (At pc calls frame) left u waits) exit-at.0 (exits-mid from left exit-at.0 exit-at.1))
       cases (inr t) = other (waits-other (At pc calls frame) left t waits) (held_at raised (Exit from left)) refl
 
   expect : (v : WorkUnit) → IsClaimable behind v → Expected v
@@ -228,14 +236,14 @@ module _ {A : Type 0} (b : BookState A) (p p' : Parts A) (o : Out A) (work : Rat
 
   wait : (n : Node) (f : Frame) → waits_for behind.done n f ≡ true → (i : ℕ) × (place_of behind.nodes n ≡ Some i) × IsIn i (places_in p'.agenda.waiting f)
   wait n f w = elim (truth (same_unit (unit.One n) o.unit)) [
-      inl t ↦
-          let u = same_unit-eq (unit.One n) o.unit t in
-          let i = own-place n u in
-          (i.0, place-with_all raised b.nodes n i.0 i.1, (own n u i.0 i.1).1 f (waits-own n f u w))
+    | inl t ↦
+        let u = same_unit-eq (unit.One n) o.unit t in
+        let i = own-place n u in
+        (i.0, place-with_all raised b.nodes n i.0 i.1, (own n u i.0 i.1).1 f (waits-own n f u w))
     | inr t ↦
-          let x = s.waiting n f (waits-other n f t w) in
-          (x.0, place-with_all raised b.nodes n x.0 x.1, g2.waiting f x.0 (g1.waiting f x.0 x.2))
-    ]
+        let x = s.waiting n f (waits-other n f t w) in
+        (x.0, place-with_all raised b.nodes n x.0 x.1, g2.waiting f x.0 (g1.waiting f x.0 x.2))
+  ]
 
   pub behind-shown : p'.nodes.rows ≡ behind.nodes → p'.works.rows ≡ behind.done → Shows behind p'
   behind-shown hs ds =

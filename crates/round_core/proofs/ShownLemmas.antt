@@ -42,7 +42,6 @@ module _ {A : Type 0} where
     exits = s.exits;
   }
 
-
   book_found : (b : BookState A) (p : Parts A) → Shows b p → (place : Place) → found_at p place ≡ claimable_at b.nodes b.done p.turns.out place
   book_found b p s place = ap (λ hs. claimable_at hs p.works.rows p.turns.out place) s.nodes ∙ ap (λ ds. claimable_at b.nodes ds p.turns.out place) s.done
 
@@ -58,20 +57,22 @@ module _ {A : Type 0} where
   -- a first candidate that can't be claimed is forgotten
   pub forget-shown : (b : BookState A) (p : Parts A) (set : BTreeSet Place) (first : Place) → p.agenda.candidates.keys ≡ first ∷ set.keys → found_at p first ≡ None → Shows b p → Shows b (with_candidates p set)
   forget-shown b p set first e none s = candidates-shown b p set s (λ u k.
-      let x = s.expected u k in
-      (x.0, x.1, elim x.2 [
-          inl i ↦ elim (split x.0 (subst (λ ks. IsIn x.0 ks) e i)) [
-              inl same ↦
-                  let at : found_at p first ≡ Some u = subst (λ q. found_at p q ≡ Some u) same (finds b p s u x.0 k x.1) in
-                  let bad : None ≡ Some u = sym none ∙ at in absurd (cc)
+      let x = s.expected u k in (
+        x.0,
+        x.1,
+        elim x.2 [
+          | inl i ↦ elim (split x.0 (subst (λ ks. IsIn x.0 ks) e i)) [
+            | inl same ↦
+                let at : found_at p first ≡ Some u = subst (λ q. found_at p q ≡ Some u) same (finds b p s u x.0 k x.1) in
+                let bad : None ≡ Some u = sym none ∙ at in absurd (cc)
             | inr more ↦ inl more
-            ]
-        | inr r ↦ inr r
-        ]))
+          ]
+          | inr r ↦ inr r
+        ],
+      ))
     where
       split : (q : Place) → IsIn q (first ∷ set.keys) → (q ≡ first) ⊎ IsIn q set.keys
       split q h = h
-
 
   -- with no candidates none can be claimed
   pub none-claimable : (b : BookState A) (p : Parts A) → Shows b p → p.agenda.candidates.keys ≡ [] → p.turns.returned ≡ [] → NoneClaimable b
@@ -81,19 +82,21 @@ module _ {A : Type 0} where
   pub found-first : (b : BookState A) (p : Parts A) → Shows b p → p.turns.returned ≡ [] → (first : Place) → All (IsLeBy place_cmp first) p.agenda.candidates.keys
       → (u : WorkUnit) → found_at p first ≡ Some u → IsFirst b u × (placed b.nodes u ≡ Some first)
   found-first b p s r first least u e =
-      let f = found-is b p s first u e in
-      (record {
-        claimable = f.0;
-        least = λ v k before.
-            let x = s.expected v k in
-            elim x.2 [
-                inl i ↦
+      let f = found-is b p s first u e in (
+        record {
+          claimable = f.0;
+          least = λ v k before.
+              let x = s.expected v k in
+              elim x.2 [
+                | inl i ↦
                     let at = index_of x.0 p.agenda.candidates.keys first i in
                     let above : IsLeBy place_cmp first x.0 = subst (λ q. IsLeBy place_cmp first q) at.2 (least at.0 first at.1) in
                     not_before first x.0 above (before-places b.nodes v u x.0 first x.1 f.1 before)
-              | inr i ↦ none_in x.0 _ r i
+                | inr i ↦ none_in x.0 _ r i
               ];
-      }, f.1)
+        },
+        f.1,
+      )
 
   abbrev pub with_returned : Parts A → BTreeSet Place → Standing → Parts A
   with_returned p set turns = record (with_candidates p set) { turns = turns }
@@ -132,9 +135,9 @@ module _ {A : Type 0} where
   in_any : (p : Parts A) (places : List Place) (q : Place) (u : WorkUnit) → IsIn q places → found_at p q ≡ Some u → list_any (λ place. is_some (found_at p place)) places ≡ true
   in_any p [] q u h e = absurd h
   in_any p (x ∷ xs) q u h e = elim h [
-      inl same ↦ ap (λ o. is_some o || list_any (λ place. is_some (found_at p place)) xs) (ap (λ t. found_at p t) (sym same) ∙ e)
+    | inl same ↦ ap (λ o. is_some o || list_any (λ place. is_some (found_at p place)) xs) (ap (λ t. found_at p t) (sym same) ∙ e)
     | inr more ↦ or_true _ _ (in_any p xs q u more e)
-    ]
+  ]
     where
       or_true : (a b : Bool) → b ≡ true → (a || b) ≡ true
       or_true true b g = refl
@@ -149,6 +152,6 @@ module _ {A : Type 0} where
       let x = s.expected u k in
       let f = finds b p s u x.0 k x.1 in
       elim x.2 [
-          inl i ↦ let t = in_any p p.agenda.candidates.keys x.0 u i f in let bad : true ≡ false = sym t ∙ h in absurd (cc)
+        | inl i ↦ let t = in_any p p.agenda.candidates.keys x.0 u i f in let bad : true ≡ false = sym t ∙ h in absurd (cc)
         | inr i ↦ let t = in_any p p.turns.returned x.0 u i f in let bad : true ≡ false = sym t ∙ g in absurd (cc)
-        ]
+      ]

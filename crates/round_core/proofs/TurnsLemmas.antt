@@ -18,8 +18,8 @@ lookup-same u (e ∷ es) = ap₂ (λ b r. cond b (Some e.1) r) (unit_eq-same u e
 pub insert-absent : (u : WorkUnit) (place : Place) (es : List (WorkUnit × Place)) → place_out es u ≡ None → insert_entry unit_eq es u place ≡ es ++ (u, place) ∷ []
 insert-absent u place [] h = refl
 insert-absent u place (e ∷ es) h = elim (truth (same_unit u e.0)) [
-    inl s ↦ let k : Some e.1 ≡ None = sym (if_true _ _ _ s) ∙ h in absurd (cc)
+  | inl s ↦ let k : Some e.1 ≡ None = sym (if_true _ _ _ s) ∙ h in absurd (cc)
   | inr s ↦
-        if_false _ _ _ (unit_eq-same u e.0 ∙ s)
-        ∙ ap (λ r. e ∷ r) (insert-absent u place es (sym (if_false _ _ _ s) ∙ h))
-  ]
+      if_false _ _ _ (unit_eq-same u e.0 ∙ s)
+      ∙ ap (λ r. e ∷ r) (insert-absent u place es (sym (if_false _ _ _ s) ∙ h))
+]

@@ -15,9 +15,9 @@ use Rattle.round_core.proofs.Cases.{truth}
 pub any-in : (f : Frame) (fs : List Frame) → list_any (same_frame f) fs ≡ true → IsIn f fs
 any-in f [] h = absurd (cc)
 any-in f (x ∷ fs) h = elim (truth (same_frame f x)) [
-    inl s ↦ inl (same_frame-eq f x s)
+  | inl s ↦ inl (same_frame-eq f x s)
   | inr s ↦ inr (any-in f fs (sym (ap (λ b. b || list_any (same_frame f) fs) s) ∙ h))
-  ]
+]
 
 -- a location that waits for a frame was done, and its last work says so
 pub waits-in : {A : Type 0} → (f : Frame) (o : Option (Done A)) (d : Done A) → Some d ≡ o → unwrap_or (option_map (λ t. list_any (same_frame f) t.work.waits) o) false ≡ true → IsIn f d.work.waits

@@ -44,4 +44,4 @@ module _ {A : Type 0} where
   abbrev pub claimable_at : List (Held A) → List (Done A) → List (WorkUnit × Place) → Place → Option WorkUnit
   claimable_at nodes done out place =
       option_and_then (λ u. if is_some (place_out out u) then None else if due_of (done_at done u) (versions_of nodes u) then Some u else None)
-          (unit_at nodes done place)
+      (unit_at nodes done place)

@@ -15,3 +15,4 @@ pub mod Opening
 pub mod Tickets
 pub mod Raise
 pub mod Prepared
+pub mod Counting

@@ -23,3 +23,6 @@ pub use book::Book;
 pub use event::Event;
 pub use ticket::{Claimed, Done, Ticket};
 pub use versions::Versions;
+
+#[cfg(test)]
+mod tests;

@@ -105,9 +105,9 @@ impl Turns {
     pub fn claim(&mut self, seat: u32, unit: &Unit, place: Place) -> Result<(), Memory>
         requires { place_out self.old.out unit.now ≡ None }
         ensures claimed { OnOk result (self.new ≡ record {
-            journal = self.old.journal ++ Event.Claim seat unit.now ∷ [];
-            out = self.old.out ++ (unit.now, place) ∷ [];
-            returned = self.old.returned;
+          journal = self.old.journal ++ Event.Claim seat unit.now ∷ [];
+          out = self.old.out ++ (unit.now, place) ∷ [];
+          returned = self.old.returned;
         }) }
         ensures refused { OnErr result (self.new ≡ self.old) }
     {

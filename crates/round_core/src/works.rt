@@ -3,6 +3,7 @@
 ghost use Rattle.std.specs.Prelude.{◌≡◌, ◌≤◌, ◌+◌, ◌<◌, [], map, IfOk, OnOk, IfSome, MatchOption, length, slice_get, Some, None, ◌^◌, ℕ};
 ghost use Rattle.std.specs.Option.{option_map};
 ghost use Rattle.round_core.specs.Machine.{Done, done_at, with_done, waits_for};
+
 use crate::reserved::put_reserved;
 use crate::versions::Versions;
 use call_context::{Frame, Node, Unit};

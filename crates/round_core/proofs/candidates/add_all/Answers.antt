@@ -13,9 +13,9 @@ loop-place-preserved c =
     let inside : c.loop-place.place-index < length c.args.places.now = omega arith in
     record {
       added = λ p h. elim (IsIn-split p _ _ (subst (λ xs. IsIn p xs) (take_more c.args.places.now c.loop-place.place-index _ inside) h)) [
-          inl old ↦ c.add_candidate.ensures.kept p (c.loop-place.invariant.added p old)
+        | inl old ↦ c.add_candidate.ensures.kept p (c.loop-place.invariant.added p old)
         | inr last ↦ elim last [ inl e ↦ subst (λ q. IsIn q c.add_candidate.new.candidates.keys) (sym e) a | inr none ↦ absurd none ]
-        ];
+      ];
       kept = λ p h. c.add_candidate.ensures.kept p (c.loop-place.invariant.kept p h);
     }
 

@@ -13,12 +13,12 @@ loop-frame-preserved c =
     let inside : c.loop-frame.frame-index < length c.args.frames.now = omega arith in
     record {
       added = λ f h. elim (IsIn-split f _ _ (subst (λ xs. IsIn f xs) (take_more c.args.frames.now c.loop-frame.frame-index _ inside) h)) [
-          inl old ↦ λ x i. c.add_returns_to.ensures.kept _ (c.loop-frame.invariant.added f old x i)
+        | inl old ↦ λ x i. c.add_returns_to.ensures.kept _ (c.loop-frame.invariant.added f old x i)
         | inr last ↦ elim last [
-              inl e ↦ λ x i. c.in_ok-add_returns_to.ensures.added x (subst (λ xs. IsIn x xs) (sym c.of.ensures) (subst (λ t. IsIn x (places_in c.args.exits.now t)) e i))
-            | inr none ↦ absurd none
-            ]
-        ];
+          | inl e ↦ λ x i. c.in_ok-add_returns_to.ensures.added x (subst (λ xs. IsIn x xs) (sym c.of.ensures) (subst (λ t. IsIn x (places_in c.args.exits.now t)) e i))
+          | inr none ↦ absurd none
+        ]
+      ];
       kept = λ p h. c.add_returns_to.ensures.kept p (c.loop-frame.invariant.kept p h);
     }
 

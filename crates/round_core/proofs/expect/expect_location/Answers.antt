@@ -10,8 +10,8 @@ returns-in-Some-clause-own g c = on_ok_always _ c.add_returns.result (c.add_retu
 pub returns-in-Some-clause-returns : goal.returns-in-Some-clause-returns
 returns-in-Some-clause-returns g c =
     on_ok_map _ _ c.add_returns.result
-        (λ added f w. added f (subst (λ fs. IsIn f fs) (sym c.as_slice.ensures) (waits-in f _ _ (sym c.in-Some.ensures) w)))
-        c.add_returns.ensures.added
+    (λ added f w. added f (subst (λ fs. IsIn f fs) (sym c.as_slice.ensures) (waits-in f _ _ (sym c.in-Some.ensures) w)))
+    c.add_returns.ensures.added
 
 pub returns-in-Some-clause-kept : goal.returns-in-Some-clause-kept
 returns-in-Some-clause-kept g c = λ p h. c.add_returns.ensures.kept p (c.add_candidate.ensures.kept p h)

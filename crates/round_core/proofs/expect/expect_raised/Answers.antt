@@ -20,10 +20,10 @@ loop-index-preserved g c =
     let new = c.expect_row.new.agenda in
     let after = c.in_ok-next-in-Some.next in
     let r : MatchOption (place_of ns w.0.node) ((after ≡ c.loop-index.next + 1) × ExpectsNode done mid new w.0.node c.loop-index.next) (λ p. (after ≡ c.loop-index.next) × ExpectsNode done mid new w.0.node p) =
-        subst (λ n. MatchOption (place_of ns n) ((after ≡ c.loop-index.next + 1) × ExpectsNode done mid new n c.loop-index.next) (λ p. (after ≡ c.loop-index.next) × ExpectsNode done mid new n p))
-            w.2 c.in_ok-next-in-Some.ensures.expected in
+    subst (λ n. MatchOption (place_of ns n) ((after ≡ c.loop-index.next + 1) × ExpectsNode done mid new n c.loop-index.next) (λ p. (after ≡ c.loop-index.next) × ExpectsNode done mid new n p))
+    w.2 c.in_ok-next-in-Some.ensures.expected in
     let small : after ≤ c.loop-index.next + 1 =
-        after-bound (place_of ns w.0.node) after c.loop-index.next (ExpectsNode done mid new w.0.node c.loop-index.next) (λ p. ExpectsNode done mid new w.0.node p) r in
+    after-bound (place_of ns w.0.node) after c.loop-index.next (ExpectsNode done mid new w.0.node c.loop-index.next) (λ p. ExpectsNode done mid new w.0.node p) r in
     let b = i.bound in
     record {
       next = next-step done ns rows c.requires c.loop-index.index w.0 w.1 c.loop-index.next after c.args.agenda.now mid new i.next i.grows c.expect_row.ensures.grows r;
@@ -39,4 +39,4 @@ returns-clause-expected g c =
     let t = c.loop-index-test.false in
     let short : length rows ≤ c.loop-index.index = omega arith in
     subst (λ t. ExpectsRows c.args.works.now.rows c.args.agenda.now c.loop-index.agenda (with_all c.args.nodes.now.rows t) t)
-        (take_all c.loop-index.index rows short) c.loop-index.invariant.expected
+    (take_all c.loop-index.index rows short) c.loop-index.invariant.expected

@@ -21,12 +21,12 @@ loop-frame-preserved c =
     let inside : c.loop-frame.frame-index < length c.args.frames.now = omega arith in
     record {
       added = λ f h. elim (IsIn-split f _ _ (subst (λ xs. IsIn f xs) (take_more c.args.frames.now c.loop-frame.frame-index _ inside) h)) [
-          inl old ↦ c.add.ensures.kept f _ (c.loop-frame.invariant.added f old)
+        | inl old ↦ c.add.ensures.kept f _ (c.loop-frame.invariant.added f old)
         | inr last ↦ elim last [
-              inl e ↦ subst (λ t. IsIn c.args.place (places_in c.add.new.self t)) (sym e) c.in_ok-add.ensures.added
-            | inr none ↦ absurd none
-            ]
-        ];
+          | inl e ↦ subst (λ t. IsIn c.args.place (places_in c.add.new.self t)) (sym e) c.in_ok-add.ensures.added
+          | inr none ↦ absurd none
+        ]
+      ];
       kept = λ f p h. c.add.ensures.kept f p (c.loop-frame.invariant.kept f p h);
       candidates = c.loop-frame.invariant.candidates;
       exits = c.loop-frame.invariant.exits;

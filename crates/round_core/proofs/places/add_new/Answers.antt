@@ -16,4 +16,4 @@ returns-clause-added c =
 pub returns-clause-kept : goal.returns-clause-kept
 returns-clause-kept c =
     writes-kept (λ (v : Vec ℕ Global). v.items) c.args.by_frame.now.entries c.insert.new.self.entries c.args.frame.now c.push.new.self c.in_ok-insert.ensures.updates.0
-        (λ p h. absurd (subst (λ o. IsIn p (unwrap_or (option_map (λ (v : Vec ℕ Global). v.items) o) [])) c.requires h))
+    (λ p h. absurd (subst (λ o. IsIn p (unwrap_or (option_map (λ (v : Vec ℕ Global). v.items) o) [])) c.requires h))

@@ -23,23 +23,23 @@ pub returns-in_err-push-in-Some-clause-kept : goal.returns-in_err-push-in-Some-c
 returns-in_err-push-in-Some-clause-kept c =
     let w = c.get_mut.follows.holds c.push.new.self in
     writes-kept (λ (v : Vec ℕ Global). v.items) c.args.by_frame.now.entries _ c.args.frame.now c.push.new.self
-        ((w.3 (some_value _ _ c.in-Some.ensures.value)).0)
-        (λ p h. subst (λ xs. IsIn p xs) (sym c.in_err-push-in-Some.ensures.items) (held_of _ _ c.in-Some.ensures.value p h))
+    ((w.3 (some_value _ _ c.in-Some.ensures.value)).0)
+    (λ p h. subst (λ xs. IsIn p xs) (sym c.in_err-push-in-Some.ensures.items) (held_of _ _ c.in-Some.ensures.value p h))
 
 pub returns-in_ok-push-in-Some-clause-added : goal.returns-in_ok-push-in-Some-clause-added
 returns-in_ok-push-in-Some-clause-added c = λ _.
     let w = c.get_mut.follows.holds c.push.new.self in
     writes-added (λ (v : Vec ℕ Global). v.items) c.args.by_frame.now.entries _ c.args.frame.now c.push.new.self
-        ((w.3 (some_value _ _ c.in-Some.ensures.value)).0) c.args.place
-        (subst (λ xs. IsIn c.args.place xs) (sym c.in_ok-push-in-Some.ensures.items) (IsIn-last c.args.place c.in-Some.places.now.items (c.args.place ∷ []) (inl refl)))
+    ((w.3 (some_value _ _ c.in-Some.ensures.value)).0) c.args.place
+    (subst (λ xs. IsIn c.args.place xs) (sym c.in_ok-push-in-Some.ensures.items) (IsIn-last c.args.place c.in-Some.places.now.items (c.args.place ∷ []) (inl refl)))
 
 pub returns-in_ok-push-in-Some-clause-kept : goal.returns-in_ok-push-in-Some-clause-kept
 returns-in_ok-push-in-Some-clause-kept c =
     let w = c.get_mut.follows.holds c.push.new.self in
     writes-kept (λ (v : Vec ℕ Global). v.items) c.args.by_frame.now.entries _ c.args.frame.now c.push.new.self
-        ((w.3 (some_value _ _ c.in-Some.ensures.value)).0)
-        (λ p h. subst (λ xs. IsIn p xs) (sym c.in_ok-push-in-Some.ensures.items)
-            (IsIn-append p c.in-Some.places.now.items (c.args.place ∷ []) (held_of _ _ c.in-Some.ensures.value p h)))
+    ((w.3 (some_value _ _ c.in-Some.ensures.value)).0)
+    (λ p h. subst (λ xs. IsIn p xs) (sym c.in_ok-push-in-Some.ensures.items)
+    (IsIn-append p c.in-Some.places.now.items (c.args.place ∷ []) (held_of _ _ c.in-Some.ensures.value p h)))
 
 pub returns-in-None-clause-added : goal.returns-in-None-clause-added
 returns-in-None-clause-added c = λ h. absurd (none_value _ c.in-None.ensures.value h)

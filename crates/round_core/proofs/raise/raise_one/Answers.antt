@@ -20,14 +20,14 @@ returns-in-Some-2-clause-raised g c =
     let s = c.args.posted.now in
     let held = c.in-Some.held.now in
     let f = match_some (m.within s held ≡ true) (λ r. (m.within s held ≡ false) × (r.1 ≡ c.in-Some.rises + 1) × (r.0 ≡ risen_state m n held s (c.in-Some.rises + 1)))
-        c.in_ok-state-in-Some.field-0 (c.in-Some-2.state, c.in-Some-2.rises) c.in-Some-2.is c.in_ok-state-in-Some.ensures in
+    c.in_ok-state-in-Some.field-0 (c.in-Some-2.state, c.in-Some-2.rises) c.in-Some-2.is c.in_ok-state-in-Some.ensures in
     on_ok_map _ _ c.insert.result
-        (λ e. ap (λ t. with_all ns t) e
-            ∙ with_all-with_held es ns (record { node = n; state = c.in-Some-2.state; rises = c.in-Some-2.rises }) c.requires
-            ∙ sym (raised-there m (with_all ns es) n s (record { node = n; state = held; rises = c.in-Some.rises }) c.in-Some.ensures
-                ∙ ap (λ r. with_held (with_all ns es) r) (if_false _ _ _ f.0)
-                ∙ ap₂ (λ t r. with_held (with_all ns es) (record { node = n; state = t; rises = r })) (sym f.2) (sym f.1)))
-        c.insert.ensures
+    (λ e. ap (λ t. with_all ns t) e
+    ∙ with_all-with_held es ns (record { node = n; state = c.in-Some-2.state; rises = c.in-Some-2.rises }) c.requires
+    ∙ sym (raised-there m (with_all ns es) n s (record { node = n; state = held; rises = c.in-Some.rises }) c.in-Some.ensures
+    ∙ ap (λ r. with_held (with_all ns es) r) (if_false _ _ _ f.0)
+    ∙ ap₂ (λ t r. with_held (with_all ns es) (record { node = n; state = t; rises = r })) (sym f.2) (sym f.1)))
+    c.insert.ensures
 
 pub returns-in-None-2-clause-raised : goal.returns-in-None-2-clause-raised
 returns-in-None-2-clause-raised g c =
@@ -36,7 +36,7 @@ returns-in-None-2-clause-raised g c =
     let s = c.args.posted.now in
     let held = c.in-Some.held.now in
     let w = match_none (m.within s held ≡ true) (λ r. (m.within s held ≡ false) × (r.1 ≡ c.in-Some.rises + 1) × (r.0 ≡ risen_state m n held s (c.in-Some.rises + 1)))
-        c.in_ok-state-in-Some.field-0 c.in-None-2.is c.in_ok-state-in-Some.ensures in
+    c.in_ok-state-in-Some.field-0 c.in-None-2.is c.in_ok-state-in-Some.ensures in
     sym (raised-within m (with_all c.args.nodes.now.rows c.args.all.now.rows) n s (record { node = n; state = held; rises = c.in-Some.rises }) c.in-Some.ensures w)
 
 pub returns-in_ok-state-in-None-clause-distinct : goal.returns-in_ok-state-in-None-clause-distinct
@@ -50,8 +50,8 @@ returns-in_ok-state-in-None-clause-raised g c =
     let es = c.args.all.now.rows in
     let n = c.args.node.now in
     on_ok_map _ _ c.insert-in-None.result
-        (λ e. ap (λ t. with_all ns t) e
-            ∙ with_all-with_held es ns (record { node = n; state = c.in_ok-state-in-None.state; rises = 1 }) c.requires
-            ∙ ap (λ t. with_held (with_all ns es) (record { node = n; state = t; rises = 1 })) c.in_ok-state-in-None.ensures
-            ∙ sym (raised-new m (with_all ns es) n c.args.posted.now c.in-None.ensures))
-        c.insert-in-None.ensures
+    (λ e. ap (λ t. with_all ns t) e
+    ∙ with_all-with_held es ns (record { node = n; state = c.in_ok-state-in-None.state; rises = 1 }) c.requires
+    ∙ ap (λ t. with_held (with_all ns es) (record { node = n; state = t; rises = 1 })) c.in_ok-state-in-None.ensures
+    ∙ sym (raised-new m (with_all ns es) n c.args.posted.now c.in-None.ensures))
+    c.insert-in-None.ensures

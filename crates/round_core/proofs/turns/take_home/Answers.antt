@@ -20,7 +20,7 @@ pub returns-clause-others : goal.returns-clause-others
 returns-clause-others c = record {
   count = c.in-Some.ensures.len;
   places = λ other.
-    sym (lookup-same other c.swap_remove.new.self.entries)
-    ∙ c.in-Some.ensures.updates.0 other
-    ∙ ap₂ (λ b r. cond b None r) (unit_eq-same c.args.unit.now other) (lookup-same other c.args.out.now.entries);
+      sym (lookup-same other c.swap_remove.new.self.entries)
+      ∙ c.in-Some.ensures.updates.0 other
+      ∙ ap₂ (λ b r. cond b None r) (unit_eq-same c.args.unit.now other) (lookup-same other c.args.out.now.entries);
 }

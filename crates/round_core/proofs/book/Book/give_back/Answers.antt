@@ -11,4 +11,4 @@ invariant_of-self g c =
     let out = legal-out (λ base. g.C.Chip.meaning base) c.args.self.now c.self.inside.base journal c.args.ticket c.self.view_is c.requires in
     let own = c.into_parts-seat.ensures.1 in
     given_back m journal c.give_back.new.self c.into_parts-seat.result.0 c.into_parts-seat.result.1 c.give_back.ensures.journal
-        (c.give_back.ensures.home b c.args.ticket c.self.invariant (ap (λ u. out_at b.out u) own ∙ out))
+    (c.give_back.ensures.home b c.args.ticket c.self.invariant (ap (λ u. out_at b.out u) own ∙ out))

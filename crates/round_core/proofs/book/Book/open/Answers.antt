@@ -10,7 +10,7 @@ pub invariant_of-result : goal.invariant_of-result
 invariant_of-result g c =
     let m = g.C.Chip.meaning (g.C.Chip.base c.args.chip.now) in
     subst (λ b. Shows b c.in_ok-parts.parts)
-        (ap₂ (λ n s. one_node n s) c.in_ok-node.ensures.node c.in_ok-node.ensures.state
-        ∙ sym (ap (λ j. replay m j) c.in_ok-parts.ensures.journal ∙ replay-none m)
-        ∙ ap (λ base. replay (g.C.Chip.meaning base) c.in_ok-parts.parts.turns.journal) (sym c.in_ok-base.ensures))
-        c.in_ok-parts.ensures.shown
+    (ap₂ (λ n s. one_node n s) c.in_ok-node.ensures.node c.in_ok-node.ensures.state
+    ∙ sym (ap (λ j. replay m j) c.in_ok-parts.ensures.journal ∙ replay-none m)
+    ∙ ap (λ base. replay (g.C.Chip.meaning base) c.in_ok-parts.parts.turns.journal) (sym c.in_ok-base.ensures))
+    c.in_ok-parts.ensures.shown

@@ -12,6 +12,6 @@ returns g c =
     let bigs = c.deref.ensures.value ∙ c.self.invariant.bigs_are in
     let inside : i < length (map big_part hs) = subst (λ xs. i < length xs) bigs (test_true _ _ y.0) in
     let big : slice_get (map big_part hs) i ≡ Some b =
-        get-index (map big_part hs) i b inside (subst (λ xs. b ≡ slice_index_or xs i b) bigs y.1) in
+    get-index (map big_part hs) i b inside (subst (λ xs. b ≡ slice_index_or xs i b) bigs y.1) in
     let row = get-map big_part hs i b big in
     (row.0, sym (ap (λ v. slice_get v.rows i) c.self.view_is) ∙ row.1, ap (λ t. t.0) row.2, ap (λ t. t.1) row.2)

@@ -8,8 +8,8 @@ pub returns-in-Some-claimable_at-clause-found : goal.returns-in-Some-claimable_a
 returns-in-Some-claimable_at-clause-found g c = λ b s.
     let p = c.loop-place.self in
     found-first b p (c.loop-place.invariant.shown b s) (ap (λ t. t.returned) c.loop-place.invariant.turns ∙ c.requires) c.in-Some.place
-        (of_copied (λ q. All (IsLeBy place_cmp q) p.agenda.candidates.keys) c.first.result c.in-Some.place c.first.ensures.all_from c.in-Some.ensures)
-        c.in-Some-claimable_at.unit (sym c.in-Some-claimable_at.ensures)
+    (of_copied (λ q. All (IsLeBy place_cmp q) p.agenda.candidates.keys) c.first.result c.in-Some.place c.first.ensures.all_from c.in-Some.ensures)
+    c.in-Some-claimable_at.unit (sym c.in-Some-claimable_at.ensures)
 
 pub loop-place-preserved : goal.loop-place-preserved
 loop-place-preserved g c =
@@ -17,8 +17,8 @@ loop-place-preserved g c =
     record {
       shown = λ b s. forget-shown b p c.pop_first.new.self c.in-Some.place
           (popped p.agenda.candidates.keys c.pop_first.new.self.keys c.pop_first.result c.in-Some.place
-              (of_copied (λ q. slice_get p.agenda.candidates.keys 0 ≡ Some q) c.first.result c.in-Some.place c.first.ensures.first c.in-Some.ensures)
-              c.pop_first.ensures.removal c.pop_first.ensures.variant)
+          (of_copied (λ q. slice_get p.agenda.candidates.keys 0 ≡ Some q) c.first.result c.in-Some.place c.first.ensures.first c.in-Some.ensures)
+          c.pop_first.ensures.removal c.pop_first.ensures.variant)
           (sym c.in-None.ensures) (c.loop-place.invariant.shown b s);
       turns = c.loop-place.invariant.turns;
     }

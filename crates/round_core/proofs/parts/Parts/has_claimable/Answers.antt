@@ -19,4 +19,4 @@ returns-else-has_claimable_candidate-clause-some g c = λ b s t.
 pub returns-else-has_claimable_candidate-clause-none : goal.returns-else-has_claimable_candidate-clause-none
 returns-else-has_claimable_candidate-clause-none g c = λ b s t.
     no-claimable b c.args.self.now s (sym c.has_claimable_candidate.ensures ∙ c.if-has_claimable_candidate.false)
-        (ap (λ ps. list_any (λ place. is_some (found_at c.args.self.now place)) ps) (sym c.returned.ensures) ∙ sym c.has_claimable_among.ensures ∙ not_true _ t)
+    (ap (λ ps. list_any (λ place. is_some (found_at c.args.self.now place)) ps) (sym c.returned.ensures) ∙ sym c.has_claimable_among.ensures ∙ not_true _ t)

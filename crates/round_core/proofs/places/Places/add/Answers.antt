@@ -11,7 +11,7 @@ add_new-requires c = is_none_of _ c.if-contains_key.ensures
 pub returns-then-contains_key-clause-added : goal.returns-then-contains_key-clause-added
 returns-then-contains_key-clause-added c =
     on_ok (IsSome (lookup (frame_eq c.args.frame.now) c.self.inside.by_frame.entries)) _ c.add_to_present.result c.add_to_present.ensures.added
-        (sym c.if-contains_key.ensures)
+    (sym c.if-contains_key.ensures)
 
 pub returns-then-contains_key-clause-kept : goal.returns-then-contains_key-clause-kept
 returns-then-contains_key-clause-kept c =
