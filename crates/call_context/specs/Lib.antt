@@ -1,3 +1,4 @@
+pub mod DerivedSame
 pub mod Few
 pub mod Nodes
 pub mod Plain

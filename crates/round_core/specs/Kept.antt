@@ -39,7 +39,3 @@ is_live done (Back node exit) = waits_for done node (frame_of exit)
 abbrev pub live_works : {A : Type 0} → BookState A → List (Work A)
 live_works b = map (λ p. p.1) (filter (λ p. is_live b.done p.0) (works_of b))
 
-pub record IsStub {S A : Type 0} (m : Meaning S A) (journal : List Event) (nodes : List (Node × A)) (works : List (WorkUnit × Work A)) (live : Bool) : Type 0 where
-  pub nodes_are : nodes ≡ nodes_of (replay m journal)
-  pub works_are : works ≡ works_of (replay m journal)
-  pub live_is : (unit : WorkUnit) → live ≡ is_live (replay m journal).done unit

@@ -148,6 +148,11 @@ module _ {S A : Type 0} (m : Meaning S A) where
   all_raised nodes [] = nodes
   all_raised nodes (post ∷ posts) = all_raised (raised nodes post) posts
 
+-- a node takes a state and a number of rises, in its place or last
+abbrev pub with_held : {A : Type 0} → List (Held A) → Held A → List (Held A)
+with_held [] held = held ∷ []
+with_held (h ∷ hs) held = if same_node held.node h.node then held ∷ hs else h ∷ with_held hs held
+
 -- a work becomes the last one of its unit, whose place among the done ones stays
 abbrev pub with_done : {A : Type 0} → List (Done A) → Done A → List (Done A)
 with_done [] done = done ∷ []

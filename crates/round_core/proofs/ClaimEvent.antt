@@ -1,0 +1,84 @@
+-- The events of claims and give-backs.
+use Rattle.std.specs.Prelude.{◌≡◌, ℕ, Option, None, Some, List, [], ◌∷◌, ◌++◌}
+use Rattle.std.proofs.Common.{refl, sym, ◌∙◌, ap, subst}
+use Rattle.std.proofs.Math.Path.{ap₂}
+use Rattle.call_context.specs.declared.node.Unit.{Unit as WorkUnit}
+use Rattle.call_context.specs.SameLaws.{same_unit-refl}
+use Rattle.chip_law.specs.Meaning.{Meaning}
+use Rattle.round_core.specs.declared.event.Event.{Event}
+use Rattle.round_core.specs.declared.event.Event.TheVariants.{Claim, GiveBack}
+use Rattle.round_core.specs.declared.parts.Parts.{Parts}
+use Rattle.round_core.specs.declared.place.Place.{Place}
+use Rattle.round_core.specs.declared.versions.Versions.{Versions}
+use Rattle.round_core.specs.Machine.{BookState, Held, Out, out_at, without, with_out, inputs_of, versions_of, replay, IsFirst}
+use Rattle.round_core.specs.Claims.{placed}
+use Rattle.round_core.specs.Kept.{Kept, with_event}
+use Rattle.round_core.specs.Shown.{Shows}
+use Rattle.round_core.specs.Tickets.{IsTicketOf}
+use Rattle.round_core.proofs.Cases.{if_true}
+use Rattle.round_core.proofs.MachineLemmas.{replay-more, after-claim, after-give_back}
+use Rattle.round_core.proofs.OutLemmas.{out_at-last}
+
+module _ {S A : Type 0} (m : Meaning S A) where
+  abbrev behind : BookState A → List (Out A) → BookState A
+  behind b os = record b { out = os }
+
+  abbrev ticket : ℕ → WorkUnit → A → Option A → Versions → Out A
+  ticket seat u at exit versions = record { seat = seat; unit = u; at = at; exit = exit; versions = versions }
+
+  out-is : (b : BookState A) (seat : ℕ) (u : WorkUnit) (t : Out A) → IsTicketOf b.nodes seat u t → with_out b seat u (inputs_of b.nodes u) ≡ b.out ++ t ∷ []
+  out-is b seat u t k =
+      ap (λ i. with_out b seat u i) k.inputs_are
+      ∙ ap₂ (λ s v. b.out ++ ticket s v t.at t.exit (versions_of b.nodes u) ∷ []) (sym k.seat_is) (sym k.unit_is)
+      ∙ ap (λ v. b.out ++ ticket t.seat t.unit t.at t.exit v ∷ []) (sym k.versions_are)
+
+  claim-behind : (journal journal' : List Event) (seat : ℕ) (u : WorkUnit) (t : Out A) → journal' ≡ journal ++ Claim seat u ∷ []
+      → IsTicketOf (replay m journal).nodes seat u t → replay m journal' ≡ behind (replay m journal) ((replay m journal).out ++ t ∷ [])
+  claim-behind journal journal' seat u t e k =
+      ap (λ j. replay m j) e ∙ replay-more m journal (Claim seat u) ∙ after-claim m (replay m journal) seat u
+      ∙ ap (λ os. behind (replay m journal) os) (out-is (replay m journal) seat u t k)
+
+  -- the book behind a claim
+  pub claimed : (journal : List Event) (p p' : Parts A) (seat : ℕ) (u : WorkUnit) (place : Place) (t : Out A)
+      → Shows (replay m journal) p → IsFirst (replay m journal) u → placed (replay m journal).nodes u ≡ Some place → IsTicketOf p.nodes.rows seat u t
+      → p'.turns.journal ≡ journal ++ Claim seat u ∷ [] → Shows (behind (replay m journal) ((replay m journal).out ++ t ∷ [])) p'
+      → Shows (replay m p'.turns.journal) p' × (out_at (replay m p'.turns.journal).out t.unit ≡ Some t)
+  claimed journal p p' seat u place t s first at k e s' =
+      let b = replay m journal in
+      let k' : IsTicketOf b.nodes seat u t = subst (λ hs. IsTicketOf hs seat u t) s.nodes k in
+      let back = claim-behind journal p'.turns.journal seat u t e k' in
+      let home : out_at b.out t.unit ≡ None = ap (λ v. out_at b.out v) k.unit_is ∙ first.claimable.at_home in (
+        subst (λ c. Shows c p') (sym back) s',
+        ap (λ c. out_at c.out t.unit) back ∙ out_at-last b.out t t.unit home ∙ if_true _ _ _ (same_unit-refl t.unit),
+      )
+
+  -- the book behind a give-back
+  pub given_back : (journal : List Event) (p' : Parts A) (seat : ℕ) (u : WorkUnit) → p'.turns.journal ≡ journal ++ GiveBack seat u ∷ []
+      → Shows (behind (replay m journal) (without (replay m journal).out u)) p' → Shows (replay m p'.turns.journal) p'
+  given_back journal p' seat u e s =
+      subst (λ c. Shows c p') (sym (ap (λ j. replay m j) e ∙ replay-more m journal (GiveBack seat u) ∙ after-give_back m (replay m journal) seat u)) s
+
+module _ {S A B : Type 0} (meaning : B → Meaning S A) where
+  abbrev kept : B → List Event → Kept B
+  kept base journal = record { base = base; journal = journal }
+
+  -- what a claim answers where the fields show what is kept
+  pub answer-is : (k : Kept B) (base : B) (journal journal' : List Event) (seat : ℕ) (u : WorkUnit) (t : Out A) → kept base journal ≡ k
+      → IsFirst (replay (meaning base) journal) u → t.unit ≡ u → t.seat ≡ seat → journal' ≡ journal ++ Claim seat u ∷ []
+      → out_at (replay (meaning base) journal').out t.unit ≡ Some t
+      → IsFirst (replay (meaning k.base) k.journal) t.unit × (t.seat ≡ seat) × (kept base journal' ≡ with_event k (Claim seat t.unit))
+      × (out_at (replay (meaning k.base) journal').out t.unit ≡ Some t)
+  answer-is k base journal journal' seat u t e first own seated more out =
+      let P : Kept B → Type 0 = λ c. IsFirst (replay (meaning c.base) c.journal) t.unit × (t.seat ≡ seat) × (kept base journal' ≡ with_event c (Claim seat t.unit))
+      × (out_at (replay (meaning c.base) journal').out t.unit ≡ Some t) in
+      subst P e (
+        subst (λ v. IsFirst (replay (meaning base) journal) v) (sym own) first,
+        seated,
+        ap (λ j. kept base j) (more ∙ ap (λ v. journal ++ Claim seat v ∷ []) (sym own)),
+        out,
+      )
+
+  pub legal-out : (k : Kept B) (base : B) (journal : List Event) (t : Out A) → kept base journal ≡ k
+      → out_at (replay (meaning k.base) k.journal).out t.unit ≡ Some t → out_at (replay (meaning base) journal).out t.unit ≡ Some t
+  legal-out k base journal t e out =
+      let P : Kept B → Type 0 = λ c. out_at (replay (meaning c.base) c.journal).out t.unit ≡ Some t in subst P (sym e) out

@@ -1,0 +1,66 @@
+-- The book with one node.
+use Rattle.std.specs.Prelude.{◌≡◌, ℕ, Bool, true, false, Option, None, Some, List, [], ◌∷◌, if◌then◌else◌}
+use Rattle.std.specs.Option.{option_map}
+use Rattle.std.proofs.Common.{refl, sym, ◌∙◌, ap, subst, inl, inr, arith}
+use Rattle.call_context.specs.declared.node.Frame.{Frame}
+use Rattle.call_context.specs.declared.node.Node.{Node}
+use Rattle.call_context.specs.declared.node.Node.TheVariants.{At, Exit}
+use Rattle.call_context.specs.declared.node.Unit.{Unit as WorkUnit}
+use Rattle.call_context.specs.declared.node.Unit.TheVariants as unit
+use Rattle.call_context.specs.Same.{same_node}
+use Rattle.call_context.specs.SameLaws.{same_node-eq}
+use Rattle.round_core.specs.declared.agenda.Agenda.{Agenda}
+use Rattle.round_core.specs.declared.parts.Parts.{Parts}
+use Rattle.round_core.specs.declared.place.Place.TheVariants as place
+use Rattle.round_core.specs.Machine.{BookState, Held, Done, place_of, held_at, IsUnit, IsClaimable}
+use Rattle.round_core.specs.Agenda.{IsIn, places_in}
+use Rattle.round_core.specs.Claims.{placed}
+use Rattle.round_core.specs.Expected.{ExpectsNode}
+use Rattle.round_core.specs.Opening.{one_node}
+use Rattle.round_core.specs.Shown.{IsExpected, Shows}
+use Rattle.round_core.proofs.Cases.{truth, if_true, if_false}
+
+module _ {A : Type 0} (node : Node) (state : A) where
+  only : (n : Node) (i : ℕ) → place_of (one_node node state).nodes n ≡ Some i → (n ≡ node) × (i ≡ 0)
+  only n i e = elim (truth (same_node n node)) [
+    | inl s ↦ let z : Some 0 ≡ Some i = sym (if_true _ _ _ s) ∙ e in let f : i ≡ 0 = cc in (same_node-eq n node s, f)
+    | inr s ↦ let z : None ≡ Some i = sym (if_false _ _ _ s) ∙ e in absurd (cc)
+  ]
+
+  only_held : (n : Node) (h : Held A) → held_at (one_node node state).nodes n ≡ Some h → (n ≡ node) × (place_of (one_node node state).nodes n ≡ Some 0)
+  only_held n h e = elim (truth (same_node n node)) [
+    | inl s ↦ (same_node-eq n node s, if_true _ _ _ s)
+    | inr s ↦ let z : None ≡ Some h = sym (if_false _ _ _ s) ∙ e in absurd (cc)
+  ]
+
+  -- the parts that hold one node and expect it
+  pub open-shown : (p : Parts A) (old : Agenda) → p.nodes.rows ≡ (one_node node state).nodes → p.works.rows ≡ [] → p.turns.out ≡ [] → p.turns.returned ≡ []
+      → ExpectsNode p.works.rows old p.agenda node 0 → Shows (one_node node state) p
+  open-shown p old hs ds os rs e = record {
+    nodes = hs;
+    done = ds;
+    distinct = (refl, tt);
+    home = λ u h. ap (λ es. Rattle.round_core.specs.Turns.place_out es u) os;
+    out = λ u o h. absurd (cc);
+    count = ap Rattle.std.specs.Prelude.length os;
+    apart = tt;
+    expected = λ u k. expect u k.known;
+    waiting = λ n f w. let bad : false ≡ true = w in absurd (cc);
+    exits = λ pc f i at. exit pc f i at;
+  }
+    where
+      expect : (u : WorkUnit) → IsUnit (one_node node state) u → IsExpected (one_node node state).nodes p.agenda.candidates.keys p.turns.returned u
+      expect (unit.One (At pc calls frame)) k =
+          let s = only_held (At pc calls frame) k.0 k.1 in
+          let x : ExpectsNode p.works.rows old p.agenda (At pc calls frame) 0 = subst (λ n. ExpectsNode p.works.rows old p.agenda n 0) (sym s.0) e in
+          (place.One 0, ap (λ o. option_map (λ i. place.One i) o) s.1, inl x.0)
+      expect (unit.One (Exit pc frame)) k = absurd k
+      expect (unit.Back (At pc calls frame) (Exit from left)) k = let bad : false ≡ true = k.4 in absurd (cc)
+      expect (unit.Back (At pc calls frame) (At from calls' frame')) k = absurd k
+      expect (unit.Back (Exit pc frame) x) k = absurd k
+
+      exit : (pc : ℕ) (f : Frame) (i : ℕ) → place_of (one_node node state).nodes (Exit pc f) ≡ Some i → IsIn i (places_in p.agenda.exits f)
+      exit pc f i at =
+          let s = only (Exit pc f) i at in
+          let x : ExpectsNode p.works.rows old p.agenda (Exit pc f) 0 = subst (λ n. ExpectsNode p.works.rows old p.agenda n 0) (sym s.0) e in
+          subst (λ j. IsIn j (places_in p.agenda.exits f)) (sym s.1) x.0

@@ -1,0 +1,20 @@
+use Rattle.std.proofs.Common.{◌<◌, below_more, subst, arith}
+use Rattle.round_core.specs.declared.place.Place.TheVariants.{Back}
+use Rattle.round_core.specs.Agenda.{IsIn}
+use Rattle.round_core.proofs.ListLemmas.{index_of}
+use Rattle.round_core.proofs.candidates.add_returns_from.Goals as goal
+
+pub returns-in_err-add_candidate-clause-kept : goal.returns-in_err-add_candidate-clause-kept
+returns-in_err-add_candidate-clause-kept c = λ p h. c.add_candidate.ensures.kept p (c.loop-node.invariant.kept p h)
+
+pub loop-node-preserved : goal.loop-node-preserved
+loop-node-preserved c = record {
+  added = below_more _ _ (λ i h. c.add_candidate.ensures.kept _ (c.loop-node.invariant.added i h)) c.in_ok-add_candidate.ensures.added;
+  kept = λ p h. c.add_candidate.ensures.kept p (c.loop-node.invariant.kept p h);
+}
+
+pub returns-clause-added : goal.returns-clause-added
+returns-clause-added c = λ x h.
+    let i = index_of x c.args.nodes.now 0 h in
+    let at : i.0 < c.loop-node.node-index = let b = i.1 in omega arith in
+    subst (λ q. IsIn (Back q c.args.exit) c.loop-node.candidates.keys) i.2 (c.loop-node.invariant.added i.0 at)

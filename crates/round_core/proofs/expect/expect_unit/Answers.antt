@@ -1,0 +1,30 @@
+use Rattle.std.proofs.Common.{◌≡◌, ◌∙◌, subst, sym, OnOk, Some, ℕ}
+use Rattle.call_context.specs.declared.node.Frame.{Frame}
+use Rattle.round_core.specs.declared.place.Place.TheVariants.{One}
+use Rattle.round_core.specs.Agenda.{IsIn, places_in}
+use Rattle.round_core.specs.Expected.{ExpectsUnit}
+use Rattle.round_core.specs.Returns.{HasReturnsTo}
+use Rattle.round_core.proofs.Cases.{on_ok_both, on_ok_map}
+use Rattle.round_core.proofs.expect.expect_unit.Goals as goal
+
+same_some : (a b : ℕ) → Some a ≡ Some b → a ≡ b
+same_some a b e = cc
+
+pub returns-in_ok-add_candidate-in-One-clause-expected : goal.returns-in_ok-add_candidate-in-One-clause-expected
+returns-in_ok-add_candidate-in-One-clause-expected g c =
+    let old = c.args.agenda.now in
+    let new = c.expect_waits.new.agenda in
+    let fs = c.args.frames.now in
+    subst (λ u. OnOk c.expect_waits.result (ExpectsUnit old new c.args.nodes.now.rows u fs)) (sym c.in-One.is)
+    (on_ok_map _ _ c.expect_waits.result
+    (λ both at e. subst (λ p. IsIn (One p) new.candidates.keys × ((f : Frame) → IsIn f fs → IsIn p (places_in new.waiting f)) × ((f : Frame) → IsIn f fs → HasReturnsTo new.candidates.keys p (places_in old.exits f)))
+    (same_some c.in-Some.place at (c.in-Some.ensures ∙ e))
+    (c.expect_waits.ensures.grows.candidates _ c.in_ok-add_candidate-in-One.ensures.added, both.0, both.1))
+    (on_ok_both _ _ c.expect_waits.result c.expect_waits.ensures.waiting c.expect_waits.ensures.returns))
+
+pub returns-in_ok-add_candidate-in-One-clause-grows : goal.returns-in_ok-add_candidate-in-One-clause-grows
+returns-in_ok-add_candidate-in-One-clause-grows g c = record {
+  candidates = λ p h. c.expect_waits.ensures.grows.candidates p (c.add_candidate.ensures.kept p h);
+  waiting = c.expect_waits.ensures.grows.waiting;
+  exits = c.expect_waits.ensures.grows.exits;
+}

@@ -1,0 +1,45 @@
+use Rattle.std.proofs.Common.{◌≡◌, ◌∙◌, ap, sym, subst, Vec, ℕ, Some, None, Option, option_map, unwrap_or, [], ◌∷◌, refl, inl, IsSome, is_some, true, false}
+use Rattle.std.specs.declared.alloc.Global.{Global}
+use Rattle.std.specs.Map.{lookup}
+use Rattle.call_context.specs.DerivedSame.{frame_eq}
+use Rattle.round_core.specs.Agenda.{IsIn, places_in, seen, KeepsPlaces}
+use Rattle.round_core.proofs.ListLemmas.{IsIn-append, IsIn-last}
+use Rattle.round_core.proofs.PlacesLemmas.{writes-added, writes-kept}
+use Rattle.round_core.proofs.places.add_to_present.Goals as goal
+
+some_value : {X : Type 0} → (o : Option X) (x : X) → Some x ≡ o → IsSome o
+some_value None x e = absurd (cc)
+some_value (Some y) x e = refl
+
+none_value : {X : Type 0} → (o : Option X) → None ≡ o → IsSome o → ⊥
+none_value None e h = let f : false ≡ true = h in cc
+none_value (Some y) e h = absurd (cc)
+
+held_of : (o : Option (Vec ℕ Global)) (v : Vec ℕ Global) → Some v ≡ o → (p : ℕ) → IsIn p (unwrap_or (option_map (λ (v : Vec ℕ Global). v.items) o) []) → IsIn p v.items
+held_of None v e p h = absurd h
+held_of (Some w) v e p h = let same : w ≡ v = cc in subst (λ (u : Vec ℕ Global). IsIn p u.items) same h
+
+pub returns-in_err-push-in-Some-clause-kept : goal.returns-in_err-push-in-Some-clause-kept
+returns-in_err-push-in-Some-clause-kept c =
+    let w = c.get_mut.follows.holds c.push.new.self in
+    writes-kept (λ (v : Vec ℕ Global). v.items) c.args.by_frame.now.entries _ c.args.frame.now c.push.new.self
+    ((w.3 (some_value _ _ c.in-Some.ensures.value)).0)
+    (λ p h. subst (λ xs. IsIn p xs) (sym c.in_err-push-in-Some.ensures.items) (held_of _ _ c.in-Some.ensures.value p h))
+
+pub returns-in_ok-push-in-Some-clause-added : goal.returns-in_ok-push-in-Some-clause-added
+returns-in_ok-push-in-Some-clause-added c = λ _.
+    let w = c.get_mut.follows.holds c.push.new.self in
+    writes-added (λ (v : Vec ℕ Global). v.items) c.args.by_frame.now.entries _ c.args.frame.now c.push.new.self
+    ((w.3 (some_value _ _ c.in-Some.ensures.value)).0) c.args.place
+    (subst (λ xs. IsIn c.args.place xs) (sym c.in_ok-push-in-Some.ensures.items) (IsIn-last c.args.place c.in-Some.places.now.items (c.args.place ∷ []) (inl refl)))
+
+pub returns-in_ok-push-in-Some-clause-kept : goal.returns-in_ok-push-in-Some-clause-kept
+returns-in_ok-push-in-Some-clause-kept c =
+    let w = c.get_mut.follows.holds c.push.new.self in
+    writes-kept (λ (v : Vec ℕ Global). v.items) c.args.by_frame.now.entries _ c.args.frame.now c.push.new.self
+    ((w.3 (some_value _ _ c.in-Some.ensures.value)).0)
+    (λ p h. subst (λ xs. IsIn p xs) (sym c.in_ok-push-in-Some.ensures.items)
+    (IsIn-append p c.in-Some.places.now.items (c.args.place ∷ []) (held_of _ _ c.in-Some.ensures.value p h)))
+
+pub returns-in-None-clause-added : goal.returns-in-None-clause-added
+returns-in-None-clause-added c = λ h. absurd (none_value _ c.in-None.ensures.value h)

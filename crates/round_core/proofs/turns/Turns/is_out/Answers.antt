@@ -1,0 +1,8 @@
+use Rattle.std.proofs.Common.{◌≡◌, ◌∙◌, ap, is_some}
+use Rattle.round_core.specs.Turns.{place_out}
+use Rattle.round_core.proofs.TurnsLemmas.{lookup-same}
+use Rattle.round_core.proofs.turns.Turns.is_out.Goals as goal
+
+pub returns : goal.returns
+returns c =
+    c.contains_key.ensures ∙ ap (λ o. is_some o) (lookup-same c.args.unit.now c.self.inside.out.entries) ∙ ap (λ v. is_some (place_out v.out c.args.unit.now)) c.self.view_is

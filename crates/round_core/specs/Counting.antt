@@ -1,0 +1,38 @@
+-- Two chips of the tests: one that counts at its only node, and one with a chain of nodes.
+use Rattle.std.specs.Prelude.{◌≡◌, ℕ, ◌+◌, Bool, nat_le, nat_lt, if◌then◌else◌, Option, List, [], ◌∷◌, max, min}
+use Rattle.call_context.specs.declared.node.Frame.TheVariants.{Base}
+use Rattle.call_context.specs.declared.node.Node.{Node}
+use Rattle.call_context.specs.declared.node.Node.TheVariants.{At, Exit}
+use Rattle.call_context.specs.declared.node.Unit.{Unit as WorkUnit}
+use Rattle.call_context.specs.declared.node.Unit.TheVariants.{One, Back}
+use Rattle.chip_law.specs.Meaning.{Meaning}
+use Rattle.chip_law.specs.declared.chip.Work.{Work}
+
+abbrev pub node_at : ℕ → Node
+node_at pc = At pc [] Base
+
+-- a work with posts alone
+abbrev pub posting : List (Node × ℕ) → Work ℕ
+posting posts = record { items = []; posts = posts; waits = []; opens = [] }
+
+-- numbers from 0 to the greatest, of which each is within each that is no less
+abbrev pub counts_by : (WorkUnit → ℕ → Work ℕ) → Meaning ℕ ℕ
+counts_by work = record {
+  first_node = node_at 0;
+  first_state = 0;
+  work = λ u at exit. work u at;
+  within = nat_le;
+  join = max;
+  widen = λ coarse. max;
+  top = λ node. 4294967295;
+}
+
+-- the only node posts its number plus one to itself, where that is a number
+abbrev pub next_count : WorkUnit → ℕ → Work ℕ
+next_count u at = posting ((node_at 0, min (at + 1) 4294967295) ∷ [])
+
+-- each node but the last posts 0 to the next
+abbrev pub next_node : ℕ → WorkUnit → ℕ → Work ℕ
+next_node end (One (At pc calls frame)) at = if nat_lt pc end then posting ((node_at (pc + 1), 0) ∷ []) else posting []
+next_node end (One (Exit pc frame)) at = posting []
+next_node end (Back node exit) at = posting []

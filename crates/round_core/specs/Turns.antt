@@ -1,0 +1,22 @@
+-- Units that are out with their places, and the journal.
+use Rattle.std.specs.Prelude.{◌≡◌, ◌≢◌, ℕ, ◌+◌, Bool, if◌then◌else◌, Option, None, Some, List, length}
+use Rattle.std.specs.Map.{lookup}
+use Rattle.call_context.specs.declared.node.Unit.{Unit as WorkUnit}
+use Rattle.call_context.specs.Same.{same_unit}
+use Rattle.round_core.specs.declared.event.Event.{Event}
+use Rattle.round_core.specs.declared.place.Place.{Place}
+
+-- what happened, the units that are out, and the places that were given back since the last claim
+pub record Standing : Type 0 where
+  pub journal : List Event
+  pub out : List (WorkUnit × Place)
+  pub returned : List Place
+
+-- the place of a unit that is out
+abbrev pub place_out : List (WorkUnit × Place) → WorkUnit → Option Place
+place_out out unit = lookup (same_unit unit) out
+
+-- one unit that was out is home, and the others are out as before
+pub record TakesHome (old : List (WorkUnit × Place)) (unit : WorkUnit) (new : List (WorkUnit × Place)) : Type 0 where
+  pub count : length new + 1 ≡ length old
+  pub places : (other : WorkUnit) → place_out new other ≡ (if same_unit unit other then None else place_out old other)

@@ -1,0 +1,85 @@
+//! Claims and give-backs.
+
+ghost use Rattle.std.specs.Prelude.{◌≡◌, Some, IfOk, OnErr};
+ghost use Rattle.round_core.specs.Answers.{AnswersClaim};
+ghost use Rattle.round_core.specs.Kept.{with_event, IsOutOf};
+ghost use Rattle.round_core.specs.Machine.{Held, held_at, replay};
+ghost use Rattle.round_core.specs.Tickets.{IsTicketOf};
+ghost use Rattle.round_core.specs.declared.event.Event.{Event};
+
+use crate::book::Book;
+use crate::nodes::Nodes;
+use crate::ticket::{Claimed, Ticket};
+use call_context::{Node, Unit};
+use chip_law::Chip;
+use std::alloc::Global;
+use vsa_io::Memory;
+
+/// A copy of the state of a node.
+fn copy_of<C: Chip>(
+    alloc: Global,
+    chip: &C,
+    nodes: &Nodes<C::Abs>,
+    node: &Node,
+) -> Result<C::Abs, Memory>
+    ensures { IfOk result (λ state. (held : Held C.Abs) × (held_at nodes.now.rows node.now ≡ Some held) × (state ≡ held.state)) }
+{
+    match nodes.find(node) {
+        Some((state, _)) => chip.copy(alloc, state),
+        None => Err(Memory),
+    }
+}
+
+/// The ticket of a unit, with copies of its input states.
+fn ticket_of<C: Chip>(
+    alloc: Global,
+    chip: &C,
+    nodes: &Nodes<C::Abs>,
+    seat: u32,
+    unit: &Unit,
+) -> Result<Ticket<C>, Memory>
+    ensures { IfOk result (IsTicketOf nodes.now.rows seat unit.now) }
+{
+    let versions = nodes.versions(unit);
+    match unit {
+        Unit::One(node) => {
+            let at = copy_of(alloc, chip, nodes, node)?;
+            Ok(Ticket::new(seat, *unit, at, None, versions))
+        }
+        Unit::Back(node, exit) => {
+            let at = copy_of(alloc, chip, nodes, node)?;
+            let exit = copy_of(alloc, chip, nodes, exit)?;
+            Ok(Ticket::new(seat, *unit, at, Some(exit), versions))
+        }
+    }
+}
+
+impl<C: Chip> Book<C> {
+    /// Takes out the first unit that can be claimed. A refusal leaves the book as it was.
+    pub fn claim(&mut self, chip: &C, seat: u32) -> Result<Claimed<C>, Memory>
+        requires { C.base chip.now ≡ self.old.base }
+        ensures answer { IfOk result (λ claimed. AnswersClaim (C.meaning self.old.base) self.old self.new seat claimed) }
+        ensures refused { OnErr result (self.new ≡ self.old) }
+    {
+        let Some((place, unit)) = self.parts.take_first()? else {
+            return Ok(if self.parts.turns.is_empty() {
+                Claimed::Finished
+            } else {
+                Claimed::Idle
+            });
+        };
+        let alloc = self.parts.nodes.allocator();
+        let ticket = ticket_of(alloc, chip, &self.parts.nodes, seat, &unit)?;
+        self.parts.take_out(seat, &unit, place)?;
+        Ok(Claimed::Ticket(ticket))
+    }
+
+    /// Puts a unit back without work.
+    pub fn give_back(&mut self, ticket: Ticket<C>)
+        requires { IsOutOf (replay (C.meaning self.old.base) self.old.journal) ticket }
+        ensures { self.new ≡ with_event self.old (Event.GiveBack ticket.seat ticket.unit) }
+    {
+        let (seat, unit, _) = ticket.into_parts();
+        self.parts.give_back(seat, &unit);
+    }
+}

@@ -1,0 +1,170 @@
+//! Candidates that a post adds.
+
+ghost use Rattle.std.specs.Prelude.{◌≡◌, ◌+◌, ◌-◌, ◌^◌, ◌<◌, ℕ, true, IfOk, OnOk, MatchOption};
+ghost use Rattle.call_context.specs.declared.node.Frame.{Frame};
+ghost use Rattle.round_core.specs.Agenda.{IsIn, places_in, KeepsCandidates, KeepsPlaces};
+ghost use Rattle.round_core.specs.Expected.{Grows, ExpectsNode, ExpectsRows, ExpectsUnit};
+ghost use Rattle.round_core.specs.Raise.{with_all};
+ghost use Rattle.round_core.specs.Shown.{AreDistinct};
+ghost use Rattle.round_core.specs.Returns.{HasReturnsTo, HasReturnsFrom};
+ghost use Rattle.round_core.specs.Machine.{place_of, waits_for};
+
+use crate::agenda::Agenda;
+use crate::candidates::{add_candidate, add_returns_from, add_returns_to};
+use crate::nodes::Nodes;
+use crate::place::Place;
+use crate::places::Places;
+use crate::works::Works;
+use call_context::{Frame, Node, Unit};
+use std::collections::BTreeSet;
+use vsa_io::Memory;
+
+/// Adds the returns to a node from the exits of frames.
+fn add_returns(
+    candidates: &mut BTreeSet<Place>,
+    exits: &Places,
+    node: usize,
+    frames: &[Frame],
+) -> Result<(), Memory>
+    ensures added { OnOk result ((frame : Frame) → IsIn frame frames.now → HasReturnsTo candidates.new.keys node (places_in exits.now frame)) }
+    ensures kept { KeepsCandidates candidates.old.keys candidates.new.keys }
+{
+    for frame in frames {
+        add_returns_to(candidates, node, exits.of(frame))?;
+    }
+    Ok(())
+}
+
+/// Adds the own work of a location, and the returns to it that its last work waits for.
+fn expect_location<A>(
+    candidates: &mut BTreeSet<Place>,
+    exits: &Places,
+    works: &Works<A>,
+    node: &Node,
+    place: usize,
+) -> Result<(), Memory>
+    ensures own { OnOk result (IsIn (Place.One place) candidates.new.keys) }
+    ensures returns { OnOk result ((frame : Frame) → waits_for works.now.rows node.now frame ≡ true → HasReturnsTo candidates.new.keys place (places_in exits.now frame)) }
+    ensures kept { KeepsCandidates candidates.old.keys candidates.new.keys }
+{
+    add_candidate(candidates, Place::One(place))?;
+    match works.find(&Unit::One(*node)) {
+        Some((work, _)) => add_returns(candidates, exits, place, work.waits.as_slice()),
+        None => Ok(()),
+    }
+}
+
+/// Notes an exit of a frame, and adds the returns from it.
+fn expect_exit(agenda: &mut Agenda, frame: &Frame, place: usize) -> Result<(), Memory>
+    ensures noted { OnOk result (IsIn place (places_in agenda.new.exits frame.now)) }
+    ensures returns { OnOk result (HasReturnsFrom agenda.new.candidates.keys (places_in agenda.old.waiting frame.now) place) }
+    ensures grows { Grows agenda.old agenda.new }
+    ensures waiting { agenda.new.waiting ≡ agenda.old.waiting }
+{
+    agenda.exits.add(frame, place)?;
+    add_returns_from(&mut agenda.candidates, agenda.waiting.of(frame), place)
+}
+
+/// Adds what may be claimable once a node has risen.
+pub fn expect_node<A>(
+    agenda: &mut Agenda,
+    works: &Works<A>,
+    node: &Node,
+    place: usize,
+) -> Result<(), Memory>
+    ensures expected { OnOk result (ExpectsNode works.now.rows agenda.old agenda.new node.now place) }
+    ensures grows { Grows agenda.old agenda.new }
+    ensures waiting { agenda.new.waiting ≡ agenda.old.waiting }
+{
+    match node {
+        Node::At(..) => {
+            expect_location(&mut agenda.candidates, &agenda.exits, works, node, place)
+        }
+        Node::Exit(_, frame) => expect_exit(agenda, frame, place),
+    }
+}
+
+/// Adds what may be claimable once a row has risen, of which there are as many new ones before it as make `next` the
+/// place of another new one. Answers the next place behind it.
+fn expect_row<A>(
+    agenda: &mut Agenda,
+    works: &Works<A>,
+    nodes: &Nodes<A>,
+    node: &Node,
+    next: usize,
+) -> Result<usize, Memory>
+    requires { next < 2 ^ 64 - 1 }
+    ensures expected { IfOk result (λ after. MatchOption (place_of nodes.now.rows node.now) ((after ≡ next + 1) × ExpectsNode works.now.rows agenda.old agenda.new node.now next) (λ place. (after ≡ next) × ExpectsNode works.now.rows agenda.old agenda.new node.now place)) }
+    ensures grows { Grows agenda.old agenda.new }
+{
+    match nodes.place(node) {
+        Some(place) => {
+            expect_node(agenda, works, node, place)?;
+            Ok(next)
+        }
+        None => {
+            expect_node(agenda, works, node, next)?;
+            Ok(next + 1)
+        }
+    }
+}
+
+/// Adds what may be claimable once these nodes have risen.
+pub fn expect_raised<A>(
+    agenda: &mut Agenda,
+    works: &Works<A>,
+    nodes: &Nodes<A>,
+    raised: &Nodes<A>,
+) -> Result<(), Memory>
+    requires { AreDistinct raised.now.rows }
+    ensures expected { OnOk result (ExpectsRows works.now.rows agenda.old agenda.new (with_all nodes.now.rows raised.now.rows) raised.now.rows) }
+    ensures grows { Grows agenda.old agenda.new }
+{
+    let mut next = nodes.len();
+    for index in 0..raised.len() {
+        match raised.at(index) {
+            Some((node, _)) => next = expect_row(agenda, works, nodes, node, next)?,
+            None => unreachable!(),
+        }
+    }
+    Ok(())
+}
+
+/// Adds a location itself and the returns that it waits for.
+fn expect_waits(agenda: &mut Agenda, place: usize, frames: &[Frame]) -> Result<(), Memory>
+    ensures waiting { OnOk result ((frame : Frame) → IsIn frame frames.now → IsIn place (places_in agenda.new.waiting frame)) }
+    ensures returns { OnOk result ((frame : Frame) → IsIn frame frames.now → HasReturnsTo agenda.new.candidates.keys place (places_in agenda.old.exits frame)) }
+    ensures grows { Grows agenda.old agenda.new }
+{
+    for frame in frames {
+        agenda.waiting.add(frame, place)?;
+    }
+    add_returns(&mut agenda.candidates, &agenda.exits, place, frames)
+}
+
+/// Adds a unit itself, and the returns that its work waits for.
+pub fn expect_unit<A>(
+    agenda: &mut Agenda,
+    nodes: &Nodes<A>,
+    unit: &Unit,
+    frames: &[Frame],
+) -> Result<(), Memory>
+    ensures expected { OnOk result (ExpectsUnit agenda.old agenda.new nodes.now.rows unit.now frames.now) }
+    ensures grows { Grows agenda.old agenda.new }
+{
+    match unit {
+        Unit::One(node) => {
+            let Some(place) = nodes.place(node) else {
+                return Ok(());
+            };
+            add_candidate(&mut agenda.candidates, Place::One(place))?;
+            expect_waits(agenda, place, frames)
+        }
+        Unit::Back(node, exit) => {
+            let (Some(node), Some(exit)) = (nodes.place(node), nodes.place(exit)) else {
+                return Ok(());
+            };
+            add_candidate(&mut agenda.candidates, Place::Back(node, exit))
+        }
+    }
+}

@@ -1,0 +1,293 @@
+//! What a book keeps.
+
+ghost use Rattle.std.specs.Prelude.{◌≡◌, ◌<◌, ◌≤◌, length, ◌++◌, ◌∷◌, [], None, IsSome, OnErr, Some, IfOk, MatchOption, OnOk, IsTrue, is_some, map, not, ◌↔◌};
+ghost use Rattle.std.specs.List.{list_any};
+ghost use Rattle.round_core.specs.Claims.{one_of, back_of, unit_at, due_of, claimable_at, placed};
+ghost use Rattle.round_core.specs.Machine.{BookState, Out, done_at, out_at, versions_of, with_done, without, IsClaimable, IsFirst, IsFinished, NoneClaimable};
+ghost use Rattle.round_core.specs.Turns.{place_out, TakesHome};
+ghost use Rattle.round_core.specs.Opening.{one_node};
+ghost use Rattle.round_core.specs.Shown.{AreDistinct, Shows, StaysShown, found_at};
+ghost use Rattle.round_core.specs.Prepared.{IsPrepared};
+ghost use Rattle.round_core.specs.Raise.{with_all};
+
+use crate::agenda::Agenda;
+use crate::candidates::add_all;
+use crate::event::Event;
+use crate::expect::{expect_node, expect_raised, expect_unit};
+use crate::nodes::Nodes;
+use crate::place::Place;
+use crate::turns::Turns;
+use crate::versions::Versions;
+use crate::works::Works;
+use call_context::{Frame, Node, Unit};
+use chip_law::Work;
+use std::alloc::Global;
+use vsa_io::Memory;
+
+/// The nodes with their states, the last works of units, the units that are out with the journal, and the units that
+/// may be claimable.
+#[derive(Drop)]
+pub struct Parts<A> {
+    pub nodes: Nodes<A>,
+    pub works: Works<A>,
+    pub turns: Turns,
+    pub agenda: Agenda,
+}
+
+/// The unit of a location's own work.
+fn one_of(node: &Node) -> Option<Unit>
+    ensures { result ≡ one_of node.now }
+{
+    match node {
+        Node::At(..) => Some(Unit::One(*node)),
+        Node::Exit(..) => None,
+    }
+}
+
+impl<A: Drop> Parts<A> {
+    /// One node that rose once, and nothing else.
+    pub fn open(alloc: Global, node: Node, state: A) -> Result<Self, Memory>
+        ensures journal { IfOk result (λ parts. parts.turns.journal ≡ []) }
+        ensures shown { IfOk result (λ parts. Shows (one_node node state) parts) }
+    {
+        let node = &node;
+        let mut nodes = Nodes::new(alloc);
+        let works = Works::new(alloc);
+        let mut agenda = Agenda::new(alloc);
+        expect_node(&mut agenda, &works, node, 0)?;
+        nodes.reserve(1)?;
+        nodes.set(*node, state, 1);
+        Ok(Parts {
+            nodes,
+            works,
+            turns: Turns::new(alloc),
+            agenda,
+        })
+    }
+}
+
+impl<A> Parts<A> {
+    /// The return from an exit to a location that waits for its frame.
+    fn back_of(&self, node: &Node, exit: &Node) -> Option<Unit>
+        ensures { result ≡ back_of self.now.works.rows node.now exit.now }
+    {
+        match (node, exit) {
+            (Node::At(..), Node::Exit(_, frame)) => {
+                if self.works.waits_for(node, frame) {
+                    Some(Unit::Back(*node, *exit))
+                } else {
+                    None
+                }
+            }
+            _ => None,
+        }
+    }
+
+    /// The unit of a place.
+    fn unit_at(&self, place: Place) -> Option<Unit>
+        ensures { result ≡ unit_at self.now.nodes.rows self.now.works.rows place }
+    {
+        match place {
+            Place::One(node) => {
+                let (node, _) = self.nodes.at(node)?;
+                one_of(node)
+            }
+            Place::Back(node, exit) => {
+                let (node, _) = self.nodes.at(node)?;
+                let (exit, _) = self.nodes.at(exit)?;
+                self.back_of(node, exit)
+            }
+        }
+    }
+
+    /// Whether a unit was never done, or has an input that rose since.
+    fn is_due(&self, unit: &Unit) -> bool
+        ensures { result ≡ due_of (done_at self.now.works.rows unit.now) (versions_of self.now.nodes.rows unit.now) }
+    {
+        match self.works.find(unit) {
+            Some((_, then)) => {
+                let now = self.nodes.versions(unit);
+                then.at < now.at || then.exit < now.exit
+            }
+            None => true,
+        }
+    }
+
+    /// The unit of a place, where it can be claimed.
+    pub fn claimable_at(&self, place: Place) -> Option<Unit>
+        ensures { result ≡ claimable_at self.now.nodes.rows self.now.works.rows self.now.turns.out place }
+    {
+        let unit = self.unit_at(place)?;
+        if self.turns.is_out(&unit) {
+            None
+        } else if self.is_due(&unit) {
+            Some(unit)
+        } else {
+            None
+        }
+    }
+}
+
+impl<A> Parts<A> {
+    /// Puts the units that were given back among the candidates.
+    pub fn take_returned(&mut self) -> Result<(), Memory>
+        ensures shown { StaysShown self.old self.new }
+        ensures journal { self.new.turns.journal ≡ self.old.turns.journal }
+        ensures none_left { OnOk result (self.new.turns.returned ≡ []) }
+    {
+        add_all(&mut self.agenda.candidates, self.turns.returned())?;
+        self.turns.clear_returned();
+        Ok(())
+    }
+
+    /// The first unit that can be claimed, with its place. Candidates before it that can't be are forgotten.
+    pub fn first(&mut self) -> Option<(Place, Unit)>
+        requires { self.old.turns.returned ≡ [] }
+        ensures shown { StaysShown self.old self.new }
+        ensures turns { self.new.turns ≡ self.old.turns }
+        ensures found { (b : BookState A) → Shows b self.old → MatchOption result (NoneClaimable b) (λ found. IsFirst b found.1 × (placed b.nodes found.1 ≡ Some found.0)) }
+    {
+        while let Some(place) = self.agenda.candidates.first().copied() {
+            match self.claimable_at(place) {
+                Some(unit) => return Some((place, unit)),
+                None => {
+                    self.agenda.candidates.pop_first();
+                }
+            }
+        }
+        None
+    }
+
+    /// Whether a unit of these places can be claimed.
+    fn has_claimable_among(&self, places: &[Place]) -> bool
+        ensures { result ≡ list_any (λ place. is_some (found_at self.now place)) places.now }
+    {
+        places
+            .iter()
+            .any(|place| self.claimable_at(*place).is_some())
+    }
+
+    /// Whether a unit of a candidate can be claimed.
+    fn has_claimable_candidate(&self) -> bool
+        ensures { result ≡ list_any (λ place. is_some (found_at self.now place)) self.now.agenda.candidates.keys }
+    {
+        self.agenda
+            .candidates
+            .iter()
+            .any(|place| self.claimable_at(*place).is_some())
+    }
+
+    /// Whether a unit can be claimed.
+    pub fn has_claimable(&self) -> bool
+        ensures some { (b : BookState A) → Shows b self.now → IsTrue result → NoneClaimable b → ⊥ }
+        ensures none { (b : BookState A) → Shows b self.now → IsTrue (not result) → NoneClaimable b }
+    {
+        self.has_claimable_candidate() || self.has_claimable_among(self.turns.returned())
+    }
+}
+
+impl<A> Parts<A> {
+    /// Whether no unit is out and none can be claimed.
+    pub fn is_finished(&self) -> bool
+        ensures { (b : BookState A) → Shows b self.now → IsTrue result ↔ IsFinished b }
+    {
+        self.turns.is_empty() && !self.has_claimable()
+    }
+}
+
+impl<A: Drop> Parts<A> {
+    /// The nodes with their states, the last works, and the journal.
+    pub fn into_vecs(self) -> (Vec<(Node, A)>, Vec<(Unit, Work<A>)>, Vec<Event>)
+        ensures nodes { result.0.items ≡ map (λ row. (row.node, row.state)) self.nodes.rows }
+        ensures works { result.1.items ≡ map (λ row. (row.unit, row.work)) self.works.rows }
+        ensures journal { result.2.items ≡ self.turns.journal }
+    {
+        let Parts {
+            nodes,
+            works,
+            turns,
+            agenda: _,
+        } = self;
+        (nodes.into_vec(), works.into_vec(), turns.into_journal())
+    }
+}
+
+impl<A> Parts<A> {
+    /// The first unit that can be claimed, with its place.
+    pub fn take_first(&mut self) -> Result<Option<(Place, Unit)>, Memory>
+        ensures shown { StaysShown self.old self.new }
+        ensures journal { self.new.turns.journal ≡ self.old.turns.journal }
+        ensures found { IfOk result (λ found. (b : BookState A) → Shows b self.old → MatchOption found (NoneClaimable b) (λ first. IsFirst b first.1 × (placed b.nodes first.1 ≡ Some first.0))) }
+    {
+        self.take_returned()?;
+        Ok(self.first())
+    }
+
+    /// Takes out a unit at its place.
+    pub fn take_out(&mut self, seat: u32, unit: &Unit, place: Place) -> Result<(), Memory>
+        requires { place_out self.old.turns.out unit.now ≡ None }
+        ensures journal { OnOk result (self.new.turns.journal ≡ self.old.turns.journal ++ Event.Claim seat unit.now ∷ []) }
+        ensures out { OnOk result ((b : BookState A) (o : Out A) → Shows b self.old → IsClaimable b unit.now → placed b.nodes unit.now ≡ Some place → o.unit ≡ unit.now → Shows (record b { out = b.out ++ o ∷ [] }) self.new) }
+        ensures refused { OnErr result (self.new ≡ self.old) }
+    {
+        self.turns.claim(seat, unit, place)
+    }
+
+    /// Takes home a unit without work.
+    pub fn give_back(&mut self, seat: u32, unit: &Unit)
+        requires { IsSome (place_out self.old.turns.out unit.now) }
+        ensures journal { self.new.turns.journal ≡ self.old.turns.journal ++ Event.GiveBack seat unit.now ∷ [] }
+        ensures home { (b : BookState A) (o : Out A) → Shows b self.old → out_at b.out unit.now ≡ Some o → Shows (record b { out = without b.out unit.now }) self.new }
+    {
+        self.turns.give_back(seat, unit);
+    }
+}
+
+impl<A> Parts<A> {
+    /// Makes room for raised nodes and a work, and adds what these make claimable. It changes nothing that the parts
+    /// stand for.
+    pub fn prepare(
+        &mut self,
+        unit: &Unit,
+        frames: &[Frame],
+        raised: &Nodes<A>,
+    ) -> Result<(), Memory>
+        requires { AreDistinct raised.now.rows }
+        ensures shown { StaysShown self.old self.new }
+        ensures journal { self.new.turns.journal ≡ self.old.turns.journal }
+        ensures prepared { OnOk result (IsPrepared self.old self.new unit.now frames.now raised.now.rows) }
+    {
+        expect_raised(&mut self.agenda, &self.works, &self.nodes, raised)?;
+        expect_unit(&mut self.agenda, &self.nodes, unit, frames)?;
+        self.nodes.reserve(raised.len())?;
+        self.works.reserve(1)?;
+        Ok(())
+    }
+}
+
+impl<A: Drop> Parts<A> {
+    /// Takes in the raised nodes and the work of a unit that is out, for which there is room.
+    pub fn post(
+        &mut self,
+        raised: Nodes<A>,
+        seat: u32,
+        unit: &Unit,
+        work: Work<A>,
+        versions: Versions,
+    )
+        requires out { IsSome (place_out self.old.turns.out unit.now) }
+        requires distinct { AreDistinct raised.rows }
+        requires room { length raised.rows ≤ self.old.nodes.room }
+        requires work_room { 0 < self.old.works.room }
+        ensures nodes { self.new.nodes.rows ≡ with_all self.old.nodes.rows raised.rows }
+        ensures works { self.new.works.rows ≡ with_done self.old.works.rows (record { unit = unit.now; work = work; versions = versions }) }
+        ensures journal { self.new.turns.journal ≡ self.old.turns.journal ++ Event.Post seat unit.now ∷ [] }
+        ensures out { TakesHome self.old.turns.out unit.now self.new.turns.out }
+        ensures returned { self.new.turns.returned ≡ self.old.turns.returned }
+        ensures agenda { self.new.agenda ≡ self.old.agenda }
+    {
+        self.nodes.set_all(raised);
+        self.works.set(*unit, work, versions);
+        self.turns.post(seat, unit);
+    }
+}

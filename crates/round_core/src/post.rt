@@ -1,0 +1,57 @@
+//! Posts.
+
+ghost use Rattle.std.specs.Prelude.{◌≡◌, OnOk, OnErr, IfOk, IfErr};
+ghost use Rattle.round_core.specs.Kept.{with_event, IsOutOf};
+ghost use Rattle.round_core.specs.Machine.{Out, all_raised, replay};
+ghost use Rattle.round_core.specs.Prepared.{IsPrepared};
+ghost use Rattle.round_core.specs.Raise.{with_all};
+ghost use Rattle.round_core.specs.Shown.{StaysShown};
+ghost use Rattle.round_core.specs.declared.event.Event.{Event};
+
+use crate::book::Book;
+use crate::nodes::Nodes;
+use crate::parts::Parts;
+use crate::raise::all_raised;
+use crate::ticket::Done;
+use chip_law::Chip;
+use vsa_io::Memory;
+
+/// All that may fail of a post, for want of memory alone. It changes nothing that the parts stand for, and answers
+/// the nodes that the post raises.
+fn prepare<C: Chip>(
+    chip: &C,
+    parts: &mut Parts<C::Abs>,
+    done: &Done<C>,
+) -> Result<Nodes<C::Abs>, Memory>
+    ensures shown { StaysShown parts.old parts.new }
+    ensures journal { parts.new.turns.journal ≡ parts.old.turns.journal }
+    ensures raised { IfOk result (λ raised. with_all parts.old.nodes.rows raised.rows ≡ all_raised (C.meaning (C.base chip.now)) parts.old.nodes.rows done.now.work.posts) }
+    ensures prepared { IfOk result (λ raised. IsPrepared parts.old parts.new done.now.ticket.unit done.now.work.waits raised.rows) }
+{
+    let alloc = parts.nodes.allocator();
+    let raised = all_raised(alloc, chip, &parts.nodes, done.work.posts.as_slice())?;
+    parts.prepare(done.ticket.unit(), done.work.waits.as_slice(), &raised)?;
+    Ok(raised)
+}
+
+impl<C: Chip> Book<C> {
+    /// Takes in the work of a unit that is out. A refusal leaves the book as it was, and hands the work back.
+    pub fn post(&mut self, chip: &C, done: Done<C>) -> Result<(), (Memory, Done<C>)>
+        requires chip { C.base chip.now ≡ self.old.base }
+        requires out { IsOutOf (replay (C.meaning self.old.base) self.old.journal) done.ticket }
+        requires work { done.work ≡ (C.meaning self.old.base).work done.ticket.unit done.ticket.at done.ticket.exit }
+        ensures posted { OnOk result (self.new ≡ with_event self.old (Event.Post done.ticket.seat done.ticket.unit)) }
+        ensures refused { OnErr result (self.new ≡ self.old) }
+        ensures handed_back { IfErr result (λ refused. refused.1 ≡ done) }
+    {
+        match prepare(chip, &mut self.parts, &done) {
+            Ok(raised) => {
+                let Done { ticket, work } = done;
+                let (seat, unit, versions) = ticket.into_parts();
+                self.parts.post(raised, seat, &unit, work, versions);
+                Ok(())
+            }
+            Err(memory) => Err((memory, done)),
+        }
+    }
+}

@@ -1,0 +1,115 @@
+//! What posts make of nodes.
+
+ghost use Rattle.std.specs.Prelude.{◌≡◌, ◌+◌, IfOk, OnOk, MatchOption, Some, None, true, false};
+ghost use Rattle.round_core.specs.Machine.{held_at, with_held, risen_state, raised, all_raised};
+ghost use Rattle.round_core.specs.Raise.{with_all};
+ghost use Rattle.round_core.specs.Shown.{AreDistinct};
+
+use crate::nodes::Nodes;
+use call_context::Node;
+use chip_law::Chip;
+use std::alloc::Global;
+use vsa_io::Memory;
+
+/// How often a state rises to joins, and then to widenings to marks and to classes. The next rise gives top.
+const JOINS: u32 = 15;
+
+const MARKS: u32 = 47;
+
+const CLASSES: u32 = 63;
+
+/// The state after one more rise, which the new number of rises decides.
+fn state_after<C: Chip>(
+    alloc: Global,
+    chip: &C,
+    node: &Node,
+    held: &C::Abs,
+    posted: &C::Abs,
+    rises: u32,
+) -> Result<C::Abs, Memory>
+    ensures { IfOk result (λ state. state ≡ risen_state (C.meaning (C.base chip.now)) node.now held.now posted.now rises) }
+{
+    if rises <= JOINS {
+        chip.join(alloc, held, posted)
+    } else if rises <= MARKS {
+        chip.widen(alloc, held, posted, false)
+    } else if rises <= CLASSES {
+        chip.widen(alloc, held, posted, true)
+    } else {
+        chip.top(alloc, node)
+    }
+}
+
+/// The state of a node and how often it rose, where earlier posts raised some nodes.
+fn held_in<'a, A>(nodes: &'a Nodes<A>, earlier: &'a Nodes<A>, node: &Node) -> Option<(&'a A, u32)>
+    requires { AreDistinct earlier.now.rows }
+    ensures { MatchOption result (held_at (with_all nodes.now.rows earlier.now.rows) node.now ≡ None) (λ found. held_at (with_all nodes.now.rows earlier.now.rows) node.now ≡ Some (record { node = node.now; state = found.0.now; rises = found.1 })) }
+{
+    match earlier.find(node) {
+        Some(found) => Some(found),
+        None => nodes.find(node),
+    }
+}
+
+/// What a post makes of a held state, unless it is within that. Rises that no number counts are refused.
+fn risen_row<C: Chip>(
+    alloc: Global,
+    chip: &C,
+    node: &Node,
+    held: &C::Abs,
+    rises: u32,
+    posted: &C::Abs,
+) -> Result<Option<(C::Abs, u32)>, Memory>
+    ensures { IfOk result (λ row. MatchOption row ((C.meaning (C.base chip.now)).within posted.now held.now ≡ true) (λ risen. ((C.meaning (C.base chip.now)).within posted.now held.now ≡ false) × (risen.1 ≡ rises + 1) × (risen.0 ≡ risen_state (C.meaning (C.base chip.now)) node.now held.now posted.now (rises + 1)))) }
+{
+    if chip.within(posted, held) {
+        return Ok(None);
+    }
+    let Some(rises) = rises.checked_add(1) else {
+        return Err(Memory);
+    };
+    let state = state_after(alloc, chip, node, held, posted, rises)?;
+    Ok(Some((state, rises)))
+}
+
+/// Raises a node to a post, beside what earlier posts raised.
+fn raise_one<C: Chip>(
+    alloc: Global,
+    chip: &C,
+    nodes: &Nodes<C::Abs>,
+    all: &mut Nodes<C::Abs>,
+    node: &Node,
+    posted: &C::Abs,
+) -> Result<(), Memory>
+    requires { AreDistinct all.old.rows }
+    ensures distinct { OnOk result (AreDistinct all.new.rows) }
+    ensures raised { OnOk result (with_all nodes.now.rows all.new.rows ≡ raised (C.meaning (C.base chip.now)) (with_all nodes.now.rows all.old.rows) (node.now, posted.now)) }
+{
+    match held_in(nodes, all, node) {
+        Some((held, rises)) => match risen_row(alloc, chip, node, held, rises, posted)? {
+            Some((state, rises)) => all.insert(*node, state, rises),
+            None => Ok(()),
+        },
+        None => {
+            let state = chip.copy(alloc, posted)?;
+            all.insert(*node, state, 1)
+        }
+    }
+}
+
+/// The nodes that posts raise, with what each has after the last of them.
+pub fn all_raised<C: Chip>(
+    alloc: Global,
+    chip: &C,
+    nodes: &Nodes<C::Abs>,
+    posts: &[(Node, C::Abs)],
+) -> Result<Nodes<C::Abs>, Memory>
+    ensures distinct { IfOk result (λ all. AreDistinct all.rows) }
+    ensures raised { IfOk result (λ all. with_all nodes.now.rows all.rows ≡ all_raised (C.meaning (C.base chip.now)) nodes.now.rows posts.now) }
+{
+    let mut all = Nodes::new(alloc);
+    for (node, posted) in posts {
+        raise_one(alloc, chip, nodes, &mut all, node, posted)?;
+    }
+    Ok(all)
+}

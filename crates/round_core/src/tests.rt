@@ -1,0 +1,243 @@
+//! A chip that counts, and one with a chain of nodes.
+
+ghost use Rattle.std.specs.Prelude.{◌≡◌, IfOk, option_to_list};
+ghost use Rattle.round_core.specs.Counting.{node_at, posting};
+
+use crate::book::Book;
+use crate::event::Event;
+use crate::ticket::{Claimed, Done};
+use call_context::{Calls, Frame, Node, Sequence, Unit};
+use chip_law::{Chip, Work};
+use std::alloc::Global;
+use std::cell::Cell;
+use std::test::Fail;
+use vsa_io::Memory;
+
+/// How often each call was made.
+#[derive(Drop)]
+struct Counter {
+    joins: Cell<u32>,
+    to_marks: Cell<u32>,
+    to_classes: Cell<u32>,
+    tops: Cell<u32>,
+}
+
+fn one_more(count: &Cell<u32>) {
+    count.set(count.get().wrapping_add(1));
+}
+
+fn node_at(pc: u16) -> Node
+    ensures { result ≡ node_at pc }
+{
+    Node::At(pc, Calls::new(), Frame::Base)
+}
+
+/// A work with at most one post.
+fn posting(alloc: Global, post: Option<(Node, u32)>) -> Result<Work<u32>, Memory>
+    ensures { IfOk result (λ work. work ≡ posting (option_to_list post)) }
+{
+    let mut posts = Sequence::new(alloc);
+    if let Some(post) = post {
+        posts.push(post)?;
+    }
+    Ok(Work {
+        items: Sequence::new(alloc),
+        posts,
+        waits: Sequence::new(alloc),
+        opens: Sequence::new(alloc),
+    })
+}
+
+impl Chip for Counter {
+    type Base = ();
+
+    type State = u32;
+
+    type Abs = u32;
+
+    ghost use Rattle.round_core.specs.Counting.{counts_by, next_count};
+
+    ghost base = { λ _. tt };
+
+    ghost meaning = { λ _. counts_by next_count };
+
+    fn base(&self, _alloc: Global) -> Result<(), Memory> {
+        Ok(())
+    }
+
+    fn start(&self, _alloc: Global) -> Result<(Node, u32), Memory> {
+        Ok((node_at(0), 0))
+    }
+
+    fn work(
+        &self,
+        alloc: Global,
+        _unit: &Unit,
+        at: &u32,
+        _exit: Option<&u32>,
+    ) -> Result<Work<u32>, Memory> {
+        posting(alloc, Some((node_at(0), at.saturating_add(1))))
+    }
+
+    fn copy(&self, _alloc: Global, a: &u32) -> Result<u32, Memory> {
+        Ok(*a)
+    }
+
+    fn join(&self, _alloc: Global, held: &u32, new: &u32) -> Result<u32, Memory> {
+        one_more(&self.joins);
+        Ok((*held).max(*new))
+    }
+
+    fn widen(&self, _alloc: Global, held: &u32, new: &u32, coarse: bool) -> Result<u32, Memory> {
+        if coarse {
+            one_more(&self.to_classes);
+        } else {
+            one_more(&self.to_marks);
+        }
+        Ok((*held).max(*new))
+    }
+
+    fn top(&self, _alloc: Global, _node: &Node) -> Result<u32, Memory> {
+        one_more(&self.tops);
+        Ok(u32::MAX)
+    }
+
+    fn within(&self, new: &u32, held: &u32) -> bool {
+        *new <= *held
+    }
+}
+
+/// Nodes from 0 to the last, each of which leads to the next.
+#[derive(Drop)]
+struct Chain {
+    last: u16,
+}
+
+impl Chip for Chain {
+    type Base = u16;
+
+    type State = u32;
+
+    type Abs = u32;
+
+    ghost use Rattle.round_core.specs.Counting.{counts_by, next_node};
+
+    ghost base = { λ chain. chain.last };
+
+    ghost meaning = { λ last. counts_by (next_node last) };
+
+    fn base(&self, _alloc: Global) -> Result<u16, Memory> {
+        Ok(self.last)
+    }
+
+    fn start(&self, _alloc: Global) -> Result<(Node, u32), Memory> {
+        Ok((node_at(0), 0))
+    }
+
+    fn work(
+        &self,
+        alloc: Global,
+        unit: &Unit,
+        _at: &u32,
+        _exit: Option<&u32>,
+    ) -> Result<Work<u32>, Memory> {
+        match unit {
+            Unit::One(Node::At(pc, ..)) => {
+                if *pc < self.last {
+                    posting(alloc, Some((node_at(*pc + 1), 0)))
+                } else {
+                    posting(alloc, None)
+                }
+            }
+            _ => posting(alloc, None),
+        }
+    }
+
+    fn copy(&self, _alloc: Global, a: &u32) -> Result<u32, Memory> {
+        Ok(*a)
+    }
+
+    fn join(&self, _alloc: Global, held: &u32, new: &u32) -> Result<u32, Memory> {
+        Ok((*held).max(*new))
+    }
+
+    fn widen(&self, _alloc: Global, held: &u32, new: &u32, _coarse: bool) -> Result<u32, Memory> {
+        Ok((*held).max(*new))
+    }
+
+    fn top(&self, _alloc: Global, _node: &Node) -> Result<u32, Memory> {
+        Ok(u32::MAX)
+    }
+
+    fn within(&self, new: &u32, held: &u32) -> bool {
+        *new <= *held
+    }
+}
+
+/// Claims, works and posts until the book is finished.
+fn run_to_end<C: Chip>(alloc: Global, chip: &C) -> Result<Book<C>, Memory> {
+    let mut book = Book::open(alloc, chip)?;
+    for _ in 0..u64::MAX {
+        match book.claim(chip, 0)? {
+            Claimed::Ticket(ticket) => {
+                let work = chip.work(alloc, ticket.unit(), ticket.at(), ticket.exit())?;
+                if let Err((memory, _)) = book.post(chip, Done { ticket, work }) {
+                    return Err(memory);
+                }
+            }
+            Claimed::Idle | Claimed::Finished => return Ok(book),
+        }
+    }
+    Err(Memory)
+}
+
+#[test]
+fn counts_to_the_top(rt: HostRuntime) -> Result<(), Fail> {
+    let chip = Counter {
+        joins: Cell::new(0),
+        to_marks: Cell::new(0),
+        to_classes: Cell::new(0),
+        tops: Cell::new(0),
+    };
+    let book = run_to_end(rt.alloc(), &chip)?;
+    assert!(rt; book.finished());
+    assert_eq!(rt; book.journal().len(), 128);
+    assert_eq!(rt; chip.joins.get(), 14);
+    assert_eq!(rt; chip.to_marks.get(), 32);
+    assert_eq!(rt; chip.to_classes.get(), 16);
+    assert_eq!(rt; chip.tops.get(), 1);
+    assert_eq!(rt; book.nodes(), [(node_at(0), u32::MAX)].as_slice());
+    assert_eq!(rt; book.works().len(), 1);
+    Ok(())
+}
+
+#[test]
+fn a_long_chain_ends(rt: HostRuntime) -> Result<(), Fail> {
+    let book = run_to_end(rt.alloc(), &Chain { last: 19_999 })?;
+    assert_eq!(rt; book.nodes().len(), 20_000);
+    let (nodes, works, journal) = book.into_parts();
+    assert_eq!(rt; nodes.len(), 20_000);
+    assert_eq!(rt; works.len(), 20_000);
+    assert_eq!(rt; journal.len(), 40_000);
+    Ok(())
+}
+
+#[test]
+fn a_unit_that_is_given_back_comes_again(rt: HostRuntime) -> Result<(), Fail> {
+    let chip = Chain { last: 1 };
+    let mut book = Book::open(rt.alloc(), &chip)?;
+    assert!(rt; !book.finished());
+    if let Claimed::Ticket(ticket) = book.claim(&chip, 1)? {
+        assert!(rt; matches!(book.claim(&chip, 2)?, Claimed::Idle));
+        book.give_back(ticket);
+    }
+    assert!(rt; matches!(book.claim(&chip, 2)?, Claimed::Ticket(_)));
+    let unit = Unit::One(node_at(0));
+    let events = [
+        Event::Claim { seat: 1, unit },
+        Event::GiveBack { seat: 1, unit },
+        Event::Claim { seat: 2, unit },
+    ];
+    assert_eq!(rt; book.journal(), events.as_slice());
+    Ok(())
+}
