@@ -18,6 +18,9 @@ posting posts = record { items = []; posts = posts; waits = []; opens = [] }
 -- numbers from 0 to the greatest, of which each is within each that is no less
 abbrev pub counts_by : (WorkUnit → ℕ → Work ℕ) → Meaning ℕ ℕ
 counts_by work = record {
+  pc = λ s. s;
+  IsReset = λ s. ⊥;
+  Step = λ s outcome. ⊥;
   first_node = node_at 0;
   first_state = 0;
   work = λ u at exit. work u at;
@@ -25,6 +28,8 @@ counts_by work = record {
   join = max;
   widen = λ coarse. max;
   top = λ node. 4294967295;
+  HasForm = λ node a. Unit {0};
+  Covers = λ node a s first. ⊥;
 }
 
 -- the only node posts its number plus one to itself, where that is a number
