@@ -1,3 +1,4 @@
+pub mod AnswerLemmas
 pub mod HeadlineLemmas
 pub mod Images
 pub mod Msp430Laws

@@ -1,0 +1,43 @@
+-- What an image gets, put together from the book, its report and what the sink took.
+use Rattle.std.proofs.Common.{◌≡◌, ℕ, Bool, true, false, Option, List, refl, sym, ap, subst, ◌∙◌, inl, inr, cond}
+use Rattle.std.specs.Prelude.{◌⊎◌, if◌then◌else◌}
+use Rattle.round_core.specs.declared.event.Event.{Event}
+use Rattle.round_core.specs.Kept.{Kept}
+use Rattle.vsa_io.specs.Stream.{appended, AppendsPrefix}
+use Rattle.vsa_top.specs.declared.outcome.Status.{Status}
+use Rattle.vsa_top.specs.declared.outcome.Status.TheVariants.{Done, Open, WriteFault}
+use Rattle.vsa_top.specs.Answer.{IsAnalysis, AnswersImage, works_behind, report_behind}
+use Rattle.vsa_top.specs.Report.{are_closed}
+
+at_once : (image : List (Option ℕ)) (journal : List Event) (before after : Option (List ℕ)) (closed : Bool) (answered : Status)
+    → IsAnalysis image journal → closed ≡ are_closed (works_behind image journal)
+    → (answered ≡ (if closed then Done else Open)) ⊎ (answered ≡ WriteFault)
+    → (answered ≡ (if closed then Done else Open) → after ≡ appended before (report_behind image journal))
+    → AppendsPrefix before (report_behind image journal) after
+    → AnswersImage answered image before after journal
+at_once image journal before after true answered is told (inl same) written prefix =
+    subst (λ s. AnswersImage s image before after journal) (sym same) (is, sym told, written same)
+at_once image journal before after false answered is told (inl same) written prefix =
+    subst (λ s. AnswersImage s image before after journal) (sym same) (is, sym told, written same)
+at_once image journal before after closed answered is told (inr fault) written prefix =
+    subst (λ s. AnswersImage s image before after journal) (sym fault) (is, prefix)
+
+-- by the base of the book, its text, its status and its journal
+pub image_answer : (image : List (Option ℕ)) (book : Kept (List (Option ℕ))) (journal : List Event) (text : List ℕ) (before after : Option (List ℕ))
+    (closed : Bool) (status answered : Status)
+    → book.base ≡ image → IsAnalysis book.base book.journal
+    → text ≡ report_behind book.base book.journal
+    → closed ≡ are_closed (works_behind book.base book.journal)
+    → status ≡ (if closed then Done else Open)
+    → (answered ≡ status) ⊎ (answered ≡ WriteFault)
+    → (answered ≡ status → after ≡ appended before text)
+    → AppendsPrefix before text after
+    → journal ≡ book.journal
+    → AnswersImage answered image before after journal
+image_answer image book journal text before after closed status answered base is text_is told status_is end written prefix journal_is =
+    let whole : AnswersImage answered book.base before after book.journal = at_once book.base book.journal before after closed answered is told
+        (elim end [ inl same ↦ inl (same ∙ status_is) | inr fault ↦ inr fault ])
+        (λ same. written (same ∙ sym status_is) ∙ ap (appended before) text_is)
+        (subst (λ t. AppendsPrefix before t after) text_is prefix) in
+    subst (λ i. AnswersImage answered i before after journal) base
+    (subst (λ j. AnswersImage answered book.base before after j) (sym journal_is) whole)
