@@ -1,11 +1,10 @@
 -- What contracts see of a book and of a ticket.
-use Rattle.std.specs.Prelude.{◌≡◌, ℕ, map, Option, None, Some, List, [], ◌∷◌, ◌++◌}
+use Rattle.std.specs.Prelude.{◌≡◌, map, Some, List, [], ◌∷◌, ◌++◌}
 use Rattle.call_context.specs.declared.node.Unit.{Unit as WorkUnit}
 use Rattle.call_context.specs.declared.node.Node.{Node}
-use Rattle.chip_law.specs.Meaning.{Meaning}
 use Rattle.chip_law.specs.declared.chip.Work.{Work}
 use Rattle.round_core.specs.declared.event.Event.{Event}
-use Rattle.round_core.specs.Machine.{BookState, Held, Done, Out, out_at, replay}
+use Rattle.round_core.specs.Machine.{BookState, Out, out_at}
 
 -- A book is its chip's program with options, and its journal: all else follows.
 pub record Kept (B : Type 0) : Type 0 where
