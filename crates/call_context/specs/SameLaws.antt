@@ -1,8 +1,7 @@
 -- The tests of frames, nodes and units tell which are one.
 use Rattle.std.specs.Prelude.{◌≡◌, ℕ, ◌==◌, ◌&&◌, Bool, true, false, Option, None, Some, List, [], ◌∷◌}
-use Rattle.std.proofs.Common.{refl, arith}
+use Rattle.std.proofs.Common.{refl}
 use Rattle.std.proofs.lemmas.Bool.{and_from, eqb-true, eq-eqb}
-use Rattle.std.proofs.lemmas.Bool.Decides.{nat_tests}
 use Rattle.call_context.specs.declared.node.Frame.{Frame}
 use Rattle.call_context.specs.declared.node.Frame.TheVariants.{Base, Irq}
 use Rattle.call_context.specs.declared.node.Node.{Node}
