@@ -1,5 +1,5 @@
 -- The derived tests of frames, nodes and units are the tests of whether they are one.
-use Rattle.std.specs.Prelude.{◌≡◌, ◌≢◌, ℕ, ◌-◌, ◌⊎◌, ◌==◌, ◌&&◌, Bool, true, false, Option, None, Some, List, [], ◌∷◌, ◌++◌, length, replicate, refl}
+use Rattle.std.specs.Prelude.{◌≡◌, ℕ, ◌-◌, ◌⊎◌, ◌&&◌, Bool, true, false, Option, None, Some, List, [], ◌∷◌, ◌++◌, length, replicate, refl}
 use Rattle.std.proofs.Common.{sym, ◌∙◌, ap, subst, inl, inr, arith}
 use Rattle.std.proofs.Math.Path.{ap₂}
 use Rattle.std.proofs.lemmas.Bool.{and_from, eqb-true, eq-eqb}
@@ -64,16 +64,16 @@ pointwise_same (x ∷ xs) [] rest h = absurd (omega arith)
 
 few_same : (xs ys : List ℕ) → (pointwise eqb (xs ++ replicate (8 - length xs) 0) (ys ++ replicate (8 - length ys) 0) && eqb (length xs) (length ys)) ≡ same_numbers xs ys
 few_same xs ys = elim (truth (eqb (length xs) (length ys))) [
-    inl h ↦ let e : length xs ≡ length ys = eqb-true _ _ h in
-        let P : ℕ → Type 0 = λ n. (pointwise eqb (xs ++ replicate (8 - length xs) 0) (ys ++ replicate (8 - n) 0) && true) ≡ same_numbers xs ys in
-        ap (λ b. pointwise eqb (xs ++ replicate (8 - length xs) 0) (ys ++ replicate (8 - length ys) 0) && b) h
-        ∙ subst P e (and_true _ ∙ pointwise_same xs ys (replicate (8 - length xs) 0) e)
+  | inl h ↦ let e : length xs ≡ length ys = eqb-true _ _ h in
+      let P : ℕ → Type 0 = λ n. (pointwise eqb (xs ++ replicate (8 - length xs) 0) (ys ++ replicate (8 - n) 0) && true) ≡ same_numbers xs ys in
+      ap (λ b. pointwise eqb (xs ++ replicate (8 - length xs) 0) (ys ++ replicate (8 - length ys) 0) && b) h
+      ∙ subst P e (and_true _ ∙ pointwise_same xs ys (replicate (8 - length xs) 0) e)
   | inr h ↦
-        ap (λ b. pointwise eqb (xs ++ replicate (8 - length xs) 0) (ys ++ replicate (8 - length ys) 0) && b) h
-        ∙ and_false _
-        ∙ sym (not_true (same_numbers xs ys) (λ s.
-            let off : eqb (length xs) (length ys) ≡ true = eq-eqb _ _ (ap length (same_numbers-eq xs ys s)) in cc))
-    ]
+      ap (λ b. pointwise eqb (xs ++ replicate (8 - length xs) 0) (ys ++ replicate (8 - length ys) 0) && b) h
+      ∙ and_false _
+      ∙ sym (not_true (same_numbers xs ys) (λ s.
+      let off : eqb (length xs) (length ys) ≡ true = eq-eqb _ _ (ap length (same_numbers-eq xs ys s)) in cc))
+]
 
 sp_same : (s t : Option ℕ) → option_eq eqb s t ≡ same_sp s t
 sp_same None None = refl

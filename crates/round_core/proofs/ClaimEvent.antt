@@ -1,6 +1,6 @@
 -- The events of claims and give-backs.
 use Rattle.std.specs.Prelude.{◌≡◌, ℕ, Option, None, Some, List, [], ◌∷◌, ◌++◌}
-use Rattle.std.proofs.Common.{refl, sym, ◌∙◌, ap, subst}
+use Rattle.std.proofs.Common.{sym, ◌∙◌, ap, subst}
 use Rattle.std.proofs.Math.Path.{ap₂}
 use Rattle.call_context.specs.declared.node.Unit.{Unit as WorkUnit}
 use Rattle.call_context.specs.SameLaws.{same_unit-refl}
@@ -10,7 +10,7 @@ use Rattle.round_core.specs.declared.event.Event.TheVariants.{Claim, GiveBack}
 use Rattle.round_core.specs.declared.parts.Parts.{Parts}
 use Rattle.round_core.specs.declared.place.Place.{Place}
 use Rattle.round_core.specs.declared.versions.Versions.{Versions}
-use Rattle.round_core.specs.Machine.{BookState, Held, Out, out_at, without, with_out, inputs_of, versions_of, replay, IsFirst}
+use Rattle.round_core.specs.Machine.{BookState, Out, out_at, without, with_out, inputs_of, versions_of, replay, IsFirst}
 use Rattle.round_core.specs.Claims.{placed}
 use Rattle.round_core.specs.Kept.{Kept, with_event}
 use Rattle.round_core.specs.Shown.{Shows}

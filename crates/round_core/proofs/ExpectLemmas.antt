@@ -1,14 +1,14 @@
 -- What an agenda has to hold, as it grows.
-use Rattle.std.specs.Prelude.{◌≡◌, ℕ, zero, suc, ◌+◌, ◌<◌, ◌≤◌, ◌⊎◌, Bool, true, false, Option, None, Some, List, [], ◌∷◌, ◌++◌, length, take, slice_get, slice_index_or, MatchOption, if◌then◌else◌}
+use Rattle.std.specs.Prelude.{◌≡◌, ℕ, zero, suc, ◌+◌, ◌≤◌, Option, None, Some, List, [], ◌∷◌, ◌++◌, length, take, slice_get, slice_index_or, MatchOption}
 use Rattle.std.specs.Option.{option_map}
 use Rattle.std.proofs.Common.{refl, sym, ◌∙◌, ap, subst, inl, inr, arith}
 use Rattle.std.proofs.lemmas.List.{take_more}
 use Rattle.call_context.specs.declared.node.Node.{Node}
 use Rattle.call_context.specs.declared.node.Node.TheVariants.{At, Exit}
 use Rattle.call_context.specs.Same.{same_node}
-use Rattle.call_context.specs.SameLaws.{same_node-eq, same_node-refl}
+use Rattle.call_context.specs.SameLaws.{same_node-eq}
 use Rattle.round_core.specs.declared.agenda.Agenda.{Agenda}
-use Rattle.round_core.specs.Agenda.{IsIn, places_in}
+use Rattle.round_core.specs.Agenda.{IsIn}
 use Rattle.round_core.specs.Expected.{Grows, ExpectsNode, ExpectsRows}
 use Rattle.round_core.specs.Machine.{Held, Done, held_at, place_of, with_held}
 use Rattle.round_core.specs.Raise.{with_all}

@@ -1,6 +1,6 @@
 -- Elements of lists and their indexes.
-use Rattle.std.specs.Prelude.{◌≡◌, ℕ, zero, suc, ◌+◌, ◌<◌, ◌⊎◌, List, [], ◌∷◌, ◌++◌, length, slice_index, slice_index_or}
-use Rattle.std.proofs.Common.{refl, sym, ◌∙◌, ap, subst, inl, inr, arith}
+use Rattle.std.specs.Prelude.{◌≡◌, ℕ, suc, ◌<◌, ◌⊎◌, List, [], ◌∷◌, ◌++◌, length, slice_index_or}
+use Rattle.std.proofs.Common.{sym, inl, inr, arith}
 use Rattle.round_core.specs.Agenda.{IsIn}
 
 pub index_of : {X : Type 0} → (x : X) (xs : List X) (d : X) → IsIn x xs → (i : ℕ) × (i < length xs) × (slice_index_or xs i d ≡ x)

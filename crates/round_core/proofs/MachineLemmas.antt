@@ -1,11 +1,11 @@
 -- The book behind one more event.
-use Rattle.std.specs.Prelude.{◌≡◌, Option, None, Some, List, [], ◌∷◌, ◌++◌}
-use Rattle.std.proofs.Common.{refl, ℕ, ap, ◌∙◌}
+use Rattle.std.specs.Prelude.{◌≡◌, List, [], ◌∷◌, ◌++◌}
+use Rattle.std.proofs.Common.{refl, ℕ}
 use Rattle.call_context.specs.declared.node.Unit.{Unit as WorkUnit}
 use Rattle.chip_law.specs.Meaning.{Meaning}
 use Rattle.round_core.specs.declared.event.Event.{Event}
 use Rattle.round_core.specs.declared.event.Event.TheVariants.{Claim, Post, GiveBack}
-use Rattle.round_core.specs.Machine.{BookState, Out, opening, out_at, without, with_out, inputs_of, posted, after, replay_from, replay}
+use Rattle.round_core.specs.Machine.{BookState, opening, out_at, without, with_out, inputs_of, posted, after, replay_from, replay}
 
 module _ {S A : Type 0} (m : Meaning S A) where
   pub replay_from-more : (b : BookState A) (es : List Event) (e : Event) → replay_from m b (es ++ e ∷ []) ≡ after m (replay_from m b es) e

@@ -1,18 +1,13 @@
 -- The two lists of nodes are the parts of the same rows.
-use Rattle.std.specs.Prelude.{◌≡◌, ℕ, suc, ◌+◌, ◌<◌, ◌⊎◌, Bool, true, false, if◌then◌else◌, Option, None, Some, List, [], ◌∷◌, ◌++◌, map, length, slice_get, slice_set, position, nat_lt}
-use Rattle.std.specs.Option.{option_map}
-use Rattle.std.specs.List.{position_or_len}
+use Rattle.std.specs.Prelude.{◌≡◌, ℕ, suc, ◌<◌, Bool, Option, None, Some, List, [], ◌∷◌, ◌++◌, map, length, slice_get, slice_set, position}
 use Rattle.std.specs.Map.{keys_of}
 use Rattle.std.proofs.Common.{refl, sym, ◌∙◌, ap, subst, inl, inr, arith}
 use Rattle.std.proofs.Math.Path.{ap₂}
 use Rattle.std.proofs.lemmas.Bool.Decides.{nat_tests}
-use Rattle.std.proofs.lemmas.Grind.{common_steps}
 use Rattle.indexmap.specs.IndexMap.{insert_entry}
 use Rattle.call_context.specs.declared.node.Node.{Node}
 use Rattle.call_context.specs.Same.{same_node}
-use Rattle.call_context.specs.SameLaws.{same_node-eq, same_node-refl}
-use Rattle.chip_law.specs.declared.chip.Work.{Work}
-use Rattle.round_core.specs.declared.versions.Versions.{Versions}
+use Rattle.call_context.specs.SameLaws.{same_node-eq}
 use Rattle.round_core.specs.Machine.{Held, held_at, with_held, place_of}
 use Rattle.round_core.specs.Reserved.{with_item}
 use Rattle.round_core.specs.Nodes.{small_part, big_part, rows_of, AreRowsOf}

@@ -1,7 +1,7 @@
 -- The book with one node.
 use Rattle.std.specs.Prelude.{◌≡◌, ℕ, Bool, true, false, Option, None, Some, List, [], ◌∷◌, if◌then◌else◌}
 use Rattle.std.specs.Option.{option_map}
-use Rattle.std.proofs.Common.{refl, sym, ◌∙◌, ap, subst, inl, inr, arith}
+use Rattle.std.proofs.Common.{refl, sym, ◌∙◌, ap, subst, inl, inr}
 use Rattle.call_context.specs.declared.node.Frame.{Frame}
 use Rattle.call_context.specs.declared.node.Node.{Node}
 use Rattle.call_context.specs.declared.node.Node.TheVariants.{At, Exit}
@@ -12,9 +12,8 @@ use Rattle.call_context.specs.SameLaws.{same_node-eq}
 use Rattle.round_core.specs.declared.agenda.Agenda.{Agenda}
 use Rattle.round_core.specs.declared.parts.Parts.{Parts}
 use Rattle.round_core.specs.declared.place.Place.TheVariants as place
-use Rattle.round_core.specs.Machine.{BookState, Held, Done, place_of, held_at, IsUnit, IsClaimable}
+use Rattle.round_core.specs.Machine.{Held, place_of, held_at, IsUnit}
 use Rattle.round_core.specs.Agenda.{IsIn, places_in}
-use Rattle.round_core.specs.Claims.{placed}
 use Rattle.round_core.specs.Expected.{ExpectsNode}
 use Rattle.round_core.specs.Opening.{one_node}
 use Rattle.round_core.specs.Shown.{IsExpected, Shows}

@@ -1,6 +1,5 @@
 -- Units that go out and come home.
-use Rattle.std.specs.Prelude.{◌≡◌, ℕ, zero, suc, ◌+◌, ◌<◌, ◌⊎◌, Bool, true, false, is_some, if◌then◌else◌, Option, None, Some, List, [], ◌∷◌, ◌++◌, length, MatchOption}
-use Rattle.std.specs.Map.{lookup}
+use Rattle.std.specs.Prelude.{◌≡◌, ◌+◌, true, false, if◌then◌else◌, Option, None, Some, List, [], ◌∷◌, ◌++◌, length}
 use Rattle.std.proofs.Common.{refl, sym, ◌∙◌, ap, subst, inl, inr, arith, length-append}
 use Rattle.call_context.specs.declared.node.Node.TheVariants.{At, Exit}
 use Rattle.call_context.specs.declared.node.Unit.{Unit as WorkUnit}
@@ -9,9 +8,8 @@ use Rattle.call_context.specs.Same.{same_unit}
 use Rattle.call_context.specs.SameLaws.{same_unit-eq, same_unit-refl}
 use Rattle.round_core.specs.declared.place.Place.{Place}
 use Rattle.round_core.specs.declared.parts.Parts.{Parts}
-use Rattle.round_core.specs.Machine.{BookState, Held, Done, Out, out_at, without, IsUnit, IsClaimable}
+use Rattle.round_core.specs.Machine.{BookState, Out, out_at, without, IsUnit, IsClaimable}
 use Rattle.round_core.specs.Claims.{placed}
-use Rattle.round_core.specs.Agenda.{IsIn}
 use Rattle.round_core.specs.Turns.{place_out, Standing, TakesHome}
 use Rattle.round_core.specs.Shown.{AreApart, IsExpected, Shows}
 use Rattle.round_core.proofs.Cases.{truth, if_true, if_false}

@@ -1,5 +1,5 @@
 -- The order of places, and sets of them.
-use Rattle.std.specs.Prelude.{◌≡◌, ℕ, zero, suc, ◌+◌, ◌<◌, ◌⊎◌, Bool, true, false, List, [], ◌∷◌, length, slice_index, slice_index_or, slice_get, Option, None, Some, IfSome, IsSome, ◌↔◌}
+use Rattle.std.specs.Prelude.{◌≡◌, ℕ, ◌<◌, ◌⊎◌, true, false, List, [], ◌∷◌, length, slice_get, Option, None, Some, IfSome, IsSome, ◌↔◌}
 use Rattle.std.specs.Option.{option_map}
 use Rattle.std.specs.Borrow.{Bor}
 use Rattle.std.proofs.Common.{refl, sym, ◌∙◌, ap, subst, inl, inr, arith}
@@ -13,7 +13,7 @@ use Rattle.std.specs.declared.cmp.Ordering.TheVariants.{Less, Equal, Greater}
 use Rattle.round_core.specs.declared.place.Place.{Place}
 use Rattle.round_core.specs.declared.place.Place.TheVariants.{One, Back}
 use Rattle.round_core.specs.contracts.place.PlaceOrd.TheImpl as place_impl
-use Rattle.round_core.specs.Agenda.{IsIn, KeepsCandidates}
+use Rattle.round_core.specs.Agenda.{IsIn}
 
 abbrev pub place_cmp : Place → Place → Ordering
 place_cmp = (place_impl.ghosts).cmp

@@ -1,17 +1,14 @@
 -- Places that are kept for frames, as the map holds them.
-use Rattle.std.specs.Prelude.{◌≡◌, ℕ, ◌⊎◌, Bool, true, false, cond, if◌then◌else◌, Option, None, Some, List, [], ◌∷◌, ◌++◌, map, unwrap_or}
+use Rattle.std.specs.Prelude.{◌≡◌, ℕ, cond, Some, List, [], ◌∷◌, map, unwrap_or}
 use Rattle.std.specs.Option.{option_map}
-use Rattle.std.specs.Map.{lookup, set_value}
-use Rattle.std.proofs.Common.{refl, sym, ◌∙◌, ap, subst, inl, inr, arith}
-use Rattle.std.proofs.Math.Path.{ap₂}
-use Rattle.indexmap.specs.IndexMap.{insert_entry}
+use Rattle.std.specs.Map.{lookup}
+use Rattle.std.proofs.Common.{refl, sym, ◌∙◌, ap, subst, inl, inr}
 use Rattle.call_context.specs.declared.node.Frame.{Frame}
 use Rattle.call_context.specs.DerivedSame.{frame_eq, frame_eq-same}
 use Rattle.call_context.specs.Same.{same_frame}
 use Rattle.call_context.specs.SameLaws.{same_frame-eq, same_frame-refl}
 use Rattle.round_core.specs.Agenda.{IsIn, places_in, KeepsPlaces}
 use Rattle.round_core.proofs.Cases.{truth, if_true, if_false}
-use Rattle.round_core.proofs.ListLemmas.{IsIn-append, IsIn-last}
 
 module _ {V : Type 0} (items : V → List ℕ) where
   -- what contracts see of the entries

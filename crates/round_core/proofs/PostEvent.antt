@@ -1,13 +1,12 @@
 -- The event of a post.
-use Rattle.std.specs.Prelude.{◌≡◌, ℕ, Option, None, Some, List, [], ◌∷◌, ◌++◌, length}
-use Rattle.std.proofs.Common.{refl, sym, ◌∙◌, ap, subst, inl, inr}
-use Rattle.call_context.specs.declared.node.Unit.{Unit as WorkUnit}
+use Rattle.std.specs.Prelude.{◌≡◌, ℕ, Some, List, [], ◌∷◌, ◌++◌, length}
+use Rattle.std.proofs.Common.{sym, ◌∙◌, ap, subst, inl, inr}
 use Rattle.chip_law.specs.Meaning.{Meaning}
 use Rattle.chip_law.specs.declared.chip.Work.{Work}
 use Rattle.round_core.specs.declared.event.Event.{Event}
 use Rattle.round_core.specs.declared.event.Event.TheVariants.{Post}
 use Rattle.round_core.specs.declared.parts.Parts.{Parts}
-use Rattle.round_core.specs.Machine.{BookState, Held, Done, Out, out_at, without, with_done, all_raised, posted, replay}
+use Rattle.round_core.specs.Machine.{BookState, Held, Out, out_at, without, with_done, all_raised, posted, replay}
 use Rattle.round_core.specs.Agenda.{IsIn}
 use Rattle.round_core.specs.Expected.{Grows, ExpectsRows, ExpectsUnit}
 use Rattle.round_core.specs.Prepared.{IsPrepared}

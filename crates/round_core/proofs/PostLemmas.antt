@@ -1,8 +1,8 @@
 -- The book behind a post.
-use Rattle.std.specs.Prelude.{◌≡◌, ℕ, zero, suc, ◌+◌, ◌<◌, ◌⊎◌, Bool, true, false, if◌then◌else◌, Option, None, Some, List, [], ◌∷◌, ◌++◌, length, unwrap_or, option_and_then, MatchOption}
+use Rattle.std.specs.Prelude.{◌≡◌, ℕ, ◌⊎◌, true, false, if◌then◌else◌, Option, None, Some, List, [], ◌∷◌, unwrap_or, option_and_then, MatchOption}
 use Rattle.std.specs.List.{list_any}
 use Rattle.std.specs.Option.{option_map}
-use Rattle.std.proofs.Common.{refl, sym, ◌∙◌, ap, subst, inl, inr, arith}
+use Rattle.std.proofs.Common.{refl, sym, ◌∙◌, ap, subst, inl, inr}
 use Rattle.std.proofs.Math.Path.{ap₂}
 use Rattle.call_context.specs.declared.node.Frame.{Frame}
 use Rattle.call_context.specs.declared.node.Node.{Node}
@@ -11,13 +11,12 @@ use Rattle.call_context.specs.declared.node.Unit.{Unit as WorkUnit}
 use Rattle.call_context.specs.declared.node.Unit.TheVariants as unit
 use Rattle.call_context.specs.Same.{same_frame, same_node, same_unit}
 use Rattle.call_context.specs.SameLaws.{same_node-eq, same_unit-eq, same_unit-refl}
-use Rattle.chip_law.specs.Meaning.{Meaning}
 use Rattle.round_core.specs.declared.agenda.Agenda.{Agenda}
 use Rattle.round_core.specs.declared.parts.Parts.{Parts}
 use Rattle.round_core.specs.declared.place.Place.{Place}
 use Rattle.round_core.specs.declared.place.Place.TheVariants as place
 use Rattle.round_core.specs.declared.versions.Versions.{Versions}
-use Rattle.round_core.specs.Machine.{BookState, Held, Done, Out, held_at, done_at, out_at, place_of, version_of, versions_of, waits_for, without, with_done, all_raised, posted, IsUnit, HasRisen, IsClaimable}
+use Rattle.round_core.specs.Machine.{BookState, Held, Done, Out, held_at, done_at, out_at, place_of, version_of, versions_of, waits_for, without, with_done, IsUnit, HasRisen, IsClaimable}
 use Rattle.round_core.specs.Agenda.{IsIn, places_in}
 use Rattle.round_core.specs.Claims.{placed}
 use Rattle.round_core.specs.Expected.{Grows, ExpectsNode, ExpectsRows, ExpectsUnit}
@@ -27,7 +26,7 @@ use Rattle.round_core.specs.Turns.{TakesHome}
 use Rattle.round_core.proofs.Cases.{truth, if_true, if_false, then_some, map_some}
 use Rattle.round_core.proofs.ClaimLemmas.{held-place, place-held}
 use Rattle.round_core.proofs.OutLemmas.{same_unit-sym, comes_home, out_at-without}
-use Rattle.round_core.proofs.RaiseLemmas.{held_at-with_all-none, held_at-with_all-some, distinct-with_all, place-with_all}
+use Rattle.round_core.proofs.RaiseLemmas.{held_at-with_all-none, distinct-with_all, place-with_all}
 use Rattle.round_core.proofs.WaitLemmas.{any-in}
 
 abbrev one_version : ℕ → Versions

@@ -1,18 +1,17 @@
 -- What the parts of a book stand for, as they change.
-use Rattle.std.specs.Prelude.{◌≡◌, ℕ, zero, suc, ◌+◌, ◌<◌, ◌⊎◌, Bool, true, false, is_some, if◌then◌else◌, Option, None, Some, List, [], ◌∷◌, ◌++◌, length, slice_get, slice_index_or, MatchOption, All, ◌||◌}
+use Rattle.std.specs.Prelude.{◌≡◌, ◌⊎◌, Bool, true, false, is_some, Option, None, Some, List, [], ◌∷◌, All, ◌||◌}
 use Rattle.std.specs.List.{list_any}
-use Rattle.std.specs.Option.{option_map}
 use Rattle.std.specs.BTreeSet.{BTreeSet}
 use Rattle.std.specs.BTreeMap.Range.{IsLeBy}
-use Rattle.std.proofs.Common.{refl, sym, ◌∙◌, ap, subst, inl, inr, arith}
+use Rattle.std.proofs.Common.{refl, sym, ◌∙◌, ap, subst, inl, inr}
 use Rattle.call_context.specs.declared.node.Unit.{Unit as WorkUnit}
 use Rattle.round_core.specs.declared.place.Place.{Place}
 use Rattle.round_core.specs.declared.parts.Parts.{Parts}
-use Rattle.round_core.specs.Machine.{BookState, Held, Done, Out, out_at, IsClaimable, IsFirst, NoneClaimable, ComesBefore}
+use Rattle.round_core.specs.Machine.{BookState, IsClaimable, IsFirst, NoneClaimable}
 use Rattle.round_core.specs.Claims.{placed, claimable_at}
 use Rattle.round_core.specs.Agenda.{IsIn}
-use Rattle.round_core.specs.Turns.{place_out, Standing}
-use Rattle.round_core.specs.Shown.{AreDistinct, IsExpected, Shows, found_at}
+use Rattle.round_core.specs.Turns.{Standing}
+use Rattle.round_core.specs.Shown.{IsExpected, Shows, found_at}
 use Rattle.round_core.proofs.ClaimLemmas.{claimable_at-is, claimable_at-finds, before-places}
 use Rattle.round_core.proofs.ListLemmas.{index_of}
 use Rattle.round_core.proofs.PlaceLemmas.{place_cmp, not_before}

@@ -1,7 +1,7 @@
 -- Units that are out, looked up by the derived test.
-use Rattle.std.specs.Prelude.{◌≡◌, ℕ, ◌+◌, Bool, true, false, cond, if◌then◌else◌, Option, None, Some, List, [], ◌∷◌, ◌++◌, length}
+use Rattle.std.specs.Prelude.{◌≡◌, cond, None, Some, List, [], ◌∷◌, ◌++◌}
 use Rattle.std.specs.Map.{lookup}
-use Rattle.std.proofs.Common.{refl, sym, ◌∙◌, ap, arith, inl, inr}
+use Rattle.std.proofs.Common.{refl, sym, ◌∙◌, ap, inl, inr}
 use Rattle.std.proofs.Math.Path.{ap₂}
 use Rattle.indexmap.specs.IndexMap.{insert_entry}
 use Rattle.call_context.specs.declared.node.Unit.{Unit as WorkUnit}

@@ -1,14 +1,12 @@
 -- Frames that a work waits for.
-use Rattle.std.specs.Prelude.{◌≡◌, ◌⊎◌, ◌||◌, Bool, true, false, Option, None, Some, List, [], ◌∷◌, unwrap_or}
+use Rattle.std.specs.Prelude.{◌≡◌, ◌||◌, true, false, Option, None, Some, List, [], ◌∷◌, unwrap_or}
 use Rattle.std.specs.List.{list_any}
 use Rattle.std.specs.Option.{option_map}
-use Rattle.std.proofs.Common.{refl, sym, ◌∙◌, ap, inl, inr}
+use Rattle.std.proofs.Common.{sym, ◌∙◌, ap, inl, inr}
 use Rattle.call_context.specs.declared.node.Frame.{Frame}
-use Rattle.call_context.specs.declared.node.Node.{Node}
-use Rattle.call_context.specs.declared.node.Unit.TheVariants.{One}
 use Rattle.call_context.specs.Same.{same_frame}
-use Rattle.call_context.specs.SameLaws.{same_frame-eq, same_frame-refl}
-use Rattle.round_core.specs.Machine.{Done, done_at, waits_for}
+use Rattle.call_context.specs.SameLaws.{same_frame-eq}
+use Rattle.round_core.specs.Machine.{Done}
 use Rattle.round_core.specs.Agenda.{IsIn}
 use Rattle.round_core.proofs.Cases.{truth}
 

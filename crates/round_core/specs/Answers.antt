@@ -4,7 +4,7 @@ use Rattle.chip_law.specs.Meaning.{Meaning}
 use Rattle.round_core.specs.declared.event.Event.TheVariants.{Claim}
 use Rattle.round_core.specs.declared.ticket.Claimed.{Claimed}
 use Rattle.round_core.specs.declared.ticket.Claimed.TheVariants.{Ticket, Idle, Finished}
-use Rattle.round_core.specs.Machine.{Out, IsFirst, IsFinished, NoneClaimable, replay}
+use Rattle.round_core.specs.Machine.{IsFirst, IsFinished, NoneClaimable, replay}
 use Rattle.round_core.specs.Kept.{Kept, with_event, IsOutOf}
 
 abbrev pub AnswersClaim : {C B S A : Type 0} → Meaning S A → Kept B → Kept B → ℕ → Claimed C B S A → Type 0

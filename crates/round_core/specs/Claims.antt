@@ -1,5 +1,5 @@
 -- Units by the places of their nodes, and whether they can be claimed.
-use Rattle.std.specs.Prelude.{◌≡◌, ℕ, ◌&&◌, ◌||◌, Bool, true, false, nat_lt, not, is_some, if◌then◌else◌, Option, None, Some, List, slice_get, option_and_then}
+use Rattle.std.specs.Prelude.{◌||◌, Bool, true, nat_lt, is_some, if◌then◌else◌, Option, None, Some, List, slice_get, option_and_then}
 use Rattle.std.specs.Option.{option_map}
 use Rattle.call_context.specs.declared.node.Node.{Node}
 use Rattle.call_context.specs.declared.node.Node.TheVariants.{At, Exit}

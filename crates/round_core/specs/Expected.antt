@@ -6,7 +6,6 @@ use Rattle.call_context.specs.declared.node.Node.TheVariants.{At, Exit}
 use Rattle.call_context.specs.declared.node.Unit.{Unit as WorkUnit}
 use Rattle.call_context.specs.declared.node.Unit.TheVariants as unit
 use Rattle.round_core.specs.declared.agenda.Agenda.{Agenda}
-use Rattle.round_core.specs.declared.place.Place.{Place}
 use Rattle.round_core.specs.declared.place.Place.TheVariants as place
 use Rattle.round_core.specs.Machine.{Done, Held, place_of, waits_for}
 use Rattle.round_core.specs.Agenda.{IsIn, places_in, KeepsPlaces, KeepsCandidates}

@@ -1,7 +1,7 @@
 -- The book as a machine whose events are claims, posts and give-backs. Nodes stand in the order of their first post.
 -- A node's version is how often its state rose. The rule of rises is a widening as in P. Cousot and R. Cousot,
 -- "Abstract interpretation", 1977: joins first, then widenings, and in the end the top state.
-use Rattle.std.specs.Prelude.{◌≡◌, ℕ, ◌+◌, ◌<◌, ◌⊎◌, ◌&&◌, Bool, true, false, nat_le, if◌then◌else◌, Option, None, Some, List, [], ◌∷◌, ◌++◌, unwrap_or, option_and_then, MatchOption, IfSome}
+use Rattle.std.specs.Prelude.{◌≡◌, ℕ, ◌+◌, ◌<◌, ◌⊎◌, Bool, true, false, nat_le, if◌then◌else◌, Option, None, Some, List, [], ◌∷◌, ◌++◌, unwrap_or, option_and_then, MatchOption}
 use Rattle.std.specs.Option.{option_map}
 use Rattle.std.specs.List.{list_any}
 use Rattle.call_context.specs.declared.node.Frame.{Frame}

@@ -1,8 +1,6 @@
 -- The nodes of a book, kept in two lists.
 use Rattle.std.specs.Prelude.{◌≡◌, ℕ, List, [], ◌∷◌, map}
 use Rattle.call_context.specs.declared.node.Node.{Node}
-use Rattle.chip_law.specs.declared.chip.Work.{Work}
-use Rattle.round_core.specs.declared.versions.Versions.{Versions}
 use Rattle.round_core.specs.Machine.{Held}
 
 module _ {A : Type 0} where

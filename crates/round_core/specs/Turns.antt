@@ -1,5 +1,5 @@
 -- Units that are out with their places, and the journal.
-use Rattle.std.specs.Prelude.{◌≡◌, ◌≢◌, ℕ, ◌+◌, Bool, if◌then◌else◌, Option, None, Some, List, length}
+use Rattle.std.specs.Prelude.{◌≡◌, ◌+◌, if◌then◌else◌, Option, None, List, length}
 use Rattle.std.specs.Map.{lookup}
 use Rattle.call_context.specs.declared.node.Unit.{Unit as WorkUnit}
 use Rattle.call_context.specs.Same.{same_unit}

@@ -222,21 +222,33 @@ fn a_long_chain_ends(rt: HostRuntime) -> Result<(), Fail> {
     Ok(())
 }
 
+/// Claims a unit and gives it back, and answers whether there was one.
+fn claim_in_vain<C: Chip>(book: &mut Book<C>, chip: &C, seat: u32) -> Result<bool, Memory>
+    requires { C.base chip.now ≡ book.old.base }
+    ensures { book.new.base ≡ book.old.base }
+{
+    match book.claim(chip, seat)? {
+        Claimed::Ticket(ticket) => {
+            book.give_back(ticket);
+            Ok(true)
+        }
+        Claimed::Idle | Claimed::Finished => Ok(false),
+    }
+}
+
 #[test]
 fn a_unit_that_is_given_back_comes_again(rt: HostRuntime) -> Result<(), Fail> {
     let chip = Chain { last: 1 };
     let mut book = Book::open(rt.alloc(), &chip)?;
     assert!(rt; !book.finished());
-    if let Claimed::Ticket(ticket) = book.claim(&chip, 1)? {
-        assert!(rt; matches!(book.claim(&chip, 2)?, Claimed::Idle));
-        book.give_back(ticket);
-    }
-    assert!(rt; matches!(book.claim(&chip, 2)?, Claimed::Ticket(_)));
+    assert!(rt; claim_in_vain(&mut book, &chip, 1)?);
+    assert!(rt; claim_in_vain(&mut book, &chip, 2)?);
     let unit = Unit::One(node_at(0));
     let events = [
         Event::Claim { seat: 1, unit },
         Event::GiveBack { seat: 1, unit },
         Event::Claim { seat: 2, unit },
+        Event::GiveBack { seat: 2, unit },
     ];
     assert_eq!(rt; book.journal(), events.as_slice());
     Ok(())

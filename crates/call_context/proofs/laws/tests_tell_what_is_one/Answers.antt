@@ -20,7 +20,6 @@ returns-clause-units c = same_unit-eq
 pub returns-clause-each_unit : goal.returns-clause-each_unit
 returns-clause-each_unit c = same_unit-refl
 
-
 pub returns-clause-derived_frames : goal.returns-clause-derived_frames
 returns-clause-derived_frames c = frame_eq-same
 

@@ -1,4 +1,4 @@
-use Rattle.std.proofs.Common.{inl, inr, ◌≡◌, ◌+◌, ◌<◌, ◌++◌, ◌∷◌, [], take, subst, sym, arith, length, take_all}
+use Rattle.std.proofs.Common.{inl, inr, ◌<◌, subst, sym, arith, length, take_all}
 use Rattle.std.proofs.lemmas.List.{take_more}
 use Rattle.round_core.specs.Agenda.{IsIn}
 use Rattle.round_core.proofs.ListLemmas.{IsIn-split}

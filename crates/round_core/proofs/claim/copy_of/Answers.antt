@@ -1,5 +1,3 @@
-use Rattle.std.proofs.Common.{◌≡◌, Some, sym}
-use Rattle.round_core.specs.Machine.{Held, held_at}
 use Rattle.round_core.proofs.Cases.{if_ok_map}
 use Rattle.round_core.proofs.claim.copy_of.Goals as goal
 

@@ -1,4 +1,4 @@
-use Rattle.std.proofs.Common.{◌≡◌, ◌∙◌, sym, subst, ap}
+use Rattle.std.proofs.Common.{sym, subst}
 use Rattle.round_core.specs.Agenda.{IsIn}
 use Rattle.round_core.proofs.Cases.{on_ok_map, on_ok_always}
 use Rattle.round_core.proofs.WaitLemmas.{waits-in, waits-none}

@@ -1,6 +1,5 @@
 use Rattle.std.proofs.Common.{◌≡◌, sym, subst, OnOk, true}
 use Rattle.call_context.specs.declared.node.Frame.{Frame}
-use Rattle.call_context.specs.declared.node.Node.TheVariants.{At, Exit}
 use Rattle.round_core.specs.Agenda.{places_in}
 use Rattle.round_core.specs.Expected.{ExpectsNode}
 use Rattle.round_core.specs.Returns.{HasReturnsTo}

@@ -1,5 +1,5 @@
-use Rattle.std.proofs.Common.{◌≡◌, ◌≤◌, ◌+◌, ◌∙◌, subst, sym, arith, length, take, take_all, MatchOption}
-use Rattle.round_core.specs.Expected.{Grows, ExpectsNode, ExpectsRows}
+use Rattle.std.proofs.Common.{◌≡◌, ◌≤◌, ◌+◌, subst, arith, length, take_all, MatchOption}
+use Rattle.round_core.specs.Expected.{ExpectsNode, ExpectsRows}
 use Rattle.round_core.specs.Machine.{place_of}
 use Rattle.round_core.specs.Raise.{with_all}
 use Rattle.round_core.proofs.ExpectLemmas.{grows-then, next-step, rows-step, after-bound}

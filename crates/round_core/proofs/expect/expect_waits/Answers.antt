@@ -1,8 +1,6 @@
-use Rattle.std.proofs.Common.{inl, inr, ◌≡◌, ◌∙◌, ◌+◌, ◌<◌, ap, take, subst, sym, arith, length, take_all}
+use Rattle.std.proofs.Common.{inl, inr, ◌<◌, subst, sym, arith, length, take_all}
 use Rattle.std.proofs.lemmas.List.{take_more}
-use Rattle.round_core.specs.Agenda.{IsIn, places_in, KeepsPlaces, KeepsCandidates}
-use Rattle.round_core.specs.Expected.{Grows}
-use Rattle.round_core.specs.Returns.{HasReturnsTo}
+use Rattle.round_core.specs.Agenda.{IsIn, places_in}
 use Rattle.round_core.proofs.Cases.{on_ok_map, on_ok_always}
 use Rattle.round_core.proofs.ListLemmas.{IsIn-split}
 use Rattle.round_core.proofs.expect.expect_waits.Goals as goal

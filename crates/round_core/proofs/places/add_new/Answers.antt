@@ -1,6 +1,6 @@
-use Rattle.std.proofs.Common.{◌≡◌, ◌∙◌, ap, sym, subst, Vec, ℕ, Some, None, option_map, unwrap_or, [], refl, inl, ◌∷◌}
+use Rattle.std.proofs.Common.{sym, subst, Vec, ℕ, option_map, unwrap_or, [], refl, inl, ◌∷◌}
 use Rattle.std.specs.declared.alloc.Global.{Global}
-use Rattle.round_core.specs.Agenda.{IsIn, places_in, seen, KeepsPlaces}
+use Rattle.round_core.specs.Agenda.{IsIn, places_in, seen}
 use Rattle.round_core.proofs.ListLemmas.{IsIn-last}
 use Rattle.round_core.proofs.PlacesLemmas.{writes-added, writes-kept}
 use Rattle.round_core.proofs.places.add_new.Goals as goal

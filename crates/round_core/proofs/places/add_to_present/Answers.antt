@@ -1,8 +1,6 @@
-use Rattle.std.proofs.Common.{◌≡◌, ◌∙◌, ap, sym, subst, Vec, ℕ, Some, None, Option, option_map, unwrap_or, [], ◌∷◌, refl, inl, IsSome, is_some, true, false}
+use Rattle.std.proofs.Common.{◌≡◌, sym, subst, Vec, ℕ, Some, None, Option, option_map, unwrap_or, [], ◌∷◌, refl, inl, IsSome, true, false}
 use Rattle.std.specs.declared.alloc.Global.{Global}
-use Rattle.std.specs.Map.{lookup}
-use Rattle.call_context.specs.DerivedSame.{frame_eq}
-use Rattle.round_core.specs.Agenda.{IsIn, places_in, seen, KeepsPlaces}
+use Rattle.round_core.specs.Agenda.{IsIn}
 use Rattle.round_core.proofs.ListLemmas.{IsIn-append, IsIn-last}
 use Rattle.round_core.proofs.PlacesLemmas.{writes-added, writes-kept}
 use Rattle.round_core.proofs.places.add_to_present.Goals as goal

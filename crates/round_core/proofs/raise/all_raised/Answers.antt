@@ -1,4 +1,4 @@
-use Rattle.std.proofs.Common.{◌≡◌, ◌∙◌, ◌<◌, ap, sym, arith, length, take, ◌++◌, ◌∷◌, []}
+use Rattle.std.proofs.Common.{◌∙◌, ◌<◌, ap, sym, arith, length, take, ◌++◌, ◌∷◌, []}
 use Rattle.std.proofs.lemmas.List.{take_more}
 use Rattle.round_core.specs.Machine.{raised, all_raised}
 use Rattle.round_core.proofs.RaiseLemmas.{all_raised-append}

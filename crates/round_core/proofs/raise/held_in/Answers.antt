@@ -1,4 +1,4 @@
-use Rattle.std.proofs.Common.{◌≡◌, ◌∙◌, sym, subst, Some, None, MatchOption}
+use Rattle.std.proofs.Common.{◌≡◌, sym, subst, Some, None, MatchOption}
 use Rattle.round_core.proofs.RaiseLemmas.{held_at-with_all-none, held_at-with_all-some}
 use Rattle.round_core.proofs.raise.held_in.Goals as goal
 

@@ -1,6 +1,6 @@
-use Rattle.std.proofs.Common.{◌≡◌, ◌∙◌, ◌+◌, ap, sym, subst, true, false, ℕ}
+use Rattle.std.proofs.Common.{◌≡◌, ◌∙◌, ◌+◌, ap, sym, subst, true, false}
 use Rattle.std.proofs.Math.Path.{ap₂}
-use Rattle.round_core.specs.Machine.{Held, with_held, risen_state}
+use Rattle.round_core.specs.Machine.{with_held, risen_state}
 use Rattle.round_core.specs.Raise.{with_all}
 use Rattle.round_core.specs.Shown.{AreDistinct}
 use Rattle.round_core.proofs.Cases.{on_ok_map, match_some, match_none, if_false}

@@ -1,8 +1,7 @@
-use Rattle.std.proofs.Common.{◌≡◌, ◌∙◌, ap, sym, subst, IsSome, Some, None, Option, cond}
+use Rattle.std.proofs.Common.{◌∙◌, sym, subst, IsSome, None, Option, cond}
 use Rattle.std.proofs.Math.Path.{ap₂}
-use Rattle.call_context.specs.DerivedSame.{unit_eq, unit_eq-same}
+use Rattle.call_context.specs.DerivedSame.{unit_eq-same}
 use Rattle.round_core.specs.declared.place.Place.{Place}
-use Rattle.round_core.specs.Turns.{place_out, TakesHome}
 use Rattle.round_core.proofs.TurnsLemmas.{lookup-same}
 use Rattle.round_core.proofs.turns.take_home.Goals as goal
 

@@ -1,4 +1,4 @@
-use Rattle.std.proofs.Common.{◌≡◌, ◌∙◌, ap, sym, subst, ◌++◌, ◌∷◌, [], Some}
+use Rattle.std.proofs.Common.{◌≡◌, ◌∙◌, ap, ◌++◌, ◌∷◌, [], Some}
 use Rattle.round_core.specs.declared.event.Event.TheVariants.{Claim}
 use Rattle.round_core.specs.Machine.{replay, IsFirst, NoneClaimable}
 use Rattle.round_core.specs.Claims.{placed}

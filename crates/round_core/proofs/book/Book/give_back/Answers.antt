@@ -1,4 +1,4 @@
-use Rattle.std.proofs.Common.{◌≡◌, ◌∙◌, ap, sym, subst, Some}
+use Rattle.std.proofs.Common.{◌∙◌, ap}
 use Rattle.round_core.specs.Machine.{replay, out_at}
 use Rattle.round_core.proofs.ClaimEvent.{given_back, legal-out}
 use Rattle.round_core.proofs.book.Book.give_back.Goals as goal

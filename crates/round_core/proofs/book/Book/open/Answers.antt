@@ -1,4 +1,4 @@
-use Rattle.std.proofs.Common.{◌≡◌, ◌∙◌, ap, sym, subst}
+use Rattle.std.proofs.Common.{◌∙◌, ap, sym, subst}
 use Rattle.std.proofs.Math.Path.{ap₂}
 use Rattle.round_core.specs.Machine.{replay}
 use Rattle.round_core.specs.Opening.{one_node}

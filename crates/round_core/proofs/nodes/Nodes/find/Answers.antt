@@ -1,12 +1,12 @@
-use Rattle.std.proofs.Common.{◌≡◌, ◌∙◌, ap, map, None, Some, sym, subst, slice_get, slice_index_or, length, arith, rules, ◌<◌}
+use Rattle.std.proofs.Common.{◌≡◌, ◌∙◌, ap, map, None, Some, sym, subst, slice_get, slice_index_or, length, ◌<◌}
 use Rattle.std.specs.Prelude.{position, MatchOption}
 use Rattle.std.specs.Map.{keys_of}
 use Rattle.call_context.specs.DerivedSame.{node_eq, node_eq-same}
 use Rattle.round_core.specs.Machine.{held_at, place_of}
 use Rattle.round_core.specs.Nodes.{small_part, big_part, rows_of}
 use Rattle.round_core.proofs.nodes.Nodes.find.Goals as goal
-use Rattle.round_core.proofs.Cases.{get-index, get-none, test_true, length-parts}
-use Rattle.round_core.proofs.NodesLemmas.{position-place, at-none, at-some, place-bound}
+use Rattle.round_core.proofs.Cases.{get-index, test_true}
+use Rattle.round_core.proofs.NodesLemmas.{position-place, at-none, at-some}
 
 pub returns-in_err-index : goal.returns-in_err-index
 returns-in_err-index g c =

@@ -1,8 +1,7 @@
-use Rattle.std.proofs.Common.{◌≡◌, ◌∙◌, ap, map}
+use Rattle.std.proofs.Common.{◌∙◌, ap}
 use Rattle.std.specs.Prelude.{position}
 use Rattle.std.specs.Map.{keys_of}
 use Rattle.call_context.specs.DerivedSame.{node_eq, node_eq-same}
-use Rattle.round_core.specs.Nodes.{small_part}
 use Rattle.round_core.proofs.nodes.Nodes.place.Goals as goal
 use Rattle.round_core.proofs.NodesLemmas.{position-place}
 

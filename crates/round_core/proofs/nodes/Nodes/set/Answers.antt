@@ -1,11 +1,11 @@
-use Rattle.std.proofs.Common.{◌≡◌, ◌∙◌, ap, map, sym, slice_get}
-use Rattle.std.specs.Prelude.{position, List}
+use Rattle.std.proofs.Common.{◌∙◌, ap}
+use Rattle.std.specs.Prelude.{position}
 use Rattle.std.specs.Map.{keys_of}
 use Rattle.indexmap.specs.IndexMap.{insert_entry}
 use Rattle.call_context.specs.DerivedSame.{node_eq, node_eq-same}
-use Rattle.round_core.specs.Machine.{Held, held_at, with_held}
+use Rattle.round_core.specs.Machine.{Held, with_held}
 use Rattle.round_core.specs.Reserved.{with_item}
-use Rattle.round_core.specs.Nodes.{small_part, big_part, rows_of}
+use Rattle.round_core.specs.Nodes.{rows_of}
 use Rattle.round_core.proofs.nodes.Nodes.set.Goals as goal
 use Rattle.round_core.proofs.NodesLemmas.{position-place, set-parts, insert-parts, rows_are}
 

@@ -1,6 +1,5 @@
-use Rattle.std.proofs.Common.{◌≡◌, ◌∙◌, ap, sym, subst, refl, map}
+use Rattle.std.proofs.Common.{◌≡◌, ◌∙◌, ap, sym, refl, map}
 use Rattle.std.specs.Vec.Iter.{into_iter_items}
-use Rattle.round_core.specs.Machine.{Held}
 use Rattle.round_core.specs.Nodes.{small_part, big_part}
 use Rattle.round_core.specs.Raise.{with_all}
 use Rattle.round_core.proofs.SetAllLemmas.{found-in, set-step, set-end, no-room}

@@ -1,4 +1,4 @@
-use Rattle.std.proofs.Common.{◌≡◌, ◌∙◌, ap}
+use Rattle.std.proofs.Common.{◌∙◌, ap}
 use Rattle.round_core.specs.Machine.{with_held}
 use Rattle.round_core.proofs.OpenLemmas.{open-shown}
 use Rattle.round_core.proofs.parts.Parts.open.Goals as goal

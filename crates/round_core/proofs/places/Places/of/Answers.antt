@@ -1,4 +1,4 @@
-use Rattle.std.proofs.Common.{◌≡◌, ◌∙◌, ap, sym, Vec, ℕ, Some, None, option_map, unwrap_or, []}
+use Rattle.std.proofs.Common.{◌∙◌, ap, sym, Vec, ℕ, option_map, unwrap_or, []}
 use Rattle.std.specs.declared.alloc.Global.{Global}
 use Rattle.round_core.specs.Agenda.{places_in}
 use Rattle.round_core.proofs.PlacesLemmas.{places-held}

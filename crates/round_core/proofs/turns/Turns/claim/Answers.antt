@@ -1,4 +1,4 @@
-use Rattle.std.proofs.Common.{◌≡◌, ◌∙◌, ap, sym, List, ◌++◌, ◌∷◌, [], None, ap}
+use Rattle.std.proofs.Common.{◌≡◌, ◌∙◌, ap, List, ◌++◌, ◌∷◌, [], None, ap}
 use Rattle.std.proofs.Math.Path.{ap₂}
 use Rattle.round_core.specs.Turns.{place_out, Standing}
 use Rattle.round_core.specs.declared.event.Event.{Event}

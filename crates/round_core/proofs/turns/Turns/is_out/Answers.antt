@@ -1,4 +1,4 @@
-use Rattle.std.proofs.Common.{◌≡◌, ◌∙◌, ap, is_some}
+use Rattle.std.proofs.Common.{◌∙◌, ap, is_some}
 use Rattle.round_core.specs.Turns.{place_out}
 use Rattle.round_core.proofs.TurnsLemmas.{lookup-same}
 use Rattle.round_core.proofs.turns.Turns.is_out.Goals as goal

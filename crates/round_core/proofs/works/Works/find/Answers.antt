@@ -1,12 +1,12 @@
-use Rattle.std.proofs.Common.{◌≡◌, ◌∙◌, ap, map, None, Some, sym, subst, slice_get, slice_index_or, length, arith, rules, ◌<◌}
+use Rattle.std.proofs.Common.{◌≡◌, ◌∙◌, ap, map, None, Some, sym, subst, slice_get, slice_index_or, length, ◌<◌}
 use Rattle.std.specs.Prelude.{position, MatchOption}
 use Rattle.std.specs.Map.{keys_of}
 use Rattle.call_context.specs.DerivedSame.{unit_eq, unit_eq-same}
 use Rattle.round_core.specs.Machine.{done_at}
 use Rattle.round_core.specs.Works.{small_part, big_part, rows_of}
 use Rattle.round_core.proofs.works.Works.find.Goals as goal
-use Rattle.round_core.proofs.Cases.{get-index, get-none, test_true, length-parts}
-use Rattle.round_core.proofs.WorksLemmas.{position-place, at-none, at-some, place-bound, unit_place}
+use Rattle.round_core.proofs.Cases.{get-index, test_true}
+use Rattle.round_core.proofs.WorksLemmas.{position-place, at-none, at-some, unit_place}
 
 pub returns-in_err-index : goal.returns-in_err-index
 returns-in_err-index g c =

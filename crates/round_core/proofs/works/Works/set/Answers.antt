@@ -1,11 +1,11 @@
-use Rattle.std.proofs.Common.{◌≡◌, ◌∙◌, ap, map, sym, slice_get}
-use Rattle.std.specs.Prelude.{position, List}
+use Rattle.std.proofs.Common.{◌∙◌, ap}
+use Rattle.std.specs.Prelude.{position}
 use Rattle.std.specs.Map.{keys_of}
 use Rattle.indexmap.specs.IndexMap.{insert_entry}
 use Rattle.call_context.specs.DerivedSame.{unit_eq, unit_eq-same}
-use Rattle.round_core.specs.Machine.{Done, done_at, with_done}
+use Rattle.round_core.specs.Machine.{Done, with_done}
 use Rattle.round_core.specs.Reserved.{with_item}
-use Rattle.round_core.specs.Works.{small_part, big_part, rows_of}
+use Rattle.round_core.specs.Works.{rows_of}
 use Rattle.round_core.proofs.works.Works.set.Goals as goal
 use Rattle.round_core.proofs.WorksLemmas.{position-place, set-parts, insert-parts, rows_are}
 
