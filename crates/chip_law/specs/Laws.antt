@@ -1,16 +1,15 @@
 -- The laws of a chip: that its start stands for each reset state and its work for each step, and that its states are in
 -- order. They speak of one node, its abstract state, one single state, and the first suspended state alone.
-use Rattle.std.specs.Prelude.{◌≡◌, ◌≢◌, ◌⊎◌, ℕ, Bool, true, Option, None, Some, List, [], Contains}
+use Rattle.std.specs.Prelude.{◌≡◌, ◌≢◌, ◌⊎◌, Bool, true, Option, None, Some, List, [], Contains}
 use Rattle.call_context.specs.declared.node.Frame.{Frame}
 use Rattle.call_context.specs.declared.node.Frame.TheVariants.{Base, Irq}
 use Rattle.call_context.specs.declared.node.Node.{Node}
-use Rattle.call_context.specs.declared.node.Node.TheVariants.{At, Exit}
-use Rattle.call_context.specs.declared.node.Unit.{Unit as WorkUnit}
+use Rattle.call_context.specs.declared.node.Node.TheVariants.{Exit}
 use Rattle.call_context.specs.declared.node.Unit.TheVariants.{One, Back}
 use Rattle.call_context.specs.Nodes.{pc_of, frame_of, IsLocation}
 use Rattle.chip_law.specs.declared.chip.Work.{Work}
 use Rattle.chip_law.specs.Meaning.{Meaning}
-use Rattle.chip_law.specs.Single.{Single, Outcome, AreShowing}
+use Rattle.chip_law.specs.Single.{Single, AreShowing}
 use Rattle.chip_law.specs.Single.Single.{Edge}
 use Rattle.chip_law.specs.Single.Outcome.{Next, Wild}
 

@@ -1,7 +1,7 @@
 -- What a chip means: what it does, in single states, and what an analysis makes of it, in abstract ones (G. Balakrishnan
 -- and T. Reps, "WYSINWYX: What You See Is Not What You eXecute", 2010: abstract interpretation over value sets with
 -- call strings).
-use Rattle.std.specs.Prelude.{ℕ, Bool, Option, List}
+use Rattle.std.specs.Prelude.{ℕ, Bool, Option}
 use Rattle.call_context.specs.declared.node.Node.{Node}
 use Rattle.call_context.specs.declared.node.Unit.{Unit as WorkUnit}
 use Rattle.chip_law.specs.declared.chip.Work.{Work}

@@ -1,7 +1,7 @@
 -- Runs of a chip from reset, and what is met on them.
-use Rattle.std.specs.Prelude.{◌≡◌, ℕ, zero, suc, List, Contains}
+use Rattle.std.specs.Prelude.{ℕ, zero, suc, List, Contains}
 use Rattle.chip_law.specs.Meaning.{Meaning}
-use Rattle.chip_law.specs.Single.{Single, Outcome}
+use Rattle.chip_law.specs.Single.{Single}
 use Rattle.chip_law.specs.Single.Outcome.{Next, Wild}
 
 module _ {S A : Type 0} (m : Meaning S A) where

@@ -1,6 +1,6 @@
 -- From a finished book without opens to its closed table, and back to the works that it has.
-use Rattle.std.proofs.Common.{◌≡◌, ℕ, Bool, true, false, Option, None, Some, List, [], ◌∷◌, refl, sym, ◌∙◌, ap, subst, inl, inr, cond}
-use Rattle.std.specs.Prelude.{◌⊎◌, Contains, map, filter, ◌||◌, if◌then◌else◌}
+use Rattle.std.proofs.Common.{◌≡◌, Bool, true, false, Option, None, Some, List, [], ◌∷◌, refl, sym, ◌∙◌, ap, subst, inl, inr, cond}
+use Rattle.std.specs.Prelude.{Contains, map, filter, ◌||◌, if◌then◌else◌}
 use Rattle.std.specs.List.{AllByRecursion, list_any}
 use Rattle.std.proofs.lemmas.Option.{same_Some}
 use Rattle.call_context.specs.declared.node.Frame.{Frame}
@@ -8,7 +8,6 @@ use Rattle.call_context.specs.declared.node.Node.{Node}
 use Rattle.call_context.specs.declared.node.Node.TheVariants.{At, Exit}
 use Rattle.call_context.specs.declared.node.Unit.{Unit as WorkUnit}
 use Rattle.call_context.specs.declared.node.Unit.TheVariants.{One, Back}
-use Rattle.call_context.specs.Nodes.{frame_of, IsLocation}
 use Rattle.call_context.specs.PlainLaws.{in_none, in_cons, in_first, in_rest}
 use Rattle.call_context.specs.Same.{same_frame, same_unit}
 use Rattle.call_context.specs.SameLaws.{same_frame-refl, same_unit-eq}
@@ -21,7 +20,7 @@ use Rattle.round_core.specs.declared.event.Event.{Event}
 use Rattle.round_core.specs.Form.{AreFormed, PostsAreFormed, KeepsForm, IsOrdered}
 use Rattle.round_core.specs.FormLaws.{held_at-form, IsInForm-replay}
 use Rattle.round_core.specs.Kept.{is_live, live_works}
-use Rattle.round_core.specs.Machine.{BookState, Held, Done, done_at, held_at, replay, IsUnit, IsFinished, IsClosed, IsLegalJournal}
+use Rattle.round_core.specs.Machine.{BookState, Done, done_at, replay, IsUnit, IsFinished, IsClosed, IsLegalJournal}
 use Rattle.round_core.specs.ReplayLaws.{IsSteady-replay}
 use Rattle.round_core.specs.Table.{table_of, IsUnitOver, IsHeldIn, IsClosedTable}
 use Rattle.round_core.specs.TableLaws.{at-held, closed-table, table-unit}

@@ -1,24 +1,23 @@
 -- The closing law: by induction on the number of steps, each state of a run stands under a location of a closed table.
 -- The suspended states are carried as they stand: an instruction changes the state alone, an entry puts one in front,
 -- and a return takes the first one off.
-use Rattle.std.proofs.Common.{◌≡◌, ℕ, zero, suc, Bool, true, Option, None, Some, List, [], ◌∷◌, refl, sym, ◌∙◌, ap, subst, inl, inr}
+use Rattle.std.proofs.Common.{◌≡◌, ℕ, zero, suc, Option, None, Some, List, [], ◌∷◌, refl, sym, ◌∙◌, subst, inl, inr}
 use Rattle.std.specs.Prelude.{◌⊎◌, Contains}
 use Rattle.call_context.specs.declared.node.Frame.{Frame}
 use Rattle.call_context.specs.declared.node.Frame.TheVariants.{Base, Irq}
 use Rattle.call_context.specs.declared.node.Node.{Node}
-use Rattle.call_context.specs.declared.node.Node.TheVariants.{At, Exit}
-use Rattle.call_context.specs.declared.node.Unit.{Unit as WorkUnit}
+use Rattle.call_context.specs.declared.node.Node.TheVariants.{Exit}
 use Rattle.call_context.specs.declared.node.Unit.TheVariants.{One, Back}
 use Rattle.call_context.specs.Nodes.{pc_of, frame_of, IsLocation}
 use Rattle.chip_law.specs.declared.chip.Work.{Work}
-use Rattle.chip_law.specs.Laws.{IsLawful, Lands, Resumes, ShowsAll, IsWaitedFor, HasEntry}
+use Rattle.chip_law.specs.Laws.{IsLawful, Lands, Resumes, IsWaitedFor, HasEntry}
 use Rattle.chip_law.specs.Laws.Lands.{stays, enters, leaves}
 use Rattle.chip_law.specs.Meaning.{Meaning}
-use Rattle.chip_law.specs.Runs.{RunsTo, Meets, GoesWild}
-use Rattle.chip_law.specs.Single.{Single, Outcome, AreShowing}
+use Rattle.chip_law.specs.Runs.{RunsTo}
+use Rattle.chip_law.specs.Single.{Single, AreShowing}
 use Rattle.chip_law.specs.Single.Single.{Edge}
-use Rattle.chip_law.specs.Single.Outcome.{Next, Wild}
-use Rattle.chip_law.specs.Table.{WaitsFor, IsWork, HoldsMore, IsClosedTable, IsSuspended, Stands}
+use Rattle.chip_law.specs.Single.Outcome.{Next}
+use Rattle.chip_law.specs.Table.{IsWork, HoldsMore, IsClosedTable, IsSuspended, Stands}
 use Rattle.chip_law.specs.Table.IsWork.{of_location, of_return}
 use Rattle.closing_law.specs.Covered.{StandsSomewhere, IsShown, CoversRuns}
 

@@ -1,5 +1,5 @@
 -- Each work of a book is that of a unit.
-use Rattle.std.proofs.Common.{◌≡◌, ℕ, Bool, true, false, Option, None, Some, List, [], ◌∷◌, refl, cond, inl, inr}
+use Rattle.std.proofs.Common.{Bool, true, false, Option, None, Some, List, [], ◌∷◌, refl, cond, inl, inr}
 use Rattle.std.specs.Prelude.{Contains, map, filter, if◌then◌else◌}
 use Rattle.std.specs.List.{AllByRecursion}
 use Rattle.call_context.specs.declared.node.Unit.{Unit as WorkUnit}

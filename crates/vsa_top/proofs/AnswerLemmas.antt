@@ -1,5 +1,5 @@
 -- What an image gets, put together from the book, its report and what the sink took.
-use Rattle.std.proofs.Common.{◌≡◌, ℕ, Bool, true, false, Option, List, refl, sym, ap, subst, ◌∙◌, inl, inr, cond}
+use Rattle.std.proofs.Common.{◌≡◌, ℕ, Bool, true, false, Option, List, sym, ap, subst, ◌∙◌, inl, inr}
 use Rattle.std.specs.Prelude.{◌⊎◌, if◌then◌else◌}
 use Rattle.round_core.specs.declared.event.Event.{Event}
 use Rattle.round_core.specs.Kept.{Kept}
@@ -36,8 +36,8 @@ pub image_answer : (image : List (Option ℕ)) (book : Kept (List (Option ℕ)))
     → AnswersImage answered image before after journal
 image_answer image book journal text before after closed status answered base is text_is told status_is end written prefix journal_is =
     let whole : AnswersImage answered book.base before after book.journal = at_once book.base book.journal before after closed answered is told
-        (elim end [ inl same ↦ inl (same ∙ status_is) | inr fault ↦ inr fault ])
-        (λ same. written (same ∙ sym status_is) ∙ ap (appended before) text_is)
-        (subst (λ t. AppendsPrefix before t after) text_is prefix) in
+    (elim end [ inl same ↦ inl (same ∙ status_is) | inr fault ↦ inr fault ])
+    (λ same. written (same ∙ sym status_is) ∙ ap (appended before) text_is)
+    (subst (λ t. AppendsPrefix before t after) text_is prefix) in
     subst (λ i. AnswersImage answered i before after journal) base
     (subst (λ j. AnswersImage answered book.base before after j) (sym journal_is) whole)

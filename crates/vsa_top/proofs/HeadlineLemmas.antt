@@ -1,20 +1,18 @@
 -- A report that is told as closed covers every run, and one that is told as open has an open site.
-use Rattle.std.proofs.Common.{◌≡◌, ◌++◌, ℕ, Bool, true, false, Option, None, Some, Result, Ok, Err, List, [], ◌∷◌, refl, sym, ap, subst, ◌∙◌, append_assoc, inl, inr, cond}
-use Rattle.std.specs.Prelude.{◌⊎◌, All, Contains, length, map, ◌&&◌, if◌then◌else◌}
+use Rattle.std.proofs.Common.{◌≡◌, ◌++◌, ℕ, Bool, true, false, Option, None, Some, Result, Ok, Err, List, [], ◌∷◌, refl, sym, ap, subst, ◌∙◌, append_assoc, inl, inr}
+use Rattle.std.specs.Prelude.{All, Contains, length, map, ◌&&◌}
 use Rattle.std.specs.List.{flat_map}
 use Rattle.std.proofs.lemmas.List.Elements.{Contains-append_right}
 use Rattle.std.proofs.lemmas.Option.{same_Some}
 use Rattle.call_context.specs.PlainLaws.{in_none, in_cons, in_first, in_rest}
 use Rattle.call_context.specs.declared.node.Frame.{Frame}
-use Rattle.call_context.specs.declared.node.Node.{Node}
 use Rattle.call_context.specs.declared.node.Node.TheVariants.{At, Exit}
 use Rattle.call_context.specs.declared.node.Unit.{Unit as WorkUnit}
 use Rattle.call_context.specs.declared.node.Unit.TheVariants.{One, Back}
 use Rattle.call_context.specs.declared.shown.Cause.{Cause}
-use Rattle.call_context.specs.declared.shown.Item.{Item}
 use Rattle.chip_law.specs.declared.chip.Work.{Work}
 use Rattle.chip_law.specs.Line.{item_line_of, open_line_of}
-use Rattle.chip_law.specs.Shown.{HasLine, IsShownIn}
+use Rattle.chip_law.specs.Shown.{HasLine}
 use Rattle.closing_law.specs.Covered.{NoneIsOpen, AreCovering}
 use Rattle.closing_law.specs.Worked.{IsOfUnit}
 use Rattle.ihex_read.specs.declared.rule_set.Tail.{Tail}
@@ -23,20 +21,17 @@ use Rattle.ihex_read.specs.declared.rule_set.Rules.{Rules}
 use Rattle.ihex_read.specs.Image.{IsByte}
 use Rattle.ihex_read.specs.ImageText.{Denotes, IsPlainImage}
 use Rattle.ihex_read.specs.Lines as texts
-use Rattle.round_core.specs.Kept.{live_works}
 use Rattle.round_core.specs.Machine.{replay, IsLegalJournal, IsFinished}
 use Rattle.round_core.specs.declared.event.Event.{Event}
-use Rattle.vsa_io.specs.Stream.{appended}
 use Rattle.vsa_top.specs.declared.msp430.instr.Instr.{Instr}
 use Rattle.vsa_top.specs.declared.msp430.state.State.{State}
-use Rattle.vsa_top.specs.declared.outcome.Status.{Status}
-use Rattle.vsa_top.specs.declared.outcome.Status.TheVariants.{Done, Open, ReadFault, Memory}
-use Rattle.vsa_top.specs.Answer.{rules, IsImageOf, IsAnalysis, AnswersInput, AnswersImage, AnswersBad, works_behind, report_behind}
+use Rattle.vsa_top.specs.declared.outcome.Status.TheVariants.{Done, Open}
+use Rattle.vsa_top.specs.Answer.{rules, IsImageOf, IsAnalysis, AnswersInput, AnswersImage, works_behind, report_behind}
 use Rattle.vsa_top.specs.Answer.AnswersInput.{of_image, of_none, unread}
 use Rattle.vsa_top.specs.Headline.{Says, CoversEveryRun, HasOpenSite, ReportsOn}
-use Rattle.vsa_top.specs.Msp430Chip.{msp430, work_of, work_at, nothing, IsProgram}
+use Rattle.vsa_top.specs.Msp430Chip.{msp430, work_of, work_at, IsProgram}
 use Rattle.vsa_top.specs.Msp430Fetch.{fetched}
-use Rattle.vsa_top.specs.Msp430Table.{instr_of, instr_text, next_of}
+use Rattle.vsa_top.specs.Msp430Table.{instr_of, instr_text}
 use Rattle.vsa_top.specs.Report.{are_closed, is_empty, lines_of, with_lines, least_of, head_line, summary_of, report_text, report_of}
 use Rattle.vsa_top.proofs.ShownLemmas.{report_has, report_has_item, in_with_lines_new, in_flat_map, in_map}
 

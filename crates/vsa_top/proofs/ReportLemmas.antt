@@ -1,5 +1,5 @@
 -- Sets of lines, put together piece by piece.
-use Rattle.std.proofs.Common.{◌≡◌, ◌++◌, ℕ, List, [], ◌∷◌, Vec, Global, Ordering, refl, ap, sym, ◌∙◌, Bool, true, false, cond}
+use Rattle.std.proofs.Common.{◌≡◌, ◌++◌, ℕ, List, [], ◌∷◌, Vec, Global, refl, ap, sym, ◌∙◌, Bool, true, false, cond}
 use Rattle.std.specs.Prelude.{map, filter, ◌&&◌, if◌then◌else◌, Option}
 use Rattle.std.specs.List.{flat_map}
 use Rattle.std.specs.Ordering.{nat_cmp, match_ordering}

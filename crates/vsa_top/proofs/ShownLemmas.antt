@@ -1,6 +1,6 @@
 -- The report of works has a line for each item of each of them.
-use Rattle.std.proofs.Common.{◌≡◌, ◌++◌, ℕ, List, [], ◌∷◌, Ordering, Bool, true, false, refl, ap, sym, ◌∙◌, subst, inl, inr, append_assoc, append-nil, arith, ◌<◌, length}
-use Rattle.std.specs.Prelude.{◌⊎◌, Contains, map, Option, codes, if◌then◌else◌}
+use Rattle.std.proofs.Common.{◌≡◌, ◌++◌, ℕ, List, [], ◌∷◌, Bool, true, false, refl, ap, sym, ◌∙◌, subst, inl, inr, append_assoc, append-nil, arith}
+use Rattle.std.specs.Prelude.{◌⊎◌, Contains, map, Option, codes}
 use Rattle.std.specs.List.{flat_map}
 use Rattle.std.specs.Ordering.{nat_cmp, match_ordering}
 use Rattle.std.specs.BTreeSet.{insert_key}

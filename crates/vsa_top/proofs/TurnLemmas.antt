@@ -1,13 +1,12 @@
 -- One turn of a worker alone: it claims the first unit and posts it.
-use Rattle.std.proofs.Common.{◌≡◌, ℕ, List, [], ◌∷◌, ◌++◌, Option, Some, None, append_assoc, refl, ap, sym, ◌∙◌, subst}
+use Rattle.std.proofs.Common.{◌≡◌, List, [], ◌∷◌, ◌++◌, Some, None, append_assoc, refl, ap, sym, ◌∙◌, subst}
 use Rattle.std.specs.Prelude.{if◌then◌else◌}
 use Rattle.call_context.specs.declared.node.Unit.{Unit as WorkUnit}
 use Rattle.call_context.specs.SameLaws.{same_unit-refl}
 use Rattle.chip_law.specs.Meaning.{Meaning}
 use Rattle.round_core.specs.declared.event.Event.{Event}
 use Rattle.round_core.specs.declared.event.Event.TheVariants.{Claim, Post, GiveBack}
-use Rattle.round_core.specs.Kept.{Kept, with_event}
-use Rattle.round_core.specs.Machine.{BookState, Out, out_at, without, after, posted, replay, opening, IsFirst, IsLegal, IsLegalJournal}
+use Rattle.round_core.specs.Machine.{BookState, out_at, without, after, posted, replay, IsFirst, IsLegal, IsLegalJournal}
 use Rattle.round_core.specs.ReplayLaws.{taken, after-claim, after-post, inputs_of-unit, replay-none, replay-push, IsLegalJournal-none, IsLegalJournal-push}
 use Rattle.vsa_top.specs.Turns.{AreTurns}
 

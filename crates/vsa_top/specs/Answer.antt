@@ -1,5 +1,5 @@
 -- What the program answers to its words and its input.
-use Rattle.std.specs.Prelude.{◌≡◌, ◌⊎◌, true, false, None, Some, ℕ, ◌≤◌, Option, List, [], ◌∷◌, length, map, codes, IfSome, string_bytes}
+use Rattle.std.specs.Prelude.{◌≡◌, ◌⊎◌, true, false, None, Some, ℕ, ◌≤◌, Option, List, [], ◌∷◌, length, map, codes, string_bytes}
 use Rattle.std.specs.declared.string.String.{String}
 use Rattle.std.specs.declared.alloc.Global.{Global}
 use Rattle.ihex_read.specs.declared.rule_set.Rules.{Rules}

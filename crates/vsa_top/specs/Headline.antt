@@ -1,5 +1,5 @@
 -- What a report says of every run of the chip.
-use Rattle.std.specs.Prelude.{◌≡◌, ℕ, Option, None, Some, Result, Err, List, ◌++◌, Contains, codes}
+use Rattle.std.specs.Prelude.{◌≡◌, ℕ, Option, Some, Err, List, ◌++◌, Contains, codes}
 use Rattle.call_context.specs.declared.shown.Cause.{Cause}
 use Rattle.ihex_read.specs.ImageText.{IsPlainImage}
 use Rattle.vsa_io.specs.Stream.{appended}

@@ -1,15 +1,15 @@
 -- The MSP430 (SLAU049, MSP430x1xx Family User's Guide, chapter 3): what it does in single states, what an analysis makes
 -- of it in sets, and what ties them.
-use Rattle.std.specs.Prelude.{◌≡◌, ℕ, ◌-◌, ◌*◌, ◌/◌, ◌%◌, ◌<◌, ◌==◌, if◌then◌else◌, Bool, true, false, Option, None, Some, Result, Ok, Err, List, [], ◌∷◌, length, slice_index, slice_set, All}
+use Rattle.std.specs.Prelude.{◌≡◌, ℕ, ◌-◌, ◌/◌, ◌%◌, ◌<◌, ◌==◌, if◌then◌else◌, Bool, false, Option, Result, Ok, Err, List, [], ◌∷◌, length, slice_index, slice_set, All}
 use Rattle.std.specs.List.{slice_index_or}
 use Rattle.call_context.specs.declared.node.Frame.{Frame}
-use Rattle.call_context.specs.declared.node.Frame.TheVariants.{Base, Irq}
+use Rattle.call_context.specs.declared.node.Frame.TheVariants.{Base}
 use Rattle.call_context.specs.declared.node.Node.{Node}
 use Rattle.call_context.specs.declared.node.Node.TheVariants.{At, Exit}
 use Rattle.call_context.specs.declared.node.Unit.{Unit as WorkUnit}
 use Rattle.call_context.specs.declared.node.Unit.TheVariants.{One, Back}
 use Rattle.call_context.specs.declared.plain.Vs16.{Vs16}
-use Rattle.call_context.specs.declared.plain.Vs16.TheVariants.{Listed, Even, Any}
+use Rattle.call_context.specs.declared.plain.Vs16.TheVariants.{Any}
 use Rattle.call_context.specs.Plain.{HasWord}
 use Rattle.call_context.specs.declared.shown.Cause.{Cause}
 use Rattle.call_context.specs.declared.shown.Item.TheVariants as items

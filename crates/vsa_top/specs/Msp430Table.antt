@@ -1,6 +1,6 @@
 -- The MSP430's instructions that are built, their encodings and texts (SLAU049, MSP430x1xx Family User's Guide,
 -- chapter 3, "RISC 16-Bit CPU": the formats of double operand instructions and of jumps).
-use Rattle.std.specs.Prelude.{◌≡◌, ◌<◌, true, ℕ, ◌+◌, ◌-◌, ◌*◌, ◌/◌, ◌%◌, ◌==◌, nat_lt, nat_le, ◌&&◌, ◌||◌, if◌then◌else◌, Bool, Option, None, Some, List, [], ◌∷◌, ◌++◌, codes}
+use Rattle.std.specs.Prelude.{◌≡◌, ◌<◌, true, ℕ, ◌+◌, ◌*◌, ◌/◌, ◌%◌, ◌==◌, nat_lt, nat_le, ◌&&◌, ◌||◌, if◌then◌else◌, Bool, Option, None, Some, List, [], ◌∷◌, ◌++◌, codes}
 use Rattle.chip_law.specs.Digits.{hex}
 use Rattle.vsa_top.specs.declared.msp430.instr.Instr.{Instr}
 use Rattle.vsa_top.specs.declared.msp430.instr.Instr.TheVariants.{Load, Copy, Jump}

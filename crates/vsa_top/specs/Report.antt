@@ -7,9 +7,7 @@ use Rattle.std.specs.Cmp.Lexicographic.{slice_cmp}
 use Rattle.std.specs.BTreeSet.{insert_key}
 use Rattle.std.specs.declared.alloc.Global.{Global}
 use Rattle.std.specs.declared.vec.Vec.{Vec}
-use Rattle.call_context.specs.declared.plain.Vs16.{Vs16}
 use Rattle.call_context.specs.declared.plain.Vs16.TheVariants.{Listed, Even, Any}
-use Rattle.call_context.specs.declared.shown.Set.{Set}
 use Rattle.call_context.specs.declared.shown.Set.TheVariants.{B, W}
 use Rattle.call_context.specs.declared.shown.Cause.{Cause}
 use Rattle.call_context.specs.declared.shown.Item.{Item}

@@ -1,4 +1,4 @@
-use Rattle.std.proofs.Common.{◌≡◌, [], refl, sym, subst}
+use Rattle.std.proofs.Common.{◌≡◌, refl, sym, subst}
 use Rattle.round_core.specs.Kept.{Kept}
 use Rattle.vsa_top.proofs.TurnLemmas.{IsJournal, IsJournal-none, IsJournal-turn}
 use Rattle.vsa_top.proofs.fixpoint.fixpoint_alone.Goals as goal

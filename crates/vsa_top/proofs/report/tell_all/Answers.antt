@@ -1,7 +1,5 @@
 use Rattle.std.proofs.Common.{◌≡◌, [], ◌∷◌, ◌&&◌, ◌+◌, ◌<◌, suc, None, ℕ, List, drop, length, sym, ◌∙◌, ap, subst, add-one, drop-cons, get_or}
-use Rattle.std.specs.Prelude.{if◌then◌else◌}
 use Rattle.std.specs.List.{flat_map}
-use Rattle.chip_law.specs.declared.chip.Work.{Work}
 use Rattle.round_core.specs.Kept.{is_live, live_works}
 use Rattle.round_core.specs.Machine.{replay}
 use Rattle.vsa_top.specs.Report.{bytes_of, with_lines, lines_of, are_closed, least_of}

@@ -1,4 +1,4 @@
-use Rattle.std.proofs.Common.{◌≡◌, ◌++◌, ℕ, ◌≤◌, List, [], take, drop, length, sym, ◌∙◌, ap, arith, append-nil}
+use Rattle.std.proofs.Common.{◌≡◌, ◌++◌, ℕ, ◌≤◌, List, [], take, drop, length, sym, ◌∙◌, arith, append-nil}
 use Rattle.std.proofs.lemmas.List.{drop_all, take_all}
 use Rattle.call_context.specs.declared.plain.Vs16.{Vs16}
 use Rattle.vsa_top.specs.Msp430State.{all_widened}
