@@ -55,6 +55,14 @@ fn row_eight_bytes(rt: HostRuntime) -> Result<(), Fail> {
 }
 
 #[test]
+fn row_of_a_copy(rt: HostRuntime) -> Result<(), Fail> {
+    let input = ":08F00000344013000144FF3FFE\n:02FFFE0000F011\n:00000001FF\n";
+    let report =
+        "CLOSED\nE F000 F004\nE F004 F006\nE F006 F006\nI F000 34401300 MOV #0013h,R4\nI F004 0144 MOV R4,SP\nI F006 FF3F JMP F006h\nS F000 0000/2/8000\nS F004 0000/2/8000\nS F006 0012\nT 0012 2\n";
+    answers(&rt, "analyse msp430", input, Status::Done, report)
+}
+
+#[test]
 fn rows_open(rt: HostRuntime) -> Result<(), Fail> {
     let rows = [
         (
