@@ -38,4 +38,3 @@ is_live done (Back node exit) = waits_for done node (frame_of exit)
 -- the last works of the book's units
 abbrev pub live_works : {A : Type 0} → BookState A → List (Work A)
 live_works b = map (λ p. p.1) (filter (λ p. is_live b.done p.0) (works_of b))
-
