@@ -32,8 +32,9 @@ pub fn closed_books_cover_runs<C: LawfulChip>()
     C::laws();
 }
 
-/// Each work of a book is that of a unit over some states.
+/// Each work of a book is that of a unit over some states, and the unit's nodes are in the book.
 pub fn works_are_of_units<C: Chip>()
-    ensures { (base : C.Base) (journal : List Event) (work : Work C.Abs)
-        → Contains (live_works (replay (C.meaning base) journal)) work → IsOfUnit (C.meaning base) work }
+    ensures { (base : C.Base) (journal : List Event) (work : Work C.Abs) → IsLegalJournal (C.meaning base) journal
+        → Contains (live_works (replay (C.meaning base) journal)) work
+        → IsOfUnit (C.meaning base) (replay (C.meaning base) journal).nodes work }
 {}
