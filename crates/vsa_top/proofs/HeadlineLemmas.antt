@@ -1,11 +1,14 @@
--- A report that is told as closed covers every run, and one that is told as open has an open site.
+-- A report that is told as closed covers every run, and one that is told as open shows its open sites.
 use Rattle.std.proofs.Common.{◌≡◌, ◌++◌, ℕ, Bool, true, false, Option, None, Some, Result, Ok, Err, List, [], ◌∷◌, refl, sym, ap, subst, ◌∙◌, append_assoc, inl, inr}
 use Rattle.std.specs.Prelude.{All, Contains, length, map, ◌&&◌}
 use Rattle.std.specs.List.{flat_map}
 use Rattle.std.proofs.lemmas.List.Elements.{Contains-append_right}
 use Rattle.std.proofs.lemmas.Option.{same_Some}
+use Rattle.std.specs.Option.{option_map}
+use Rattle.call_context.specs.Nodes.{pc_of}
 use Rattle.call_context.specs.PlainLaws.{in_none, in_cons, in_first, in_rest}
 use Rattle.call_context.specs.declared.node.Frame.{Frame}
+use Rattle.call_context.specs.declared.node.Node.{Node}
 use Rattle.call_context.specs.declared.node.Node.TheVariants.{At, Exit}
 use Rattle.call_context.specs.declared.node.Unit.{Unit as WorkUnit}
 use Rattle.call_context.specs.declared.node.Unit.TheVariants.{One, Back}
@@ -21,14 +24,14 @@ use Rattle.ihex_read.specs.declared.rule_set.Rules.{Rules}
 use Rattle.ihex_read.specs.Image.{IsByte}
 use Rattle.ihex_read.specs.ImageText.{Denotes, IsPlainImage}
 use Rattle.ihex_read.specs.Lines as texts
-use Rattle.round_core.specs.Machine.{replay, IsLegalJournal, IsFinished}
+use Rattle.round_core.specs.Machine.{Held, held_at, inputs_of, replay, IsLegalJournal, IsFinished}
 use Rattle.round_core.specs.declared.event.Event.{Event}
 use Rattle.vsa_top.specs.declared.msp430.instr.Instr.{Instr}
 use Rattle.vsa_top.specs.declared.msp430.state.State.{State}
 use Rattle.vsa_top.specs.declared.outcome.Status.TheVariants.{Done, Open}
 use Rattle.vsa_top.specs.Answer.{rules, IsImageOf, IsAnalysis, AnswersInput, AnswersImage, works_behind, report_behind}
 use Rattle.vsa_top.specs.Answer.AnswersInput.{of_image, of_none, unread}
-use Rattle.vsa_top.specs.Headline.{Says, CoversEveryRun, HasOpenSite, ReportsOn}
+use Rattle.vsa_top.specs.Headline.{Says, CoversEveryRun, ShowsOpenSites, ReportsOn}
 use Rattle.vsa_top.specs.Msp430Chip.{msp430, work_of, work_at, IsProgram}
 use Rattle.vsa_top.specs.Msp430Fetch.{fetched}
 use Rattle.vsa_top.specs.Msp430Table.{instr_of, instr_text}
@@ -76,18 +79,30 @@ open_at pc calls frame a (Err why) at cause h = elim (in_cons (pc, why) [] (at, 
 ]
 open_at pc calls frame a (Ok found) at cause h = absurd (in_none (at, cause) h)
 
-unit_open : (image : List (Option ℕ)) (unit : WorkUnit) (a : State) (exit : Option State) (at : ℕ) (cause : Cause)
-    → Contains (work_of image unit a exit).opens (at, cause) → fetched image at ≡ Err cause
-unit_open image (One (At pc calls frame)) a exit at cause h =
-    let found = open_at pc calls frame a (fetched image pc) at cause h in ap (fetched image) found.0 ∙ found.1
-unit_open image (One (Exit pc frame)) a exit at cause h = absurd (in_none (at, cause) h)
-unit_open image (Back node other) a exit at cause h = absurd (in_none (at, cause) h)
+-- the node of such a work is among these, and at its address no instruction is fetched
+abbrev IsSite : List (Option ℕ) → List (Held State) → ℕ → Cause → Type 0
+IsSite image nodes pc cause =
+    ((node : Node) × (held : Held State) × (held_at nodes node ≡ Some held) × (pc_of node ≡ pc)) × (fetched image pc ≡ Err cause)
 
-site_limit : (image : List (Option ℕ)) (work : Work State) (at : ℕ) (cause : Cause) → IsOfUnit (msp430 image) work
-    → Contains work.opens (at, cause) → fetched image at ≡ Err cause
+found_at : (found : Option (Held State)) (inputs : State × Option State) → option_map (λ (h : Held State). (h.state, None)) found ≡ Some inputs
+    → (held : Held State) × (found ≡ Some held)
+found_at None inputs e = absurd (cc)
+found_at (Some held) inputs e = (held, refl)
+
+unit_open : (image : List (Option ℕ)) (nodes : List (Held State)) (unit : WorkUnit) (a : State) (exit : Option State) (inputs : State × Option State)
+    (at : ℕ) (cause : Cause) → inputs_of nodes unit ≡ Some inputs → Contains (work_of image unit a exit).opens (at, cause) → IsSite image nodes at cause
+unit_open image nodes (One (At pc calls frame)) a exit inputs at cause e h =
+    let site = open_at pc calls frame a (fetched image pc) at cause h in
+    let found = found_at (held_at nodes (At pc calls frame)) inputs e in
+    ((At pc calls frame, found.0, found.1, sym site.0), ap (fetched image) site.0 ∙ site.1)
+unit_open image nodes (One (Exit pc frame)) a exit inputs at cause e h = absurd (in_none (at, cause) h)
+unit_open image nodes (Back node other) a exit inputs at cause e h = absurd (in_none (at, cause) h)
+
+is_site : (image : List (Option ℕ)) (nodes : List (Held State)) (work : Work State) (at : ℕ) (cause : Cause) → IsOfUnit (msp430 image) nodes work
+    → Contains work.opens (at, cause) → IsSite image nodes at cause
 unfolding msp430
-site_limit image work at cause is h =
-    unit_open image is.unit is.at is.exit at cause (subst (λ (w : Work State). Contains w.opens (at, cause)) is.is_work h)
+is_site image nodes work at cause is h =
+    unit_open image nodes is.unit is.at is.exit is.held.0 at cause is.held.1 (subst (λ (w : Work State). Contains w.opens (at, cause)) is.is_work h)
 
 abbrev text_at : ℕ → List ℕ → List ℕ
 text_at = λ pc bytes. instr_text pc (instr_of bytes)
@@ -121,8 +136,8 @@ HaveBytes = (rules : Rules) (tail : Tail) (lines : List (List ℕ)) (image : Lis
     → Denotes rules tail lines image → (length image ≡ 65536) × All IsByte image
 
 abbrev AreOfUnits : Type 0
-AreOfUnits = (image : List (Option ℕ)) (journal : List Event) (work : Work State) → Contains (works_behind image journal) work
-    → IsOfUnit (msp430 image) work
+AreOfUnits = (image : List (Option ℕ)) (journal : List Event) (work : Work State) → IsLegalJournal (msp430 image) journal
+    → Contains (works_behind image journal) work → IsOfUnit (msp430 image) (replay (msp430 image) journal).nodes work
 
 abbrev HaveOneImage : Type 0
 HaveOneImage = (rules : Rules) (tail : Tail) (lines : List (List ℕ)) (image other : List (Option ℕ))
@@ -152,18 +167,18 @@ covers_every cover bytes text image journal plain analysis closed =
       stays = covering.stays;
     }
 
-open_site : AreOfUnits → (image : List (Option ℕ)) (journal : List Event) → are_closed (works_behind image journal) ≡ false
-    → HasOpenSite image journal (report_behind image journal)
-open_site of_units image journal left =
-    let found = some_open (works_behind image journal) left in
-    record {
-      says = says_head false (works_behind image journal) left;
-      pc = found.1.0;
-      cause = found.1.1;
-      line = report_has_open (works_behind image journal) found.0 found.1 found.2 found.3;
-      met = (found.0, found.2, found.3);
-      limit = site_limit image found.0 found.1.0 found.1.1 (of_units image journal found.0 found.2) found.3;
-    }
+open_sites : AreOfUnits → (image : List (Option ℕ)) (journal : List Event) → IsAnalysis image journal
+    → are_closed (works_behind image journal) ≡ false → ShowsOpenSites image journal (report_behind image journal)
+open_sites of_units image journal analysis left = record {
+  says = says_head false (works_behind image journal) left;
+  some = some_open (works_behind image journal) left;
+  each = λ work pc cause is_work is_open.
+    let site = is_site image (replay (msp430 image) journal).nodes work pc cause (of_units image journal work analysis.legal is_work) is_open in record {
+      line = report_has_open (works_behind image journal) work (pc, cause) is_work is_open;
+      node = site.0;
+      limit = site.1;
+    };
+}
 
 pub closed_lem : CoverRuns → HaveBytes → HaveOneImage → (input before after : Option (List ℕ)) (journal : List Event)
     → AnswersInput Done input before after journal → ReportsOn input before after CoversEveryRun
@@ -176,11 +191,11 @@ closed_lem cover bytes one input before after journal (unread why kept none) tex
     elim why [ inl a ↦ absurd (cc) | inr b ↦ absurd (cc) ]
 
 pub open_lem : AreOfUnits → HaveOneImage → (input before after : Option (List ℕ)) (journal : List Event)
-    → AnswersInput Open input before after journal → ReportsOn input before after (λ image report. HasOpenSite image journal report)
+    → AnswersInput Open input before after journal → ReportsOn input before after (λ image report. ShowsOpenSites image journal report)
 open_lem of_units one input before after journal (of_image other found answer) text image e plain =
     let same = same_image one input text image other e plain found in
     let is = subst (λ i. AnswersImage Open i before after journal) same answer in
-    (report_behind image journal, is.2, open_site of_units image journal is.1)
+    (report_behind image journal, is.2, open_sites of_units image journal is.0 is.1)
 open_lem of_units one input before after journal (of_none lacks answer) text image e plain = absurd answer
 open_lem of_units one input before after journal (unread why kept none) text image e plain =
     elim why [ inl a ↦ absurd (cc) | inr b ↦ absurd (cc) ]

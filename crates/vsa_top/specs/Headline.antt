@@ -3,11 +3,14 @@ use Rattle.std.specs.Prelude.{◌≡◌, ℕ, Option, Some, Err, List, ◌++◌,
 use Rattle.call_context.specs.declared.shown.Cause.{Cause}
 use Rattle.ihex_read.specs.ImageText.{IsPlainImage}
 use Rattle.vsa_io.specs.Stream.{appended}
+use Rattle.call_context.specs.declared.node.Node.{Node}
+use Rattle.call_context.specs.Nodes.{pc_of}
 use Rattle.chip_law.specs.declared.chip.Work.{Work}
 use Rattle.chip_law.specs.Line.{open_line_of}
 use Rattle.chip_law.specs.Runs.{Meets, GoesWild}
 use Rattle.chip_law.specs.Shown.{HasLine, IsShownIn}
 use Rattle.chip_law.specs.Single.{Single}
+use Rattle.round_core.specs.Machine.{Held, held_at, replay}
 use Rattle.round_core.specs.declared.event.Event.{Event}
 use Rattle.vsa_top.specs.declared.msp430.state.State.{State}
 use Rattle.vsa_top.specs.Answer.{rules, works_behind}
@@ -27,15 +30,19 @@ pub record CoversEveryRun (image : List (Option ℕ)) (report : List ℕ) : Type
       → IsShownIn (λ pc bytes. instr_text pc (instr_of bytes)) report item
   pub stays : (n : ℕ) → GoesWild (msp430 image) n → ⊥
 
--- The report says OPEN. It shows a site that some work of the book leaves open, where no instruction that is built
--- stands.
-pub record HasOpenSite (image : List (Option ℕ)) (journal : List Event) (report : List ℕ) : Type 0 where
-  pub says : Says (codes "OPEN\n") report
-  pub pc : ℕ
-  pub cause : Cause
+-- The report has the line of an open site, which is the address of a node of the book, and no instruction that is built
+-- stands there.
+pub record IsOpenSite (image : List (Option ℕ)) (journal : List Event) (report : List ℕ) (pc : ℕ) (cause : Cause) : Type 0 where
   pub line : HasLine report (open_line_of pc cause)
-  pub met : (work : Work State) × Contains (works_behind image journal) work × Contains work.opens (pc, cause)
+  pub node : (node : Node) × (held : Held State) × (held_at (replay (msp430 image) journal).nodes node ≡ Some held) × (pc_of node ≡ pc)
   pub limit : fetched image pc ≡ Err cause
+
+-- The report says OPEN. Some work of the book leaves a site open, and each that does is shown.
+pub record ShowsOpenSites (image : List (Option ℕ)) (journal : List Event) (report : List ℕ) : Type 0 where
+  pub says : Says (codes "OPEN\n") report
+  pub some : (work : Work State) × (site : ℕ × Cause) × Contains (works_behind image journal) work × Contains work.opens site
+  pub each : (work : Work State) (pc : ℕ) (cause : Cause) → Contains (works_behind image journal) work
+      → Contains work.opens (pc, cause) → IsOpenSite image journal report pc cause
 
 -- Where the input is told and denotes an image, the sink got a report of which P holds.
 abbrev pub ReportsOn : (input before after : Option (List ℕ)) → (List (Option ℕ) → List ℕ → Type 0) → Type 0

@@ -4,18 +4,18 @@ ghost use Rattle.std.specs.Prelude.{ℕ, Option, List};
 ghost use Rattle.round_core.specs.declared.event.Event.{Event as AnEvent};
 ghost use Rattle.vsa_top.specs.declared.outcome.Status.TheVariants.{Done, Open};
 ghost use Rattle.vsa_top.specs.Answer.{AnswersInput};
-ghost use Rattle.vsa_top.specs.Headline.{CoversEveryRun, HasOpenSite, ReportsOn};
+ghost use Rattle.vsa_top.specs.Headline.{CoversEveryRun, ShowsOpenSites, ReportsOn};
 
 use crate::msp430::Msp430;
 use closing_law::{closed_books_cover_runs, works_are_of_units};
 use ihex_read::{image_or_fault, images_have_bytes};
 
-/// A report that is told as closed covers every run, and one that is told as open has an open site.
+/// A report that is told as closed covers every run, and one that is told as open shows its open sites.
 pub(crate) fn reports_hold()
     ensures closed { (input before after : Option (List ℕ)) (journal : List AnEvent)
         → AnswersInput Done input before after journal → ReportsOn input before after CoversEveryRun }
     ensures open { (input before after : Option (List ℕ)) (journal : List AnEvent)
-        → AnswersInput Open input before after journal → ReportsOn input before after (λ image report. HasOpenSite image journal report) }
+        → AnswersInput Open input before after journal → ReportsOn input before after (λ image report. ShowsOpenSites image journal report) }
 {
     image_or_fault();
     images_have_bytes();

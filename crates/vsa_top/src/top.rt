@@ -2,7 +2,7 @@
 
 ghost use Rattle.std.specs.Prelude.{◌≡◌, ◌≢◌, if◌then◌else◌, [], IfOk, OnOk, ◌⊎◌, ◌≤◌, OnErr};
 ghost use Rattle.vsa_io.specs.Stream.{HasRisen, AppendsPrefix, appended};
-ghost use Rattle.vsa_top.specs.Headline.{CoversEveryRun, HasOpenSite, ReportsOn};
+ghost use Rattle.vsa_top.specs.Headline.{CoversEveryRun, ShowsOpenSites, ReportsOn};
 ghost use Rattle.vsa_top.specs.Answer.{rules as the_rules, IsReading, AnswersUsage, AnswersImage, AnswersInput, IsCutShort};
 
 use crate::fixpoint::fixpoint_alone;
@@ -112,8 +112,9 @@ pub fn vsa<R: Threads + Wait + Sync, S: Source, K: Sink, G: Gate>(
     // THE HEADLINE. Where the input denotes an image and the status is Done, which tells a report that says CLOSED,
     // whatever the chip meets on any run has its line in the report, and no run leaves the model.
     ensures headline { result.status ≡ Status.Done → ReportsOn (S.left source.old) (K.held sink.old) (K.held sink.new) CoversEveryRun }
-    // Where the status is Open the report shows a site at which no instruction that is built stands.
-    ensures open_sites { result.status ≡ Status.Open → ReportsOn (S.left source.old) (K.held sink.old) (K.held sink.new) (λ image report. HasOpenSite image result.journal.items report) }
+    // Where the status is Open the report says OPEN and shows each open site, of which there is one: the address of a
+    // node of the book at which no instruction that is built stands.
+    ensures open_sites { result.status ≡ Status.Open → ReportsOn (S.left source.old) (K.held sink.old) (K.held sink.new) (λ image report. ShowsOpenSites image result.journal.items report) }
 
     // Words that aren't a reading are refused, and no others.
     ensures usage { ¬ IsReading words.now → AnswersUsage result.status (K.held sink.old) (K.held sink.new) result.journal.items }
