@@ -173,11 +173,11 @@ open_sites of_units image journal analysis left = record {
   says = says_head false (works_behind image journal) left;
   some = some_open (works_behind image journal) left;
   each = λ work pc cause is_work is_open.
-    let site = is_site image (replay (msp430 image) journal).nodes work pc cause (of_units image journal work analysis.legal is_work) is_open in record {
-      line = report_has_open (works_behind image journal) work (pc, cause) is_work is_open;
-      node = site.0;
-      limit = site.1;
-    };
+      let site = is_site image (replay (msp430 image) journal).nodes work pc cause (of_units image journal work analysis.legal is_work) is_open in record {
+        line = report_has_open (works_behind image journal) work (pc, cause) is_work is_open;
+        node = site.0;
+        limit = site.1;
+      };
 }
 
 pub closed_lem : CoverRuns → HaveBytes → HaveOneImage → (input before after : Option (List ℕ)) (journal : List Event)
