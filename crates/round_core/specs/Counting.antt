@@ -1,6 +1,6 @@
 -- Three chips of the tests: one that counts at its only node, one that counts and never comes to rest, and one with a
 -- chain of nodes.
-use Rattle.std.specs.Prelude.{ℕ, ◌+◌, Bool, false, nat_le, nat_lt, if◌then◌else◌, List, [], ◌∷◌, max, min}
+use Rattle.std.specs.Prelude.{ℕ, ◌+◌, false, nat_le, nat_lt, if◌then◌else◌, List, [], ◌∷◌, max, min}
 use Rattle.call_context.specs.declared.node.Frame.TheVariants.{Base}
 use Rattle.call_context.specs.declared.node.Node.{Node}
 use Rattle.call_context.specs.declared.node.Node.TheVariants.{At, Exit}
