@@ -151,20 +151,26 @@ fn check_twice(rt: &impl Abort, sample: &Sample) {
     assert!(rt; agrees(&sample.set.twice(), &expected));
 }
 
-fn check_join(rt: &impl Abort, first: &Sample, second: &Sample) {
+fn check_within(rt: &impl Abort, first: &Sample, second: &Sample) {
     let is_within = includes(&second.plain.marks, &first.plain.marks);
     assert_eq!(rt; first.set.within(&second.set), is_within);
-    let expected = plain::join(&first.plain, &second.plain);
-    let both = together(&first.plain.marks, &second.plain.marks);
-    assert!(rt; includes(&expected.marks, &both));
-    assert!(rt; agrees(&first.set.join(&second.set), &expected));
 }
 
-fn check_widen(rt: &impl Abort, held: &Sample, new: &Sample, stops: &[u8]) {
-    let expected = plain::widen(&held.plain, &new.plain, stops);
-    let both = together(&held.plain.marks, &new.plain.marks);
-    assert!(rt; includes(&expected.marks, &both));
-    assert!(rt; agrees(&held.set.widen(&new.set, stops), &expected));
+/// The join, and the widening to each of some lists of stops, hold the members of both.
+fn check_join(rt: &impl Abort, first: &Sample, second: &Sample) {
+    let joined = plain::join(&first.plain, &second.plain);
+    let both = together(&first.plain.marks, &second.plain.marks);
+    assert!(rt; includes(&joined.marks, &both));
+    assert!(rt; agrees(&first.set.join(&second.set), &joined));
+    for stops in [
+        [].as_slice(),
+        [0x00, 0x40, 0x80].as_slice(),
+        [0xF0, 0x20].as_slice(),
+    ] {
+        let widened = plain::widen(&first.plain, &second.plain, &joined, stops);
+        assert!(rt; includes(&widened.marks, &both));
+        assert!(rt; agrees(&first.set.widen(&second.set, stops), &widened));
+    }
 }
 
 fn check_cut(rt: &impl Abort, sample: &Sample, low: u8, len: u32) {
@@ -205,13 +211,12 @@ fn check_sub(rt: &impl Abort, first: &Sample, second: &Sample) {
     assert!(rt; agrees(&first.set.sub(&second.set), &expected));
 }
 
-/// Just these numbers are gathered, or a run that has them all.
-fn check_gather(rt: &impl Abort, numbers: &[u8], set: &Vs8) {
+/// A set of just these numbers, or a run that has them all.
+fn check_gathered(rt: &impl Abort, numbers: &[u8], set: &Vs8) {
     let all = marked(numbers);
     let expected = gathered(&all);
     assert!(rt; includes(&expected.marks, &all));
     assert!(rt; agrees(set, &expected));
-    assert_eq!(rt; Vs8::gather(numbers), Some(*set));
 }
 
 /// The combinations of two sets and some carries are gathered.
@@ -228,25 +233,20 @@ fn check_combine(
         let operation = CarriedSum;
         let set = Vs8::combine(&operation, &first.set, &second.set, &carry);
         let CarriedSum = operation;
-        check_gather(rt, &all, &set);
+        check_gathered(rt, &all, &set);
+        assert_eq!(rt; Vs8::gather(&all), Some(set));
         let all = odd_bits(alloc, first, second, carries)?;
         let operation = OddBits;
         let set = Vs8::combine(&operation, &first.set, &second.set, &carry);
         let OddBits = operation;
-        check_gather(rt, &all, &set);
+        check_gathered(rt, &all, &set);
     }
     Ok(())
 }
 
 fn check_pair(rt: &impl Abort, alloc: Global, first: &Sample, second: &Sample) -> Result<(), Fail> {
+    check_within(rt, first, second);
     check_join(rt, first, second);
-    for stops in [
-        [].as_slice(),
-        [0x00, 0x40, 0x80].as_slice(),
-        [0xF0, 0x20].as_slice(),
-    ] {
-        check_widen(rt, first, second, stops);
-    }
     check_add(rt, first, second);
     check_sub(rt, first, second);
     check_cut(rt, first, second.plain.steps.base, second.set.count());
@@ -281,7 +281,7 @@ fn gathers_long_lists(rt: HostRuntime) -> Result<(), Fail> {
         let mut numbers = Vec::from_slice(rt.alloc(), first.members.as_slice())?;
         numbers.extend_from_slice(second.members.as_slice())?;
         let set = Vs8::gather(&numbers).ok_or("numbers")?;
-        check_gather(&rt, &numbers, &set);
+        check_gathered(&rt, &numbers, &set);
     }
     Ok(())
 }

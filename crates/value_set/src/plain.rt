@@ -29,12 +29,11 @@ pub fn count_of(marks: &Marks) -> usize {
 
 /// Whether each number that is marked in the second is marked in the first.
 pub fn includes(larger: &Marks, smaller: &Marks) -> bool {
+    let mut all = true;
     for place in 0..256 {
-        if smaller[place] && !larger[place] {
-            return false;
-        }
+        all &= larger[place] | !smaller[place];
     }
-    true
+    all
 }
 
 /// The numbers that are marked in the one or in the other.
@@ -67,20 +66,20 @@ fn is_step(distance: u8, stride: u8) -> bool {
 
 /// The greatest distance of whole strides that is at most another.
 fn whole_steps(stride: u8, end: u8) -> u8 {
-    let mut reach = 0;
-    for distance in 0..=end {
-        if is_step(distance, stride) {
-            reach = distance;
-        }
+    match stride {
+        0 => 0,
+        stride => end.wrapping_sub(end % stride),
     }
-    reach
 }
 
 fn marks_of(steps: &Steps) -> Marks {
     let mut marks = [false; 256];
-    for distance in 0..=steps.reach {
-        if is_step(distance, steps.stride) {
-            marks[steps.base.wrapping_add(distance) as usize] = true;
+    let mut distance = 0;
+    for _ in 0..256 {
+        marks[steps.base.wrapping_add(distance) as usize] = true;
+        match steps.stride.checked_add(distance) {
+            Some(next) if next <= steps.reach => distance = next,
+            _ => return marks,
         }
     }
     marks
@@ -245,9 +244,11 @@ pub fn join(first: &Plain, second: &Plain) -> Plain {
 /// The greatest stop that is at most a number.
 fn stop_below(stops: &[u8], number: u8) -> Option<u8> {
     let mut best = None;
-    for candidate in 0..=number {
-        if stops.contains(&candidate) {
-            best = Some(candidate);
+    for stop in stops {
+        match best {
+            Some(other) if *stop < other => {}
+            _ if *stop > number => {}
+            _ => best = Some(*stop),
         }
     }
     best
@@ -255,12 +256,15 @@ fn stop_below(stops: &[u8], number: u8) -> Option<u8> {
 
 /// The least stop above a number.
 fn stop_above(stops: &[u8], number: u8) -> Option<u8> {
-    for candidate in number..=u8::MAX {
-        if candidate > number && stops.contains(&candidate) {
-            return Some(candidate);
+    let mut best = None;
+    for stop in stops {
+        match best {
+            Some(other) if *stop > other => {}
+            _ if *stop <= number => {}
+            _ => best = Some(*stop),
         }
     }
-    None
+    best
 }
 
 /// Down in steps from the base to the least number that isn't below the next stop.
@@ -286,11 +290,11 @@ fn last_widened(run: &Steps, held: &Steps, stops: &[u8]) -> Option<u8> {
 
 /// The ends of the join go on to the next stops, where they aren't those held; where a stop is missing, all with the
 /// same remainder.
-pub fn widen(held: &Plain, new: &Plain, stops: &[u8]) -> Plain {
+pub fn widen(held: &Plain, new: &Plain, joined: &Plain, stops: &[u8]) -> Plain {
     if includes(&held.marks, &new.marks) {
         return *held;
     }
-    let run = join(held, new).steps;
+    let run = joined.steps;
     let first = first_widened(&run, &held.steps, stops);
     let last = last_widened(&run, &held.steps, stops);
     match (first, last) {
@@ -345,7 +349,7 @@ fn part(steps: &Steps, low: u8, len: u32, behind: bool) -> Option<Plain> {
     let mut ends = None;
     for distance in 0..=steps.reach {
         let (place, turned) = steps.base.wrapping_sub(low).overflowing_add(distance);
-        if is_step(distance, steps.stride) && turned == behind && u32::from(place) < len {
+        if turned == behind && u32::from(place) < len && is_step(distance, steps.stride) {
             ends = Some(match ends {
                 None => (distance, distance),
                 Some((first, _)) => (first, distance),

@@ -63,10 +63,8 @@ fn add_lists(alloc: Global, all: &mut Vec<Sample>) -> Result<(), Fail> {
         (0u8, 1u8, 0u8),
         (3, 16, 0),
         (200, 7, 0),
-        (250, 2, 0),
         (5, 0, 1),
         (128, 31, 5),
-        (17, 40, 11),
         (9, 111, 64),
     ] {
         let mut numbers = Vec::new(alloc);
@@ -83,10 +81,10 @@ fn add_lists(alloc: Global, all: &mut Vec<Sample>) -> Result<(), Fail> {
     Ok(())
 }
 
-/// Runs of a stride, and lists of 16 numbers.
+/// Runs of a stride up to the longest one, and lists of 16 numbers.
 fn add_runs(alloc: Global, all: &mut Vec<Sample>, stride: u8) -> Result<(), Fail> {
-    for base in [0, 1, 6, 0x7F, 0xF0] {
-        for more in [15, 16, 31, 50, 63, 84, 127, 200, 255] {
+    for base in [0, 6, 0x7F, 0xF0] {
+        for more in [15, 16, 17, 25, 31, 36, 51, 63, 85, 127, 255] {
             if let Some(reach) = stride.checked_mul(more) {
                 let plain = made(&Steps {
                     base,
