@@ -1,0 +1,12 @@
+//! The MSP430's instructions.
+#![tactic(auto)]
+
+mod codes;
+mod fields;
+mod instr;
+
+pub use codes::{code_of_condition, code_of_operation, code_of_single, code_of_width, number_of};
+pub use fields::{instr_from, is_no_instruction};
+pub use instr::{
+    Condition, Constant, Destination, Instr, Operation, Register, SingleOperation, Source, Width,
+};
