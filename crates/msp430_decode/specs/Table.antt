@@ -1,5 +1,5 @@
 -- The instruction table (SLAU049, chapter 3, "Instruction Set": the formats I and II and the jumps).
-use Rattle.std.specs.Prelude.{ℕ, ◌≡◌, ◌<◌, ◌+◌, ◌*◌, ◌/◌, ◌%◌, ◌-◌, nat_lt, if◌then◌else◌, List, [], ◌∷◌, ◌++◌, length}
+use Rattle.std.specs.Prelude.{ℕ, ◌≡◌, ◌<◌, ◌+◌, ◌*◌, ◌/◌, ◌%◌, ◌-◌, nat_lt, if◌then◌else◌, Option, None, Some, List, [], ◌∷◌, ◌++◌, length}
 use Rattle.std.specs.List.{flat_map}
 use Rattle.msp430_decode.specs.declared.instr.Width.{Width}
 use Rattle.msp430_decode.specs.declared.instr.Width.TheVariants.{Word, Byte}
@@ -76,4 +76,9 @@ length_of instr = 2 + 2 * length (extension_words instr)
 
 -- a jump goes on from the following address, by twice its offset, which is signed; addresses wrap at 16 bits
 abbrev pub target_of : ℕ → ℕ → ℕ
-target_of pc offset = if nat_lt offset 512 then (pc + 2 + 2 * offset) % 65536 else (pc + 65536 + 2 + 2 * offset - 2048) % 65536
+target_of pc offset = if nat_lt offset 512 then (pc + 2 + 2 * offset) % 65536 else (pc + 2 + 2 * offset + 65536 - 2048) % 65536
+
+-- where an instruction at an address jumps, if it is a jump
+abbrev pub jump_target : ℕ → Instr → Option ℕ
+jump_target pc (Jump condition offset) = Some (target_of pc offset)
+jump_target pc other = None

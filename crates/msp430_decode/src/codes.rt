@@ -91,7 +91,8 @@ pub fn width_from(code: u16) -> Width
 
 /// The number of a register.
 pub fn number_of(register: Register) -> u16
-    ensures { result ≡ number register }
+    ensures value { result ≡ number register }
+    ensures below { result < 16 }
 {
     match register {
         Register::Pc => 0,
@@ -115,7 +116,8 @@ pub fn number_of(register: Register) -> u16
 
 /// The code of an operation, from 4 to 15.
 pub fn code_of_operation(operation: Operation) -> u16
-    ensures { result ≡ operation_code operation }
+    ensures value { result ≡ operation_code operation }
+    ensures below { result < 16 }
 {
     match operation {
         Operation::Mov => 4,
@@ -135,7 +137,8 @@ pub fn code_of_operation(operation: Operation) -> u16
 
 /// The code of an operation on one operand, below 6.
 pub fn code_of_single(operation: SingleOperation) -> u16
-    ensures { result ≡ single_code operation }
+    ensures value { result ≡ single_code operation }
+    ensures below { result < 6 }
 {
     match operation {
         SingleOperation::Rrc => 0,
@@ -149,7 +152,8 @@ pub fn code_of_single(operation: SingleOperation) -> u16
 
 /// The code of a condition, below 8.
 pub fn code_of_condition(condition: Condition) -> u16
-    ensures { result ≡ condition_code condition }
+    ensures value { result ≡ condition_code condition }
+    ensures below { result < 8 }
 {
     match condition {
         Condition::NotEqual => 0,
@@ -165,7 +169,8 @@ pub fn code_of_condition(condition: Condition) -> u16
 
 /// The code of a width, below 2.
 pub fn code_of_width(width: Width) -> u16
-    ensures { result ≡ width_code width }
+    ensures value { result ≡ width_code width }
+    ensures below { result < 2 }
 {
     match width {
         Width::Word => 0,

@@ -2,10 +2,13 @@
 #![tactic(auto)]
 
 mod codes;
+mod encoding;
 mod fields;
 mod instr;
+mod operands;
 
 pub use codes::{code_of_condition, code_of_operation, code_of_single, code_of_width, number_of};
+pub use encoding::encode;
 pub use fields::{instr_from, is_no_instruction};
 pub use instr::{
     Condition, Constant, Destination, Instr, Operation, Register, SingleOperation, Source, Width,
