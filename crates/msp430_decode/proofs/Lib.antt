@@ -3,3 +3,5 @@ pub mod OperandLemmas
 pub mod WordLemmas
 pub mod AgainLemmas
 pub mod MadeLemmas
+pub mod StandLemmas
+pub mod UniqueLemmas

@@ -4,3 +4,4 @@ pub mod Table
 pub mod Standing
 pub mod Excluded
 pub mod Fields
+pub mod Reading

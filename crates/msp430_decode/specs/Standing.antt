@@ -1,7 +1,9 @@
 -- What an image has at an address: an instruction, a gap where a byte of one is needed, or no instruction's first word.
-use Rattle.std.specs.Prelude.{ℕ, ◌≡◌, ◌<◌, ◌≤◌, ◌+◌, ◌*◌, ◌/◌, ◌%◌, ◌⊎◌, suc, Option, None, Some, List, [], ◌∷◌, ◌++◌, length}
+use Rattle.std.specs.Prelude.{ℕ, ◌≡◌, ◌<◌, ◌≤◌, ◌+◌, ◌*◌, ◌/◌, ◌%◌, ◌⊎◌, suc, Option, None, Some, Result, Ok, Err, List, [], ◌∷◌, ◌++◌, length}
 use Rattle.ihex_read.specs.Image.{byte_at}
 use Rattle.msp430_decode.specs.declared.instr.Instr.{Instr}
+use Rattle.msp430_decode.specs.declared.refusal.NoInstr.{NoInstr}
+use Rattle.msp430_decode.specs.declared.refusal.NoInstr.TheVariants.{OffImage, Excluded}
 use Rattle.msp430_decode.specs.Table.{Row}
 
 -- the i-th byte upward from an address; addresses wrap at 16 bits
@@ -32,3 +34,9 @@ abbrev pub IsExcluded : List (Option ℕ) → ℕ → Type 0
 IsExcluded image pc =
     (low : ℕ) × (high : ℕ) × AreThere (upward image pc) 0 (low ∷ high ∷ [])
     × ((more : List ℕ) (instr : Instr) → ¬ Row (low ∷ high ∷ more) instr)
+
+-- the answer at an address: the instruction and its length, the first byte that is lacking, or that the word is excluded
+abbrev pub Decodes : List (Option ℕ) → ℕ → Result (Instr × ℕ) NoInstr → Type 0
+Decodes image pc (Ok (instr, len)) = Stands image pc instr len
+Decodes image pc (Err (OffImage at)) = Lacks image pc at
+Decodes image pc (Err Excluded) = IsExcluded image pc
