@@ -5,3 +5,4 @@ pub mod AgainLemmas
 pub mod MadeLemmas
 pub mod StandLemmas
 pub mod UniqueLemmas
+pub mod LawLemmas

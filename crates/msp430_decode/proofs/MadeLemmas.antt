@@ -130,7 +130,7 @@ single_made w x y low high hx other allowed =
       words_are = rw (source_word m r x hm) (one_word (takes_word (source_of m r 0)) x y);
     })
 
-told : (b : Bool) → (b ≡ true) ⊎ (b ≡ false)
+pub told : (b : Bool) → (b ≡ true) ⊎ (b ≡ false)
 told true = inl refl
 told false = inr refl
 

@@ -6,6 +6,7 @@ mod decoding;
 mod encoding;
 mod fields;
 mod instr;
+mod law;
 mod operands;
 mod refusal;
 
@@ -16,4 +17,5 @@ pub use fields::{instr_from, is_no_instruction};
 pub use instr::{
     Condition, Constant, Destination, Instr, Operation, Register, SingleOperation, Source, Width,
 };
+pub use law::{excluded_words, one_instruction, one_of_three};
 pub use refusal::NoInstr;
