@@ -1,7 +1,7 @@
 //! The codes of the fields of a first word.
 
 ghost use Rattle.std.specs.Prelude.{◌≡◌, ◌≤◌, ◌<◌};
-ghost use Rattle.msp430_decode.specs.Codes.{number, register_at, operation_code, operation_at, single_code, single_at, condition_code, condition_at, width_code, width_at};
+ghost use Rattle.msp430_decode.specs.Codes.{register_at, operation_code, operation_at, single_code, single_at, condition_code, condition_at, width_code, width_at};
 
 use crate::instr::{Condition, Operation, Register, SingleOperation, Width};
 
@@ -86,31 +86,6 @@ pub fn width_from(code: u16) -> Width
     match code {
         0 => Width::Word,
         _ => Width::Byte,
-    }
-}
-
-/// The number of a register.
-pub fn number_of(register: Register) -> u16
-    ensures value { result ≡ number register }
-    ensures below { result < 16 }
-{
-    match register {
-        Register::Pc => 0,
-        Register::Sp => 1,
-        Register::Sr => 2,
-        Register::R3 => 3,
-        Register::R4 => 4,
-        Register::R5 => 5,
-        Register::R6 => 6,
-        Register::R7 => 7,
-        Register::R8 => 8,
-        Register::R9 => 9,
-        Register::R10 => 10,
-        Register::R11 => 11,
-        Register::R12 => 12,
-        Register::R13 => 13,
-        Register::R14 => 14,
-        Register::R15 => 15,
     }
 }
 

@@ -1,18 +1,16 @@
 //! The bytes of instructions.
 
-ghost use Rattle.std.specs.Prelude.{◌≡◌, ◌≤◌, ◌<◌, ◌+◌, ◌*◌, ◌++◌, length};
+ghost use Rattle.std.specs.Prelude.{◌≡◌, ◌≤◌, ◌<◌, ◌+◌, ◌*◌, ◌++◌, length, ℕ, List};
 ghost use Rattle.std.specs.List.{flat_map};
 ghost use Rattle.std.specs.Option.{option_to_list};
 ghost use Rattle.arrayvec.specs.ArrayVec.{array_vec_len};
-ghost use Rattle.msp430_decode.specs.Table.{IsInstr, first_word, extension_words, word_bytes, bytes_of, length_of, target_of, jump_target};
+ghost use Rattle.msp430_decode.specs.Table.{IsInstr, Row, first_word, extension_words, word_bytes, bytes_of, length_of, target_of, jump_target};
 
-use crate::codes::{
-    code_of_condition, code_of_operation, code_of_single, code_of_width, number_of,
-};
+use crate::codes::{code_of_condition, code_of_operation, code_of_single, code_of_width};
 use crate::instr::Instr;
 use crate::operands::{
-    length_of_destination, length_of_source, mode_of_destination, mode_of_source,
-    register_of_destination, register_of_source, word_of_destination, word_of_source,
+    length_of_destination, mode_of_destination, mode_of_source, register_of_destination,
+    register_of_source, word_of_destination, word_of_source,
 };
 use arrayvec::ArrayVec;
 
@@ -29,11 +27,11 @@ fn word_of(instr: Instr) -> u16
             destination,
         } => {
             code_of_operation(operation) * 4096
-                + number_of(register_of_source(source)) * 256
+                + register_of_source(source).number() as u16 * 256
                 + mode_of_destination(destination) * 128
                 + code_of_width(width) * 64
                 + mode_of_source(source) * 16
-                + number_of(register_of_destination(destination))
+                + register_of_destination(destination).number() as u16
         }
         Instr::Single {
             operation,
@@ -43,7 +41,7 @@ fn word_of(instr: Instr) -> u16
             4096 + code_of_single(operation) * 128
                 + code_of_width(width) * 64
                 + mode_of_source(operand) * 16
-                + number_of(register_of_source(operand))
+                + register_of_source(operand).number() as u16
         }
         Instr::Jump { condition, offset } => 8192 + code_of_condition(condition) * 1024 + offset,
         Instr::ReturnFromInterrupt => 0x1300,
@@ -74,7 +72,8 @@ fn push_extension(bytes: &mut ArrayVec<u8, 6>, extension: Option<u16>)
 /// The bytes of an instruction: two, four or six.
 pub fn encode(instr: &Instr) -> ArrayVec<u8, 6>
     requires { IsInstr instr.now }
-    ensures { result.items ≡ bytes_of instr.now }
+    ensures items { result.items ≡ bytes_of instr.now }
+    ensures row { (bytes : List ℕ) → Row bytes instr.now → result.items ≡ bytes }
 {
     let mut bytes = ArrayVec::new();
     push_word(&mut bytes, word_of(*instr));
@@ -94,7 +93,7 @@ pub fn encode(instr: &Instr) -> ArrayVec<u8, 6>
 }
 
 /// Where a jump by an offset goes: the offset is signed, of ten bits, and in words from the following address.
-fn offset_target(pc: u16, offset: u16) -> u16
+pub fn offset_target(pc: u16, offset: u16) -> u16
     requires { offset < 1024 }
     ensures { result ≡ target_of pc offset }
 {
@@ -116,8 +115,8 @@ impl Instr {
                 source,
                 destination,
                 ..
-            } => 2 + length_of_source(source) + length_of_destination(destination),
-            Instr::Single { operand, .. } => 2 + length_of_source(operand),
+            } => 2 + source.extension_length() + length_of_destination(destination),
+            Instr::Single { operand, .. } => 2 + operand.extension_length(),
             Instr::Jump { .. } | Instr::ReturnFromInterrupt => 2,
         }
     }

@@ -1,5 +1,8 @@
 //! What an instruction says, in the words of an assembly programmer.
 
+ghost use Rattle.std.specs.Prelude.{◌≡◌, ◌<◌};
+ghost use Rattle.msp430_decode.specs.Codes.{number};
+
 /// The sixteen registers. R0 is the program counter, R1 the stack pointer, R2 the status register.
 #[derive(Clone, Copy, Debug, PartialEq, Eq)]
 pub enum Register {
@@ -19,6 +22,33 @@ pub enum Register {
     R13,
     R14,
     R15,
+}
+
+impl Register {
+    /// The number of a register, below 16.
+    pub fn number(self) -> u8
+        ensures value { result ≡ number self }
+        ensures below { result < 16 }
+    {
+        match self {
+            Register::Pc => 0,
+            Register::Sp => 1,
+            Register::Sr => 2,
+            Register::R3 => 3,
+            Register::R4 => 4,
+            Register::R5 => 5,
+            Register::R6 => 6,
+            Register::R7 => 7,
+            Register::R8 => 8,
+            Register::R9 => 9,
+            Register::R10 => 10,
+            Register::R11 => 11,
+            Register::R12 => 12,
+            Register::R13 => 13,
+            Register::R14 => 14,
+            Register::R15 => 15,
+        }
+    }
 }
 
 /// Whether an instruction works on words or on bytes.

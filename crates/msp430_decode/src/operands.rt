@@ -106,18 +106,6 @@ pub fn word_of_destination(destination: Destination) -> Option<u16>
     }
 }
 
-/// How many bytes of extension words a source takes.
-pub fn length_of_source(source: Source) -> u8
-    ensures value { result ≡ 2 * length (source_words source) }
-    ensures fits { result < 3 }
-{
-    if word_of_source(source).is_some() {
-        2
-    } else {
-        0
-    }
-}
-
 /// How many bytes of extension words a destination takes.
 pub fn length_of_destination(destination: Destination) -> u8
     ensures value { result ≡ 2 * length (destination_words destination) }
@@ -127,5 +115,15 @@ pub fn length_of_destination(destination: Destination) -> u8
         2
     } else {
         0
+    }
+}
+
+impl Source {
+    /// How many bytes of extension words a source takes: 0 or 2.
+    pub fn extension_length(self) -> u8
+        ensures value { result ≡ 2 * length (source_words self) }
+        ensures fits { result < 3 }
+    {
+        if word_of_source(self).is_some() { 2 } else { 0 }
     }
 }
