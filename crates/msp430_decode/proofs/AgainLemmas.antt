@@ -1,5 +1,5 @@
 -- The instruction of an instruction's words is that instruction, and its first word isn't excluded.
-use Rattle.std.proofs.Common.{◌≡◌, ℕ, ◌+◌, ◌*◌, ◌/◌, ◌%◌, ◌<◌, ◌≤◌, refl, sym, ap, ◌∙◌, append-nil, arith, List, [], ◌∷◌, ◌++◌, Bool, true, false, ◌==◌, ◌&&◌, ◌||◌, nat_le, nat_lt, not, if◌then◌else◌}
+use Rattle.std.proofs.Common.{◌≡◌, ℕ, ◌<◌, ◌≤◌, refl, sym, ap, ◌∙◌, append-nil, arith, [], ◌++◌, true, false, ◌==◌, nat_lt}
 use Rattle.std.proofs.lemmas.Bool.Decides.{nat_tests}
 use Rattle.msp430_decode.specs.declared.instr.Width.{Width}
 use Rattle.msp430_decode.specs.declared.instr.Width.TheVariants.{Word, Byte}
@@ -11,14 +11,14 @@ use Rattle.msp430_decode.specs.declared.instr.Source.{Source}
 use Rattle.msp430_decode.specs.declared.instr.Destination.{Destination}
 use Rattle.msp430_decode.specs.declared.instr.Instr.{Instr}
 use Rattle.msp430_decode.specs.declared.instr.Instr.TheVariants.{Double, Single, Jump, ReturnFromInterrupt}
-use Rattle.msp430_decode.specs.Codes.{number, register_at, operation_code, operation_at, single_code, single_at, condition_code, condition_at, width_code, width_at}
+use Rattle.msp430_decode.specs.Codes.{number, operation_code, single_code, condition_code, width_code}
 use Rattle.msp430_decode.specs.Operands.{IsSource, IsDestination, source_register, source_mode, source_words, destination_register, destination_mode, destination_words}
 use Rattle.msp430_decode.specs.Table.{IsInstr, AreSingle, first_word, extension_words}
-use Rattle.msp430_decode.specs.Excluded.{is_constant_operand, is_excluded, is_excluded_single, is_excluded_double}
-use Rattle.msp430_decode.specs.Fields.{source_of, takes_word, destination_of, double_of, single_of, jump_of, instr_of}
+use Rattle.msp430_decode.specs.Excluded.{is_excluded, is_excluded_single, is_excluded_double}
+use Rattle.msp430_decode.specs.Fields.{double_of, single_of, jump_of, instr_of}
 use Rattle.msp430_decode.proofs.CodeLemmas.{number_again, number_below, operation_again, operation_below, single_again, single_below, condition_again, condition_below, width_again, width_below}
 use Rattle.msp430_decode.proofs.OperandLemmas.{first_of, second_of, source_again, rest_again, destination_again, mode_below, destination_mode_below, no_indirect_pc, no_indexed_r3, not_constant}
-use Rattle.msp430_decode.proofs.WordLemmas.{DoubleFields, double_word, SingleFields, single_word, JumpFields, jump_word}
+use Rattle.msp430_decode.proofs.WordLemmas.{DoubleFields, double_word, SingleFields, single_word, jump_word}
 
 -- the fields of the first word of format I
 pub double_fields : (o : Operation) (b : Width) (s : Source) (d : Destination) (w : ℕ) → w ≡ first_word (Double o b s d) →

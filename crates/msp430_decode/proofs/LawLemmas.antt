@@ -1,5 +1,5 @@
 -- Each address has an answer, and which words are excluded.
-use Rattle.std.proofs.Common.{◌≡◌, ℕ, suc, ◌+◌, ◌*◌, ◌/◌, ◌%◌, ◌<◌, ◌≤◌, refl, sym, subst, arith, All, Option, None, Some, Result, Ok, Err, List, [], ◌∷◌, ◌++◌, length, take, ◌⊎◌, inl, inr, Bool, true, false, nat_lt}
+use Rattle.std.proofs.Common.{◌≡◌, ℕ, suc, ◌+◌, ◌*◌, ◌/◌, ◌%◌, ◌<◌, ◌≤◌, refl, subst, arith, All, Option, None, Some, Result, Ok, Err, List, [], ◌∷◌, length, take, ◌⊎◌, inl, inr, true, false, nat_lt}
 use Rattle.std.proofs.lemmas.Bool.Decides.{nat_tests}
 use Rattle.std.proofs.lemmas.List.Elements.{All-get_or}
 use Rattle.std.specs.List.{flat_map}

@@ -1,17 +1,16 @@
 -- A word that isn't excluded, with extension words, gives an instruction of the table with these words.
-use Rattle.std.proofs.Common.{◌≡◌, ℕ, zero, suc, ◌+◌, ◌*◌, ◌/◌, ◌%◌, ◌<◌, ◌≤◌, refl, sym, ap, ◌∙◌, append-nil, length-append, arith, List, [], ◌∷◌, ◌++◌, length, take, Bool, true, false, ◌==◌, ◌&&◌, ◌||◌, nat_le, nat_lt, not, if◌then◌else◌, ◌⊎◌, inl, inr}
+use Rattle.std.proofs.Common.{◌≡◌, ℕ, zero, suc, ◌/◌, ◌%◌, ◌<◌, ◌≤◌, refl, length-append, arith, [], ◌∷◌, ◌++◌, length, take, Bool, true, false, ◌==◌, ◌&&◌, ◌||◌, nat_lt, not, if◌then◌else◌, ◌⊎◌, inl, inr}
 use Rattle.std.proofs.lemmas.Bool.Decides.{nat_tests}
 use Rattle.msp430_decode.specs.declared.instr.Register.{Register}
 use Rattle.msp430_decode.specs.declared.instr.Source.{Source}
 use Rattle.msp430_decode.specs.declared.instr.Instr.{Instr}
-use Rattle.msp430_decode.specs.declared.instr.Instr.TheVariants.{Double, Single, Jump, ReturnFromInterrupt}
 use Rattle.msp430_decode.specs.Codes.{number, register_at, operation_code, operation_at, single_code, single_at, condition_code, condition_at, width_code, width_at}
-use Rattle.msp430_decode.specs.Operands.{IsSource, IsDestination, source_register, source_mode, source_words, destination_register, destination_mode, destination_words}
+use Rattle.msp430_decode.specs.Operands.{source_words, destination_words}
 use Rattle.msp430_decode.specs.Table.{IsInstr, AreSingle, IsWritable, first_word, extension_words}
 use Rattle.msp430_decode.specs.Excluded.{is_constant_operand, is_excluded, is_excluded_single, is_excluded_double}
 use Rattle.msp430_decode.specs.Fields.{source_of, takes_word, destination_of, double_of, single_of, jump_of, instr_of}
 use Rattle.msp430_decode.proofs.CodeLemmas.{number_of_at, operation_of_at, single_of_at, condition_of_at, width_of_at}
-use Rattle.msp430_decode.proofs.OperandLemmas.{FieldsOfSource, FieldsOfDestination, source_fields, destination_fields, source_word, takes_again, destination_word, made_writable}
+use Rattle.msp430_decode.proofs.OperandLemmas.{source_fields, destination_fields, source_word, takes_again, destination_word, made_writable}
 use Rattle.msp430_decode.proofs.WordLemmas.{double_parts, single_parts, jump_parts}
 
 -- An instruction of a word and as many of two further words as it takes.

@@ -1,7 +1,7 @@
 -- An operand and its fields name each other.
-use Rattle.std.proofs.Common.{◌≡◌, ℕ, zero, suc, ◌<◌, refl, arith, List, [], ◌∷◌, ◌++◌, Bool, true, false, ◌==◌, ◌&&◌, nat_le, nat_lt, cond, if◌then◌else◌, length, ◌*◌}
+use Rattle.std.proofs.Common.{◌≡◌, ℕ, zero, suc, ◌<◌, refl, arith, List, [], ◌∷◌, ◌++◌, false, ◌==◌, ◌&&◌, if◌then◌else◌}
 use Rattle.msp430_decode.specs.declared.instr.Register.{Register}
-use Rattle.msp430_decode.specs.declared.instr.Register.TheVariants.{Pc, Sp, Sr, R3}
+use Rattle.msp430_decode.specs.declared.instr.Register.TheVariants.{Pc, Sr, R3}
 use Rattle.msp430_decode.specs.declared.instr.Constant.TheVariants.{Zero, One, Two, Four, Eight, MinusOne}
 use Rattle.msp430_decode.specs.declared.instr.Source.{Source}
 use Rattle.msp430_decode.specs.declared.instr.Source.TheVariants as source
@@ -11,7 +11,7 @@ use Rattle.msp430_decode.specs.Codes.{number}
 use Rattle.msp430_decode.specs.Operands.{IsSource, IsDestination, source_register, source_mode, source_words, destination_register, destination_mode, destination_words}
 use Rattle.msp430_decode.specs.Table.{IsWritable}
 use Rattle.msp430_decode.specs.Excluded.{is_constant_operand}
-use Rattle.msp430_decode.specs.Fields.{plain_source, indexed_source, indirect_source, increment_source, source_of, takes_word, indexed_destination, destination_of}
+use Rattle.msp430_decode.specs.Fields.{source_of, takes_word, destination_of}
 
 -- the first and the second word of some, 0 where there is none
 abbrev pub first_of : List ℕ → ℕ

@@ -1,17 +1,15 @@
 -- What the words of an image say of the instruction at an address.
-use Rattle.std.proofs.Common.{◌≡◌, ℕ, zero, suc, ◌+◌, ◌*◌, ◌/◌, ◌%◌, ◌<◌, ◌≤◌, refl, sym, ap, subst, ◌∙◌, append-nil, length-append, arith, Option, None, Some, Result, Ok, Err, List, [], ◌∷◌, ◌++◌, length, take, Bool, true, false, ◌⊎◌, inl, inr, nat_lt}
-use Rattle.std.proofs.lemmas.Bool.Decides.{nat_tests}
+use Rattle.std.proofs.Common.{◌≡◌, ℕ, zero, suc, ◌+◌, ◌*◌, ◌/◌, ◌%◌, ◌<◌, ◌≤◌, refl, sym, subst, arith, Option, Err, List, [], ◌∷◌, ◌++◌, length, take, true, false, inl, inr}
 use Rattle.std.specs.List.{flat_map}
 use Rattle.msp430_decode.specs.declared.refusal.NoInstr.{NoInstr}
 use Rattle.msp430_decode.specs.declared.refusal.NoInstr.TheVariants.{OffImage, Excluded}
 use Rattle.msp430_decode.specs.declared.instr.Instr.{Instr}
-use Rattle.msp430_decode.specs.Table.{IsInstr, Row, first_word, extension_words, word_bytes, bytes_of, length_of}
+use Rattle.msp430_decode.specs.Table.{Row, first_word, extension_words, word_bytes, bytes_of, length_of}
 use Rattle.msp430_decode.specs.Excluded.{is_excluded}
 use Rattle.msp430_decode.specs.Fields.{instr_of}
-use Rattle.msp430_decode.specs.Standing.{upward, AreThere, Stands, IsShort, Lacks, IsExcluded, Decodes}
+use Rattle.msp430_decode.specs.Standing.{upward, AreThere, Stands, IsExcluded, Decodes}
 use Rattle.msp430_decode.specs.Reading.{HasWord, Misses}
-use Rattle.msp430_decode.proofs.OperandLemmas.{first_of, second_of}
-use Rattle.msp430_decode.proofs.AgainLemmas.{instr_again, allowed_again, first_word_below}
+use Rattle.msp430_decode.proofs.AgainLemmas.{allowed_again}
 use Rattle.msp430_decode.proofs.MadeLemmas.{IsMade, instr_made, instr_count}
 
 -- the bytes of a word are those of no other

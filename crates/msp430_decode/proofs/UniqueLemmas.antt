@@ -1,12 +1,11 @@
 -- Bytes have one instruction, and an address has one answer.
-use Rattle.std.proofs.Common.{◌≡◌, ℕ, zero, suc, ◌+◌, ◌*◌, ◌/◌, ◌%◌, ◌<◌, ◌≤◌, refl, sym, ap, subst, ◌∙◌, append_assoc, length-append, zero-add, arith, Option, None, Some, Result, Ok, Err, List, [], ◌∷◌, ◌++◌, length, ◌⊎◌, inl, inr, true, false}
+use Rattle.std.proofs.Common.{◌≡◌, ℕ, suc, ◌+◌, ◌*◌, ◌/◌, ◌%◌, ◌<◌, ◌≤◌, refl, sym, ap, subst, ◌∙◌, append_assoc, length-append, zero-add, arith, Option, None, Result, Ok, Err, List, [], ◌∷◌, ◌++◌, length, inl, inr}
 use Rattle.std.specs.List.{flat_map}
 use Rattle.msp430_decode.specs.declared.refusal.NoInstr.{NoInstr}
 use Rattle.msp430_decode.specs.declared.refusal.NoInstr.TheVariants.{OffImage, Excluded}
 use Rattle.msp430_decode.specs.declared.instr.Instr.{Instr}
 use Rattle.msp430_decode.specs.Table.{IsInstr, Row, first_word, extension_words, word_bytes, bytes_of, length_of}
-use Rattle.msp430_decode.specs.Fields.{instr_of}
-use Rattle.msp430_decode.specs.Standing.{upward, AreThere, Stands, IsShort, Lacks, IsExcluded, Decodes}
+use Rattle.msp430_decode.specs.Standing.{upward, AreThere, Stands, Lacks, IsExcluded, Decodes}
 use Rattle.msp430_decode.proofs.OperandLemmas.{first_of, second_of}
 use Rattle.msp430_decode.proofs.AgainLemmas.{instr_again}
 use Rattle.msp430_decode.proofs.MadeLemmas.{instr_count}

@@ -1,5 +1,5 @@
 -- The operands and their addressing modes (SLAU049, chapter 3, "Addressing Modes" and "Constant Generator Registers").
-use Rattle.std.specs.Prelude.{ℕ, ◌≡◌, ◌<◌, ◌==◌, if◌then◌else◌, List, [], ◌∷◌}
+use Rattle.std.specs.Prelude.{ℕ, ◌<◌, List, [], ◌∷◌}
 use Rattle.msp430_decode.specs.declared.instr.Register.{Register}
 use Rattle.msp430_decode.specs.declared.instr.Register.TheVariants.{Pc, Sr, R3}
 use Rattle.msp430_decode.specs.declared.instr.Constant.{Constant}

@@ -1,4 +1,4 @@
-ghost use Rattle.std.specs.Prelude.{◌<◌};
+ghost use Rattle.std.specs.Prelude.{◌≡◌, ◌<◌, IfOk, length};
 
 use super::text;
 use msp430_decode::{Image, decode};
@@ -17,9 +17,17 @@ fn digit_value(digit: u8) -> u8
     }
 }
 
-/// An image with the bytes of these digits from an address on, and no others.
-fn image_with(alloc: Global, pc: u16, digits: &str) -> Result<Image, AllocError> {
-    let mut places = vec![in alloc; None; 65536]?;
+/// Nothing at all addresses.
+fn nothing(alloc: Global) -> Result<Vec<Option<u8>>, AllocError>
+    ensures { IfOk result (λ places. length places.items ≡ 65536) }
+{
+    vec![in alloc; None; 65536]
+}
+
+/// Places the bytes of digits from an address on.
+fn place(places: &mut [Option<u8>], pc: u16, digits: &str)
+    requires { length places.old ≡ 65536 }
+{
     let mut at = pc;
     for pair in digits.as_bytes().chunks(2) {
         if let [high, low] = pair {
@@ -27,6 +35,12 @@ fn image_with(alloc: Global, pc: u16, digits: &str) -> Result<Image, AllocError>
         }
         at = at.wrapping_add(1);
     }
+}
+
+/// An image with the bytes of these digits from an address on, and no others.
+fn image_with(alloc: Global, pc: u16, digits: &str) -> Result<Image, AllocError> {
+    let mut places = nothing(alloc)?;
+    place(&mut places, pc, digits);
     Ok(Image::new(places))
 }
 

@@ -1,9 +1,8 @@
-use Rattle.std.proofs.Common.{◌≡◌, ℕ, nat_lt, IsTrue, ◌<◌, ◌+◌, sym, ◌∙◌, ap, cond, arith, Ok, Err}
+use Rattle.std.proofs.Common.{◌≡◌, ℕ, nat_lt, IsTrue, ◌<◌, sym, ◌∙◌, ap, arith}
 use Rattle.std.proofs.lemmas.Result.{err_from_is_err_and}
 use Rattle.std.proofs.lemmas.Bool.Decides.{nat_tests}
 use Rattle.msp430_decode.specs.Table.{length_of}
 use Rattle.msp430_decode.specs.Fields.{instr_of}
-use Rattle.msp430_decode.specs.Standing.{Stands}
 use Rattle.msp430_decode.proofs.StandLemmas.{lacks_word, lacks_first, lacks_second, excluded_word, stands_instr}
 use Rattle.msp430_decode.proofs.UniqueLemmas.{one_answer}
 use Rattle.msp430_decode.proofs.decoding.decode.Goals as goal
