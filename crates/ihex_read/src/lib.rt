@@ -22,7 +22,6 @@ mod law;
 mod lines;
 mod loading;
 mod placing;
-mod plain;
 mod record;
 mod rule_set;
 mod stage;
@@ -30,8 +29,7 @@ mod stage;
 pub use address_map::Image;
 pub use fault::{HexError, HexFault};
 pub use feeding::{MOST_BYTES, Reader};
-pub use law::{image_or_fault, images_have_bytes};
-pub use plain::image_of;
+pub use law::{image_or_fault, images_have_bytes, whole_faults_stay};
 pub use rule_set::{Rules, Tail};
 
 #[cfg(test)]

@@ -1,6 +1,6 @@
 -- A report that is told as closed covers every run, and one that is told as open shows its open sites.
 use Rattle.std.proofs.Common.{◌≡◌, ◌++◌, ℕ, Bool, true, false, Option, None, Some, Result, Ok, Err, List, [], ◌∷◌, refl, sym, ap, subst, ◌∙◌, append_assoc, inl, inr}
-use Rattle.std.specs.Prelude.{All, Contains, length, map, ◌&&◌}
+use Rattle.std.specs.Prelude.{◌⊎◌, All, Contains, IfSome, length, map, ◌&&◌}
 use Rattle.std.specs.List.{flat_map}
 use Rattle.std.proofs.lemmas.List.Elements.{Contains-append_right}
 use Rattle.std.proofs.lemmas.Option.{same_Some}
@@ -22,15 +22,17 @@ use Rattle.ihex_read.specs.declared.rule_set.Tail.{Tail}
 use Rattle.ihex_read.specs.declared.rule_set.Tail.TheVariants.{Blank}
 use Rattle.ihex_read.specs.declared.rule_set.Rules.{Rules}
 use Rattle.ihex_read.specs.Image.{IsByte}
-use Rattle.ihex_read.specs.ImageText.{Denotes, IsPlainImage}
+use Rattle.ihex_read.specs.ImageText.{Denotes}
 use Rattle.ihex_read.specs.Lines as texts
 use Rattle.round_core.specs.Machine.{Held, held_at, inputs_of, replay, IsLegalJournal, IsFinished}
 use Rattle.round_core.specs.declared.event.Event.{Event}
 use Rattle.vsa_top.specs.declared.msp430.instr.Instr.{Instr}
 use Rattle.vsa_top.specs.declared.msp430.state.State.{State}
-use Rattle.vsa_top.specs.declared.outcome.Status.TheVariants.{Done, Open}
-use Rattle.vsa_top.specs.Answer.{rules, IsImageOf, IsAnalysis, AnswersInput, AnswersImage, works_behind, report_behind}
-use Rattle.vsa_top.specs.Answer.AnswersInput.{of_image, of_none, unread}
+use Rattle.vsa_top.specs.declared.outcome.Status.{Status}
+use Rattle.vsa_top.specs.declared.outcome.Status.TheVariants.{Done, Open, WriteFault}
+use Rattle.vsa_top.specs.Answer.{IsImageOf, IsAnalysis, AnswersInput, AnswersImage, AnswersLine, works_behind, report_behind}
+use Rattle.vsa_top.specs.Answer.AnswersInput.{of_image, of_bad, of_long, unread}
+use Rattle.vsa_top.specs.Answer.AnswersLine.{whole, cut}
 use Rattle.vsa_top.specs.Headline.{Says, CoversEveryRun, ShowsOpenSites, ReportsOn}
 use Rattle.vsa_top.specs.Msp430Chip.{msp430, work_of, work_at, IsProgram}
 use Rattle.vsa_top.specs.Msp430Fetch.{fetched}
@@ -144,17 +146,24 @@ HaveOneImage = (rules : Rules) (tail : Tail) (lines : List (List ℕ)) (image ot
     → Denotes rules tail lines image → Denotes rules tail lines other → image ≡ other
 
 -- the image of an answer is the one that the text denotes
-same_image : HaveOneImage → (input : Option (List ℕ)) (text : List ℕ) (image other : List (Option ℕ)) → input ≡ Some text
-    → IsPlainImage rules text image → IsImageOf input other → other ≡ image
-same_image one None text image other e plain found = absurd (cc)
-same_image one (Some read) text image other e plain found =
+same_image : HaveOneImage → (rules : Rules) (input : Option (List ℕ)) (text : List ℕ) (image other : List (Option ℕ)) → input ≡ Some text
+    → Denotes rules Blank (texts.lines_of text) image → IfSome input (λ t. IsImageOf rules t other) → other ≡ image
+same_image one rules None text image other e denoted found = absurd (cc)
+same_image one rules (Some read) text image other e denoted found =
     let same : read ≡ text = same_Some read text e in
-    one rules Blank (texts.lines_of text) other image (subst (λ t. Denotes rules Blank (texts.lines_of t) other) same found.1.denoted) plain.denoted
+    one rules Blank (texts.lines_of text) other image (subst (λ t. Denotes rules Blank (texts.lines_of t) other) same found.denoted) denoted
 
-covers_every : CoverRuns → HaveBytes → (text : List ℕ) (image : List (Option ℕ)) (journal : List Event) → IsPlainImage rules text image
+-- a line alone is told by its own status, or by that of the sink's fault
+told_alone : {told answered : Status} {line : List ℕ} {before after : Option (List ℕ)} {journal : List Event} → AnswersLine told line answered before after journal
+    → (answered ≡ told) ⊎ (answered ≡ WriteFault)
+told_alone (whole same is none) = inl same
+told_alone (cut same is none) = inr same
+
+covers_every : CoverRuns → HaveBytes → (rules : Rules) (text : List ℕ) (image : List (Option ℕ)) (journal : List Event)
+    → Denotes rules Blank (texts.lines_of text) image
     → IsAnalysis image journal → are_closed (works_behind image journal) ≡ true → CoversEveryRun image (report_behind image journal)
-covers_every cover bytes text image journal plain analysis closed =
-    let held = bytes rules Blank (texts.lines_of text) image plain.denoted in
+covers_every cover bytes rules text image journal denoted analysis closed =
+    let held = bytes rules Blank (texts.lines_of text) image denoted in
     let covering = cover image journal (record { size = held.0; bytes = held.1 }) analysis.legal analysis.finished
     (none_open (works_behind image journal) closed) in
     record {
@@ -180,22 +189,28 @@ open_sites of_units image journal analysis left = record {
       };
 }
 
-pub closed_lem : CoverRuns → HaveBytes → HaveOneImage → (input before after : Option (List ℕ)) (journal : List Event)
-    → AnswersInput Done input before after journal → ReportsOn input before after CoversEveryRun
-closed_lem cover bytes one input before after journal (of_image other found answer) text image e plain =
-    let same = same_image one input text image other e plain found in
+pub closed_lem : CoverRuns → HaveBytes → HaveOneImage → (rules : Rules) (input before after : Option (List ℕ)) (journal : List Event)
+    → AnswersInput rules Done input before after journal → ReportsOn rules input before after CoversEveryRun
+closed_lem cover bytes one rules input before after journal (of_image other found answer) text image e denoted =
+    let same = same_image one rules input text image other e denoted found in
     let is = subst (λ i. AnswersImage Done i before after journal) same answer in
-    (report_behind image journal, is.2, covers_every cover bytes text image journal plain is.0 is.1)
-closed_lem cover bytes one input before after journal (of_none lacks answer) text image e plain = absurd answer
-closed_lem cover bytes one input before after journal (unread why kept none) text image e plain =
+    (report_behind image journal, is.2, covers_every cover bytes rules text image journal denoted is.0 is.1)
+closed_lem cover bytes one rules input before after journal (of_bad line fault bad answer) text image e denoted =
+    elim (told_alone answer) [ inl a ↦ absurd (cc) | inr b ↦ absurd (cc) ]
+closed_lem cover bytes one rules input before after journal (of_long long answer) text image e denoted =
+    elim (told_alone answer) [ inl a ↦ absurd (cc) | inr b ↦ absurd (cc) ]
+closed_lem cover bytes one rules input before after journal (unread why kept none) text image e denoted =
     elim why [ inl a ↦ absurd (cc) | inr b ↦ absurd (cc) ]
 
-pub open_lem : AreOfUnits → HaveOneImage → (input before after : Option (List ℕ)) (journal : List Event)
-    → AnswersInput Open input before after journal → ReportsOn input before after (λ image report. ShowsOpenSites image journal report)
-open_lem of_units one input before after journal (of_image other found answer) text image e plain =
-    let same = same_image one input text image other e plain found in
+pub open_lem : AreOfUnits → HaveOneImage → (rules : Rules) (input before after : Option (List ℕ)) (journal : List Event)
+    → AnswersInput rules Open input before after journal → ReportsOn rules input before after (λ image report. ShowsOpenSites image journal report)
+open_lem of_units one rules input before after journal (of_image other found answer) text image e denoted =
+    let same = same_image one rules input text image other e denoted found in
     let is = subst (λ i. AnswersImage Open i before after journal) same answer in
     (report_behind image journal, is.2, open_sites of_units image journal is.0 is.1)
-open_lem of_units one input before after journal (of_none lacks answer) text image e plain = absurd answer
-open_lem of_units one input before after journal (unread why kept none) text image e plain =
+open_lem of_units one rules input before after journal (of_bad line fault bad answer) text image e denoted =
+    elim (told_alone answer) [ inl a ↦ absurd (cc) | inr b ↦ absurd (cc) ]
+open_lem of_units one rules input before after journal (of_long long answer) text image e denoted =
+    elim (told_alone answer) [ inl a ↦ absurd (cc) | inr b ↦ absurd (cc) ]
+open_lem of_units one rules input before after journal (unread why kept none) text image e denoted =
     elim why [ inl a ↦ absurd (cc) | inr b ↦ absurd (cc) ]

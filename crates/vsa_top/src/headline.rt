@@ -1,6 +1,7 @@
 //! What an answer says of every run.
 
 ghost use Rattle.std.specs.Prelude.{ℕ, Option, List};
+ghost use Rattle.ihex_read.specs.declared.rule_set.Rules.{Rules};
 ghost use Rattle.round_core.specs.declared.event.Event.{Event as AnEvent};
 ghost use Rattle.vsa_top.specs.declared.outcome.Status.TheVariants.{Done, Open};
 ghost use Rattle.vsa_top.specs.Answer.{AnswersInput};
@@ -12,10 +13,10 @@ use ihex_read::{image_or_fault, images_have_bytes};
 
 /// A report that is told as closed covers every run, and one that is told as open shows its open sites.
 pub(crate) fn reports_hold()
-    ensures closed { (input before after : Option (List ℕ)) (journal : List AnEvent)
-        → AnswersInput Done input before after journal → ReportsOn input before after CoversEveryRun }
-    ensures open { (input before after : Option (List ℕ)) (journal : List AnEvent)
-        → AnswersInput Open input before after journal → ReportsOn input before after (λ image report. ShowsOpenSites image journal report) }
+    ensures closed { (rules : Rules) (input before after : Option (List ℕ)) (journal : List AnEvent)
+        → AnswersInput rules Done input before after journal → ReportsOn rules input before after CoversEveryRun }
+    ensures open { (rules : Rules) (input before after : Option (List ℕ)) (journal : List AnEvent)
+        → AnswersInput rules Open input before after journal → ReportsOn rules input before after (λ image report. ShowsOpenSites image journal report) }
 {
     image_or_fault();
     images_have_bytes();
