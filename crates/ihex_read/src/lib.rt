@@ -12,6 +12,8 @@
 //!   Where a second text is expected it uses no byte behind the end record's line feed.
 //! - After an error each later call answers the same one. Want of memory comes in `new` and `feed` alone.
 //!
+//! [`whole_faults_stay`] is the law that what `feed` refuses is refused however the text goes on.
+//!
 //! A reader keeps the line that has begun, the image and a few numbers. It reads a text in linear time.
 #![tactic(auto)]
 
