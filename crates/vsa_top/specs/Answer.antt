@@ -124,3 +124,7 @@ pub data AnswersInput (rules : Rules) (answered : Status) (input before after : 
 -- a status that tells a fault, or want of memory, in place of the answer
 abbrev pub IsCutShort : Status → Type 0
 IsCutShort answered = (answered ≡ status.ReadFault) ⊎ (answered ≡ status.WriteFault) ⊎ (answered ≡ status.Memory)
+
+-- a status that an image gets where nothing fails: that of its report, or want of memory
+abbrev pub IsOfImage : Status → Type 0
+IsOfImage answered = (answered ≡ status.Done) ⊎ (answered ≡ status.Open) ⊎ (answered ≡ status.Memory)

@@ -1,11 +1,11 @@
 //! The top call.
 
-ghost use Rattle.std.specs.Prelude.{◌≡◌, ◌≢◌, if◌then◌else◌, [], IfOk, OnOk, ◌⊎◌, ◌≤◌, OnErr, string_bytes};
+ghost use Rattle.std.specs.Prelude.{◌≡◌, ◌≢◌, if◌then◌else◌, [], IfOk, OnOk, ◌⊎◌, ◌≤◌, OnErr, ℕ, List, Option, Some};
 ghost use Rattle.vsa_io.specs.Stream.{HasRisen, AppendsPrefix, appended};
 ghost use Rattle.vsa_top.specs.Headline.{CoversEveryRun, ShowsOpenSites, ReportsOn};
 ghost use Rattle.ihex_read.specs.ImageText.{IsRamRange};
 ghost use Rattle.vsa_top.specs.declared.words.Reading.{Reading};
-ghost use Rattle.vsa_top.specs.Answer.{usage_line, bad_line as the_bad_line, AnswersLine, AnswersImage, AnswersInput, IsCutShort};
+ghost use Rattle.vsa_top.specs.Answer.{usage_line, bad_line as the_bad_line, AnswersLine, AnswersImage, AnswersInput, IsCutShort, IsImageOf, IsOfImage};
 ghost use Rattle.vsa_top.specs.Words.{Reads, rules_of};
 
 use crate::fixpoint::fixpoint_alone;
@@ -162,6 +162,12 @@ pub fn vsa<R: Threads + Wait + Sync, S: Source, K: Sink, G: Gate>(
     // input, or that it is too long.
     ensures answer { (reading : Reading) → Reads words.now reading
         → AnswersInput (rules_of reading) result.status (S.left source.old) (K.held sink.old) (K.held sink.new) result.journal.items }
+
+    // An input that denotes an image within the limit gets its report where no count of faults rose, or Memory.
+    ensures complete { (reading : Reading) (text : List ℕ) (image : List (Option ℕ)) → Reads words.now reading
+        → S.left source.old ≡ Some text → IsImageOf (rules_of reading) text image
+        → ¬ HasRisen (S.faults source.old) (S.faults source.new) → ¬ HasRisen (K.faults sink.old) (K.faults sink.new)
+        → IsOfImage result.status }
 
     // A fault is told only where its count rose, and a status that tells none is given only where none did.
     ensures read_fault { result.status ≡ Status.ReadFault → HasRisen (S.faults source.old) (S.faults source.new) }

@@ -34,3 +34,16 @@ returns-clause-answer g c = λ reading reads.
     let same : rules_of reading ≡ c.rules.result = ap rules_of (c.in-Some.ensures.alone reading reads) ∙ sym c.rules.ensures in
     subst (λ rules. AnswersInput rules c.analyse.result.status (g.S.Source.left c.args.source.now) (g.K.Sink.held c.args.sink.now)
     (g.K.Sink.held c.analyse.new.sink) c.analyse.result.journal.items) (sym same) c.analyse.ensures.answer
+
+pub returns-clause-complete : goal.returns-clause-complete
+returns-clause-complete g c = λ reading text image reads e is quiet_source quiet_sink.
+    let input = g.S.Source.left c.args.source.now in
+    let before = g.K.Sink.held c.args.sink.now in
+    let after = g.K.Sink.held c.analyse.new.sink in
+    let same : rules_of reading ≡ c.rules.result = ap rules_of (c.in-Some.ensures.alone reading reads) ∙ sym c.rules.ensures in
+    c.reports_hold.ensures.complete (rules_of reading) c.analyse.result.status input before after c.analyse.result.journal.items text image
+    (subst (λ rules. AnswersInput rules c.analyse.result.status input before after c.analyse.result.journal.items) (sym same) c.analyse.ensures.answer) e is
+    (λ fault. quiet_source (c.analyse.ensures.read_fault fault)) (λ fault. quiet_sink (c.analyse.ensures.write_fault fault))
+
+pub returns-in_default-clause-complete : goal.returns-in_default-clause-complete
+returns-in_default-clause-complete g c = λ reading text image reads. absurd (c.in_default.ensures.none reading reads)
