@@ -68,9 +68,11 @@ reset_holds device s reset = let long = reset.state.registers in
       not_late = reset.not_late;
       registers = λ register low high.
           let inside : register < length s.registers = omega arith in
-          let place : register - 4 < 12 = omega arith in
-          (subst (λ held. HasWord held (register_of s register)) (sym (get_or-replicate 12 (register - 4) Any Any place))
-          (All-get_or (λ r. r < 65536) s.registers register 0 inside reset.state.words), tt);
+          let place : register - 4 < 12 = omega arith in (
+            subst (λ held. HasWord held (register_of s register)) (sym (get_or-replicate 12 (register - 4) Any Any place))
+                (All-get_or (λ r. r < 65536) s.registers register 0 inside reset.state.words),
+            tt,
+          );
     }
 
 -- THE WORK OF A LOCATION
@@ -143,12 +145,12 @@ post_form pc calls frame a (Ok found) fits form to b there =
     let next = next_of pc found.0 in
     elim (in_cons (At next calls frame, state_behind found.0 a) [] (to, b) there) [
       | inl same ↦ subst (λ p. HasChipForm p.0 p.1) same record {
-          pc_even = next_start pc found.0 form.pc_even;
-          few = form.few;
-          sites = form.sites;
-          framed = form.framed;
-          state = behind_form found.0 a fits form.state;
-        }
+        pc_even = next_start pc found.0 form.pc_even;
+        few = form.few;
+        sites = form.sites;
+        framed = form.framed;
+        state = behind_form found.0 a fits form.state;
+      }
       | inr none ↦ absurd (in_none (to, b) none)
     ]
 
@@ -170,9 +172,11 @@ holds_more device a b s first within holds =
       status = holds.status;
       not_late = holds.not_late;
       registers = λ register low high.
-          let inside : register < length s.registers = omega arith in
-          (all_within_has a.registers b.registers (register - 4) (register_of s register) parts.1 (holds.registers register low high).0
-          (All-get_or (λ r. r < 65536) s.registers register 0 inside holds.state.words), tt);
+          let inside : register < length s.registers = omega arith in (
+            all_within_has a.registers b.registers (register - 4) (register_of s register) parts.1 (holds.registers register low high).0
+                (All-get_or (λ r. r < 65536) s.registers register 0 inside holds.state.words),
+            tt,
+          );
     }
 
 covers_more : (device : Device) (node : Node) (a b : State) (s : ChipState) (first : Option ChipState) → state_within a b ≡ true → CoversState device node a s first → CoversState device node b s first
