@@ -59,3 +59,6 @@ decimal_stays digits x y z h k l = digits_below digits (decimal_total digits x y
 
 pub adjust_stays : StaysBelow 256 decimal_adjusted
 adjust_stays x y z h k l = mod-lt (high_adjusted (low_adjusted x z) y) {m = 256} (omega arith)
+
+pub adjusted_below : (x y z : ℕ) → decimal_adjusted x y z < 256
+adjusted_below x y z = mod-lt (high_adjusted (low_adjusted x z) y) {m = 256} (omega arith)

@@ -1,13 +1,13 @@
 //! What is known of the bits of a set.
 
-ghost use Rattle.std.specs.Prelude.{◌≡◌, ℕ, ◌+◌, ◌*◌, ◌^◌, ◌<◌, ◌≤◌, ◌++◌, ◌==◌, ◌↔◌, IsTrue, length};
+ghost use Rattle.std.specs.Prelude.{◌≡◌, ℕ, ◌+◌, ◌*◌, ◌^◌, ◌<◌, ◌≤◌, ◌++◌, ◌==◌, ◌↔◌, IsTrue, length, take, drop, replicate, slice_index_or};
 ghost use Rattle.std.specs.List.{list_all};
 ghost use Rattle.std.specs.Int.{bit_at};
 ghost use Rattle.value_set.specs.Form.{IsNormal, IsNormalRun};
 ghost use Rattle.value_bits.specs.Bits as bits;
 ghost use Rattle.value_bits.specs.Sets as sets;
 
-use crate::tri::{Logic, Tri};
+use crate::tri::{Logic, Top, Tri};
 use arrayvec::ArrayVec;
 use value_set::{Form, Progression};
 
@@ -169,4 +169,41 @@ pub fn joined(low: &[Tri], high: &[Tri]) -> ArrayVec<Tri, WIDEST>
         all.push(*bit);
     }
     all
+}
+
+/// The bits of the members of a set, shifted to the right by one place.
+pub fn shift_bits(place: u32, top: Top, known: &[Tri]) -> ArrayVec<Tri, WIDEST>
+    requires narrow { place < 16 }
+    requires wide { length known.now ≡ place + 1 }
+    ensures { result.items ≡ sets.shift_bits place top known.now }
+{
+    joined(&known[1..], [top_bit(place, top, known)].as_slice())
+}
+
+fn top_bit(place: u32, top: Top, known: &[Tri]) -> Tri
+    requires { length known.now ≡ place + 1 }
+    ensures { result ≡ sets.top_bit place top known.now }
+{
+    match top {
+        Top::Sign => known[place as usize],
+        Top::Low => known[0],
+        Top::Put(bit) => bit,
+    }
+}
+
+/// Bits whose halves change places.
+pub fn exchanged_bits(half: usize, known: &[Tri]) -> ArrayVec<Tri, WIDEST>
+    requires narrow { half ≤ 8 }
+    requires wide { length known.now ≡ half + half }
+    ensures { result.items ≡ drop half known.now ++ take half known.now }
+{
+    joined(&known[half..], &known[..half])
+}
+
+/// The low 8 bits, and bit 7 in place of the others.
+pub fn extended_bits(known: &[Tri]) -> ArrayVec<Tri, WIDEST>
+    requires { length known.now ≡ 16 }
+    ensures { result.items ≡ take 8 known.now ++ replicate 8 (slice_index_or known.now 7 Tri.Either) }
+{
+    joined(&known[..8], [known[7]; 8].as_slice())
 }

@@ -9,6 +9,7 @@ use crate::tri::{Logic, Top, Tri};
 use value_set::Operation;
 
 /// AND, OR or XOR of numbers of a width.
+#[derive(Clone, Copy)]
 pub struct Bitwise {
     pub width: u32,
     pub logic: Logic,
@@ -34,6 +35,7 @@ impl Operation for Bitwise {
 }
 
 /// A shift to the right by one place. A bit that is unknown is the lowest one of the carry.
+#[derive(Clone, Copy)]
 pub struct Shift {
     /// The place of the top bit.
     pub place: u32,
@@ -78,6 +80,7 @@ fn shifted_right(place: u32, x: u16, bit: u16) -> u16
 }
 
 /// The exchange of the halves of a number.
+#[derive(Clone, Copy)]
 pub struct Exchange {
     /// A half is below it, and the number below its square.
     pub n: u16,
@@ -107,6 +110,7 @@ fn exchanged(n: u16, x: u16) -> u16
 }
 
 /// The sign extension of a byte in a word.
+#[derive(Clone, Copy)]
 pub struct SignExtension;
 
 impl Operation for SignExtension {
@@ -125,6 +129,7 @@ impl Operation for SignExtension {
 }
 
 /// The sum of decimal numbers and a carry.
+#[derive(Clone, Copy)]
 pub struct DecimalSum {
     pub digits: u32,
 }
@@ -145,6 +150,7 @@ impl Operation for DecimalSum {
 }
 
 /// The decimal adjustment of a byte, with CY and AC as the second number and the carry.
+#[derive(Clone, Copy)]
 pub struct DecimalAdjustment;
 
 impl Operation for DecimalAdjustment {
