@@ -1,6 +1,6 @@
 -- What is known of a RAM: cells of one or two bytes, in ascending order of their places. Of a byte without a cell nothing
 -- is known.
-use Rattle.std.specs.Prelude.{◌≡◌, ℕ, ◌+◌, ◌*◌, ◌/◌, ◌%◌, ◌<◌, ◌≤◌, ◌==◌, ◌&&◌, ◌||◌, nat_lt, nat_le, if◌then◌else◌, Bool, true, false, ◌⊎◌, Option, None, Some, List, [], ◌∷◌, Contains}
+use Rattle.std.specs.Prelude.{◌≡◌, ℕ, ◌+◌, ◌-◌, ◌*◌, ◌/◌, ◌%◌, ◌<◌, ◌≤◌, ◌==◌, ◌&&◌, ◌||◌, nat_lt, nat_le, not, if◌then◌else◌, Bool, true, false, ◌⊎◌, Option, None, Some, List, [], ◌∷◌, Contains}
 use Rattle.std.specs.List.{filter}
 use Rattle.std.specs.Option.{is_none}
 use Rattle.value_set.specs.Form.{Has, make}
@@ -11,7 +11,7 @@ use Rattle.value_set.specs.declared.form.Form.{Form}
 use Rattle.value_bits.specs.Sets.{low_set, high_set, pair_set}
 use Rattle.entry_value.specs.declared.word.Word.{Word}
 use Rattle.entry_value.specs.declared.cells.Cell.{Cell}
-use Rattle.entry_value.specs.Words.{HoldsOfWord, common_entry, word_join, word_widen, word_within}
+use Rattle.entry_value.specs.Words.{Suspended, HoldsOfWord, common_entry, word_join, word_widen, word_within}
 
 -- the cells of the RAM from one address to another
 pub record CellMap : Type 0 where
@@ -26,9 +26,9 @@ abbrev pub number_at : (ℕ → ℕ) → (place size : ℕ) → ℕ
 number_at ram place size = if size == 1 then ram place else ram place + 256 * ram ((place + 1) % 65536)
 
 -- a RAM of bytes stands under the cells, where each cell holds of what stands at its place
-abbrev pub StandsUnder : (ℕ → ℕ → Type 0) → List Cell → (ℕ → ℕ) → Type 0
-StandsUnder Reads cells ram = ((at : ℕ) → ram at < 256)
-    × ((cell : Cell) → Contains cells cell → HoldsOfWord Reads cell.word (number_at ram cell.place cell.size))
+abbrev pub StandsUnder : Option Suspended → List Cell → (ℕ → ℕ) → Type 0
+StandsUnder first cells ram = ((at : ℕ) → ram at < 256)
+    × ((cell : Cell) → Contains cells cell → HoldsOfWord first cell.word (number_at ram cell.place cell.size))
 
 -- FORM
 

@@ -1,7 +1,7 @@
 -- Values that may remember a place of the state that an interrupt suspended: a set of numbers, and perhaps how each number
 -- came from what the place held when the interrupt came (value sets after G. Balakrishnan and T. Reps, "WYSINWYX: What
 -- You See Is Not What You eXecute", 2010).
-use Rattle.std.specs.Prelude.{◌≡◌, ℕ, ◌==◌, ◌&&◌, nat_lt, if◌then◌else◌, Bool, true, false, Option, None, Some, List, bit_and, bit_or}
+use Rattle.std.specs.Prelude.{◌≡◌, ◌<◌, ℕ, ◌==◌, ◌&&◌, nat_lt, if◌then◌else◌, Bool, true, false, Option, None, Some, List, bit_and, bit_or}
 use Rattle.std.specs.Option.{option_map}
 use Rattle.value_set.specs.Form.{Has, Includes}
 use Rattle.value_set.specs.Joining.{join, is_within}
@@ -15,18 +15,27 @@ use Rattle.entry_value.specs.declared.word.Byte.{Byte}
 
 -- WHAT A VALUE SAYS
 
--- The number came from its place: what the place may be read as, AND a mask, OR a mask. `Reads place q` says that the
--- place of the suspended state may be read as q; where no state is suspended it says no such thing.
-abbrev pub IsFromEntry : (ℕ → ℕ → Type 0) → Option Entry → ℕ → Type 0
-IsFromEntry Reads None v = Unit {0}
-IsFromEntry Reads (Some entry) v = (q : ℕ) × Reads entry.place q × (v ≡ bit_or (bit_and q entry.and) entry.or)
+-- The state that an interrupt suspended: the number of each place, and a mask of the bits that the place holds.
+pub record Suspended : Type 0 where
+  pub number : ℕ → ℕ
+  pub held : ℕ → ℕ
+
+-- the place may be read as a word that agrees with it in the bits that it holds
+abbrev pub Reads : Suspended → (place word : ℕ) → Type 0
+Reads f place word = (word < 65536) × (bit_and word (f.held place) ≡ bit_and (f.number place) (f.held place))
+
+-- The number came from its place: what that may be read as, AND a mask, OR a mask. Where no state is suspended none did.
+abbrev pub IsFromEntry : Option Suspended → Option Entry → ℕ → Type 0
+IsFromEntry first None v = Unit {0}
+IsFromEntry None (Some entry) v = ⊥
+IsFromEntry (Some f) (Some entry) v = (word : ℕ) × Reads f entry.place word × (v ≡ bit_or (bit_and word entry.and) entry.or)
 
 -- the word, or the byte, holds of the number under the suspended state
-abbrev pub HoldsOfWord : (ℕ → ℕ → Type 0) → Word → ℕ → Type 0
-HoldsOfWord Reads word v = Has 65536 word.set v × IsFromEntry Reads word.entry v
+abbrev pub HoldsOfWord : Option Suspended → Word → ℕ → Type 0
+HoldsOfWord first word v = Has 65536 word.set v × IsFromEntry first word.entry v
 
-abbrev pub HoldsOfByte : (ℕ → ℕ → Type 0) → Byte → ℕ → Type 0
-HoldsOfByte Reads byte v = Has 256 byte.set v × IsFromEntry Reads byte.entry v
+abbrev pub HoldsOfByte : Option Suspended → Byte → ℕ → Type 0
+HoldsOfByte first byte v = Has 256 byte.set v × IsFromEntry first byte.entry v
 
 -- RELATIONS
 

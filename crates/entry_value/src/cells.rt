@@ -1,8 +1,8 @@
 //! What is known of a RAM.
 
-ghost use Rattle.std.specs.Prelude.{◌≡◌, ◌≤◌, ◌<◌, ◌×◌, ℕ, ◌⊎◌, true, List, [], IfOk, OnOk, OnErr, option_map};
+ghost use Rattle.std.specs.Prelude.{◌≡◌, ◌≤◌, ◌<◌, ℕ, ◌⊎◌, true, Option, List, [], IfOk, OnOk, OnErr, option_map};
 ghost use Rattle.value_set.specs.Form.{Has};
-ghost use Rattle.entry_value.specs.Words.{HoldsOfWord};
+ghost use Rattle.entry_value.specs.Words.{Suspended, HoldsOfWord};
 ghost use Rattle.entry_value.specs.Cells as the_cells;
 ghost use Rattle.entry_value.specs.Cells.{CellMap, AreCells, StandsUnder, number_at, written};
 
@@ -37,7 +37,7 @@ pub trait Cells: Drop {
     fn read(&self, at: u16, size: u8) -> Word
         requires { (size ≡ 1) ⊎ (size ≡ 2) }
         ensures value { result ≡ the_cells.read (map self.now).cells at size }
-        ensures holds { (Reads : ℕ → ℕ → Type 0) (ram : ℕ → ℕ) → StandsUnder Reads (map self.now).cells ram → HoldsOfWord Reads result (number_at ram at size) };
+        ensures holds { (first : Option Suspended) (ram : ℕ → ℕ) → StandsUnder first (map self.now).cells ram → HoldsOfWord first result (number_at ram at size) };
 
     /// Writes a value at one address: the cells that have a byte of it go, and it gets a cell, where that lies whole in
     /// RAM and says something. A refusal leaves the cells as they were.
@@ -46,8 +46,8 @@ pub trait Cells: Drop {
         requires byte { size ≡ 1 → (v : ℕ) → Has 65536 value.set v → v < 256 }
         ensures value { OnOk result (map self.new ≡ the_cells.write_one (map self.old) at size value) }
         ensures kept { OnErr result (map self.new ≡ map self.old) }
-        ensures covers { OnOk result ((Reads : ℕ → ℕ → Type 0) (ram : ℕ → ℕ) (v : ℕ) → StandsUnder Reads (map self.old).cells ram
-            → HoldsOfWord Reads value v → StandsUnder Reads (map self.new).cells (written ram at size v)) };
+        ensures covers { OnOk result ((first : Option Suspended) (ram : ℕ → ℕ) (v : ℕ) → StandsUnder first (map self.old).cells ram
+            → HoldsOfWord first value v → StandsUnder first (map self.new).cells (written ram at size v)) };
 
     /// Writes a value at one of some addresses: a cell at one of them with this size holds of what it held of and of the
     /// value, where no other of them has a byte of it, and else each cell that they have a byte of goes. A refusal leaves
@@ -57,8 +57,8 @@ pub trait Cells: Drop {
         requires byte { size ≡ 1 → (v : ℕ) → Has 65536 value.set v → v < 256 }
         ensures value { OnOk result (map self.new ≡ the_cells.write_any (map self.old) at.now size value) }
         ensures kept { OnErr result (map self.new ≡ map self.old) }
-        ensures covers { OnOk result ((Reads : ℕ → ℕ → Type 0) (ram : ℕ → ℕ) (address v : ℕ) → StandsUnder Reads (map self.old).cells ram
-            → Has 65536 at.now address → HoldsOfWord Reads value v → StandsUnder Reads (map self.new).cells (written ram address size v)) };
+        ensures covers { OnOk result ((first : Option Suspended) (ram : ℕ → ℕ) (address v : ℕ) → StandsUnder first (map self.old).cells ram
+            → Has 65536 at.now address → HoldsOfWord first value v → StandsUnder first (map self.new).cells (written ram address size v)) };
 
     /// The cell with the least place that is at least an address.
     fn next(&self, from: u32) -> Option<(u16, u8, Word)>
@@ -67,19 +67,19 @@ pub trait Cells: Drop {
     /// The cells that both have, joined.
     fn join(&self, alloc: Global, other: &Self) -> Result<Self, Memory>
         ensures value { IfOk result (λ joined. map joined ≡ record (map self.now) { cells = the_cells.join_cells (map self.now).cells (map other.now).cells }) }
-        ensures own { IfOk result (λ joined. (Reads : ℕ → ℕ → Type 0) (ram : ℕ → ℕ) → StandsUnder Reads (map self.now).cells ram → StandsUnder Reads (map joined).cells ram) }
-        ensures others { IfOk result (λ joined. (Reads : ℕ → ℕ → Type 0) (ram : ℕ → ℕ) → StandsUnder Reads (map other.now).cells ram → StandsUnder Reads (map joined).cells ram) };
+        ensures own { IfOk result (λ joined. (first : Option Suspended) (ram : ℕ → ℕ) → StandsUnder first (map self.now).cells ram → StandsUnder first (map joined).cells ram) }
+        ensures others { IfOk result (λ joined. (first : Option Suspended) (ram : ℕ → ℕ) → StandsUnder first (map other.now).cells ram → StandsUnder first (map joined).cells ram) };
 
     /// The cells that both have, widened from these.
     fn widen(&self, alloc: Global, new: &Self, marks: &[u16]) -> Result<Self, Memory>
         ensures value { IfOk result (λ widened. map widened ≡ record (map self.now) { cells = the_cells.widen_cells (map self.now).cells (map new.now).cells marks.now }) }
-        ensures held { IfOk result (λ widened. (Reads : ℕ → ℕ → Type 0) (ram : ℕ → ℕ) → StandsUnder Reads (map self.now).cells ram → StandsUnder Reads (map widened).cells ram) }
-        ensures added { IfOk result (λ widened. (Reads : ℕ → ℕ → Type 0) (ram : ℕ → ℕ) → StandsUnder Reads (map new.now).cells ram → StandsUnder Reads (map widened).cells ram) };
+        ensures held { IfOk result (λ widened. (first : Option Suspended) (ram : ℕ → ℕ) → StandsUnder first (map self.now).cells ram → StandsUnder first (map widened).cells ram) }
+        ensures added { IfOk result (λ widened. (first : Option Suspended) (ram : ℕ → ℕ) → StandsUnder first (map new.now).cells ram → StandsUnder first (map widened).cells ram) };
 
     /// Whether each cell of the other ones is one of these, with a word that these are within.
     fn within(&self, other: &Self) -> bool
         ensures value { result ≡ the_cells.are_within (map self.now).cells (map other.now).cells }
-        ensures holds { result ≡ true → (Reads : ℕ → ℕ → Type 0) (ram : ℕ → ℕ) → StandsUnder Reads (map self.now).cells ram → StandsUnder Reads (map other.now).cells ram };
+        ensures holds { result ≡ true → (first : Option Suspended) (ram : ℕ → ℕ) → StandsUnder first (map self.now).cells ram → StandsUnder first (map other.now).cells ram };
 
     /// Equal cells.
     fn copy(&self, alloc: Global) -> Result<Self, Memory>

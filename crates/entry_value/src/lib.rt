@@ -7,11 +7,7 @@
 #![tactic(auto)]
 
 mod cells;
-mod laws;
 mod word;
 
 pub use cells::{Cell, Cells};
 pub use word::{Byte, Entry, Word};
-
-#[cfg(test)]
-mod tests;

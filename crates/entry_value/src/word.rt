@@ -1,8 +1,8 @@
 //! Words and bytes.
 
-ghost use Rattle.std.specs.Prelude.{◌≡◌, ℕ, bit_and, bit_or};
+ghost use Rattle.std.specs.Prelude.{◌≡◌, true, ℕ, Option, option_map, bit_and, bit_or};
 ghost use Rattle.entry_value.specs.Words as words;
-ghost use Rattle.entry_value.specs.Words.{HoldsOfWord, HoldsOfByte};
+ghost use Rattle.entry_value.specs.Words.{Suspended, IsFromEntry, HoldsOfWord, HoldsOfByte};
 
 use value_bits::{w8, w16};
 use value_set::{Vs8, Vs16};
@@ -72,12 +72,34 @@ impl Entry {
     }
 }
 
+/// A relation behind an AND with a mask, where there is one.
+fn relation_and(entry: &Option<Entry>, m: u16) -> Option<Entry>
+    ensures value { result ≡ option_map (words.entry_and m) entry.now }
+    ensures holds { (first : Option Suspended) (v : ℕ) → IsFromEntry first entry.now v → IsFromEntry first result (bit_and v m) }
+{
+    match entry {
+        Some(entry) => Some(entry.mask_and(m)),
+        None => None,
+    }
+}
+
+/// A relation behind an OR with a mask, where there is one.
+fn relation_or(entry: &Option<Entry>, m: u16) -> Option<Entry>
+    ensures value { result ≡ option_map (words.entry_or m) entry.now }
+    ensures holds { (first : Option Suspended) (v : ℕ) → IsFromEntry first entry.now v → IsFromEntry first result (bit_or v m) }
+{
+    match entry {
+        Some(entry) => Some(entry.mask_or(m)),
+        None => None,
+    }
+}
+
 impl Word {
     /// A word that holds of all that either holds of.
     pub fn join(&self, other: &Word) -> Word
         ensures value { result ≡ words.word_join self.now other.now }
-        ensures own { (Reads : ℕ → ℕ → Type 0) (v : ℕ) → HoldsOfWord Reads self.now v → HoldsOfWord Reads result v }
-        ensures others { (Reads : ℕ → ℕ → Type 0) (v : ℕ) → HoldsOfWord Reads other.now v → HoldsOfWord Reads result v }
+        ensures own { (first : Option Suspended) (v : ℕ) → HoldsOfWord first self.now v → HoldsOfWord first result v }
+        ensures others { (first : Option Suspended) (v : ℕ) → HoldsOfWord first other.now v → HoldsOfWord first result v }
     {
         Word {
             set: self.set.join(&other.set),
@@ -88,8 +110,8 @@ impl Word {
     /// Such a word whose set's ends go on to the next marks where it has to grow.
     pub fn widen(&self, new: &Word, marks: &[u16]) -> Word
         ensures value { result ≡ words.word_widen self.now new.now marks.now }
-        ensures held { (Reads : ℕ → ℕ → Type 0) (v : ℕ) → HoldsOfWord Reads self.now v → HoldsOfWord Reads result v }
-        ensures added { (Reads : ℕ → ℕ → Type 0) (v : ℕ) → HoldsOfWord Reads new.now v → HoldsOfWord Reads result v }
+        ensures held { (first : Option Suspended) (v : ℕ) → HoldsOfWord first self.now v → HoldsOfWord first result v }
+        ensures added { (first : Option Suspended) (v : ℕ) → HoldsOfWord first new.now v → HoldsOfWord first result v }
     {
         Word {
             set: self.set.widen(&new.set, marks),
@@ -100,7 +122,7 @@ impl Word {
     /// Whether the set is within the other one, and the other one's relation is this one's too.
     pub fn within(&self, other: &Word) -> bool
         ensures value { result ≡ words.word_within self.now other.now }
-        ensures holds { result ≡ true → (Reads : ℕ → ℕ → Type 0) (v : ℕ) → HoldsOfWord Reads self.now v → HoldsOfWord Reads other.now v }
+        ensures holds { result ≡ true → (first : Option Suspended) (v : ℕ) → HoldsOfWord first self.now v → HoldsOfWord first other.now v }
     {
         self.set.within(&other.set) && is_entry_within(&self.entry, &other.entry)
     }
@@ -108,22 +130,78 @@ impl Word {
     /// The word behind an AND with a constant.
     pub fn mask_and(&self, m: u16) -> Word
         ensures value { result ≡ words.word_and m self.now }
-        ensures holds { (Reads : ℕ → ℕ → Type 0) (v : ℕ) → HoldsOfWord Reads self.now v → HoldsOfWord Reads result (bit_and v m) }
+        ensures holds { (first : Option Suspended) (v : ℕ) → HoldsOfWord first self.now v → HoldsOfWord first result (bit_and v m) }
     {
         Word {
             set: w16::and(&self.set, &Vs16::one(m)),
-            entry: self.entry.map(|entry| entry.mask_and(m)),
+            entry: relation_and(&self.entry, m),
         }
     }
 
     /// The word behind an OR with a constant.
     pub fn mask_or(&self, m: u16) -> Word
         ensures value { result ≡ words.word_or m self.now }
-        ensures holds { (Reads : ℕ → ℕ → Type 0) (v : ℕ) → HoldsOfWord Reads self.now v → HoldsOfWord Reads result (bit_or v m) }
+        ensures holds { (first : Option Suspended) (v : ℕ) → HoldsOfWord first self.now v → HoldsOfWord first result (bit_or v m) }
     {
         Word {
             set: w16::or(&self.set, &Vs16::one(m)),
-            entry: self.entry.map(|entry| entry.mask_or(m)),
+            entry: relation_or(&self.entry, m),
+        }
+    }
+}
+
+impl Byte {
+    /// A byte that holds of all that either holds of.
+    pub fn join(&self, other: &Byte) -> Byte
+        ensures value { result ≡ words.byte_join self.now other.now }
+        ensures own { (first : Option Suspended) (v : ℕ) → HoldsOfByte first self.now v → HoldsOfByte first result v }
+        ensures others { (first : Option Suspended) (v : ℕ) → HoldsOfByte first other.now v → HoldsOfByte first result v }
+    {
+        Byte {
+            set: self.set.join(&other.set),
+            entry: common(&self.entry, &other.entry),
+        }
+    }
+
+    /// Such a byte whose set's ends go on to the next marks where it has to grow.
+    pub fn widen(&self, new: &Byte, marks: &[u8]) -> Byte
+        ensures value { result ≡ words.byte_widen self.now new.now marks.now }
+        ensures held { (first : Option Suspended) (v : ℕ) → HoldsOfByte first self.now v → HoldsOfByte first result v }
+        ensures added { (first : Option Suspended) (v : ℕ) → HoldsOfByte first new.now v → HoldsOfByte first result v }
+    {
+        Byte {
+            set: self.set.widen(&new.set, marks),
+            entry: common(&self.entry, &new.entry),
+        }
+    }
+
+    /// Whether the set is within the other one, and the other one's relation is this one's too.
+    pub fn within(&self, other: &Byte) -> bool
+        ensures value { result ≡ words.byte_within self.now other.now }
+        ensures holds { result ≡ true → (first : Option Suspended) (v : ℕ) → HoldsOfByte first self.now v → HoldsOfByte first other.now v }
+    {
+        self.set.within(&other.set) && is_entry_within(&self.entry, &other.entry)
+    }
+
+    /// The byte behind an AND with a constant.
+    pub fn mask_and(&self, m: u8) -> Byte
+        ensures value { result ≡ words.byte_and m self.now }
+        ensures holds { (first : Option Suspended) (v : ℕ) → HoldsOfByte first self.now v → HoldsOfByte first result (bit_and v m) }
+    {
+        Byte {
+            set: w8::and(&self.set, &Vs8::one(m)),
+            entry: relation_and(&self.entry, m as u16),
+        }
+    }
+
+    /// The byte behind an OR with a constant.
+    pub fn mask_or(&self, m: u8) -> Byte
+        ensures value { result ≡ words.byte_or m self.now }
+        ensures holds { (first : Option Suspended) (v : ℕ) → HoldsOfByte first self.now v → HoldsOfByte first result (bit_or v m) }
+    {
+        Byte {
+            set: w8::or(&self.set, &Vs8::one(m)),
+            entry: relation_or(&self.entry, m as u16),
         }
     }
 }

@@ -1,7 +1,7 @@
 -- The join includes both sets, in the one form.
 use Rattle.std.proofs.Common.{◌≡◌, ℕ, ◌+◌, ◌-◌, ◌*◌, ◌%◌, ◌/◌, ◌<◌, ◌≤◌, ◌++◌, Bool, true, false, List, [], ◌∷◌, length, refl, sym, ◌∙◌, ap, subst, inl, inr, arith, eqb, Option, Some, None}
 use Prim.Native.Nat.{◌∣◌}
-use Rattle.std.specs.Prelude.{◌⊎◌}
+use Rattle.std.specs.Prelude.{◌⊎◌, ◌↔◌, IsTrue}
 use Rattle.std.specs.List.{list_any, list_all}
 use Rattle.std.proofs.Common.{length-append}
 use Rattle.std.proofs.lemmas.Bool.{cases_lt, cases_Bool, eqb-true, eq-eqb, or_cases, or_left, or_right, and_parts, and_from, lt-leb, le-leb, lt-ltb, le-ltb}
@@ -51,6 +51,11 @@ test_from_includes m smaller larger h = pass_all (λ v. is_in m larger v) (membe
 
 pub test_fails : (m : ℕ) (smaller larger : Form) → (Includes m larger smaller → ⊥) → is_within m smaller larger ≡ false
 test_fails m smaller larger h = elim (cases_Bool (is_within m smaller larger)) [ inl agreed ↦ absurd (h (includes_from_test m smaller larger agreed)) | inr refused ↦ refused ]
+
+-- an answer that tells inclusion is the test's
+pub tested : (m : ℕ) (smaller larger : Form) (answer : Bool) → (IsTrue answer ↔ Includes m larger smaller) → answer ≡ is_within m smaller larger
+tested m smaller larger true h = sym (test_from_includes m smaller larger (h.0 refl))
+tested m smaller larger false h = sym (test_fails m smaller larger (λ includes. absurd (cc (h.1 includes))))
 
 pub join-first : (m : ℕ) (first second : Form) → is_within m second first ≡ true → join m first second ≡ first
 unfolding join

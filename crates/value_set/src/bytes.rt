@@ -122,7 +122,8 @@ impl Vs8 {
 
     /// Whether each member is one of the other set.
     pub fn within(&self, other: &Vs8) -> bool
-        ensures { IsTrue result ↔ Includes 256 other.now self.now }
+        ensures value { result ≡ joins.is_within 256 self.now other.now }
+        ensures inclusion { IsTrue result ↔ Includes 256 other.now self.now }
     {
         member::within(MODULUS, &self.form, &other.form)
     }

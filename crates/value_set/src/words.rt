@@ -122,7 +122,8 @@ impl Vs16 {
 
     /// Whether each member is one of the other set.
     pub fn within(&self, other: &Vs16) -> bool
-        ensures { IsTrue result ↔ Includes 65536 other.now self.now }
+        ensures value { result ≡ joins.is_within 65536 self.now other.now }
+        ensures inclusion { IsTrue result ↔ Includes 65536 other.now self.now }
     {
         member::within(MODULUS, &self.form, &other.form)
     }

@@ -1,4 +1,8 @@
+use Rattle.value_set.proofs.Joins.{tested}
 use Rattle.value_set.proofs.bytes.Vs8.within.Goals as goal
 
-pub returns : goal.returns
-returns c = rw (← c.self.view_is, ← c.other.view_is) c.within.ensures
+pub returns-clause-value : goal.returns-clause-value
+returns-clause-value c = tested 256 c.args.self.now c.args.other.now c.within.result (rw (← c.self.view_is, ← c.other.view_is) c.within.ensures)
+
+pub returns-clause-inclusion : goal.returns-clause-inclusion
+returns-clause-inclusion c = rw (← c.self.view_is, ← c.other.view_is) c.within.ensures
