@@ -78,6 +78,10 @@ pub AllBelow_from : {X : Type 0} (f : X → ℕ) (m : ℕ) (xs : List X) → All
 AllBelow_from f m [] h = tt
 AllBelow_from f m (x ∷ xs) h = (All-head (λ n. f n < m) x xs h, AllBelow_from f m xs (All-tail (λ n. f n < m) x xs h))
 
+pub AllBelow_all : (m : ℕ) (xs : List ℕ) → All (λ mark. mark < m) xs → AllBelow m xs
+AllBelow_all m [] h = tt
+AllBelow_all m (x ∷ xs) h = (All-head (λ n. n < m) x xs h, AllBelow_all m xs (All-tail (λ n. n < m) x xs h))
+
 -- ---- down and up in steps
 
 down_fact : (base stride mark : ℕ) → (down_to base stride mark ≤ base) × (stride ∣ base - down_to base stride mark)

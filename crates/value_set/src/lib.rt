@@ -11,6 +11,7 @@ mod few;
 mod form;
 mod gathering;
 mod joining;
+mod laws;
 mod member;
 mod number;
 mod sets;
@@ -22,6 +23,10 @@ pub use bytes::Vs8;
 pub use combining::Operation;
 pub use few::Few;
 pub use form::{Form, Progression};
+pub use laws::{
+    cuts_hold, inclusion_is_tested, joins_include_both, members_are_below, sets_are_their_members,
+    single_and_whole_sets, sums_hold, widenings_include_both,
+};
 pub use words::Vs16;
 
 #[cfg(test)]

@@ -1,0 +1,11 @@
+use Rattle.std.proofs.Common.{refl, arith}
+use Rattle.value_set.proofs.Sums.{single_normal}
+use Rattle.value_set.proofs.Promises.{any_has}
+use Rattle.value_set.specs.Form.{make}
+use Rattle.value_set.proofs.laws.single_and_whole_sets.Goals as goal
+
+pub returns-clause-single : goal.returns-clause-single
+returns-clause-single c = λ m v below. (single_normal m v below, (0, omega arith, refl))
+
+pub returns-clause-whole : goal.returns-clause-whole
+returns-clause-whole c = λ m v below. any_has m v (make m 0 1 m) refl (omega arith) below
