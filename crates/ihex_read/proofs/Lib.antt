@@ -3,9 +3,7 @@ pub mod Digits
 pub mod PlacingLemmas
 pub mod WrittenLemmas
 pub mod MadeLemmas
-pub mod LinesLemmas
 pub mod TextLemmas
-pub mod PlainLemmas
 pub mod LawLemmas
 pub mod ByteLemmas
 pub mod PieceLemmas

@@ -1,6 +1,6 @@
 -- What the lines so far tell of the next line, and of the whole text.
 use Rattle.std.proofs.Common.{◌≡◌, ℕ, ◌+◌, ◌<◌, Bool, true, false, List, [], ◌∷◌, ◌++◌, length, refl, sym, ◌∙◌, ap, subst, append_assoc, length-append, arith}
-use Rattle.std.specs.Prelude.{◌==◌, not, Option, None, Some}
+use Rattle.std.specs.Prelude.{not, Option, None, Some}
 use Rattle.std.proofs.lemmas.Bool.Decides.{nat_tests}
 use Rattle.std.proofs.lemmas.List.Elements.{All-nil, All-push}
 use Rattle.ihex_read.specs.declared.rule_set.Rules.{Rules}
@@ -8,12 +8,8 @@ use Rattle.ihex_read.specs.declared.rule_set.Tail.{Tail}
 use Rattle.ihex_read.specs.declared.rule_set.Tail.TheVariants.{Blank, Second}
 use Rattle.ihex_read.specs.declared.fault.HexFault.{HexFault}
 use Rattle.ihex_read.specs.declared.fault.HexFault.TheVariants.{NoEnd, Trailing}
-use Rattle.ihex_read.specs.declared.record.LineKind.{LineKind}
-use Rattle.ihex_read.specs.declared.record.LineKind.TheVariants.{Data, Address, End}
-use Rattle.ihex_read.specs.contracts.record.LineKind.{the_type}
-use denote.Enum.Bare.{sameb}
 use Rattle.ihex_read.specs.ImageText.{fault_of, is_end, Ends, IsTail, Denotes, FirstFault, of_line, no_end, trailing}
-use Rattle.ihex_read.specs.Loading.{Made, kind_of, line_kind}
+use Rattle.ihex_read.specs.Loading.{Made}
 use Rattle.ihex_read.specs.Record.{record_of, type_of}
 use Rattle.ihex_read.specs.Stages.{IsUsed, IsGoing, Stands, GoesOn, next_fault}
 use Rattle.ihex_read.proofs.MadeLemmas.{placed_of-end}
@@ -48,21 +44,6 @@ pub over_fault : (rules : Rules) (lines : List (List ℕ)) (line : List ℕ) (en
 over_fault rules lines [] true is some = absurd (omega arith)
 over_fault rules lines (b ∷ line) true is some = refl
 over_fault rules lines line false is some = cc is
-
-no_end_data : (n : ℕ) → Data ≡ kind_of n → (n == 1) ≡ false
-no_end_data n h = grind (arith, nat_tests)
-
-no_end_address : (n : ℕ) → Address ≡ kind_of n → (n == 1) ≡ false
-no_end_address n h = grind (arith, nat_tests)
-
-end_record : (n : ℕ) → End ≡ kind_of n → (n == 1) ≡ true
-end_record n h = grind (arith, nat_tests)
-
--- the test of a line's kind
-pub end_by_kind : (kind : LineKind) (line : List ℕ) → kind ≡ line_kind line → is_end line ≡ sameb the_type kind End
-end_by_kind Data line h = no_end_data (type_of (record_of line)) h
-end_by_kind Address line h = no_end_address (type_of (record_of line)) h
-end_by_kind End line h = end_record (type_of (record_of line)) h
 
 ends_at : (line : List ℕ) → is_end line ≡ true → type_of (record_of line) ≡ 1
 ends_at line h = grind (arith, nat_tests)

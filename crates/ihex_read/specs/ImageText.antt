@@ -9,7 +9,6 @@ use Rattle.ihex_read.specs.declared.rule_set.Tail.TheVariants.{Blank, Second}
 use Rattle.ihex_read.specs.declared.fault.HexFault.{HexFault}
 use Rattle.ihex_read.specs.declared.fault.HexFault.TheVariants.{NoColon, BadDigit, BadLength, BadSum, BadType, BadTypeLength, OutOfRange, Clash, Misplaced, NoEnd, Trailing, NoReset}
 use Rattle.ihex_read.specs.Image.{byte_at}
-use Rattle.ihex_read.specs.Lines.{lines_of}
 use Rattle.ihex_read.specs.Record.{record_of, is_miscounted, length_of, type_of, is_length_of_type, base_behind, placed_by}
 
 -- RAM stands from an even address to an odd one above it, behind the peripherals
@@ -129,8 +128,3 @@ pub data FirstFault (rules : Rules) (tail : Tail) (lines : List (List ℕ)) : �
   trailing : (before : List (List ℕ)) (line : List ℕ) (blank : List (List ℕ)) (more : List ℕ) (behind : List (List ℕ))
       → Ends rules lines before line (blank ++ more ∷ behind) → All (λ line. line ≡ []) blank → (more ≡ [] → ⊥)
       → tail ≡ Blank → FirstFault rules tail lines (length before + 1 + length blank + 1) Trailing
-
--- the whole text denotes the image, by records of type 00 and 01 alone
-pub record IsPlainImage (rules : Rules) (text : List ℕ) (image : List (Option ℕ)) : Type 0 where
-  pub denoted : Denotes rules Blank (lines_of text) image
-  pub plain : All (λ line. type_of (record_of line) ≤ 1) (lines_of text)

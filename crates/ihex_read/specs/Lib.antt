@@ -2,6 +2,7 @@ pub mod Alone
 pub mod Image
 pub mod ImageText
 pub mod Lines
+pub mod Names
 pub mod Record
 pub mod Loading
 pub mod Reading

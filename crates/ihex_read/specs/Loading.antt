@@ -1,16 +1,14 @@
 -- What the lines that were accepted so far have made: a base and an image. The faults of the next line are told by
 -- these two alone.
-use Rattle.std.specs.Prelude.{◌≡◌, ℕ, ◌==◌, Bool, true, false, not, ◌&&◌, nat_lt, if◌then◌else◌, List, [], ◌∷◌, Option, None, Some, is_some, slice_set, find}
+use Rattle.std.specs.Prelude.{◌≡◌, ℕ, ◌==◌, Bool, true, false, not, ◌&&◌, nat_lt, List, [], ◌∷◌, Option, None, Some, is_some, slice_set, find}
 use Rattle.std.specs.List.{list_any}
 use Rattle.ihex_read.specs.declared.rule_set.Rules.{Rules}
 use Rattle.ihex_read.specs.declared.rule_set.Rules.TheVariants.{Msp430, Mcs51}
 use Rattle.ihex_read.specs.declared.fault.HexFault.{HexFault}
 use Rattle.ihex_read.specs.declared.fault.HexFault.TheVariants.{OutOfRange, Clash, Misplaced, NoReset}
-use Rattle.ihex_read.specs.declared.record.LineKind.{LineKind}
-use Rattle.ihex_read.specs.declared.record.LineKind.TheVariants.{Data, Address, End}
 use Rattle.ihex_read.specs.Image.{byte_at}
 use Rattle.ihex_read.specs.ImageText.{base_of, IsImage, placing_faults, is_misplaced}
-use Rattle.ihex_read.specs.Record.{record_of, type_of, placed_by}
+use Rattle.ihex_read.specs.Record.{type_of, placed_by}
 
 -- the base and the image that these lines make
 pub record Made (lines : List (List ℕ)) (base : ℕ) (image : List (Option ℕ)) : Type 0 where
@@ -53,9 +51,3 @@ row_fault rules image bytes = find (has_placing rules image 0 bytes) placing_fau
 abbrev pub placing_fault : Rules → ℕ → List (Option ℕ) → List ℕ → Option HexFault
 placing_fault rules base image bytes =
     find (has_placing rules image (type_of bytes) (placed_by base bytes)) placing_faults
-
-abbrev pub kind_of : ℕ → LineKind
-kind_of kind = if kind == 0 then Data else if kind == 1 then End else Address
-
-abbrev pub line_kind : List ℕ → LineKind
-line_kind line = kind_of (type_of (record_of line))

@@ -1,11 +1,12 @@
 //! What every list of lines has.
 
-ghost use Rattle.std.specs.Prelude.{◌≡◌, ◌⊎◌, ℕ, All, List, Option, length};
+ghost use Rattle.std.specs.Prelude.{◌≡◌, ◌⊎◌, ◌++◌, ℕ, All, List, Option, length};
 ghost use Rattle.ihex_read.specs.declared.fault.HexFault.{HexFault};
 ghost use Rattle.ihex_read.specs.declared.rule_set.Rules.{Rules};
 ghost use Rattle.ihex_read.specs.declared.rule_set.Tail.{Tail};
 ghost use Rattle.ihex_read.specs.Image.{IsByte};
 ghost use Rattle.ihex_read.specs.ImageText.{Denotes, FirstFault};
+ghost use Rattle.ihex_read.specs.Reading.{FaultsWithin};
 
 /// Every list of lines has an image or a first fault, never both, and no second one of either.
 pub fn image_or_fault()
@@ -24,4 +25,10 @@ pub fn image_or_fault()
 pub fn images_have_bytes()
     ensures { (rules : Rules) (tail : Tail) (lines : List (List ℕ)) (image : List (Option ℕ)) →
         Denotes rules tail lines image → (length image ≡ 65536) × All IsByte image }
+{}
+
+/// A first faulty line that is whole stays the first one, with its fault, however the text goes on.
+pub fn whole_faults_stay()
+    ensures { (rules : Rules) (tail : Tail) (text more : List ℕ) (line : ℕ) (fault : HexFault) →
+        FaultsWithin rules tail text line fault → FaultsWithin rules tail (text ++ more) line fault }
 {}

@@ -12,6 +12,8 @@
 //!   Where a second text is expected it uses no byte behind the end record's line feed.
 //! - After an error each later call answers the same one. Want of memory comes in `new` and `feed` alone.
 //!
+//! [`whole_faults_stay`] is the law that what `feed` refuses is refused however the text goes on.
+//!
 //! A reader keeps the line that has begun, the image and a few numbers. It reads a text in linear time.
 #![tactic(auto)]
 
@@ -22,7 +24,6 @@ mod law;
 mod lines;
 mod loading;
 mod placing;
-mod plain;
 mod record;
 mod rule_set;
 mod stage;
@@ -30,8 +31,7 @@ mod stage;
 pub use address_map::Image;
 pub use fault::{HexError, HexFault};
 pub use feeding::{MOST_BYTES, Reader};
-pub use law::{image_or_fault, images_have_bytes};
-pub use plain::image_of;
+pub use law::{image_or_fault, images_have_bytes, whole_faults_stay};
 pub use rule_set::{Rules, Tail};
 
 #[cfg(test)]

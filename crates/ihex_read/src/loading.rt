@@ -1,18 +1,17 @@
 //! The image that the lines make so far, and the next line.
 
-ghost use Rattle.std.specs.Prelude.{◌≡◌, ◌+◌, ◌*◌, ◌^◌, ◌<◌, ◌≤◌, ◌++◌, ◌∷◌, [], List, ℕ, length, slice_index, IfOk, OnOk, OnErr};
+ghost use Rattle.std.specs.Prelude.{◌≡◌, ◌==◌, ◌+◌, ◌*◌, ◌^◌, ◌<◌, ◌≤◌, ◌++◌, ◌∷◌, [], List, ℕ, length, slice_index, IfOk, OnOk, OnErr};
 ghost use Rattle.std.specs.List.{enumerate_from};
 ghost use Rattle.std.specs.Result.{result_err};
 ghost use Rattle.ihex_read.specs.Alone.{IsWhole};
-ghost use Rattle.ihex_read.specs.ImageText.{fault_of};
-ghost use Rattle.ihex_read.specs.Loading.{Made, placing_fault, row_fault, written, kind_of, line_kind};
+ghost use Rattle.ihex_read.specs.ImageText.{fault_of, is_end};
+ghost use Rattle.ihex_read.specs.Loading.{Made, placing_fault, row_fault, written};
 ghost use Rattle.ihex_read.specs.Record.{base_behind, placed_by, type_of};
 
 use crate::address_map::Image;
 use crate::fault::HexFault;
-use crate::placing;
-use crate::record::{self, LineKind};
 use crate::rule_set::Rules;
+use crate::{placing, record};
 use std::alloc::Global;
 use vsa_io::Memory;
 
@@ -38,19 +37,20 @@ impl Loader {
         })
     }
 
-    /// Takes the next line and answers what it is, or the first fault that it has behind the lines so far.
-    pub fn accept(&mut self, line: &[u8]) -> Result<LineKind, HexFault>
+    /// Takes the next line and answers whether it is the end record's, or the first fault that it has behind the lines
+    /// so far.
+    pub fn accept(&mut self, line: &[u8]) -> Result<bool, HexFault>
         ensures fault { (lines : List (List ℕ)) → Made lines self.old.base self.old.image.items
             → result_err result ≡ fault_of self.old.rules lines line.now }
         ensures made { (lines : List (List ℕ)) → Made lines self.old.base self.old.image.items
             → OnOk result (Made (lines ++ line.now ∷ []) self.new.base self.new.image.items) }
-        ensures kind { IfOk result (λ kind. kind ≡ line_kind line.now) }
+        ensures ends { IfOk result (λ ends. ends ≡ is_end line.now) }
         ensures image_stays { OnErr result (self.new.image.items ≡ self.old.image.items) }
         ensures base_stays { OnErr result (self.new.base ≡ self.old.base) }
         ensures rules { self.new.rules ≡ self.old.rules }
     {
         if line.is_empty() {
-            return Ok(LineKind::Data);
+            return Ok(false);
         }
         let mut buffer = [0; record::LONGEST];
         let count = record::parse(line, &mut buffer)?;
@@ -58,12 +58,12 @@ impl Loader {
     }
 
     /// Takes the record of a line that has no fault by itself.
-    fn apply(&mut self, bytes: &[u8]) -> Result<LineKind, HexFault>
+    fn apply(&mut self, bytes: &[u8]) -> Result<bool, HexFault>
         requires { IsWhole bytes.now }
         ensures fault { result_err result ≡ placing_fault self.old.rules self.old.base self.old.image.items bytes.now }
         ensures image { OnOk result (self.new.image.items ≡ written self.old.image.items (placed_by self.old.base bytes.now)) }
         ensures base { OnOk result (self.new.base ≡ base_behind self.old.base bytes.now) }
-        ensures kind { IfOk result (λ kind. kind ≡ kind_of (type_of bytes.now)) }
+        ensures ends { IfOk result (λ ends. ends ≡ (type_of bytes.now == 1)) }
         ensures image_stays { OnErr result (self.new.image.items ≡ self.old.image.items) }
         ensures base_stays { OnErr result (self.new.base ≡ self.old.base) }
         ensures rules { self.new.rules ≡ self.old.rules }
@@ -73,24 +73,24 @@ impl Loader {
                 let offset = usize::from(bytes[1]) * 256 + usize::from(bytes[2]);
                 let start = self.base as usize + offset;
                 self.place(start, &bytes[4..bytes.len() - 1])?;
-                Ok(LineKind::Data)
+                Ok(false)
             }
             1 => {
                 if placing::can_reset(self.rules, &self.image) {
-                    Ok(LineKind::End)
+                    Ok(true)
                 } else {
                     Err(HexFault::NoReset)
                 }
             }
             2 => {
                 self.base = address(bytes) * 16;
-                Ok(LineKind::Address)
+                Ok(false)
             }
             4 => {
                 self.base = address(bytes) * 65536;
-                Ok(LineKind::Address)
+                Ok(false)
             }
-            _ => Ok(LineKind::Address),
+            _ => Ok(false),
         }
     }
 

@@ -10,17 +10,6 @@ ghost use Rattle.ihex_read.specs.Alone.{IsWhole, alone_fault, shape_fault, conte
 
 use crate::fault::HexFault;
 
-/// What an accepted line is.
-#[derive(Clone, Copy, Debug, PartialEq, Eq)]
-pub enum LineKind {
-    /// A data record, or no record on a blank line.
-    Data,
-    /// A record of type 02 to 05.
-    Address,
-    /// The end record.
-    End,
-}
-
 /// The bytes of the longest record.
 pub const LONGEST: usize = 260;
 

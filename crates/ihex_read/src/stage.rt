@@ -10,7 +10,6 @@ ghost use Rattle.ihex_read.specs.Stages.{IsBehind, GoesOn, next_fault};
 use crate::address_map::Image;
 use crate::fault::{HexError, HexFault};
 use crate::loading::Loader;
-use crate::record::LineKind;
 use crate::rule_set::Rules;
 use std::alloc::Global;
 use vsa_io::Memory;
@@ -57,7 +56,7 @@ impl Progress {
                 Err(HexFault::Trailing)
             };
         }
-        self.ended = self.loader.accept(line)? == LineKind::End;
+        self.ended = self.loader.accept(line)?;
         Ok(())
     }
 

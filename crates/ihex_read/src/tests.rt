@@ -1,7 +1,7 @@
 ghost use Rattle.std.specs.Prelude.{◌≤◌, length};
 ghost use Rattle.ihex_read.specs.ImageText.{IsRamRange};
 
-use super::{HexError, HexFault, Image, MOST_BYTES, Reader, Rules, Tail, image_of};
+use super::{HexError, HexFault, Image, MOST_BYTES, Reader, Rules, Tail};
 use std::alloc::Global;
 use std::test::Fail;
 
@@ -188,14 +188,6 @@ fn other_chip(rt: HostRuntime) -> Result<(), Fail> {
     assert!(rt; !image.meets(0, 65536));
     let image = by_bytes(rt.alloc(), b":0200000080FE80\n:00000001FF", Rules::Mcs51)?;
     assert_eq!(rt; image.byte(1), Some(0xFE));
-    Ok(())
-}
-
-#[test]
-fn plain_image(rt: HostRuntime) -> Result<(), Fail> {
-    let text = ":06F0000031408002FF3FD9\n:02FFFE0000F011\n:00000001FF\n";
-    let image = image_of(rt.alloc(), text.as_bytes(), MSP430)?.ok_or("no image")?;
-    assert_eq!(rt; image.byte(0xF000), Some(0x31));
     Ok(())
 }
 

@@ -1,6 +1,6 @@
 -- A report that is told as closed covers every run, and one that is told as open shows its open sites.
-use Rattle.std.proofs.Common.{◌≡◌, ◌++◌, ℕ, Bool, true, false, Option, None, Some, Result, Ok, Err, List, [], ◌∷◌, refl, sym, ap, subst, ◌∙◌, append_assoc, inl, inr}
-use Rattle.std.specs.Prelude.{All, Contains, length, map, ◌&&◌}
+use Rattle.std.proofs.Common.{arith, ◌≡◌, ◌++◌, ℕ, Bool, true, false, Option, None, Some, Result, Ok, Err, List, [], ◌∷◌, refl, sym, ap, subst, ◌∙◌, append_assoc, inl, inr}
+use Rattle.std.specs.Prelude.{◌⊎◌, All, Contains, IfSome, length, map, ◌&&◌}
 use Rattle.std.specs.List.{flat_map}
 use Rattle.std.proofs.lemmas.List.Elements.{Contains-append_right}
 use Rattle.std.proofs.lemmas.Option.{same_Some}
@@ -22,15 +22,19 @@ use Rattle.ihex_read.specs.declared.rule_set.Tail.{Tail}
 use Rattle.ihex_read.specs.declared.rule_set.Tail.TheVariants.{Blank}
 use Rattle.ihex_read.specs.declared.rule_set.Rules.{Rules}
 use Rattle.ihex_read.specs.Image.{IsByte}
-use Rattle.ihex_read.specs.ImageText.{Denotes, IsPlainImage}
+use Rattle.ihex_read.specs.declared.fault.HexFault.{HexFault}
+use Rattle.ihex_read.specs.ImageText.{Denotes, FirstFault}
+use Rattle.std.proofs.lemmas.List.{take_all}
 use Rattle.ihex_read.specs.Lines as texts
 use Rattle.round_core.specs.Machine.{Held, held_at, inputs_of, replay, IsLegalJournal, IsFinished}
 use Rattle.round_core.specs.declared.event.Event.{Event}
 use Rattle.vsa_top.specs.declared.msp430.instr.Instr.{Instr}
 use Rattle.vsa_top.specs.declared.msp430.state.State.{State}
-use Rattle.vsa_top.specs.declared.outcome.Status.TheVariants.{Done, Open}
-use Rattle.vsa_top.specs.Answer.{rules, IsImageOf, IsAnalysis, AnswersInput, AnswersImage, works_behind, report_behind}
-use Rattle.vsa_top.specs.Answer.AnswersInput.{of_image, of_none, unread}
+use Rattle.vsa_top.specs.declared.outcome.Status.{Status}
+use Rattle.vsa_top.specs.declared.outcome.Status.TheVariants.{Done, Open, Usage, BadImage, BadCert, ReadFault, WriteFault, Memory, TooLong, Wild, NeedChoice}
+use Rattle.vsa_top.specs.Answer.{text_limit, IsBad, IsTooLong, IsOfImage, IsImageOf, IsAnalysis, AnswersInput, AnswersImage, AnswersLine, works_behind, report_behind}
+use Rattle.vsa_top.specs.Answer.AnswersInput.{of_image, of_bad, of_long, unread}
+use Rattle.vsa_top.specs.Answer.AnswersLine.{whole, cut}
 use Rattle.vsa_top.specs.Headline.{Says, CoversEveryRun, ShowsOpenSites, ReportsOn}
 use Rattle.vsa_top.specs.Msp430Chip.{msp430, work_of, work_at, IsProgram}
 use Rattle.vsa_top.specs.Msp430Fetch.{fetched}
@@ -144,17 +148,24 @@ HaveOneImage = (rules : Rules) (tail : Tail) (lines : List (List ℕ)) (image ot
     → Denotes rules tail lines image → Denotes rules tail lines other → image ≡ other
 
 -- the image of an answer is the one that the text denotes
-same_image : HaveOneImage → (input : Option (List ℕ)) (text : List ℕ) (image other : List (Option ℕ)) → input ≡ Some text
-    → IsPlainImage rules text image → IsImageOf input other → other ≡ image
-same_image one None text image other e plain found = absurd (cc)
-same_image one (Some read) text image other e plain found =
+same_image : HaveOneImage → (rules : Rules) (input : Option (List ℕ)) (text : List ℕ) (image other : List (Option ℕ)) → input ≡ Some text
+    → Denotes rules Blank (texts.lines_of text) image → IfSome input (λ t. IsImageOf rules t other) → other ≡ image
+same_image one rules None text image other e denoted found = absurd (cc)
+same_image one rules (Some read) text image other e denoted found =
     let same : read ≡ text = same_Some read text e in
-    one rules Blank (texts.lines_of text) other image (subst (λ t. Denotes rules Blank (texts.lines_of t) other) same found.1.denoted) plain.denoted
+    one rules Blank (texts.lines_of text) other image (subst (λ t. Denotes rules Blank (texts.lines_of t) other) same found.denoted) denoted
 
-covers_every : CoverRuns → HaveBytes → (text : List ℕ) (image : List (Option ℕ)) (journal : List Event) → IsPlainImage rules text image
+-- a line alone is told by its own status, or by that of the sink's fault
+told_alone : {told answered : Status} {line : List ℕ} {before after : Option (List ℕ)} {journal : List Event} → AnswersLine told line answered before after journal
+    → (answered ≡ told) ⊎ (answered ≡ WriteFault)
+told_alone (whole same is none) = inl same
+told_alone (cut same is none) = inr same
+
+covers_every : CoverRuns → HaveBytes → (rules : Rules) (text : List ℕ) (image : List (Option ℕ)) (journal : List Event)
+    → Denotes rules Blank (texts.lines_of text) image
     → IsAnalysis image journal → are_closed (works_behind image journal) ≡ true → CoversEveryRun image (report_behind image journal)
-covers_every cover bytes text image journal plain analysis closed =
-    let held = bytes rules Blank (texts.lines_of text) image plain.denoted in
+covers_every cover bytes rules text image journal denoted analysis closed =
+    let held = bytes rules Blank (texts.lines_of text) image denoted in
     let covering = cover image journal (record { size = held.0; bytes = held.1 }) analysis.legal analysis.finished
     (none_open (works_behind image journal) closed) in
     record {
@@ -180,22 +191,69 @@ open_sites of_units image journal analysis left = record {
       };
 }
 
-pub closed_lem : CoverRuns → HaveBytes → HaveOneImage → (input before after : Option (List ℕ)) (journal : List Event)
-    → AnswersInput Done input before after journal → ReportsOn input before after CoversEveryRun
-closed_lem cover bytes one input before after journal (of_image other found answer) text image e plain =
-    let same = same_image one input text image other e plain found in
+pub closed_lem : CoverRuns → HaveBytes → HaveOneImage → (rules : Rules) (input before after : Option (List ℕ)) (journal : List Event)
+    → AnswersInput rules Done input before after journal → ReportsOn rules input before after CoversEveryRun
+closed_lem cover bytes one rules input before after journal (of_image other found answer) text image e denoted =
+    let same = same_image one rules input text image other e denoted found in
     let is = subst (λ i. AnswersImage Done i before after journal) same answer in
-    (report_behind image journal, is.2, covers_every cover bytes text image journal plain is.0 is.1)
-closed_lem cover bytes one input before after journal (of_none lacks answer) text image e plain = absurd answer
-closed_lem cover bytes one input before after journal (unread why kept none) text image e plain =
+    (report_behind image journal, is.2, covers_every cover bytes rules text image journal denoted is.0 is.1)
+closed_lem cover bytes one rules input before after journal (of_bad line fault bad answer) text image e denoted =
+    elim (told_alone answer) [ inl a ↦ absurd (cc) | inr b ↦ absurd (cc) ]
+closed_lem cover bytes one rules input before after journal (of_long long answer) text image e denoted =
+    elim (told_alone answer) [ inl a ↦ absurd (cc) | inr b ↦ absurd (cc) ]
+closed_lem cover bytes one rules input before after journal (unread why kept none) text image e denoted =
     elim why [ inl a ↦ absurd (cc) | inr b ↦ absurd (cc) ]
 
-pub open_lem : AreOfUnits → HaveOneImage → (input before after : Option (List ℕ)) (journal : List Event)
-    → AnswersInput Open input before after journal → ReportsOn input before after (λ image report. ShowsOpenSites image journal report)
-open_lem of_units one input before after journal (of_image other found answer) text image e plain =
-    let same = same_image one input text image other e plain found in
+pub open_lem : AreOfUnits → HaveOneImage → (rules : Rules) (input before after : Option (List ℕ)) (journal : List Event)
+    → AnswersInput rules Open input before after journal → ReportsOn rules input before after (λ image report. ShowsOpenSites image journal report)
+open_lem of_units one rules input before after journal (of_image other found answer) text image e denoted =
+    let same = same_image one rules input text image other e denoted found in
     let is = subst (λ i. AnswersImage Open i before after journal) same answer in
     (report_behind image journal, is.2, open_sites of_units image journal is.0 is.1)
-open_lem of_units one input before after journal (of_none lacks answer) text image e plain = absurd answer
-open_lem of_units one input before after journal (unread why kept none) text image e plain =
+open_lem of_units one rules input before after journal (of_bad line fault bad answer) text image e denoted =
+    elim (told_alone answer) [ inl a ↦ absurd (cc) | inr b ↦ absurd (cc) ]
+open_lem of_units one rules input before after journal (of_long long answer) text image e denoted =
+    elim (told_alone answer) [ inl a ↦ absurd (cc) | inr b ↦ absurd (cc) ]
+open_lem of_units one rules input before after journal (unread why kept none) text image e denoted =
     elim why [ inl a ↦ absurd (cc) | inr b ↦ absurd (cc) ]
+
+abbrev HaveNotBoth : Type 0
+HaveNotBoth = (rules : Rules) (tail : Tail) (lines : List (List ℕ)) (image : List (Option ℕ)) (line : ℕ) (fault : HexFault)
+    → Denotes rules tail lines image → FirstFault rules tail lines line fault → ⊥
+
+-- the statuses of an image
+status_of_image : (answered : Status) (image : List (Option ℕ)) (before after : Option (List ℕ)) (journal : List Event)
+    → AnswersImage answered image before after journal → (answered ≡ WriteFault → ⊥) → IsOfImage answered
+status_of_image Done image before after journal is no_fault = inl refl
+status_of_image Open image before after journal is no_fault = inr (inl refl)
+status_of_image WriteFault image before after journal is no_fault = absurd (no_fault refl)
+status_of_image Usage image before after journal is no_fault = absurd is
+status_of_image BadImage image before after journal is no_fault = absurd is
+status_of_image BadCert image before after journal is no_fault = absurd is
+status_of_image ReadFault image before after journal is no_fault = absurd is
+status_of_image Memory image before after journal is no_fault = absurd is
+status_of_image TooLong image before after journal is no_fault = absurd is
+status_of_image Wild image before after journal is no_fault = absurd is
+status_of_image NeedChoice image before after journal is no_fault = absurd is
+
+-- a text of an image isn't refused
+not_bad : HaveNotBoth → (rules : Rules) (text : List ℕ) (image : List (Option ℕ)) (line : ℕ) (fault : HexFault) → IsImageOf rules text image
+    → IsBad rules text line fault → ⊥
+not_bad both rules text image line fault is bad =
+    both rules Blank (texts.lines_of text) image line fault is.denoted
+    (subst (λ t. FirstFault rules Blank (texts.lines_of t) line fault) (take_all text_limit text is.fits) bad.first)
+
+not_long : (rules : Rules) (text : List ℕ) (image : List (Option ℕ)) → IsImageOf rules text image → IsTooLong rules text → ⊥
+not_long rules text image is long = omega (arith, is.fits, long.longer)
+
+pub complete_lem : HaveNotBoth → (rules : Rules) (answered : Status) (input before after : Option (List ℕ)) (journal : List Event) (text : List ℕ)
+    (image : List (Option ℕ)) → AnswersInput rules answered input before after journal → input ≡ Some text → IsImageOf rules text image
+    → (answered ≡ ReadFault → ⊥) → (answered ≡ WriteFault → ⊥) → IsOfImage answered
+complete_lem both rules answered input before after journal text image (of_image other found answer) e is no_read no_write =
+    status_of_image answered other before after journal answer no_write
+complete_lem both rules answered input before after journal text image (of_bad line fault bad answer) e is no_read no_write =
+    absurd (not_bad both rules text image line fault is (subst (λ i. IfSome i (λ t. IsBad rules t line fault)) e bad))
+complete_lem both rules answered input before after journal text image (of_long long answer) e is no_read no_write =
+    absurd (not_long rules text image is (subst (λ i. IfSome i (IsTooLong rules)) e long))
+complete_lem both rules answered input before after journal text image (unread why kept none) e is no_read no_write =
+    elim why [ inl fault ↦ absurd (no_read fault) | inr memory ↦ inr (inr memory) ]

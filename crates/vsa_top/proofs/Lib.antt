@@ -1,10 +1,10 @@
 pub mod AnswerLemmas
 pub mod HeadlineLemmas
-pub mod Images
+pub mod InputLemmas
 pub mod Msp430Laws
 pub mod Msp430Sets
 pub mod Msp430Steps
-pub mod Reading
 pub mod ReportLemmas
 pub mod ShownLemmas
 pub mod TurnLemmas
+pub mod WordsLemmas

@@ -1,10 +1,15 @@
--- What the program answers to its words and its input.
-use Rattle.std.specs.Prelude.{◌≡◌, ◌⊎◌, true, false, None, Some, ℕ, ◌≤◌, Option, List, [], ◌∷◌, length, map, codes, string_bytes}
-use Rattle.std.specs.declared.string.String.{String}
-use Rattle.std.specs.declared.alloc.Global.{Global}
+-- What the program answers to an input.
+use Rattle.std.specs.Prelude.{◌≡◌, ◌⊎◌, true, false, ℕ, ◌≤◌, ◌<◌, Option, IfSome, List, [], ◌++◌, length, take, codes}
+use Rattle.std.specs.Fmt.{decimal}
+use Rattle.ihex_read.specs.declared.fault.HexFault.{HexFault}
+use Rattle.ihex_read.specs.declared.fault.HexError.{HexError}
+use Rattle.ihex_read.specs.declared.fault.HexError.TheVariants as hex_error
 use Rattle.ihex_read.specs.declared.rule_set.Rules.{Rules}
-use Rattle.ihex_read.specs.declared.rule_set.Rules.TheVariants.{Msp430}
-use Rattle.ihex_read.specs.ImageText.{IsPlainImage}
+use Rattle.ihex_read.specs.declared.rule_set.Tail.TheVariants.{Blank}
+use Rattle.ihex_read.specs.ImageText.{Denotes, FirstFault}
+use Rattle.ihex_read.specs.Lines.{lines_of}
+use Rattle.ihex_read.specs.Names.{fault_name}
+use Rattle.ihex_read.specs.Reading.{feeds_of, FaultsWithin}
 use Rattle.vsa_io.specs.Stream.{appended, AppendsPrefix}
 use Rattle.chip_law.specs.declared.chip.Work.{Work}
 use Rattle.round_core.specs.declared.event.Event.{Event}
@@ -15,36 +20,54 @@ use Rattle.vsa_top.specs.Msp430Chip.{msp430}
 use Rattle.vsa_top.specs.Msp430Table.{instr_of, instr_text}
 use Rattle.vsa_top.specs.Report.{report_of, are_closed}
 use Rattle.vsa_top.specs.Turns.{AreTurns}
+use Rattle.vsa_top.specs.declared.input.InputError.{InputError}
+use Rattle.vsa_top.specs.declared.input.InputError.TheVariants.{Failed, Memory, Bad, TooLong}
 use Rattle.vsa_top.specs.declared.outcome.Status.{Status}
 use Rattle.vsa_top.specs.declared.outcome.Status.TheVariants as status
-
--- the words are a reading: a mode and a chip
-abbrev pub IsReading : List (String Global) → Type 0
-IsReading words = map string_bytes words ≡ codes "analyse" ∷ codes "msp430" ∷ []
-
--- RAM stands from 0200h to 09FFh
-abbrev pub rules : Rules
-rules = Msp430 512 2559
 
 -- the longest image text
 abbrev pub text_limit : ℕ
 text_limit = 4194304
 
--- an input, where it is told, is an image text within the limit that denotes the image
-abbrev pub IsImageOf : Option (List ℕ) → List (Option ℕ) → Type 0
-IsImageOf None image = Unit {0}
-IsImageOf (Some text) image = (length text ≤ text_limit) × IsPlainImage rules text image
+-- the first bytes of a text, at most as many as an image text has
+abbrev pub front_of : List ℕ → List ℕ
+front_of text = take text_limit text
 
--- an input, where it is told, denotes no image within the limit
-abbrev pub LacksImage : Option (List ℕ) → Type 0
-LacksImage None = Unit {0}
-LacksImage (Some text) = (image : List (Option ℕ)) → IsImageOf (Some text) image → ⊥
+-- the text is within the limit and denotes the image
+pub record IsImageOf (rules : Rules) (text : List ℕ) (image : List (Option ℕ)) : Type 0 where
+  pub fits : length text ≤ text_limit
+  pub denoted : Denotes rules Blank (lines_of text) image
+
+-- the first faulty line of the text's first bytes: it is whole there, with its line feed, or the text has no more bytes
+pub record IsBad (rules : Rules) (text : List ℕ) (line : ℕ) (fault : HexFault) : Type 0 where
+  pub first : FirstFault rules Blank (lines_of (front_of text)) line fault
+  pub told : (line ≤ feeds_of (front_of text)) ⊎ (length text ≤ text_limit)
+
+-- the text has more bytes, and no faulty line is whole among the first ones
+pub record IsTooLong (rules : Rules) (text : List ℕ) : Type 0 where
+  pub longer : text_limit < length text
+  pub faultless : (line : ℕ) (fault : HexFault) → FaultsWithin rules Blank (front_of text) line fault → ⊥
+
+-- what a reader's error is called here
+abbrev pub input_error_of : HexError → InputError
+input_error_of (hex_error.Bad line fault) = Bad line fault
+input_error_of hex_error.Memory = Memory
+
+-- what is told of a text that gives no image; a source that fails and want of memory tell nothing
+abbrev pub LacksImage : Rules → List ℕ → InputError → Type 0
+LacksImage rules text (Bad line fault) = IsBad rules text line fault
+LacksImage rules text TooLong = IsTooLong rules text
+LacksImage rules text Failed = Unit {0}
+LacksImage rules text Memory = Unit {0}
 
 abbrev pub usage_line : List ℕ
 usage_line = codes "USAGE\n"
 
-abbrev pub bad_line : List ℕ
-bad_line = codes "BAD\n"
+abbrev pub bad_line : ℕ → HexFault → List ℕ
+bad_line line fault = codes "BAD " ++ decimal line ++ codes " " ++ fault_name fault ++ codes "\n"
+
+abbrev pub long_line : List ℕ
+long_line = codes "LONG\n"
 
 -- the works of the units of the book that a journal leads to
 abbrev pub works_behind : List (Option ℕ) → List Event → List (Work State)
@@ -60,20 +83,12 @@ pub record IsAnalysis (image : List (Option ℕ)) (journal : List Event) : Type 
   pub finished : IsFinished (replay (msp430 image) journal)
   pub turns : AreTurns journal
 
--- What words that aren't a reading get: a status, what is then held behind what was, and a journal. A call that was
--- cut short wrote a front of its answer, perhaps nothing.
-abbrev pub AnswersUsage : Status → (before after : Option (List ℕ)) → List Event → Type 0
-AnswersUsage status.Usage before after journal = (after ≡ appended before usage_line) × (journal ≡ [])
-AnswersUsage status.WriteFault before after journal = AppendsPrefix before usage_line after × (journal ≡ [])
-AnswersUsage status.Done before after journal = ⊥
-AnswersUsage status.Open before after journal = ⊥
-AnswersUsage status.BadImage before after journal = ⊥
-AnswersUsage status.BadCert before after journal = ⊥
-AnswersUsage status.ReadFault before after journal = ⊥
-AnswersUsage status.Memory before after journal = ⊥
-AnswersUsage status.TooLong before after journal = ⊥
-AnswersUsage status.Wild before after journal = ⊥
-AnswersUsage status.NeedChoice before after journal = ⊥
+-- An answer by a line alone: this status with the line behind what was held, or the fault of the sink with a front of
+-- the line, perhaps nothing. There is no journal.
+pub data AnswersLine (told : Status) (line : List ℕ) (answered : Status) (before after : Option (List ℕ)) (journal : List Event) : Type 0 where
+  whole : answered ≡ told → after ≡ appended before line → journal ≡ [] → AnswersLine told line answered before after journal
+  cut : answered ≡ status.WriteFault → AppendsPrefix before line after → journal ≡ []
+      → AnswersLine told line answered before after journal
 
 -- what an image gets: Open exactly where the book has an open
 abbrev pub AnswersImage : Status → List (Option ℕ) → (before after : Option (List ℕ)) → List Event → Type 0
@@ -92,29 +107,24 @@ AnswersImage status.TooLong image before after journal = ⊥
 AnswersImage status.Wild image before after journal = ⊥
 AnswersImage status.NeedChoice image before after journal = ⊥
 
--- what an input gets that denotes no image
-abbrev pub AnswersBad : Status → (before after : Option (List ℕ)) → List Event → Type 0
-AnswersBad status.BadImage before after journal = (after ≡ appended before bad_line) × (journal ≡ [])
-AnswersBad status.WriteFault before after journal = AppendsPrefix before bad_line after × (journal ≡ [])
-AnswersBad status.Done before after journal = ⊥
-AnswersBad status.Open before after journal = ⊥
-AnswersBad status.Usage before after journal = ⊥
-AnswersBad status.BadCert before after journal = ⊥
-AnswersBad status.ReadFault before after journal = ⊥
-AnswersBad status.Memory before after journal = ⊥
-AnswersBad status.TooLong before after journal = ⊥
-AnswersBad status.Wild before after journal = ⊥
-AnswersBad status.NeedChoice before after journal = ⊥
-
--- The answer to words that are a reading: that of an image which the input denotes, or of none, or a fault of the
--- source or want of memory, with nothing written.
-pub data AnswersInput (answered : Status) (input before after : Option (List ℕ)) (journal : List Event) : Type 0 where
-  of_image : (image : List (Option ℕ)) → IsImageOf input image → AnswersImage answered image before after journal
-      → AnswersInput answered input before after journal
-  of_none : LacksImage input → AnswersBad answered before after journal → AnswersInput answered input before after journal
+-- The answer to words that are a reading, over the text that the input is, where it is told: that of the image which
+-- it denotes, or its first faulty line, or that it is too long; or a fault of the source or want of memory, with
+-- nothing written.
+pub data AnswersInput (rules : Rules) (answered : Status) (input before after : Option (List ℕ)) (journal : List Event) : Type 0 where
+  of_image : (image : List (Option ℕ)) → IfSome input (λ text. IsImageOf rules text image)
+      → AnswersImage answered image before after journal → AnswersInput rules answered input before after journal
+  of_bad : (line : ℕ) (fault : HexFault) → IfSome input (λ text. IsBad rules text line fault)
+      → AnswersLine status.BadImage (bad_line line fault) answered before after journal
+      → AnswersInput rules answered input before after journal
+  of_long : IfSome input (IsTooLong rules) → AnswersLine status.TooLong long_line answered before after journal
+      → AnswersInput rules answered input before after journal
   unread : (answered ≡ status.ReadFault) ⊎ (answered ≡ status.Memory) → after ≡ before → journal ≡ []
-      → AnswersInput answered input before after journal
+      → AnswersInput rules answered input before after journal
 
 -- a status that tells a fault, or want of memory, in place of the answer
 abbrev pub IsCutShort : Status → Type 0
 IsCutShort answered = (answered ≡ status.ReadFault) ⊎ (answered ≡ status.WriteFault) ⊎ (answered ≡ status.Memory)
+
+-- a status that an image gets where nothing fails: that of its report, or want of memory
+abbrev pub IsOfImage : Status → Type 0
+IsOfImage answered = (answered ≡ status.Done) ⊎ (answered ≡ status.Open) ⊎ (answered ≡ status.Memory)

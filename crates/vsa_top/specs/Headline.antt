@@ -1,7 +1,10 @@
 -- What a report says of every run of the chip.
 use Rattle.std.specs.Prelude.{◌≡◌, ℕ, Option, Some, Err, List, ◌++◌, Contains, codes}
 use Rattle.call_context.specs.declared.shown.Cause.{Cause}
-use Rattle.ihex_read.specs.ImageText.{IsPlainImage}
+use Rattle.ihex_read.specs.declared.rule_set.Rules.{Rules}
+use Rattle.ihex_read.specs.declared.rule_set.Tail.TheVariants.{Blank}
+use Rattle.ihex_read.specs.ImageText.{Denotes}
+use Rattle.ihex_read.specs.Lines as texts
 use Rattle.vsa_io.specs.Stream.{appended}
 use Rattle.call_context.specs.declared.node.Node.{Node}
 use Rattle.call_context.specs.Nodes.{pc_of}
@@ -13,7 +16,7 @@ use Rattle.chip_law.specs.Single.{Single}
 use Rattle.round_core.specs.Machine.{Held, held_at, replay}
 use Rattle.round_core.specs.declared.event.Event.{Event}
 use Rattle.vsa_top.specs.declared.msp430.state.State.{State}
-use Rattle.vsa_top.specs.Answer.{rules, works_behind}
+use Rattle.vsa_top.specs.Answer.{works_behind}
 use Rattle.vsa_top.specs.Msp430Chip.{msp430}
 use Rattle.vsa_top.specs.Msp430Fetch.{fetched}
 use Rattle.vsa_top.specs.Msp430Table.{instr_of, instr_text}
@@ -44,7 +47,7 @@ pub record ShowsOpenSites (image : List (Option ℕ)) (journal : List Event) (re
   pub each : (work : Work State) (pc : ℕ) (cause : Cause) → Contains (works_behind image journal) work
       → Contains work.opens (pc, cause) → IsOpenSite image journal report pc cause
 
--- Where the input is told and denotes an image, the sink got a report of which P holds.
-abbrev pub ReportsOn : (input before after : Option (List ℕ)) → (List (Option ℕ) → List ℕ → Type 0) → Type 0
-ReportsOn input before after P = (text : List ℕ) (image : List (Option ℕ)) → input ≡ Some text → IsPlainImage rules text image
-    → (report : List ℕ) × (after ≡ appended before report) × P image report
+-- Where the input is told and denotes an image under the rules, the sink got a report of which P holds.
+abbrev pub ReportsOn : Rules → (input before after : Option (List ℕ)) → (List (Option ℕ) → List ℕ → Type 0) → Type 0
+ReportsOn rules input before after P = (text : List ℕ) (image : List (Option ℕ)) → input ≡ Some text
+    → Denotes rules Blank (texts.lines_of text) image → (report : List ℕ) × (after ≡ appended before report) × P image report

@@ -8,3 +8,4 @@ pub mod Msp430State
 pub mod Msp430Table
 pub mod Report
 pub mod Turns
+pub mod Words

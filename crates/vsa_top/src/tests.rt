@@ -7,7 +7,7 @@ use std::process::Abort;
 use std::sync::Wait;
 use std::test::Fail;
 use std::thread::Threads;
-use vsa_io::{CleanSink, CleanSource};
+use vsa_io::{CleanSink, CleanSource, MemSource};
 
 /// The words of a command line.
 fn words_of(alloc: Global, line: &str) -> Result<Vec<String>, AllocError> {
@@ -47,11 +47,12 @@ fn answers<R: Abort + Threads + Wait + AllocGlobal + Sync>(
 
 const EIGHT_BYTES: &str = ":06F0000031408002FF3FD9\n:02FFFE0000F011\n:00000001FF\n";
 
+const REPORT: &str =
+    "CLOSED\nE F000 F004\nE F004 F004\nI F000 31408002 MOV #0280h,SP\nI F004 FF3F JMP F004h\nS F000 0000/2/8000\nS F004 0280\nT 0280 1\n";
+
 #[test]
 fn row_eight_bytes(rt: HostRuntime) -> Result<(), Fail> {
-    let report =
-        "CLOSED\nE F000 F004\nE F004 F004\nI F000 31408002 MOV #0280h,SP\nI F004 FF3F JMP F004h\nS F000 0000/2/8000\nS F004 0280\nT 0280 1\n";
-    answers(&rt, "analyse msp430", EIGHT_BYTES, Status::Done, report)
+    answers(&rt, "analyse msp430", EIGHT_BYTES, Status::Done, REPORT)
 }
 
 #[test]
@@ -81,22 +82,184 @@ fn rows_open(rt: HostRuntime) -> Result<(), Fail> {
 }
 
 #[test]
-fn rows_refused(rt: HostRuntime) -> Result<(), Fail> {
+fn rows_accepted(rt: HostRuntime) -> Result<(), Fail> {
     for input in [
-        "",
-        ":06F00000314080",
-        ":06F0000031408002FF3FD9\n:00000001FF\n",
+        // lower case, with carriage returns
+        ":06f0000031408002ff3fd9\r\n:02fffe0000f011\r\n:00000001ff\r\n",
+        // the first record twice
+        ":06F0000031408002FF3FD9\n:06F0000031408002FF3FD9\n:02FFFE0000F011\n:00000001FF\n",
+        // behind an extended linear address of 0 and a start linear address
+        ":020000040000FA\n:0400000500000000F7\n:06F0000031408002FF3FD9\n:02FFFE0000F011\n:00000001FF\n",
     ] {
-        answers(&rt, "analyse msp430", input, Status::BadImage, "BAD\n")?;
+        answers(&rt, "analyse msp430", input, Status::Done, REPORT)?;
     }
-    for line in [
+    Ok(())
+}
+
+#[test]
+fn rows_of_the_first_fault(rt: HostRuntime) -> Result<(), Fail> {
+    for (input, line) in [
+        ("", "BAD 1 NoEnd\n"),
+        (":00000001FF\n", "BAD 1 NoReset\n"),
+        (":06F00000314080", "BAD 1 BadLength\n"),
+        (":06F0000031408002FF3F", "BAD 1 BadLength\n"),
+        (":06F0000031408002FF3FD9\n", "BAD 2 NoEnd\n"),
+        (":06F0000031408002FF3FD9\n:00000001FF\n", "BAD 2 NoReset\n"),
+        (
+            ":06F0000031408002FF3FE9\n:02FFFE0000F011\n:00000001FF\n",
+            "BAD 1 BadSum\n",
+        ),
+        (
+            ":06F0000031408002FF3FD9\n:01F000003FD0\n:02FFFE0000F011\n:00000001FF\n",
+            "BAD 2 Clash\n",
+        ),
+        (
+            ":020000040001F9\n:06F0000031408002FF3FD9\n:02FFFE0000F011\n:00000001FF\n",
+            "BAD 2 OutOfRange\n",
+        ),
+        (
+            ":06F0000031408002FF3FD9\n:02FFFE0000F011\n:00000001FF\nx\n",
+            "BAD 4 Trailing\n",
+        ),
+    ] {
+        answers(&rt, "analyse msp430", input, Status::BadImage, line)?;
+    }
+    Ok(())
+}
+
+/// The answer to the eight bytes behind a line.
+fn answers_behind<R: Abort + Threads + Wait + AllocGlobal + Sync>(
+    rt: &R,
+    words: &str,
+    first: &str,
+    status: Status,
+    text: &str,
+) -> Result<(), Fail> {
+    let input = format!(in rt.alloc(); "{first}\n{EIGHT_BYTES}")?;
+    answers(rt, words, input.as_str(), status, text)
+}
+
+#[test]
+fn rows_of_a_first_line(rt: HostRuntime) -> Result<(), Fail> {
+    for (first, line) in [
+        ("F000", "BAD 1 NoColon\n"),
+        (":0G", "BAD 1 BadDigit\n"),
+        (":00000006FA", "BAD 1 BadType\n"),
+        (":0100000100FE", "BAD 1 BadTypeLength\n"),
+        (":02FFFF00000000", "BAD 1 OutOfRange\n"),
+        (":0109FF0000F7", "BAD 1 Misplaced\n"),
+    ] {
+        answers_behind(&rt, "analyse msp430", first, Status::BadImage, line)?;
+    }
+    Ok(())
+}
+
+#[test]
+fn rows_of_a_range(rt: HostRuntime) -> Result<(), Fail> {
+    // A byte at 0A00h is behind RAM, but where that goes to 0BFFh.
+    let at_0a00 = ":010A000000F5";
+    answers_behind(&rt, "analyse msp430", at_0a00, Status::Done, REPORT)?;
+    for words in [
+        "analyse msp430 --ram 0200-09FF",
+        "analyse msp430 --ram 0200-09ff",
+        "analyse msp430 --ram 0C00-0CFF",
+    ] {
+        answers_behind(&rt, words, at_0a00, Status::Done, REPORT)?;
+    }
+    answers_behind(
+        &rt,
+        "analyse msp430 --ram 0200-0BFF",
+        at_0a00,
+        Status::BadImage,
+        "BAD 1 Misplaced\n",
+    )
+}
+
+#[test]
+fn rows_of_other_words(rt: HostRuntime) -> Result<(), Fail> {
+    for words in [
         "",
         "analyse",
         "analyse z80",
         "msp430 analyse",
         "analyse msp430 --cert",
+        "analyse msp430 --ram",
+        "analyse msp430 --ram 0201-09FF",
+        "analyse msp430 --ram 0200-09FE",
+        "analyse msp430 --ram 0100-09FF",
+        "analyse msp430 --ram 0A00-09FF",
+        "analyse msp430 --ram 200-9FF",
+        "analyse msp430 --ram 0200+09FF",
+        "analyse msp430 --ram 0200-09FG",
+        "analyse msp430 --ram 0200-09FF --ram 0200-09FF",
+        "--ram 0200-09FF analyse msp430",
     ] {
-        answers(&rt, line, EIGHT_BYTES, Status::Usage, "USAGE\n")?;
+        answers(&rt, words, EIGHT_BYTES, Status::Usage, "USAGE\n")?;
+    }
+    Ok(())
+}
+
+/// The answer to a text of so many line feeds, behind a first line.
+fn answers_feeds<R: Abort + Threads + Wait + AllocGlobal + Sync>(
+    rt: &R,
+    first: &str,
+    count: usize,
+    status: Status,
+    text: &str,
+) -> Result<(), Fail> {
+    let words = words_of(rt.alloc(), "analyse msp430")?;
+    let mut bytes = Vec::from_slice(rt.alloc(), first.as_bytes())?;
+    bytes.resize(count, b'\n')?;
+    let mut source = CleanSource::new(bytes, 4096);
+    let mut sink = CleanSink::with_room(rt.alloc(), 4096, 4096)?;
+    let outcome = vsa(
+        rt,
+        rt.alloc(),
+        words.as_slice(),
+        &mut source,
+        &mut sink,
+        &NoGate,
+    );
+    assert_eq!(rt; outcome.status, status);
+    assert_eq!(rt; sink.bytes(), text.as_bytes());
+    Ok(())
+}
+
+#[test]
+fn rows_too_long(rt: HostRuntime) -> Result<(), Fail> {
+    answers_feeds(&rt, "", 4_194_305, Status::TooLong, "LONG\n")?;
+    // A faulty line goes before the text's length.
+    let input = "\nx\n";
+    answers_feeds(&rt, input, 4_194_305, Status::BadImage, "BAD 2 NoColon\n")
+}
+
+#[test]
+fn row_of_the_longest_text(rt: HostRuntime) -> Result<(), Fail> {
+    answers_feeds(&rt, EIGHT_BYTES, 4_194_304, Status::Done, REPORT)
+}
+
+#[test]
+fn rows_of_faults(rt: HostRuntime) -> Result<(), Fail> {
+    for (failing, status, text) in [
+        (1, Status::ReadFault, ""),
+        (2, Status::ReadFault, ""),
+        (4, Status::Done, REPORT),
+    ] {
+        let words = words_of(rt.alloc(), "analyse msp430")?;
+        let bytes = Vec::from_slice(rt.alloc(), EIGHT_BYTES.as_bytes())?;
+        let calls = vec![in rt.alloc(); failing]?;
+        let mut source = MemSource::new(bytes, 40, calls);
+        let mut sink = CleanSink::with_room(rt.alloc(), 4096, 4096)?;
+        let outcome = vsa(
+            &rt,
+            rt.alloc(),
+            words.as_slice(),
+            &mut source,
+            &mut sink,
+            &NoGate,
+        );
+        assert_eq!(rt; outcome.status, status, "call {failing}");
+        assert_eq!(rt; sink.bytes(), text.as_bytes(), "call {failing}");
     }
     Ok(())
 }

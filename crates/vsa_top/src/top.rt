@@ -1,32 +1,25 @@
 //! The top call.
 
-ghost use Rattle.std.specs.Prelude.{◌≡◌, ◌≢◌, if◌then◌else◌, [], IfOk, OnOk, ◌⊎◌, ◌≤◌, OnErr};
+ghost use Rattle.std.specs.Prelude.{◌≡◌, ◌≢◌, if◌then◌else◌, [], IfOk, OnOk, ◌⊎◌, ◌≤◌, OnErr, ℕ, List, Option, Some};
 ghost use Rattle.vsa_io.specs.Stream.{HasRisen, AppendsPrefix, appended};
 ghost use Rattle.vsa_top.specs.Headline.{CoversEveryRun, ShowsOpenSites, ReportsOn};
-ghost use Rattle.vsa_top.specs.Answer.{rules as the_rules, IsReading, AnswersUsage, AnswersImage, AnswersInput, IsCutShort};
+ghost use Rattle.ihex_read.specs.ImageText.{IsRamRange};
+ghost use Rattle.vsa_top.specs.declared.words.Reading.{Reading};
+ghost use Rattle.vsa_top.specs.Answer.{usage_line, bad_line as the_bad_line, AnswersLine, AnswersImage, AnswersInput, IsCutShort, IsImageOf, IsOfImage};
+ghost use Rattle.vsa_top.specs.Words.{Reads, rules_of};
 
 use crate::fixpoint::fixpoint_alone;
 use crate::headline::reports_hold;
-use crate::input::{ReadError, image_in};
+use crate::input::{InputError, image_in};
 use crate::msp430::Msp430;
 use crate::outcome::{Gate, Outcome, Status};
 use crate::report::report_of;
-use crate::words::is_reading;
-use ihex_read::Rules;
-use std::alloc::Global;
+use crate::words::reading_of;
+use ihex_read::{HexFault, Rules};
+use std::alloc::{AllocError, Global};
 use std::sync::Wait;
 use std::thread::Threads;
 use vsa_io::{Memory, Sink, Source, write_all};
-
-/// The rules of an MSP430 with its RAM from 0200h to 09FFh.
-fn rules() -> Rules
-    ensures { result ≡ the_rules }
-{
-    Rules::Msp430 {
-        lo: 0x0200,
-        hi: 0x09FF,
-    }
-}
 
 /// Writes a text, and answers the status that goes with it.
 fn answer<K: Sink>(sink: &mut K, text: &[u8], status: Status) -> Status
@@ -53,6 +46,46 @@ fn without_journal(alloc: Global, status: Status) -> Outcome
         status,
         journal: Vec::new(alloc),
     }
+}
+
+/// Answers by a line alone.
+fn answer_line<K: Sink>(alloc: Global, sink: &mut K, line: &[u8], status: Status) -> Outcome
+    requires { status ≢ Status.WriteFault }
+    ensures answer { AnswersLine status line.now result.status (K.held sink.old) (K.held sink.new) result.journal.items }
+    ensures quiet { result.status ≡ status → K.faults sink.new ≡ K.faults sink.old }
+    ensures cause { result.status ≡ Status.WriteFault → HasRisen (K.faults sink.old) (K.faults sink.new) }
+{
+    without_journal(alloc, answer(sink, line, status))
+}
+
+/// The line that tells a faulty line.
+fn bad_line(alloc: Global, line: u32, fault: HexFault) -> Result<Vec<u8>, AllocError>
+    ensures { IfOk result (λ text. text.items ≡ the_bad_line line fault) }
+{
+    let number = line.to_string(alloc)?;
+    let mut text = Vec::new(alloc);
+    text.extend_from_slice(b"BAD ")?;
+    text.extend_from_slice(number.as_str().as_bytes())?;
+    text.push(b' ')?;
+    text.extend_from_slice(fault.name().as_bytes())?;
+    text.push(b'\n')?;
+    Ok(text)
+}
+
+/// Tells the first faulty line.
+fn answer_bad<K: Sink>(
+    alloc: Global,
+    sink: &mut K,
+    line: u32,
+    fault: HexFault,
+) -> Result<Outcome, Memory>
+    ensures answer { IfOk result (λ outcome. AnswersLine Status.BadImage (the_bad_line line fault) outcome.status (K.held sink.old) (K.held sink.new) outcome.journal.items) }
+    ensures quiet { IfOk result (λ outcome. outcome.status ≢ Status.WriteFault → K.faults sink.new ≡ K.faults sink.old) }
+    ensures cause { IfOk result (λ outcome. outcome.status ≡ Status.WriteFault → HasRisen (K.faults sink.old) (K.faults sink.new)) }
+    ensures unwritten { OnErr result (K.held sink.new ≡ K.held sink.old) }
+{
+    let text = bad_line(alloc, line, fault)?;
+    Ok(answer_line(alloc, sink, text.as_slice(), Status::BadImage))
 }
 
 /// Analyses a program, and writes the report.
@@ -82,21 +115,24 @@ fn status_of(is_closed: bool) -> Status
 }
 
 /// Reads an image text, analyses it, and writes the report.
-fn analyse<S: Source, K: Sink>(alloc: Global, source: &mut S, sink: &mut K) -> Outcome
-    ensures answer { AnswersInput result.status (S.left source.old) (K.held sink.old) (K.held sink.new) result.journal.items }
+fn analyse<S: Source, K: Sink>(alloc: Global, rules: Rules, source: &mut S, sink: &mut K) -> Outcome
+    requires { IsRamRange rules }
+    ensures answer { AnswersInput rules result.status (S.left source.old) (K.held sink.old) (K.held sink.new) result.journal.items }
     ensures read_fault { result.status ≡ Status.ReadFault → HasRisen (S.faults source.old) (S.faults source.new) }
     ensures write_fault { result.status ≡ Status.WriteFault → HasRisen (K.faults sink.old) (K.faults sink.new) }
     ensures quiet_source { ¬ IsCutShort result.status → S.faults source.new ≡ S.faults source.old }
     ensures quiet_sink { ¬ IsCutShort result.status → K.faults sink.new ≡ K.faults sink.old }
 {
-    match image_in(alloc, source, rules()) {
-        Ok(Some(image)) => match analyse_image(alloc, &Msp430::new(image), sink) {
-            Ok(outcome) => outcome,
-            Err(Memory) => without_journal(alloc, Status::Memory),
-        },
-        Ok(None) => without_journal(alloc, answer(sink, b"BAD\n", Status::BadImage)),
-        Err(ReadError::Failed) => without_journal(alloc, Status::ReadFault),
-        Err(ReadError::Memory) => without_journal(alloc, Status::Memory),
+    let answered = match image_in(alloc, source, rules) {
+        Ok(image) => analyse_image(alloc, &Msp430::new(image), sink),
+        Err(InputError::Bad { line, fault }) => answer_bad(alloc, sink, line, fault),
+        Err(InputError::TooLong) => Ok(answer_line(alloc, sink, b"LONG\n", Status::TooLong)),
+        Err(InputError::Failed) => Ok(without_journal(alloc, Status::ReadFault)),
+        Err(InputError::Memory) => Err(Memory),
+    };
+    match answered {
+        Ok(outcome) => outcome,
+        Err(Memory) => without_journal(alloc, Status::Memory),
     }
 }
 
@@ -109,17 +145,29 @@ pub fn vsa<R: Threads + Wait + Sync, S: Source, K: Sink, G: Gate>(
     sink: &mut K,
     _gate: &G,
 ) -> Outcome
-    // THE HEADLINE. Where the input denotes an image and the status is Done, which tells a report that says CLOSED,
-    // whatever the chip meets on any run has its line in the report, and no run leaves the model.
-    ensures headline { result.status ≡ Status.Done → ReportsOn (S.left source.old) (K.held sink.old) (K.held sink.new) CoversEveryRun }
+    // THE HEADLINE. Where the input denotes an image under the rules that the words ask and the status is Done, which
+    // tells a report that says CLOSED, whatever the chip meets on any run has its line in the report, and no run
+    // leaves the model.
+    ensures headline { (reading : Reading) → Reads words.now reading → result.status ≡ Status.Done
+        → ReportsOn (rules_of reading) (S.left source.old) (K.held sink.old) (K.held sink.new) CoversEveryRun }
     // Where the status is Open the report says OPEN and shows each open site, of which there is one: the address of a
     // node of the book at which no instruction that is built stands.
-    ensures open_sites { result.status ≡ Status.Open → ReportsOn (S.left source.old) (K.held sink.old) (K.held sink.new) (λ image report. ShowsOpenSites image result.journal.items report) }
+    ensures open_sites { (reading : Reading) → Reads words.now reading → result.status ≡ Status.Open
+        → ReportsOn (rules_of reading) (S.left source.old) (K.held sink.old) (K.held sink.new) (λ image report. ShowsOpenSites image result.journal.items report) }
 
     // Words that aren't a reading are refused, and no others.
-    ensures usage { ¬ IsReading words.now → AnswersUsage result.status (K.held sink.old) (K.held sink.new) result.journal.items }
-    // The bytes are exactly the report of the book that the journal leads to, or the refusal of an input without image.
-    ensures answer { IsReading words.now → AnswersInput result.status (S.left source.old) (K.held sink.old) (K.held sink.new) result.journal.items }
+    ensures usage { ((reading : Reading) → ¬ Reads words.now reading)
+        → AnswersLine Status.Usage usage_line result.status (K.held sink.old) (K.held sink.new) result.journal.items }
+    // The bytes are exactly the report of the book that the journal leads to, or tell the first faulty line of the
+    // input, or that it is too long.
+    ensures answer { (reading : Reading) → Reads words.now reading
+        → AnswersInput (rules_of reading) result.status (S.left source.old) (K.held sink.old) (K.held sink.new) result.journal.items }
+
+    // An input that denotes an image within the limit gets its report where no count of faults rose, or Memory.
+    ensures complete { (reading : Reading) (text : List ℕ) (image : List (Option ℕ)) → Reads words.now reading
+        → S.left source.old ≡ Some text → IsImageOf (rules_of reading) text image
+        → ¬ HasRisen (S.faults source.old) (S.faults source.new) → ¬ HasRisen (K.faults sink.old) (K.faults sink.new)
+        → IsOfImage result.status }
 
     // A fault is told only where its count rose, and a status that tells none is given only where none did.
     ensures read_fault { result.status ≡ Status.ReadFault → HasRisen (S.faults source.old) (S.faults source.new) }
@@ -127,10 +175,9 @@ pub fn vsa<R: Threads + Wait + Sync, S: Source, K: Sink, G: Gate>(
     ensures quiet_source { ¬ IsCutShort result.status → S.faults source.new ≡ S.faults source.old }
     ensures quiet_sink { ¬ IsCutShort result.status → K.faults sink.new ≡ K.faults sink.old }
 {
-    if is_reading(words) {
-        reports_hold();
-        analyse(alloc, source, sink)
-    } else {
-        without_journal(alloc, answer(sink, b"USAGE\n", Status::Usage))
-    }
+    let Some(reading) = reading_of(words) else {
+        return answer_line(alloc, sink, b"USAGE\n", Status::Usage);
+    };
+    reports_hold();
+    analyse(alloc, reading.rules(), source, sink)
 }

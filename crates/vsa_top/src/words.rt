@@ -1,7 +1,38 @@
 //! The words of the command line.
 
-ghost use Rattle.std.specs.Prelude.{◌≡◌, ◌↔◌, IsTrue, string_bytes};
-ghost use Rattle.vsa_top.specs.Answer.{IsReading};
+ghost use Rattle.std.specs.Prelude.{◌≡◌, ◌<◌, ◌↔◌, IfNone, IfSome, IsTrue, MatchOption, string_bytes};
+ghost use Rattle.hex.specs.Hex.{hex_digit_value};
+ghost use Rattle.ihex_read.specs.ImageText.{IsRamRange};
+ghost use Rattle.vsa_top.specs.declared.words.Reading.{Reading as AReading};
+ghost use Rattle.vsa_top.specs.Words.{IsRange, Reads, number_of as the_number, rules_of};
+
+use ihex_read::Rules;
+
+/// What the words ask: the first and the last address of the MSP430's RAM. They begin and end whole words, behind the
+/// peripherals.
+#[derive(Clone, Copy, Debug, PartialEq, Eq)]
+pub struct Reading {
+    pub lo: u16,
+    pub hi: u16,
+}
+
+impl Reading {
+    /// RAM from 0200h to 09FFh.
+    const USUAL: Reading = Reading {
+        lo: 0x0200,
+        hi: 0x09FF,
+    };
+
+    /// The rules of an image.
+    pub fn rules(self) -> Rules
+        ensures { result ≡ rules_of self }
+    {
+        Rules::Msp430 {
+            lo: self.lo,
+            hi: self.hi,
+        }
+    }
+}
 
 /// Whether a word is this one.
 fn is_word(word: &String, text: &str) -> bool
@@ -10,12 +41,69 @@ fn is_word(word: &String, text: &str) -> bool
     word.as_str() == text
 }
 
-/// Whether the words are a reading: `analyse msp430`.
-pub fn is_reading(words: &[String]) -> bool
-    ensures { IsTrue result ↔ IsReading words.now }
+/// The value of a hexadecimal digit in either case.
+fn digit_of(byte: u8) -> Option<u16>
+    ensures value { result ≡ hex_digit_value byte }
+    ensures below { IfSome result (λ digit. digit < 16) }
 {
-    if words.len() != 2 {
-        return false;
+    match byte {
+        b'0'..=b'9' => Some((byte - b'0') as u16),
+        b'A'..=b'F' => Some((byte - b'A') as u16 + 10),
+        b'a'..=b'f' => Some((byte - b'a') as u16 + 10),
+        _ => None,
     }
-    is_word(&words[0], "analyse") && is_word(&words[1], "msp430")
+}
+
+/// The number of four hexadecimal digits.
+fn number_of(digits: &[u8]) -> Option<u16>
+    ensures { result ≡ the_number digits.now }
+{
+    match digits {
+        [a, b, c, d] => {
+            let (a, b) = (digit_of(*a)?, digit_of(*b)?);
+            let (c, d) = (digit_of(*c)?, digit_of(*d)?);
+            Some(a * 4096 + b * 256 + c * 16 + d)
+        }
+        _ => None,
+    }
+}
+
+/// Whether RAM may stand there.
+fn is_ram_range(reading: Reading) -> bool
+    ensures { IsTrue result ↔ IsRamRange (rules_of reading) }
+{
+    reading.lo % 2 == 0 && reading.hi % 2 == 1 && reading.lo >= 0x0200 && reading.lo < reading.hi
+}
+
+/// The range `LO-HI`, by four hexadecimal digits each.
+fn range_of(text: &[u8]) -> Option<Reading>
+    ensures { MatchOption result ((reading : AReading) → ¬ IsRange text.now reading) (IsRange text.now) }
+{
+    if text.len() != 9 || text[4] != b'-' {
+        return None;
+    }
+    let lo = number_of(&text[..4])?;
+    let hi = number_of(&text[5..])?;
+    let reading = Reading { lo, hi };
+    if is_ram_range(reading) {
+        Some(reading)
+    } else {
+        None
+    }
+}
+
+/// What the words ask, where they are `analyse msp430`, perhaps with `--ram LO-HI` behind.
+pub fn reading_of(words: &[String]) -> Option<Reading>
+    ensures reads { IfSome result (Reads words.now) }
+    ensures alone { IfSome result (λ reading. (other : AReading) → Reads words.now other → other ≡ reading) }
+    ensures none { IfNone result ((reading : AReading) → ¬ Reads words.now reading) }
+{
+    match words {
+        [mode, chip] if is_word(mode, "analyse") && is_word(chip, "msp430") => Some(Reading::USUAL),
+        [mode, chip, option, range]
+            if is_word(mode, "analyse") && is_word(chip, "msp430") && is_word(option, "--ram") => {
+            range_of(range.as_bytes())
+        }
+        _ => None,
+    }
 }

@@ -1,4 +1,4 @@
-use Rattle.vsa_top.proofs.HeadlineLemmas.{closed_lem, open_lem}
+use Rattle.vsa_top.proofs.HeadlineLemmas.{closed_lem, open_lem, complete_lem}
 use Rattle.vsa_top.proofs.headline.reports_hold.Goals as goal
 
 pub returns-clause-closed : goal.returns-clause-closed
@@ -7,3 +7,6 @@ returns-clause-closed c =
 
 pub returns-clause-open : goal.returns-clause-open
 returns-clause-open c = open_lem c.works_are_of_units.ensures c.image_or_fault.ensures.one_image
+
+pub returns-clause-complete : goal.returns-clause-complete
+returns-clause-complete c = complete_lem c.image_or_fault.ensures.not_both

@@ -1,9 +1,42 @@
-use Rattle.std.proofs.Common.{sym, subst}
-use Rattle.vsa_top.specs.Answer.{IsImageOf}
-use Rattle.vsa_top.specs.Answer.AnswersInput.{of_image}
+use Rattle.std.proofs.Common.{◌≡◌, sym, ap, subst, ◌∙◌, inl}
+use Rattle.std.proofs.lemmas.Result.{IfOk-at_ok, IfErr-at_err}
+use Rattle.std.specs.Prelude.{IfSome}
+use Rattle.vsa_top.specs.Answer.{AnswersImage, AnswersLine, IsImageOf, LacksImage, bad_line, long_line}
+use Rattle.vsa_top.specs.Answer.AnswersInput.{of_image, of_bad, of_long, unread}
+use Rattle.vsa_top.specs.declared.input.InputError.{InputError}
+use Rattle.vsa_top.specs.declared.outcome.Outcome.{Outcome}
+use Rattle.vsa_top.specs.declared.outcome.Status.TheVariants.{BadImage, TooLong}
+use Rattle.vsa_top.proofs.top.analyse.Goals.{in-Ok, in-Err-Bad, in-Err-TooLong, in-Err-Failed, in-Err-Memory}
 use Rattle.vsa_top.proofs.top.analyse.Goals as goal
 
-pub returns-in-Ok-clause-answer : goal.returns-in-Ok-clause-answer
-returns-in-Ok-clause-answer g c =
-    let found = rw c.in-Ok-Some.field-0-is at c.in-Ok-Some.ensures.found in
-    of_image c.new.result.image (subst (IsImageOf (g.S.Source.left c.args.source.now)) (sym c.new.ensures) found) c.in-Ok.ensures.answer
+pub returns-in-Ok-answered-clause-answer : goal.returns-in-Ok-answered-clause-answer
+returns-in-Ok-answered-clause-answer g c =
+    let rules = c.args.rules in
+    let input = g.S.Source.left c.args.source.now in
+    let held = g.K.Sink.held in
+    let before = held c.args.sink.now in
+    let out = c.in-Ok-answered.outcome in
+    let lacks : InputError → Type 0 = λ error. IfSome input (λ text. LacksImage rules text error) in
+    elim c.match-image_in.branch [
+      | in-Ok w ↦
+          let found : IfSome input (λ text. IsImageOf rules text w.new.result.image) =
+          subst (λ image. IfSome input (λ text. IsImageOf rules text image)) (sym w.new.ensures) w.in-Ok.ensures.image in
+          let answer = IfOk-at_ok (λ (o : Outcome). AnswersImage o.status w.new.result.image before (held w.analyse_image-answered.new.sink) o.journal.items)
+          (sym w.answered-is ∙ c.in-Ok-answered.is) w.analyse_image-answered.ensures.answer in
+          of_image w.new.result.image found (subst (λ after. AnswersImage out.status w.new.result.image before after out.journal.items) (sym (ap held w.sink-is)) answer)
+      | in-Err-Bad w ↦
+          let answer = IfOk-at_ok (λ (o : Outcome). AnswersLine BadImage (bad_line w.in-Err-Bad.line w.in-Err-Bad.fault) o.status before (held w.answer_bad-answered.new.sink) o.journal.items)
+          (sym w.answered-is ∙ c.in-Ok-answered.is) w.answer_bad-answered.ensures.answer in
+          of_bad w.in-Err-Bad.line w.in-Err-Bad.fault (subst lacks w.in-Err-Bad.field-0-is (IfErr-at_err lacks w.in-Err-Bad.is c.image_in.ensures.refused))
+          (subst (λ after. AnswersLine BadImage (bad_line w.in-Err-Bad.line w.in-Err-Bad.fault) out.status before after out.journal.items) (sym (ap held w.sink-is)) answer)
+      | in-Err-TooLong w ↦
+          let same : w.answer_line.result ≡ out = cc (sym w.answered-is ∙ c.in-Ok-answered.is) in
+          let answer = subst (λ (o : Outcome). AnswersLine TooLong long_line o.status before (held w.answer_line.new.sink) o.journal.items) same w.answer_line.ensures.answer in
+          of_long (subst lacks w.in-Err-TooLong.field-0-is (IfErr-at_err lacks w.in-Err-TooLong.is c.image_in.ensures.refused))
+          (subst (λ after. AnswersLine TooLong long_line out.status before after out.journal.items) (sym (ap held w.sink-is)) answer)
+      | in-Err-Failed w ↦
+          let same : w.without_journal.result ≡ out = cc (sym w.answered-is ∙ c.in-Ok-answered.is) in
+          unread (inl (ap (λ (o : Outcome). o.status) (sym same) ∙ w.without_journal.ensures.status)) (ap held w.sink-is)
+          (ap (λ (o : Outcome). o.journal.items) (sym same) ∙ w.without_journal.ensures.journal)
+      | in-Err-Memory w ↦ absurd (cc (sym w.answered-is ∙ c.in-Ok-answered.is))
+    ]

@@ -1,6 +1,6 @@
-use Rattle.std.proofs.Common.{length, ◌≡◌, ◌<◌, sym, ◌∙◌, arith}
+use Rattle.std.proofs.Common.{length, ◌≡◌, ◌<◌, sym, arith}
 use Rattle.std.proofs.lemmas.Bool.Decides.{nat_tests}
-use Rattle.ihex_read.proofs.StageLemmas.{over_more, over_fault, going_more, stands_going, end_by_kind}
+use Rattle.ihex_read.proofs.StageLemmas.{over_more, over_fault, going_more, stands_going}
 use Rattle.ihex_read.proofs.stage.Progress.accept.Goals as goal
 
 pub returns-then-is_empty-clause-ok : goal.returns-then-is_empty-clause-ok
@@ -16,6 +16,6 @@ returns-else-is_empty-clause-fault c = λ tail lines stands.
 pub returns-clause-ok : goal.returns-clause-ok
 returns-clause-ok c = λ tail lines stands goes.
     let going = stands_going c.args.self.now.loader.rules tail lines _ _ _ c.if-self.false stands in
-    let accepted = c.in_ok-accept.ensures.fault lines going.made in
-    rw c.in_ok-accept.ensures.rules (going_more c.args.self.now.loader.rules tail lines c.args.line.now _ _ _ _ _ going (sym accepted) (c.in_ok-accept.ensures.made lines going.made)
-    (end_by_kind c.in_ok-accept.field-0 c.args.line.now c.in_ok-accept.ensures.kind ∙ sym c.eq-self.ensures))
+    let accepted = c.in_ok-self.ensures.fault lines going.made in
+    rw c.in_ok-self.ensures.rules (going_more c.args.self.now.loader.rules tail lines c.args.line.now _ _ _ _ _ going (sym accepted) (c.in_ok-self.ensures.made lines going.made)
+    (sym c.in_ok-self.ensures.ends))

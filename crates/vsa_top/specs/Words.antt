@@ -1,0 +1,45 @@
+-- What the words of the command line ask.
+use Rattle.std.specs.Prelude.{◌≡◌, ℕ, ◌+◌, ◌*◌, Option, None, Some, List, [], ◌∷◌, length, take, drop, slice_index, map, codes, string_bytes}
+use Rattle.std.specs.declared.string.String.{String}
+use Rattle.std.specs.declared.alloc.Global.{Global}
+use Rattle.hex.specs.Hex.{hex_digit_value}
+use Rattle.ihex_read.specs.declared.rule_set.Rules.{Rules}
+use Rattle.ihex_read.specs.declared.rule_set.Rules.TheVariants.{Msp430}
+use Rattle.ihex_read.specs.ImageText.{IsRamRange}
+use Rattle.vsa_top.specs.declared.words.Reading.{Reading}
+
+-- the rules of an image under a reading
+abbrev pub rules_of : Reading → Rules
+rules_of reading = Msp430 reading.lo reading.hi
+
+-- the number of four digits, the highest first, where each has a value
+abbrev pub number_from : (a b c d : Option ℕ) → Option ℕ
+number_from (Some a) (Some b) (Some c) (Some d) = Some (a * 4096 + b * 256 + c * 16 + d)
+number_from (Some a) (Some b) (Some c) None = None
+number_from (Some a) (Some b) None d = None
+number_from (Some a) None c d = None
+number_from None b c d = None
+
+-- the number of four hexadecimal digits in either case
+abbrev pub number_of : List ℕ → Option ℕ
+number_of (a ∷ b ∷ c ∷ d ∷ []) =
+    number_from (hex_digit_value a) (hex_digit_value b) (hex_digit_value c) (hex_digit_value d)
+number_of digits = None
+
+-- two numbers with a hyphen between: RAM from the first to the last
+pub record IsRange (text : List ℕ) (reading : Reading) : Type 0 where
+  pub size : length text ≡ 9
+  pub hyphen : slice_index text 4 ≡ 45
+  pub first : number_of (take 4 text) ≡ Some reading.lo
+  pub last : number_of (drop 5 text) ≡ Some reading.hi
+  pub ram : IsRamRange (rules_of reading)
+
+-- RAM from 0200h to 09FFh
+abbrev pub usual : Reading
+usual = record { lo = 512; hi = 2559 }
+
+-- the words ask this reading: by a mode and a chip, and perhaps by a range of RAM
+pub data Reads (words : List (String Global)) (reading : Reading) : Type 0 where
+  plain : map string_bytes words ≡ codes "analyse" ∷ codes "msp430" ∷ [] → reading ≡ usual → Reads words reading
+  ranged : (text : List ℕ) → map string_bytes words ≡ codes "analyse" ∷ codes "msp430" ∷ codes "--ram" ∷ text ∷ []
+      → IsRange text reading → Reads words reading
