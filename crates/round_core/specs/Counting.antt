@@ -1,5 +1,6 @@
--- Two chips of the tests: one that counts at its only node, and one with a chain of nodes.
-use Rattle.std.specs.Prelude.{ℕ, ◌+◌, nat_le, nat_lt, if◌then◌else◌, List, [], ◌∷◌, max, min}
+-- Three chips of the tests: one that counts at its only node, one that counts and never comes to rest, and one with a
+-- chain of nodes.
+use Rattle.std.specs.Prelude.{ℕ, ◌+◌, false, nat_le, nat_lt, if◌then◌else◌, List, [], ◌∷◌, max, min}
 use Rattle.call_context.specs.declared.node.Frame.TheVariants.{Base}
 use Rattle.call_context.specs.declared.node.Node.{Node}
 use Rattle.call_context.specs.declared.node.Node.TheVariants.{At, Exit}
@@ -31,6 +32,10 @@ counts_by work = record {
   HasForm = λ node a. Unit {0};
   Covers = λ node a s first. ⊥;
 }
+
+-- the same, where no number is within another: whatever is posted raises its node
+abbrev pub without_order : (WorkUnit → ℕ → Work ℕ) → Meaning ℕ ℕ
+without_order work = record (counts_by work) { within = λ new held. false }
 
 -- the only node posts its number plus one to itself, where that is a number
 abbrev pub next_count : WorkUnit → ℕ → Work ℕ

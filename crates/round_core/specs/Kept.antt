@@ -1,13 +1,12 @@
 -- What contracts see of a book and of a ticket.
-use Rattle.std.specs.Prelude.{◌≡◌, ℕ, Bool, true, filter, map, Option, None, Some, List, [], ◌∷◌, ◌++◌}
+use Rattle.std.specs.Prelude.{◌≡◌, Bool, true, filter, map, Some, List, [], ◌∷◌, ◌++◌}
 use Rattle.call_context.specs.declared.node.Unit.{Unit as WorkUnit}
 use Rattle.call_context.specs.declared.node.Unit.TheVariants.{One, Back}
 use Rattle.call_context.specs.declared.node.Node.{Node}
 use Rattle.call_context.specs.Nodes.{frame_of}
-use Rattle.chip_law.specs.Meaning.{Meaning}
 use Rattle.chip_law.specs.declared.chip.Work.{Work}
 use Rattle.round_core.specs.declared.event.Event.{Event}
-use Rattle.round_core.specs.Machine.{BookState, Held, Done, Out, out_at, waits_for, replay}
+use Rattle.round_core.specs.Machine.{BookState, Done, Out, out_at, waits_for}
 
 -- A book is its chip's program with options, and its journal: all else follows.
 pub record Kept (B : Type 0) : Type 0 where

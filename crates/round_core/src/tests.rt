@@ -1,4 +1,4 @@
-//! A chip that counts, and one with a chain of nodes.
+//! A chip that counts, one that never comes to rest, and one with a chain of nodes.
 
 ghost use Rattle.std.specs.Prelude.{◌≡◌, IfOk, option_to_list};
 ghost use Rattle.round_core.specs.Counting.{node_at, posting};
@@ -107,6 +107,62 @@ impl Chip for Counter {
     }
 }
 
+/// Counts as well, and never takes one state to be within another.
+#[derive(Drop)]
+struct Restless;
+
+impl Chip for Restless {
+    type Base = ();
+
+    type State = u32;
+
+    type Abs = u32;
+
+    ghost use Rattle.round_core.specs.Counting.{next_count, without_order};
+
+    ghost base = { λ _. tt };
+
+    ghost meaning = { λ _. without_order next_count };
+
+    fn base(&self, _alloc: Global) -> Result<(), Memory> {
+        Ok(())
+    }
+
+    fn start(&self, _alloc: Global) -> Result<(Node, u32), Memory> {
+        Ok((node_at(0), 0))
+    }
+
+    fn work(
+        &self,
+        alloc: Global,
+        _unit: &Unit,
+        at: &u32,
+        _exit: Option<&u32>,
+    ) -> Result<Work<u32>, Memory> {
+        posting(alloc, Some((node_at(0), at.saturating_add(1))))
+    }
+
+    fn copy(&self, _alloc: Global, a: &u32) -> Result<u32, Memory> {
+        Ok(*a)
+    }
+
+    fn join(&self, _alloc: Global, held: &u32, new: &u32) -> Result<u32, Memory> {
+        Ok((*held).max(*new))
+    }
+
+    fn widen(&self, _alloc: Global, held: &u32, new: &u32, _coarse: bool) -> Result<u32, Memory> {
+        Ok((*held).max(*new))
+    }
+
+    fn top(&self, _alloc: Global, _node: &Node) -> Result<u32, Memory> {
+        Ok(u32::MAX)
+    }
+
+    fn within(&self, _new: &u32, _held: &u32) -> bool {
+        false
+    }
+}
+
 /// Nodes from 0 to the last, each of which leads to the next.
 #[derive(Drop)]
 struct Chain {
@@ -174,10 +230,10 @@ impl Chip for Chain {
     }
 }
 
-/// Claims, works and posts until the book is finished.
-fn run_to_end<C: Chip>(alloc: Global, chip: &C) -> Result<Book<C>, Memory> {
+/// Claims, works and posts until the book is finished, or for a number of turns.
+fn run_for<C: Chip>(alloc: Global, chip: &C, most: u64) -> Result<Book<C>, Memory> {
     let mut book = Book::open(alloc, chip)?;
-    for _ in 0..u64::MAX {
+    for _ in 0..most {
         match book.claim(chip, 0)? {
             Claimed::Ticket(ticket) => {
                 let work = chip.work(alloc, ticket.unit(), ticket.at(), ticket.exit())?;
@@ -188,7 +244,7 @@ fn run_to_end<C: Chip>(alloc: Global, chip: &C) -> Result<Book<C>, Memory> {
             Claimed::Idle | Claimed::Finished => return Ok(book),
         }
     }
-    Err(Memory)
+    Ok(book)
 }
 
 #[test]
@@ -199,7 +255,7 @@ fn counts_to_the_top(rt: HostRuntime) -> Result<(), Fail> {
         to_classes: Cell::new(0),
         tops: Cell::new(0),
     };
-    let book = run_to_end(rt.alloc(), &chip)?;
+    let book = run_for(rt.alloc(), &chip, 1_000)?;
     assert!(rt; book.finished());
     assert_eq!(rt; book.journal().len(), 128);
     assert_eq!(rt; chip.joins.get(), 14);
@@ -211,9 +267,19 @@ fn counts_to_the_top(rt: HostRuntime) -> Result<(), Fail> {
     Ok(())
 }
 
+/// The bound of 64 rises is false for a chip of which nothing is known: here the only node rises at each post.
+#[test]
+fn rises_without_end(rt: HostRuntime) -> Result<(), Fail> {
+    let book = run_for(rt.alloc(), &Restless, 200)?;
+    assert!(rt; !book.finished());
+    assert_eq!(rt; book.nodes().len(), 1);
+    assert_eq!(rt; book.journal().len(), 400);
+    Ok(())
+}
+
 #[test]
 fn a_long_chain_ends(rt: HostRuntime) -> Result<(), Fail> {
-    let book = run_to_end(rt.alloc(), &Chain { last: 19_999 })?;
+    let book = run_for(rt.alloc(), &Chain { last: 19_999 }, 100_000)?;
     assert_eq!(rt; book.nodes().len(), 20_000);
     let (nodes, works, journal) = book.into_parts();
     assert_eq!(rt; nodes.len(), 20_000);

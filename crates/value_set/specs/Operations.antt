@@ -12,3 +12,6 @@ sum_stays m x y z h k l = mod-lt (x + y) {m = m} (omega arith)
 
 pub difference_stays : (m : ℕ) → StaysBelow m (λ x y z. (x + m - y) % m)
 difference_stays m x y z h k l = mod-lt (x + m - y) {m = m} (omega arith)
+
+pub remainder_stays : (m : ℕ) → (number : ℕ → ℕ → ℕ → ℕ) → StaysBelow m (λ x y z. number x y z % m)
+remainder_stays m number x y z h k l = mod-lt (number x y z) {m = m} (omega arith)

@@ -32,4 +32,8 @@ pub use words::Vs16;
 #[cfg(test)]
 mod brute;
 #[cfg(test)]
+mod plain;
+#[cfg(test)]
+mod samples;
+#[cfg(test)]
 mod tests;

@@ -1,4 +1,4 @@
-//! Rows that reports print, and every call against plain loops over members.
+//! Rows that reports print, and the calls of sets of words.
 
 use crate::combining::Operation;
 use crate::form::Form;
