@@ -1,0 +1,105 @@
+-- Each address has an answer, and which words are excluded.
+use Rattle.std.proofs.Common.{◌≡◌, ℕ, suc, ◌+◌, ◌*◌, ◌/◌, ◌%◌, ◌<◌, ◌≤◌, refl, subst, arith, All, Option, None, Some, Result, Ok, Err, List, [], ◌∷◌, length, take, ◌⊎◌, inl, inr, true, false, nat_lt}
+use Rattle.std.proofs.lemmas.Bool.Decides.{nat_tests}
+use Rattle.std.proofs.lemmas.List.Elements.{All-get_or}
+use Rattle.std.specs.List.{flat_map}
+use Rattle.ihex_read.specs.Image.{IsByte}
+use Rattle.msp430_decode.specs.declared.refusal.NoInstr.{NoInstr}
+use Rattle.msp430_decode.specs.declared.refusal.NoInstr.TheVariants.{OffImage, Excluded}
+use Rattle.msp430_decode.specs.declared.instr.Instr.{Instr}
+use Rattle.msp430_decode.specs.Table.{Row, extension_words, word_bytes, length_of}
+use Rattle.msp430_decode.specs.Excluded.{is_excluded}
+use Rattle.msp430_decode.specs.Fields.{instr_of}
+use Rattle.msp430_decode.specs.Standing.{upward, Decodes}
+use Rattle.msp430_decode.specs.Reading.{HasWord, Misses}
+use Rattle.msp430_decode.proofs.MadeLemmas.{instr_made, told}
+use Rattle.msp430_decode.proofs.StandLemmas.{made_row, lacks_word, lacks_first, lacks_second, no_row, excluded_word, stands_instr}
+
+-- a word of an image, or the byte of it that is missing
+abbrev Read : List (Option ℕ) → ℕ → ℕ → Type 0
+Read image pc i = ((word : ℕ) × (word < 65536) × HasWord image pc i word) ⊎ ((refusal : NoInstr) × Misses image pc i refusal)
+
+read_high : (image : List (Option ℕ)) (pc i low : ℕ) (high : Option ℕ) → upward image pc i ≡ Some low → low < 256 →
+    upward image pc (suc i) ≡ high → IsByte high → Read image pc i
+read_high image pc i low None e small f h = inr (OffImage ((pc + suc i) % 65536), inr (low, small, e, f, refl))
+read_high image pc i low (Some high) e small f h =
+    let a : (low + 256 * high) % 256 ≡ low = omega arith in
+    let b : (low + 256 * high) / 256 ≡ high = omega arith in
+    inl (low + 256 * high, omega arith, (rw a e, rw b f))
+
+read_low : (image : List (Option ℕ)) (pc i : ℕ) (low high : Option ℕ) → upward image pc i ≡ low → IsByte low →
+    upward image pc (suc i) ≡ high → IsByte high → Read image pc i
+read_low image pc i None high e small f h = inr (OffImage ((pc + i) % 65536), inl (e, refl))
+read_low image pc i (Some low) high e small f h = read_high image pc i low high e small f h
+
+read : (image : List (Option ℕ)) (pc i : ℕ) → length image ≡ 65536 → All IsByte image → Read image pc i
+read image pc i size bytes =
+    let low : IsByte (upward image pc i) = All-get_or IsByte image ((pc + i) % 65536) None (omega arith) bytes in
+    let high : IsByte (upward image pc (suc i)) = All-get_or IsByte image ((pc + suc i) % 65536) None (omega arith) bytes in
+    read_low image pc i (upward image pc i) (upward image pc (suc i)) refl low refl high
+
+abbrev Answer : List (Option ℕ) → ℕ → Type 0
+Answer image pc = (answer : Result (Instr × ℕ) NoInstr) × Decodes image pc answer
+
+answer_long : (image : List (Option ℕ)) (pc w x : ℕ) → length image ≡ 65536 → All IsByte image → w < 65536 → HasWord image pc 0 w →
+    is_excluded w ≡ false → x < 65536 → HasWord image pc 2 x → 2 < length_of (instr_of w 0 0) → Answer image pc
+answer_long image pc w x size bytes fits there allowed hx first long = elim (told (nat_lt 4 (length_of (instr_of w 0 0)))) [
+  | inl e ↦
+      (let longer : 4 < length_of (instr_of w 0 0) = grind (arith, nat_tests) in
+      elim (read image pc 4 size bytes) [
+        | inl y ↦ (
+          Ok (instr_of w x y.0, length_of (instr_of w 0 0)),
+          stands_instr image pc w x y.0 there fits hx y.1 allowed (λ h. first) (λ h. y.2),
+        )
+        | inr m ↦ (Err m.0, lacks_second image pc w x m.0 there first fits hx allowed longer m.1)
+      ])
+  | inr e ↦
+      (let short : length_of (instr_of w 0 0) ≤ 4 = grind (arith, nat_tests) in (
+        Ok (instr_of w x 0, length_of (instr_of w 0 0)),
+        stands_instr image pc w x 0 there fits hx (omega arith) allowed (λ h. first) (λ h. absurd (omega arith)),
+      ))
+]
+
+answer_allowed : (image : List (Option ℕ)) (pc w : ℕ) → length image ≡ 65536 → All IsByte image → w < 65536 → HasWord image pc 0 w →
+    is_excluded w ≡ false → Answer image pc
+answer_allowed image pc w size bytes fits there allowed = elim (told (nat_lt 2 (length_of (instr_of w 0 0)))) [
+  | inl e ↦
+      (let long : 2 < length_of (instr_of w 0 0) = grind (arith, nat_tests) in
+      elim (read image pc 2 size bytes) [
+        | inl x ↦ answer_long image pc w x.0 size bytes fits there allowed x.1 x.2 long
+        | inr m ↦ (Err m.0, lacks_first image pc w m.0 there fits allowed long m.1)
+      ])
+  | inr e ↦
+      (let short : length_of (instr_of w 0 0) ≤ 2 = grind (arith, nat_tests) in (
+        Ok (instr_of w 0 0, length_of (instr_of w 0 0)),
+        stands_instr image pc w 0 0 there fits (omega arith) (omega arith) allowed (λ h. absurd (omega arith)) (λ h. absurd (omega arith)),
+      ))
+]
+
+pub some_answer : (image : List (Option ℕ)) (pc : ℕ) → length image ≡ 65536 → All IsByte image → Answer image pc
+some_answer image pc size bytes = elim (read image pc 0 size bytes) [
+  | inl w ↦ elim (told (is_excluded w.0)) [
+    | inl e ↦ (Err Excluded, excluded_word image pc w.0 w.2 e)
+    | inr e ↦ answer_allowed image pc w.0 size bytes w.1 w.2 e
+  ]
+  | inr m ↦ (Err m.0, lacks_word image pc m.0 m.1)
+]
+
+pub excluded_row : (low high : ℕ) (more : List ℕ) (i : Instr) → low < 256 → high < 256 →
+    is_excluded (low + 256 * high) ≡ true → Row (low ∷ high ∷ more) i → ⊥
+excluded_row low high more i hl hh excluded row =
+    let a : low ≡ (low + 256 * high) % 256 = omega arith in
+    let b : high ≡ (low + 256 * high) / 256 = omega arith in
+    no_row (low + 256 * high) more i excluded
+    (subst (λ v. Row (v ∷ ((low + 256 * high) / 256) ∷ more) i) a (subst (λ v. Row (low ∷ v ∷ more) i) b row))
+
+pub other_row : (low high : ℕ) → low < 256 → high < 256 → is_excluded (low + 256 * high) ≡ false →
+    (more : List ℕ) × (i : Instr) × Row (low ∷ high ∷ more) i
+other_row low high hl hh allowed =
+    let a : (low + 256 * high) % 256 ≡ low = omega arith in
+    let b : (low + 256 * high) / 256 ≡ high = omega arith in
+    let i = instr_of (low + 256 * high) 0 0 in
+    let m = instr_made (low + 256 * high) 0 0 (omega arith) (omega arith) (omega arith) allowed in
+    let row = made_row (low + 256 * high) 0 0 _ i m refl in
+    let more = flat_map word_bytes (take (length (extension_words i)) (0 ∷ 0 ∷ [])) in
+    (more, i, subst (λ v. Row (low ∷ v ∷ more) i) b (subst (λ v. Row (v ∷ ((low + 256 * high) / 256) ∷ more) i) a row))

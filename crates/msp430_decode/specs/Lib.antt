@@ -1,0 +1,7 @@
+pub mod Codes
+pub mod Operands
+pub mod Table
+pub mod Standing
+pub mod Excluded
+pub mod Fields
+pub mod Reading
