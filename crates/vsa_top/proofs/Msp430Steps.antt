@@ -17,7 +17,7 @@ use Rattle.ihex_read.specs.Image.{IsByte}
 use Rattle.vsa_top.specs.declared.msp430.device.Device.{Device}
 use Rattle.vsa_top.specs.Msp430Chip.{IsProgram}
 use Rattle.vsa_top.specs.Msp430Cover.{AreWords, IsEvenWord, IsState, HoldsOf}
-use Rattle.vsa_top.specs.Msp430Machine.{register_of, ram_size, written, effect_of, ran}
+use Rattle.vsa_top.specs.Msp430Machine.{register_of, written, effect_of, ran}
 use Rattle.vsa_top.specs.Msp430Fetch.{both, word_at, built, with_second, with_first, fetched, address_in, reset_address}
 use Rattle.vsa_top.specs.Msp430State.{set_of, with_set, state_behind}
 use Rattle.vsa_top.specs.Msp430Table.{word_of, is_general, is_destination, is_load, is_copy, is_jump, IsInstr, instr_of, next_of}

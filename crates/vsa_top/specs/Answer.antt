@@ -66,7 +66,7 @@ LacksImage rules text Memory = Unit {0}
 abbrev pub usage_line : List ℕ
 usage_line = codes "USAGE\n"
 
-abbrev pub bad_line : ℕ → HexFault → List ℕ
+unfoldable pub bad_line : ℕ → HexFault → List ℕ
 bad_line line fault = codes "BAD " ++ decimal line ++ codes " " ++ fault_name fault ++ codes "\n"
 
 abbrev pub long_line : List ℕ

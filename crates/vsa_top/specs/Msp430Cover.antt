@@ -1,8 +1,7 @@
 -- What an analysis of the MSP430 says of a single state, and of the state that an interrupt suspended first: the sets of its
 -- values with their relations, and what a frame keeps (G. Balakrishnan and T. Reps, "WYSINWYX: What You See Is Not What
 -- You eXecute", 2010: value sets under call strings; the interrupts of SLAU049, chapter 2).
-use Rattle.std.specs.Prelude.{◌≡◌, ℕ, ◌+◌, ◌-◌, ◌%◌, ◌<◌, ◌≤◌, ◌==◌, if◌then◌else◌, false, Option, None, Some, List, [], ◌∷◌, length, slice_index, bit_and, bit_or, All, Contains}
-use Rattle.std.specs.List.{slice_index_or}
+use Rattle.std.specs.Prelude.{◌≡◌, ℕ, ◌+◌, ◌%◌, ◌<◌, ◌≤◌, ◌==◌, if◌then◌else◌, false, Option, None, Some, List, [], length, slice_index, bit_and, bit_or, All, Contains}
 use Rattle.call_context.specs.declared.node.Frame.{Frame}
 use Rattle.call_context.specs.declared.node.Frame.TheVariants.{Base, Irq}
 use Rattle.call_context.specs.declared.node.Node.{Node}

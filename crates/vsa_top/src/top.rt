@@ -59,6 +59,7 @@ fn answer_line<K: Sink>(alloc: Global, sink: &mut K, line: &[u8], status: Status
 }
 
 /// The line that tells a faulty line.
+#[tactic(auto, unfolding(crate::specs::Answer::bad_line))]
 fn bad_line(alloc: Global, line: u32, fault: HexFault) -> Result<Vec<u8>, AllocError>
     ensures { IfOk result (λ text. text.items ≡ the_bad_line line fault) }
 {

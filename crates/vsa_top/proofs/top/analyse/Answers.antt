@@ -29,8 +29,9 @@ returns-in-Ok-answered-clause-answer g c =
           (subst (λ after. AnswersImage out.status (device_of reading image) before after out.journal.items) (sym (ap held w.sink-is))
           (subst (λ device. AnswersImage out.status device before (held w.analyse_image-answered.new.sink) out.journal.items) made answer))
       | in-Err-Bad w ↦
+          let told = rw (w.in-Err-Bad.line-is, w.in-Err-Bad.fault-is) at w.answer_bad-answered.ensures.answer in
           let answer = IfOk-at_ok (λ (o : Outcome). AnswersLine BadImage (bad_line w.in-Err-Bad.line w.in-Err-Bad.fault) o.status before (held w.answer_bad-answered.new.sink) o.journal.items)
-          (sym w.answered-is ∙ c.in-Ok-answered.is) w.answer_bad-answered.ensures.answer in
+          (sym w.answered-is ∙ c.in-Ok-answered.is) told in
           of_bad w.in-Err-Bad.line w.in-Err-Bad.fault (subst lacks w.in-Err-Bad.field-0-is (IfErr-at_err lacks w.in-Err-Bad.is refused))
           (subst (λ after. AnswersLine BadImage (bad_line w.in-Err-Bad.line w.in-Err-Bad.fault) out.status before after out.journal.items) (sym (ap held w.sink-is)) answer)
       | in-Err-TooLong w ↦

@@ -1,6 +1,5 @@
-use Rattle.std.proofs.Common.{◌≡◌, ◌∙◌, sym, ap, subst}
+use Rattle.std.proofs.Common.{◌≡◌, sym, subst}
 use Rattle.vsa_top.specs.Answer.{AnswersInput}
-use Rattle.vsa_top.specs.Words.{rules_of}
 use Rattle.vsa_top.proofs.top.vsa.Goals as goal
 
 pub returns-in_default-clause-answer : goal.returns-in_default-clause-answer
