@@ -7,7 +7,10 @@ ghost use Rattle.value_bits.specs.Bits as bits;
 use crate::tri::Tri;
 use arrayvec::ArrayVec;
 
-/// How many numbers are gathered where few bits are unknown.
+/// How many bits are unknown at most where all numbers with them are gathered.
+pub const FEW_UNKNOWN: usize = 4;
+
+/// How many numbers there are then.
 pub const FEW: usize = 16;
 
 /// How many bits are unknown.
