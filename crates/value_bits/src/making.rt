@@ -1,6 +1,6 @@
 //! The numbers that have some bits.
 
-ghost use Rattle.std.specs.Prelude.{◌≡◌, ℕ, ◌+◌, ◌*◌, ◌^◌, ◌<◌, ◌≤◌, ◌++◌, All, length, map};
+ghost use Rattle.std.specs.Prelude.{◌≡◌, ◌+◌, ◌*◌, ◌^◌, ◌<◌, ◌≤◌, ◌++◌, All, length, map};
 ghost use Rattle.std.specs.List.{flat_map};
 ghost use Rattle.value_bits.specs.Bits as bits;
 
