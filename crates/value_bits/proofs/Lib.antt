@@ -8,3 +8,4 @@ pub mod Logics
 pub mod Moves
 pub mod Choosing
 pub mod Halves
+mod Examples

@@ -18,6 +18,7 @@ use Rattle.value_bits.specs.Bits.{IsBit, choices, known_bit, known_bits, from_bi
 abbrev pub chosen : Tri → Form
 chosen bit = Values (choices bit)
 
+-- all numbers
 abbrev pub any : (m : ℕ) → Form
 any m = make m 0 1 m
 
@@ -33,6 +34,7 @@ combine_or m answer first second carry otherwise =
 abbrev pub logic_bits : (width : ℕ) → Logic → (first second : Form) → List Tri
 logic_bits width logic first second = map (λ place. tri_logic logic (known_bit width place first) (known_bit width place second)) (range_with_len 0 width)
 
+-- the results of AND, OR or XOR
 unfoldable pub logic_set : (width : ℕ) → Logic → (first second : Form) → Form
 logic_set width logic first second = combine_or (2 ^ width) (λ x y z. logic_of logic x y) first second (single 0) (from_bits width (logic_bits width logic first second))
 
@@ -67,28 +69,34 @@ top_carry Sign = single 0
 top_carry Low = single 0
 top_carry (Put given) = chosen given
 
+-- what is known of the bit, by the known bits of the number
 abbrev pub top_bit : (place : ℕ) → Top → List Tri → Tri
 top_bit place Sign bits = slice_index_or bits place Either
 top_bit place Low bits = slice_index_or bits 0 Either
 top_bit place (Put given) bits = given
 
+-- the other bits move down one place
 abbrev pub shift_bits : (place : ℕ) → Top → List Tri → List Tri
 shift_bits place top bits = drop 1 bits ++ top_bit place top bits ∷ []
 
+-- the numbers shifted to the right by one place, whose top bit has this place
 unfoldable pub shift_set : (place : ℕ) → Form → Top → Form
 shift_set place set top = combine_or (2 ^ (place + 1)) (shift_answer place top) set (single 0) (top_carry top) (from_bits (place + 1) (shift_bits place top (known_bits (place + 1) set)))
 
 -- ---- halves
 
+-- numbers of twice the width of a half, whose halves change places
 unfoldable pub exchange_set : (half : ℕ) → Form → Form
 exchange_set half set =
     let n = 2 ^ half in let bits = known_bits (half + half) set in
     combine_or (2 ^ (half + half)) (λ x y z. exchanged n x) set (single 0) (single 0) (from_bits (half + half) (drop half bits ++ take half bits))
 
+-- words with bit 7 copied into bits 8 to 15
 unfoldable pub sign_extend_set : Form → Form
 sign_extend_set set = let bits = known_bits 16 set in
     combine_or 65536 (λ x y z. sign_extended x) set (single 0) (single 0) (from_bits 16 (take 8 bits ++ replicate 8 (slice_index_or bits 7 Either)))
 
+-- the low and the high bytes of words
 unfoldable pub low_set : Form → Form
 low_set set = if nat_le (count_of 65536 set) 256 then gather 256 (map low_byte (members 65536 set)) else from_bits 8 (take 8 (known_bits 16 set))
 
@@ -99,6 +107,7 @@ high_set set = if nat_le (count_of 65536 set) 256 then gather 256 (map high_byte
 abbrev pub words : (lows highs : List ℕ) → List ℕ
 words lows highs = flat_map (λ low. map (λ high. word_of low high) highs) lows
 
+-- the words of low and high bytes
 unfoldable pub pair_set : (low high : Form) → Form
 pair_set low high =
     if nat_le (count_of 256 low * count_of 256 high) 256 then gather 65536 (words (members 256 low) (members 256 high))
@@ -106,15 +115,17 @@ pair_set low high =
 
 -- ---- decimal operations
 
+-- whether each member has no digit above 9
 abbrev pub are_decimal : (digits : ℕ) → Form → Bool
 are_decimal digits set = list_all (is_decimal digits) (members (16 ^ digits) set)
 
--- any number, where some member has a digit above 9
+-- the decimal sums, and any number where some member has a digit above 9
 unfoldable pub decimal_add_set : (digits : ℕ) → (first second : Form) → Tri → Form
 decimal_add_set digits first second carry =
     if are_decimal digits first && are_decimal digits second
     then combine_or (16 ^ digits) (decimal_sum digits) first second (chosen carry) (any (16 ^ digits))
     else any (16 ^ digits)
 
+-- bytes adjusted to decimal, with CY and AC
 unfoldable pub decimal_adjust_set : Form → (carry half : Tri) → Form
 decimal_adjust_set set carry half = combine_or 256 decimal_adjusted set (chosen carry) (chosen half) (any 256)

@@ -1,6 +1,6 @@
 //! Decimal numbers: each hexadecimal digit is read as a decimal one.
 
-ghost use Rattle.std.specs.Prelude.{◌≡◌, ℕ, ◌+◌, ◌*◌, ◌/◌, ◌%◌, ◌^◌, ◌<◌, ◌≤◌};
+ghost use Rattle.std.specs.Prelude.{◌≡◌, ◌^◌, ◌<◌, ◌≤◌};
 ghost use Rattle.value_bits.specs.Numbers as numbers;
 
 /// Whether each of the digits is at most 9.

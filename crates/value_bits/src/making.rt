@@ -1,13 +1,16 @@
 //! The numbers that have some bits.
 
-ghost use Rattle.std.specs.Prelude.{◌≡◌, ℕ, ◌+◌, ◌*◌, ◌^◌, ◌<◌, ◌≤◌, ◌++◌, All, length, map};
+ghost use Rattle.std.specs.Prelude.{◌≡◌, ◌+◌, ◌*◌, ◌^◌, ◌<◌, ◌≤◌, ◌++◌, All, length, map};
 ghost use Rattle.std.specs.List.{flat_map};
 ghost use Rattle.value_bits.specs.Bits as bits;
 
 use crate::tri::Tri;
 use arrayvec::ArrayVec;
 
-/// How many numbers are gathered where few bits are unknown.
+/// How many bits are unknown at most where all numbers with them are gathered.
+pub const FEW_UNKNOWN: usize = 4;
+
+/// How many numbers there are then.
 pub const FEW: usize = 16;
 
 /// How many bits are unknown.

@@ -1,6 +1,6 @@
 //! The operations on numbers, as sets combine them.
 
-ghost use Rattle.std.specs.Prelude.{◌≡◌, ℕ, ◌+◌, ◌-◌, ◌*◌, ◌/◌, ◌%◌, ◌^◌, ◌<◌, ◌≤◌};
+ghost use Rattle.std.specs.Prelude.{◌≡◌, ◌+◌, ◌*◌, ◌^◌, ◌<◌, ◌≤◌};
 ghost use Rattle.value_bits.specs.Numbers as numbers;
 ghost use Rattle.value_bits.specs.Sets as sets;
 

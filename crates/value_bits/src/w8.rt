@@ -1,11 +1,8 @@
 //! Known bits of sets of 8-bit numbers, and bitwise and decimal operations on them.
 
-ghost use Rattle.std.specs.Prelude.{◌≡◌, ℕ, ◌+◌, ◌*◌, ◌^◌, ◌-◌, ◌<◌, ◌≤◌, ◌↔◌, ◌++◌, ◌&&◌, IsTrue, IsFalse, length, map};
-ghost use Rattle.std.specs.List.{Contains};
-ghost use Rattle.value_set.specs.Form as forms;
-ghost use Rattle.value_set.specs.Form.{Has, IsNormal, members};
+ghost use Rattle.std.specs.Prelude.{◌≡◌, ℕ, ◌<◌, ◌&&◌, IsTrue, IsFalse, bit_and, bit_or, bit_xor};
+ghost use Rattle.value_set.specs.Form.{Has, IsNormal};
 ghost use Rattle.value_set.specs.Summing.{single};
-ghost use Rattle.std.specs.Prelude.{bit_and, bit_or, bit_xor, ◌∷◌, []};
 ghost use Rattle.value_bits.specs.Bits as known;
 ghost use Rattle.value_bits.specs.Bits.{Agrees, IsBit, logic_of};
 ghost use Rattle.value_bits.specs.Numbers.{shifted_right, exchanged, is_decimal, decimal_sum, decimal_adjusted};

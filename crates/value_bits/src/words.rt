@@ -1,6 +1,6 @@
 //! Sets of 16-bit numbers, made of bits and of lists.
 
-ghost use Rattle.std.specs.Prelude.{◌≡◌, ℕ, ◌+◌, ◌-◌, ◌*◌, ◌<◌, ◌≤◌, ◌↔◌, IsTrue, length};
+ghost use Rattle.std.specs.Prelude.{◌≡◌, ℕ, ◌-◌, ◌*◌, ◌<◌, ◌≤◌, ◌↔◌, IsTrue, length};
 ghost use Rattle.std.specs.List.{Contains};
 ghost use Rattle.value_set.specs.Form as forms;
 ghost use Rattle.value_set.specs.Form.{Has, IsNormal, members};
@@ -8,7 +8,7 @@ ghost use Rattle.value_bits.specs.Bits as known;
 ghost use Rattle.value_bits.specs.Bits.{Agrees};
 ghost use Rattle.value_bits.specs.Sets as sets;
 
-use crate::making::{filled, lowest_unknown, numbers, unknown_count};
+use crate::making::{FEW_UNKNOWN, filled, lowest_unknown, numbers, unknown_count};
 use crate::tri::{Top, Tri};
 use value_set::Vs16;
 
@@ -19,7 +19,7 @@ pub fn with_bits(all: &[Tri]) -> Vs16
     ensures normal { IsNormal 65536 result }
     ensures holds { (v : ℕ) → Agrees all.now v → Has 65536 result v }
 {
-    if unknown_count(all) <= 4 {
+    if unknown_count(all) <= FEW_UNKNOWN {
         return gathered(numbers(all).as_slice());
     }
     let stride = 1 << lowest_unknown(all);

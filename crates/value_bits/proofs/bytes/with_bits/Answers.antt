@@ -13,13 +13,13 @@ gathered-requires c =
     let same : c.as_slice.result.now ≡ numbers c.args.all.now = cc in
     omega (arith, some.0, ap length same)
 
-pub returns-then-unknown_count-le4-clause-value : goal.returns-then-unknown_count-le4-clause-value
-returns-then-unknown_count-le4-clause-value c =
+pub returns-then-unknown_count-le-FEW_UNKNOWN-clause-value : goal.returns-then-unknown_count-le-FEW_UNKNOWN-clause-value
+returns-then-unknown_count-le-FEW_UNKNOWN-clause-value c =
     let same : c.as_slice.result.now ≡ numbers c.args.all.now = cc in
     few_value 8 c.args.all.now c.gathered.result (rw (← same) c.gathered.ensures.value) (omega arith)
 
-pub returns-then-unknown_count-le4-clause-holds : goal.returns-then-unknown_count-le4-clause-holds
-returns-then-unknown_count-le4-clause-holds c = λ v agrees.
+pub returns-then-unknown_count-le-FEW_UNKNOWN-clause-holds : goal.returns-then-unknown_count-le-FEW_UNKNOWN-clause-holds
+returns-then-unknown_count-le-FEW_UNKNOWN-clause-holds c = λ v agrees.
     let same : c.as_slice.result.now ≡ numbers c.args.all.now = cc in
     c.gathered.ensures.holds v (subst (λ (xs : List ℕ). Contains xs v) (sym same) (numbers_have c.args.all.now v agrees))
 
