@@ -3,7 +3,7 @@
 use Rattle.std.specs.Prelude.{◌≡◌, ℕ, ◌+◌, ◌-◌, ◌*◌, ◌/◌, ◌%◌, ◌<◌, ◌≤◌, ◌==◌, ◌&&◌, ◌||◌, nat_lt, nat_le, not, if◌then◌else◌, Bool, true, false, ◌⊎◌, Option, None, Some, List, [], ◌∷◌, Contains}
 use Rattle.std.specs.List.{filter}
 use Rattle.std.specs.Option.{is_none}
-use Rattle.value_set.specs.Form.{Has, make}
+use Rattle.value_set.specs.Form.{Has, IsNormal, make}
 use Rattle.value_set.specs.Joining.{is_in, is_within}
 use Rattle.value_set.specs.Summing.{single}
 use Rattle.value_set.specs.Widening.{widen}
@@ -48,6 +48,7 @@ pub record IsCell (lo hi : ℕ) (cell : Cell) : Type 0 where
   pub size : (cell.size ≡ 1) ⊎ (cell.size ≡ 2)
   pub low : lo ≤ cell.place
   pub high : cell.place + cell.size ≤ hi + 1
+  pub normal : IsNormal 65536 cell.word.set
   pub byte : cell.size ≡ 1 → (v : ℕ) → Has 65536 cell.word.set v → v < 256
   pub says : is_nothing cell.size cell.word ≡ false
 

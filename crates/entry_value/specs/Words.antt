@@ -1,9 +1,9 @@
 -- Values that may remember a place of the state that an interrupt suspended: a set of numbers, and perhaps how each number
 -- came from what the place held when the interrupt came (value sets after G. Balakrishnan and T. Reps, "WYSINWYX: What
 -- You See Is Not What You eXecute", 2010).
-use Rattle.std.specs.Prelude.{◌≡◌, ◌<◌, ℕ, ◌==◌, ◌&&◌, nat_lt, if◌then◌else◌, Bool, true, false, Option, None, Some, List, bit_and, bit_or}
+use Rattle.std.specs.Prelude.{◌≡◌, ◌<◌, ℕ, ◌==◌, ◌&&◌, if◌then◌else◌, Bool, true, false, Option, None, Some, List, bit_and, bit_or}
 use Rattle.std.specs.Option.{option_map}
-use Rattle.value_set.specs.Form.{Has, Includes}
+use Rattle.value_set.specs.Form.{Has}
 use Rattle.value_set.specs.Joining.{join, is_within}
 use Rattle.value_set.specs.Summing.{single}
 use Rattle.value_set.specs.Widening.{widen}

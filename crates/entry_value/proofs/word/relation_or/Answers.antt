@@ -1,4 +1,4 @@
-use Rattle.std.proofs.Common.{ℕ, Some, bit_or, sym, subst}
+use Rattle.std.proofs.Common.{Some, bit_or, sym, subst}
 use Rattle.entry_value.specs.Words.{IsFromEntry}
 use Rattle.entry_value.proofs.Masks.{from_entry_or}
 use Rattle.entry_value.proofs.word.relation_or.Goals as goal
