@@ -4,28 +4,29 @@ use Rattle.std.specs.Prelude.{◌⊎◌, if◌then◌else◌}
 use Rattle.round_core.specs.declared.event.Event.{Event}
 use Rattle.round_core.specs.Kept.{Kept}
 use Rattle.vsa_io.specs.Stream.{appended, AppendsPrefix}
+use Rattle.vsa_top.specs.declared.msp430.device.Device.{Device}
 use Rattle.vsa_top.specs.declared.outcome.Status.{Status}
 use Rattle.vsa_top.specs.declared.outcome.Status.TheVariants.{Done, Open, WriteFault}
 use Rattle.vsa_top.specs.Answer.{IsAnalysis, AnswersImage, works_behind, report_behind}
 use Rattle.vsa_top.specs.Report.{are_closed}
 
-at_once : (image : List (Option ℕ)) (journal : List Event) (before after : Option (List ℕ)) (closed : Bool) (answered : Status)
-    → IsAnalysis image journal → closed ≡ are_closed (works_behind image journal)
+at_once : (device : Device) (journal : List Event) (before after : Option (List ℕ)) (closed : Bool) (answered : Status)
+    → IsAnalysis device journal → closed ≡ are_closed (works_behind device journal)
     → (answered ≡ (if closed then Done else Open)) ⊎ (answered ≡ WriteFault)
-    → (answered ≡ (if closed then Done else Open) → after ≡ appended before (report_behind image journal))
-    → AppendsPrefix before (report_behind image journal) after
-    → AnswersImage answered image before after journal
-at_once image journal before after true answered is told (inl same) written prefix =
-    subst (λ s. AnswersImage s image before after journal) (sym same) (is, sym told, written same)
-at_once image journal before after false answered is told (inl same) written prefix =
-    subst (λ s. AnswersImage s image before after journal) (sym same) (is, sym told, written same)
-at_once image journal before after closed answered is told (inr fault) written prefix =
-    subst (λ s. AnswersImage s image before after journal) (sym fault) (is, prefix)
+    → (answered ≡ (if closed then Done else Open) → after ≡ appended before (report_behind device journal))
+    → AppendsPrefix before (report_behind device journal) after
+    → AnswersImage answered device before after journal
+at_once device journal before after true answered is told (inl same) written prefix =
+    subst (λ s. AnswersImage s device before after journal) (sym same) (is, sym told, written same)
+at_once device journal before after false answered is told (inl same) written prefix =
+    subst (λ s. AnswersImage s device before after journal) (sym same) (is, sym told, written same)
+at_once device journal before after closed answered is told (inr fault) written prefix =
+    subst (λ s. AnswersImage s device before after journal) (sym fault) (is, prefix)
 
 -- by the base of the book, its text, its status and its journal
-pub image_answer : (image : List (Option ℕ)) (book : Kept (List (Option ℕ))) (journal : List Event) (text : List ℕ) (before after : Option (List ℕ))
+pub image_answer : (device : Device) (book : Kept Device) (journal : List Event) (text : List ℕ) (before after : Option (List ℕ))
     (closed : Bool) (status answered : Status)
-    → book.base ≡ image → IsAnalysis book.base book.journal
+    → book.base ≡ device → IsAnalysis book.base book.journal
     → text ≡ report_behind book.base book.journal
     → closed ≡ are_closed (works_behind book.base book.journal)
     → status ≡ (if closed then Done else Open)
@@ -33,8 +34,8 @@ pub image_answer : (image : List (Option ℕ)) (book : Kept (List (Option ℕ)))
     → (answered ≡ status → after ≡ appended before text)
     → AppendsPrefix before text after
     → journal ≡ book.journal
-    → AnswersImage answered image before after journal
-image_answer image book journal text before after closed status answered base is text_is told status_is end written prefix journal_is =
+    → AnswersImage answered device before after journal
+image_answer device book journal text before after closed status answered base is text_is told status_is end written prefix journal_is =
     let whole : AnswersImage answered book.base before after book.journal = at_once book.base book.journal before after closed answered is told
     (elim end [ inl same ↦ inl (same ∙ status_is) | inr fault ↦ inr fault ])
     (λ same. written (same ∙ sym status_is) ∙ ap (appended before) text_is)

@@ -28,6 +28,7 @@ use Rattle.std.proofs.lemmas.List.{take_all}
 use Rattle.ihex_read.specs.Lines as texts
 use Rattle.round_core.specs.Machine.{Held, held_at, inputs_of, replay, IsLegalJournal, IsFinished}
 use Rattle.round_core.specs.declared.event.Event.{Event}
+use Rattle.vsa_top.specs.declared.msp430.device.Device.{Device}
 use Rattle.vsa_top.specs.declared.msp430.instr.Instr.{Instr}
 use Rattle.vsa_top.specs.declared.msp430.state.State.{State}
 use Rattle.vsa_top.specs.declared.outcome.Status.{Status}
@@ -40,6 +41,8 @@ use Rattle.vsa_top.specs.Msp430Chip.{msp430, work_of, work_at, IsProgram}
 use Rattle.vsa_top.specs.Msp430Fetch.{fetched}
 use Rattle.vsa_top.specs.Msp430Table.{instr_of, instr_text}
 use Rattle.vsa_top.specs.Report.{are_closed, is_empty, lines_of, with_lines, least_of, head_line, summary_of, report_text, report_of}
+use Rattle.vsa_top.specs.declared.words.Reading.{Reading}
+use Rattle.vsa_top.specs.Words.{rules_of, device_of}
 use Rattle.vsa_top.proofs.ShownLemmas.{report_has, report_has_item, in_with_lines_new, in_flat_map, in_map}
 
 both : (x y : Bool) → (x && y) ≡ true → (x ≡ true) × (y ≡ true)
@@ -84,29 +87,29 @@ open_at pc calls frame a (Err why) at cause h = elim (in_cons (pc, why) [] (at, 
 open_at pc calls frame a (Ok found) at cause h = absurd (in_none (at, cause) h)
 
 -- the node of such a work is among these, and at its address no instruction is fetched
-abbrev IsSite : List (Option ℕ) → List (Held State) → ℕ → Cause → Type 0
-IsSite image nodes pc cause =
-    ((node : Node) × (held : Held State) × (held_at nodes node ≡ Some held) × (pc_of node ≡ pc)) × (fetched image pc ≡ Err cause)
+abbrev IsSite : Device → List (Held State) → ℕ → Cause → Type 0
+IsSite device nodes pc cause =
+    ((node : Node) × (held : Held State) × (held_at nodes node ≡ Some held) × (pc_of node ≡ pc)) × (fetched device.image pc ≡ Err cause)
 
 found_at : (found : Option (Held State)) (inputs : State × Option State) → option_map (λ (h : Held State). (h.state, None)) found ≡ Some inputs
     → (held : Held State) × (found ≡ Some held)
 found_at None inputs e = absurd (cc)
 found_at (Some held) inputs e = (held, refl)
 
-unit_open : (image : List (Option ℕ)) (nodes : List (Held State)) (unit : WorkUnit) (a : State) (exit : Option State) (inputs : State × Option State)
-    (at : ℕ) (cause : Cause) → inputs_of nodes unit ≡ Some inputs → Contains (work_of image unit a exit).opens (at, cause) → IsSite image nodes at cause
-unit_open image nodes (One (At pc calls frame)) a exit inputs at cause e h =
-    let site = open_at pc calls frame a (fetched image pc) at cause h in
+unit_open : (device : Device) (nodes : List (Held State)) (unit : WorkUnit) (a : State) (exit : Option State) (inputs : State × Option State)
+    (at : ℕ) (cause : Cause) → inputs_of nodes unit ≡ Some inputs → Contains (work_of device.image unit a exit).opens (at, cause) → IsSite device nodes at cause
+unit_open device nodes (One (At pc calls frame)) a exit inputs at cause e h =
+    let site = open_at pc calls frame a (fetched device.image pc) at cause h in
     let found = found_at (held_at nodes (At pc calls frame)) inputs e in
-    ((At pc calls frame, found.0, found.1, sym site.0), ap (fetched image) site.0 ∙ site.1)
-unit_open image nodes (One (Exit pc frame)) a exit inputs at cause e h = absurd (in_none (at, cause) h)
-unit_open image nodes (Back node other) a exit inputs at cause e h = absurd (in_none (at, cause) h)
+    ((At pc calls frame, found.0, found.1, sym site.0), ap (fetched device.image) site.0 ∙ site.1)
+unit_open device nodes (One (Exit pc frame)) a exit inputs at cause e h = absurd (in_none (at, cause) h)
+unit_open device nodes (Back node other) a exit inputs at cause e h = absurd (in_none (at, cause) h)
 
-is_site : (image : List (Option ℕ)) (nodes : List (Held State)) (work : Work State) (at : ℕ) (cause : Cause) → IsOfUnit (msp430 image) nodes work
-    → Contains work.opens (at, cause) → IsSite image nodes at cause
+is_site : (device : Device) (nodes : List (Held State)) (work : Work State) (at : ℕ) (cause : Cause) → IsOfUnit (msp430 device) nodes work
+    → Contains work.opens (at, cause) → IsSite device nodes at cause
 unfolding msp430
-is_site image nodes work at cause is h =
-    unit_open image nodes is.unit is.at is.exit is.held.0 at cause is.held.1 (subst (λ (w : Work State). Contains w.opens (at, cause)) is.is_work h)
+is_site device nodes work at cause is h =
+    unit_open device nodes is.unit is.at is.exit is.held.0 at cause is.held.1 (subst (λ (w : Work State). Contains w.opens (at, cause)) is.is_work h)
 
 abbrev text_at : ℕ → List ℕ → List ℕ
 text_at = λ pc bytes. instr_text pc (instr_of bytes)
@@ -131,17 +134,17 @@ report_has_open works work site w o =
 
 -- what is known of books and of texts
 abbrev CoverRuns : Type 0
-CoverRuns = (image : List (Option ℕ)) (journal : List Event) → IsProgram image → IsLegalJournal (msp430 image) journal
-    → IsFinished (replay (msp430 image) journal) → NoneIsOpen (works_behind image journal)
-    → AreCovering (msp430 image) (works_behind image journal)
+CoverRuns = (device : Device) (journal : List Event) → IsProgram device → IsLegalJournal (msp430 device) journal
+    → IsFinished (replay (msp430 device) journal) → NoneIsOpen (works_behind device journal)
+    → AreCovering (msp430 device) (works_behind device journal)
 
 abbrev HaveBytes : Type 0
 HaveBytes = (rules : Rules) (tail : Tail) (lines : List (List ℕ)) (image : List (Option ℕ))
     → Denotes rules tail lines image → (length image ≡ 65536) × All IsByte image
 
 abbrev AreOfUnits : Type 0
-AreOfUnits = (image : List (Option ℕ)) (journal : List Event) (work : Work State) → IsLegalJournal (msp430 image) journal
-    → Contains (works_behind image journal) work → IsOfUnit (msp430 image) (replay (msp430 image) journal).nodes work
+AreOfUnits = (device : Device) (journal : List Event) (work : Work State) → IsLegalJournal (msp430 device) journal
+    → Contains (works_behind device journal) work → IsOfUnit (msp430 device) (replay (msp430 device) journal).nodes work
 
 abbrev HaveOneImage : Type 0
 HaveOneImage = (rules : Rules) (tail : Tail) (lines : List (List ℕ)) (image other : List (Option ℕ))
@@ -161,60 +164,61 @@ told_alone : {told answered : Status} {line : List ℕ} {before after : Option (
 told_alone (whole same is none) = inl same
 told_alone (cut same is none) = inr same
 
-covers_every : CoverRuns → HaveBytes → (rules : Rules) (text : List ℕ) (image : List (Option ℕ)) (journal : List Event)
-    → Denotes rules Blank (texts.lines_of text) image
-    → IsAnalysis image journal → are_closed (works_behind image journal) ≡ true → CoversEveryRun image (report_behind image journal)
-covers_every cover bytes rules text image journal denoted analysis closed =
-    let held = bytes rules Blank (texts.lines_of text) image denoted in
-    let covering = cover image journal (record { size = held.0; bytes = held.1 }) analysis.legal analysis.finished
-    (none_open (works_behind image journal) closed) in
+covers_every : CoverRuns → HaveBytes → (reading : Reading) (text : List ℕ) (image : List (Option ℕ)) (journal : List Event)
+    → Denotes (rules_of reading) Blank (texts.lines_of text) image
+    → IsAnalysis (device_of reading image) journal → are_closed (works_behind (device_of reading image) journal) ≡ true
+    → CoversEveryRun (device_of reading image) (report_behind (device_of reading image) journal)
+covers_every cover bytes reading text image journal denoted analysis closed =
+    let held = bytes (rules_of reading) Blank (texts.lines_of text) image denoted in
+    let covering = cover (device_of reading image) journal (record { size = held.0; bytes = held.1 }) analysis.legal analysis.finished
+    (none_open (works_behind (device_of reading image) journal) closed) in
     record {
-      says = says_head true (works_behind image journal) closed;
+      says = says_head true (works_behind (device_of reading image) journal) closed;
       shows = λ n item met. let found = covering.shows n item met in record {
         item = found.2.0;
         has = found.2.2;
-        line = report_has_item text_at (works_behind image journal) found.0 found.2.0 found.1 found.2.1;
+        line = report_has_item text_at (works_behind (device_of reading image) journal) found.0 found.2.0 found.1 found.2.1;
       };
       stays = covering.stays;
     }
 
-open_sites : AreOfUnits → (image : List (Option ℕ)) (journal : List Event) → IsAnalysis image journal
-    → are_closed (works_behind image journal) ≡ false → ShowsOpenSites image journal (report_behind image journal)
-open_sites of_units image journal analysis left = record {
-  says = says_head false (works_behind image journal) left;
-  some = some_open (works_behind image journal) left;
+open_sites : AreOfUnits → (device : Device) (journal : List Event) → IsAnalysis device journal
+    → are_closed (works_behind device journal) ≡ false → ShowsOpenSites device journal (report_behind device journal)
+open_sites of_units device journal analysis left = record {
+  says = says_head false (works_behind device journal) left;
+  some = some_open (works_behind device journal) left;
   each = λ work pc cause is_work is_open.
-      let site = is_site image (replay (msp430 image) journal).nodes work pc cause (of_units image journal work analysis.legal is_work) is_open in record {
-        line = report_has_open (works_behind image journal) work (pc, cause) is_work is_open;
+      let site = is_site device (replay (msp430 device) journal).nodes work pc cause (of_units device journal work analysis.legal is_work) is_open in record {
+        line = report_has_open (works_behind device journal) work (pc, cause) is_work is_open;
         node = site.0;
         limit = site.1;
       };
 }
 
-pub closed_lem : CoverRuns → HaveBytes → HaveOneImage → (rules : Rules) (input before after : Option (List ℕ)) (journal : List Event)
-    → AnswersInput rules Done input before after journal → ReportsOn rules input before after CoversEveryRun
-closed_lem cover bytes one rules input before after journal (of_image other found answer) text image e denoted =
-    let same = same_image one rules input text image other e denoted found in
-    let is = subst (λ i. AnswersImage Done i before after journal) same answer in
-    (report_behind image journal, is.2, covers_every cover bytes rules text image journal denoted is.0 is.1)
-closed_lem cover bytes one rules input before after journal (of_bad line fault bad answer) text image e denoted =
+pub closed_lem : CoverRuns → HaveBytes → HaveOneImage → (reading : Reading) (input before after : Option (List ℕ)) (journal : List Event)
+    → AnswersInput reading Done input before after journal → ReportsOn reading input before after CoversEveryRun
+closed_lem cover bytes one reading input before after journal (of_image other found answer) text image e denoted =
+    let same = same_image one (rules_of reading) input text image other e denoted found in
+    let is = subst (λ i. AnswersImage Done (device_of reading i) before after journal) same answer in
+    (report_behind (device_of reading image) journal, is.2, covers_every cover bytes reading text image journal denoted is.0 is.1)
+closed_lem cover bytes one reading input before after journal (of_bad line fault bad answer) text image e denoted =
     elim (told_alone answer) [ inl a ↦ absurd (cc) | inr b ↦ absurd (cc) ]
-closed_lem cover bytes one rules input before after journal (of_long long answer) text image e denoted =
+closed_lem cover bytes one reading input before after journal (of_long long answer) text image e denoted =
     elim (told_alone answer) [ inl a ↦ absurd (cc) | inr b ↦ absurd (cc) ]
-closed_lem cover bytes one rules input before after journal (unread why kept none) text image e denoted =
+closed_lem cover bytes one reading input before after journal (unread why kept none) text image e denoted =
     elim why [ inl a ↦ absurd (cc) | inr b ↦ absurd (cc) ]
 
-pub open_lem : AreOfUnits → HaveOneImage → (rules : Rules) (input before after : Option (List ℕ)) (journal : List Event)
-    → AnswersInput rules Open input before after journal → ReportsOn rules input before after (λ image report. ShowsOpenSites image journal report)
-open_lem of_units one rules input before after journal (of_image other found answer) text image e denoted =
-    let same = same_image one rules input text image other e denoted found in
-    let is = subst (λ i. AnswersImage Open i before after journal) same answer in
-    (report_behind image journal, is.2, open_sites of_units image journal is.0 is.1)
-open_lem of_units one rules input before after journal (of_bad line fault bad answer) text image e denoted =
+pub open_lem : AreOfUnits → HaveOneImage → (reading : Reading) (input before after : Option (List ℕ)) (journal : List Event)
+    → AnswersInput reading Open input before after journal → ReportsOn reading input before after (λ device report. ShowsOpenSites device journal report)
+open_lem of_units one reading input before after journal (of_image other found answer) text image e denoted =
+    let same = same_image one (rules_of reading) input text image other e denoted found in
+    let is = subst (λ i. AnswersImage Open (device_of reading i) before after journal) same answer in
+    (report_behind (device_of reading image) journal, is.2, open_sites of_units (device_of reading image) journal is.0 is.1)
+open_lem of_units one reading input before after journal (of_bad line fault bad answer) text image e denoted =
     elim (told_alone answer) [ inl a ↦ absurd (cc) | inr b ↦ absurd (cc) ]
-open_lem of_units one rules input before after journal (of_long long answer) text image e denoted =
+open_lem of_units one reading input before after journal (of_long long answer) text image e denoted =
     elim (told_alone answer) [ inl a ↦ absurd (cc) | inr b ↦ absurd (cc) ]
-open_lem of_units one rules input before after journal (unread why kept none) text image e denoted =
+open_lem of_units one reading input before after journal (unread why kept none) text image e denoted =
     elim why [ inl a ↦ absurd (cc) | inr b ↦ absurd (cc) ]
 
 abbrev HaveNotBoth : Type 0
@@ -222,19 +226,19 @@ HaveNotBoth = (rules : Rules) (tail : Tail) (lines : List (List ℕ)) (image : L
     → Denotes rules tail lines image → FirstFault rules tail lines line fault → ⊥
 
 -- the statuses of an image
-status_of_image : (answered : Status) (image : List (Option ℕ)) (before after : Option (List ℕ)) (journal : List Event)
-    → AnswersImage answered image before after journal → (answered ≡ WriteFault → ⊥) → IsOfImage answered
-status_of_image Done image before after journal is no_fault = inl refl
-status_of_image Open image before after journal is no_fault = inr (inl refl)
-status_of_image WriteFault image before after journal is no_fault = absurd (no_fault refl)
-status_of_image Usage image before after journal is no_fault = absurd is
-status_of_image BadImage image before after journal is no_fault = absurd is
-status_of_image BadCert image before after journal is no_fault = absurd is
-status_of_image ReadFault image before after journal is no_fault = absurd is
-status_of_image Memory image before after journal is no_fault = absurd is
-status_of_image TooLong image before after journal is no_fault = absurd is
-status_of_image Wild image before after journal is no_fault = absurd is
-status_of_image NeedChoice image before after journal is no_fault = absurd is
+status_of_image : (answered : Status) (device : Device) (before after : Option (List ℕ)) (journal : List Event)
+    → AnswersImage answered device before after journal → (answered ≡ WriteFault → ⊥) → IsOfImage answered
+status_of_image Done device before after journal is no_fault = inl refl
+status_of_image Open device before after journal is no_fault = inr (inl refl)
+status_of_image WriteFault device before after journal is no_fault = absurd (no_fault refl)
+status_of_image Usage device before after journal is no_fault = absurd is
+status_of_image BadImage device before after journal is no_fault = absurd is
+status_of_image BadCert device before after journal is no_fault = absurd is
+status_of_image ReadFault device before after journal is no_fault = absurd is
+status_of_image Memory device before after journal is no_fault = absurd is
+status_of_image TooLong device before after journal is no_fault = absurd is
+status_of_image Wild device before after journal is no_fault = absurd is
+status_of_image NeedChoice device before after journal is no_fault = absurd is
 
 -- a text of an image isn't refused
 not_bad : HaveNotBoth → (rules : Rules) (text : List ℕ) (image : List (Option ℕ)) (line : ℕ) (fault : HexFault) → IsImageOf rules text image
@@ -246,14 +250,14 @@ not_bad both rules text image line fault is bad =
 not_long : (rules : Rules) (text : List ℕ) (image : List (Option ℕ)) → IsImageOf rules text image → IsTooLong rules text → ⊥
 not_long rules text image is long = omega (arith, is.fits, long.longer)
 
-pub complete_lem : HaveNotBoth → (rules : Rules) (answered : Status) (input before after : Option (List ℕ)) (journal : List Event) (text : List ℕ)
-    (image : List (Option ℕ)) → AnswersInput rules answered input before after journal → input ≡ Some text → IsImageOf rules text image
+pub complete_lem : HaveNotBoth → (reading : Reading) (answered : Status) (input before after : Option (List ℕ)) (journal : List Event) (text : List ℕ)
+    (image : List (Option ℕ)) → AnswersInput reading answered input before after journal → input ≡ Some text → IsImageOf (rules_of reading) text image
     → (answered ≡ ReadFault → ⊥) → (answered ≡ WriteFault → ⊥) → IsOfImage answered
-complete_lem both rules answered input before after journal text image (of_image other found answer) e is no_read no_write =
-    status_of_image answered other before after journal answer no_write
-complete_lem both rules answered input before after journal text image (of_bad line fault bad answer) e is no_read no_write =
-    absurd (not_bad both rules text image line fault is (subst (λ i. IfSome i (λ t. IsBad rules t line fault)) e bad))
-complete_lem both rules answered input before after journal text image (of_long long answer) e is no_read no_write =
-    absurd (not_long rules text image is (subst (λ i. IfSome i (IsTooLong rules)) e long))
-complete_lem both rules answered input before after journal text image (unread why kept none) e is no_read no_write =
+complete_lem both reading answered input before after journal text image (of_image other found answer) e is no_read no_write =
+    status_of_image answered (device_of reading other) before after journal answer no_write
+complete_lem both reading answered input before after journal text image (of_bad line fault bad answer) e is no_read no_write =
+    absurd (not_bad both (rules_of reading) text image line fault is (subst (λ i. IfSome i (λ t. IsBad (rules_of reading) t line fault)) e bad))
+complete_lem both reading answered input before after journal text image (of_long long answer) e is no_read no_write =
+    absurd (not_long (rules_of reading) text image is (subst (λ i. IfSome i (IsTooLong (rules_of reading))) e long))
+complete_lem both reading answered input before after journal text image (unread why kept none) e is no_read no_write =
     elim why [ inl fault ↦ absurd (no_read fault) | inr memory ↦ inr (inr memory) ]

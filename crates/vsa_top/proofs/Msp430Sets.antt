@@ -7,7 +7,7 @@ use Rattle.call_context.specs.declared.plain.Vs16.TheVariants.{Any}
 use Rattle.call_context.specs.Plain.{HasWord, is_within, joined, widened}
 use Rattle.call_context.specs.PlainLaws.{within_has, within_itself, within_further, joined_held, joined_new, joined_form, widened_held, widened_new, widened_form}
 use Rattle.vsa_top.specs.Msp430State.{all_within, all_joined, all_widened}
-use Rattle.vsa_top.specs.Msp430Chip.{AreWords}
+use Rattle.vsa_top.specs.Msp430Cover.{AreWords}
 
 pub all_within_itself : (xs : List Vs16) → all_within xs xs ≡ true
 all_within_itself [] = refl

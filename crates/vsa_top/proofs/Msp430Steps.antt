@@ -14,7 +14,10 @@ use Rattle.vsa_top.specs.declared.msp430.instr.Instr.TheVariants.{Load, Copy, Ju
 use Rattle.vsa_top.specs.declared.msp430.state.State.{State}
 use Rattle.vsa_top.specs.declared.msp430.state.ChipState.{ChipState}
 use Rattle.ihex_read.specs.Image.{IsByte}
-use Rattle.vsa_top.specs.Msp430Chip.{register_of, written, effect_of, ran, AreWords, IsState, HoldsOf, IsProgram}
+use Rattle.vsa_top.specs.declared.msp430.device.Device.{Device}
+use Rattle.vsa_top.specs.Msp430Chip.{IsProgram}
+use Rattle.vsa_top.specs.Msp430Cover.{AreWords, IsEvenWord, IsState, HoldsOf}
+use Rattle.vsa_top.specs.Msp430Machine.{register_of, written, effect_of, ran}
 use Rattle.vsa_top.specs.Msp430Fetch.{both, word_at, built, with_second, with_first, fetched, address_in, reset_address}
 use Rattle.vsa_top.specs.Msp430State.{set_of, with_set, state_behind}
 use Rattle.vsa_top.specs.Msp430Table.{word_of, is_general, is_destination, is_load, is_copy, is_jump, IsInstr, instr_of, next_of}
@@ -34,10 +37,10 @@ abbrev pub IsFound : Result (Instr × List ℕ) Cause → Type 0
 IsFound (Err cause) = Unit {0}
 IsFound (Ok found) = IsInstr found.0
 
-is_byte : (image : List (Option ℕ)) → IsProgram image → (at : ℕ) → IsByte (byte_at image at)
-is_byte image program at = elim (cases_lt at (length image)) [
-  | inl inside ↦ All-get_or IsByte image at None inside program.bytes
-  | inr past ↦ subst IsByte (sym (get_or_past image at None past)) tt
+is_byte : (device : Device) → IsProgram device → (at : ℕ) → IsByte (byte_at device.image at)
+is_byte device program at = elim (cases_lt at (length device.image)) [
+  | inl inside ↦ All-get_or IsByte device.image at None inside program.bytes
+  | inr past ↦ subst IsByte (sym (get_or_past device.image at None past)) tt
 ]
 
 both_bytes : (low high : Option ℕ) → IsByte low → IsByte high → AreBytes (both low high)
@@ -45,9 +48,9 @@ both_bytes None high l h = tt
 both_bytes (Some low) None l h = tt
 both_bytes (Some low) (Some high) l h = (l, h)
 
-word_bytes : (image : List (Option ℕ)) → IsProgram image → (at : ℕ) → AreBytes (word_at image at)
-word_bytes image program at =
-    both_bytes (byte_at image at) (byte_at image ((at + 1) % 65536)) (is_byte image program at) (is_byte image program ((at + 1) % 65536))
+word_bytes : (device : Device) → IsProgram device → (at : ℕ) → AreBytes (word_at device.image at)
+word_bytes device program at =
+    both_bytes (byte_at device.image at) (byte_at device.image ((at + 1) % 65536)) (is_byte device program at) (is_byte device program ((at + 1) % 65536))
 
 built_found : (bytes : List ℕ) (instr : Option Instr) → IsSomeInstr instr → IsFound (built bytes instr)
 built_found bytes None h = tt
@@ -78,27 +81,27 @@ with_second_found first (Some second) h =
     let bytes = first.0 ∷ first.1 ∷ second.0 ∷ second.1 ∷ [] in
     built_found bytes (instr_of bytes) (four_bytes first.0 first.1 second.0 second.1 h.0 h.1)
 
-with_first_found : (image : List (Option ℕ)) → IsProgram image → (pc : ℕ) (first : Option (ℕ × ℕ)) → IsFound (with_first image pc first)
-with_first_found image program pc None = tt
-with_first_found image program pc (Some first) = let bytes = first.0 ∷ first.1 ∷ [] in let at = (pc + 2) % 65536 in
-    cond_both (is_load (word_of first.0 first.1)) (with_second first (word_at image at)) (built bytes (instr_of bytes)) IsFound
-    (λ e. with_second_found first (word_at image at) (word_bytes image program at))
+with_first_found : (device : Device) → IsProgram device → (pc : ℕ) (first : Option (ℕ × ℕ)) → IsFound (with_first device.image pc first)
+with_first_found device program pc None = tt
+with_first_found device program pc (Some first) = let bytes = first.0 ∷ first.1 ∷ [] in let at = (pc + 2) % 65536 in
+    cond_both (is_load (word_of first.0 first.1)) (with_second first (word_at device.image at)) (built bytes (instr_of bytes)) IsFound
+    (λ e. with_second_found first (word_at device.image at) (word_bytes device program at))
     (λ e. built_found bytes (instr_of bytes) (two_bytes first.0 first.1))
 
-pub fetched_found : (image : List (Option ℕ)) → IsProgram image → (pc : ℕ) → IsFound (fetched image pc)
+pub fetched_found : (device : Device) → IsProgram device → (pc : ℕ) → IsFound (fetched device.image pc)
 unfolding fetched
-fetched_found image program pc = with_first_found image program pc (word_at image pc)
+fetched_found device program pc = with_first_found device program pc (word_at device.image pc)
 
 -- an even address
 abbrev pub IsStart : ℕ → Type 0
-IsStart address = (address < 65536) × (address % 2 ≡ 0)
+IsStart = IsEvenWord
 
 address_start : (word : Option (ℕ × ℕ)) → AreBytes word → IsStart (address_in word)
 address_start None h = (omega arith, omega arith)
 address_start (Some word) h = let low = h.0 in let high = h.1 in (omega arith, omega arith)
 
-pub reset_start : (image : List (Option ℕ)) → IsProgram image → IsStart (reset_address image)
-reset_start image program = address_start (word_at image 65534) (word_bytes image program 65534)
+pub reset_start : (device : Device) → IsProgram device → IsStart (reset_address device.image)
+reset_start device program = address_start (word_at device.image 65534) (word_bytes device program 65534)
 
 pub next_start : (pc : ℕ) (instr : Instr) → IsStart pc → IsStart (next_of pc instr)
 next_start pc (Load value register) h = let even = h.1 in (omega arith, omega arith)
@@ -134,14 +137,14 @@ record IsHeld (a : State) (registers : List ℕ) : Type 0 where
   status : get_or registers 2 0 ≡ 0
   sets : (register : ℕ) → 3 < register → register < 16 → HasWord (get_or a.registers (register - 4) Any) (get_or registers register 0)
 
-held_of : (a : State) (s : ChipState) → HoldsOf a s → IsHeld a s.registers
-held_of a s h = record {
+held_of : (device : Device) (a : State) (s : ChipState) (first : Option ChipState) → HoldsOf device a s first → IsHeld a s.registers
+held_of device a s first h = record {
   count = h.state.registers;
   words = h.state.words;
   even_sp = h.state.even_sp;
   sp = h.sp;
   status = h.status;
-  sets = h.registers;
+  sets = λ register low high. (h.registers register low high).0;
 }
 
 -- another register leaves each property of a list of registers
@@ -207,33 +210,39 @@ held_written a registers register value values sets_long h destination small has
       | false ↦ λ e. held_general a registers register value values sets_long h (destination_range register destination e) small has
     ] refl
 
-held_effect : (a : State) (s : ChipState) (instr : Instr) → IsState a → HoldsOf a s → IsInstr instr → IsHeld (state_behind instr a) (effect_of instr s)
-held_effect a s (Load value register) form h fits =
-    held_written a s.registers register value (Listed (value ∷ [])) form.count (held_of a s h) fits.1 fits.0 (in_first value [])
-held_effect a s (Copy source register) form h fits =
+held_effect : (device : Device) (a : State) (s : ChipState) (first : Option ChipState) (instr : Instr) → IsState a → HoldsOf device a s first → IsInstr instr → IsHeld (state_behind instr a) (effect_of instr s)
+held_effect device a s first (Load value register) form h fits =
+    held_written a s.registers register value (Listed (value ∷ [])) form.count (held_of device a s first h) fits.1 fits.0 (in_first value [])
+held_effect device a s first (Copy source register) form h fits =
     let general = general_range source fits.0 in
     let high : source < 16 = general.high in
     let long : source < length s.registers = omega (arith, h.state.registers) in
-    held_written a s.registers register (register_of s source) (set_of a source) form.count (held_of a s h) fits.1
-    (All-get_or (λ r. r < 65536) s.registers source 0 long h.state.words) (h.registers source general.low high)
-held_effect a s (Jump offset) form h fits = held_of a s h
+    held_written a s.registers register (register_of s source) (set_of a source) form.count (held_of device a s first h) fits.1
+    (All-get_or (λ r. r < 65536) s.registers source 0 long h.state.words) (h.registers source general.low high).0
+held_effect device a s first (Jump offset) form h fits = held_of device a s first h
 
 -- the state behind an instruction stands for what it leaves, at the next address
-pub ran_holds : (a : State) (s : ChipState) (instr : Instr) → IsState a → HoldsOf a s → IsInstr instr → IsStart (register_of s 0)
-    → (register_of (ran s instr) 0 ≡ next_of (register_of s 0) instr) × HoldsOf (state_behind instr a) (ran s instr)
-ran_holds a s instr form h fits start =
+pub ran_holds : (device : Device) (a : State) (s : ChipState) (first : Option ChipState) (instr : Instr) → IsState a → HoldsOf device a s first → IsInstr instr → IsStart (register_of s 0)
+    → (register_of (ran s instr) 0 ≡ next_of (register_of s 0) instr) × HoldsOf device (state_behind instr a) (ran s instr) first
+ran_holds device a s first instr form h fits start =
     let next = next_of (register_of s 0) instr in
-    let effect : IsHeld (state_behind instr a) (effect_of instr s) = held_effect a s instr form h fits in
+    let effect : IsHeld (state_behind instr a) (effect_of instr s) = held_effect device a s first instr form h fits in
     let behind : IsHeld (state_behind instr a) (set (effect_of instr s) 0 next) =
     held_pc (state_behind instr a) (effect_of instr s) next effect (next_start (register_of s 0) instr start).0 in
     let long : 0 < length (effect_of instr s) = omega (arith, effect.count) in (
       get_or-set_same (effect_of instr s) 0 next 0 long,
       record {
-        state = record { registers = behind.count; words = behind.words; even_sp = behind.even_sp };
+        state = record {
+          registers = behind.count;
+          words = behind.words;
+          even_sp = behind.even_sp;
+          ram = h.state.ram;
+          bytes = h.state.bytes;
+        };
         sp = behind.sp;
         status = behind.status;
         not_late = ap (λ status. status / 8 % 2 == 1) h.status;
-        registers = behind.sets;
+        registers = λ register low high. (behind.sets register low high, tt);
       },
     )
 

@@ -15,15 +15,18 @@ use Rattle.chip_law.specs.declared.chip.Work.{Work}
 use Rattle.round_core.specs.declared.event.Event.{Event}
 use Rattle.round_core.specs.Kept.{live_works}
 use Rattle.round_core.specs.Machine.{replay, IsLegalJournal, IsFinished}
+use Rattle.vsa_top.specs.declared.msp430.device.Device.{Device}
 use Rattle.vsa_top.specs.declared.msp430.state.State.{State}
 use Rattle.vsa_top.specs.Msp430Chip.{msp430}
 use Rattle.vsa_top.specs.Msp430Table.{instr_of, instr_text}
 use Rattle.vsa_top.specs.Report.{report_of, are_closed}
 use Rattle.vsa_top.specs.Turns.{AreTurns}
+use Rattle.vsa_top.specs.Words.{rules_of, device_of}
 use Rattle.vsa_top.specs.declared.input.InputError.{InputError}
 use Rattle.vsa_top.specs.declared.input.InputError.TheVariants.{Failed, Memory, Bad, TooLong}
 use Rattle.vsa_top.specs.declared.outcome.Status.{Status}
 use Rattle.vsa_top.specs.declared.outcome.Status.TheVariants as status
+use Rattle.vsa_top.specs.declared.words.Reading.{Reading}
 
 -- the longest image text
 abbrev pub text_limit : ℕ
@@ -63,24 +66,24 @@ LacksImage rules text Memory = Unit {0}
 abbrev pub usage_line : List ℕ
 usage_line = codes "USAGE\n"
 
-abbrev pub bad_line : ℕ → HexFault → List ℕ
+unfoldable pub bad_line : ℕ → HexFault → List ℕ
 bad_line line fault = codes "BAD " ++ decimal line ++ codes " " ++ fault_name fault ++ codes "\n"
 
 abbrev pub long_line : List ℕ
 long_line = codes "LONG\n"
 
 -- the works of the units of the book that a journal leads to
-abbrev pub works_behind : List (Option ℕ) → List Event → List (Work State)
-works_behind image journal = live_works (replay (msp430 image) journal)
+abbrev pub works_behind : Device → List Event → List (Work State)
+works_behind device journal = live_works (replay (msp430 device) journal)
 
 -- the report of the book that a journal leads to
-abbrev pub report_behind : List (Option ℕ) → List Event → List ℕ
-report_behind image journal = report_of (λ pc bytes. instr_text pc (instr_of bytes)) (works_behind image journal)
+abbrev pub report_behind : Device → List Event → List ℕ
+report_behind device journal = report_of (λ pc bytes. instr_text pc (instr_of bytes)) (works_behind device journal)
 
 -- a journal of one worker, each event of which is legal, to a finished book
-pub record IsAnalysis (image : List (Option ℕ)) (journal : List Event) : Type 0 where
-  pub legal : IsLegalJournal (msp430 image) journal
-  pub finished : IsFinished (replay (msp430 image) journal)
+pub record IsAnalysis (device : Device) (journal : List Event) : Type 0 where
+  pub legal : IsLegalJournal (msp430 device) journal
+  pub finished : IsFinished (replay (msp430 device) journal)
   pub turns : AreTurns journal
 
 -- An answer by a line alone: this status with the line behind what was held, or the fault of the sink with a front of
@@ -90,36 +93,36 @@ pub data AnswersLine (told : Status) (line : List ℕ) (answered : Status) (befo
   cut : answered ≡ status.WriteFault → AppendsPrefix before line after → journal ≡ []
       → AnswersLine told line answered before after journal
 
--- what an image gets: Open exactly where the book has an open
-abbrev pub AnswersImage : Status → List (Option ℕ) → (before after : Option (List ℕ)) → List Event → Type 0
-AnswersImage status.Done image before after journal = IsAnalysis image journal
-    × (are_closed (works_behind image journal) ≡ true) × (after ≡ appended before (report_behind image journal))
-AnswersImage status.Open image before after journal = IsAnalysis image journal
-    × (are_closed (works_behind image journal) ≡ false) × (after ≡ appended before (report_behind image journal))
-AnswersImage status.WriteFault image before after journal =
-    IsAnalysis image journal × AppendsPrefix before (report_behind image journal) after
-AnswersImage status.Usage image before after journal = ⊥
-AnswersImage status.BadImage image before after journal = ⊥
-AnswersImage status.BadCert image before after journal = ⊥
-AnswersImage status.ReadFault image before after journal = ⊥
-AnswersImage status.Memory image before after journal = ⊥
-AnswersImage status.TooLong image before after journal = ⊥
-AnswersImage status.Wild image before after journal = ⊥
-AnswersImage status.NeedChoice image before after journal = ⊥
+-- what a device gets: Open exactly where the book has an open
+abbrev pub AnswersImage : Status → Device → (before after : Option (List ℕ)) → List Event → Type 0
+AnswersImage status.Done device before after journal = IsAnalysis device journal
+    × (are_closed (works_behind device journal) ≡ true) × (after ≡ appended before (report_behind device journal))
+AnswersImage status.Open device before after journal = IsAnalysis device journal
+    × (are_closed (works_behind device journal) ≡ false) × (after ≡ appended before (report_behind device journal))
+AnswersImage status.WriteFault device before after journal =
+    IsAnalysis device journal × AppendsPrefix before (report_behind device journal) after
+AnswersImage status.Usage device before after journal = ⊥
+AnswersImage status.BadImage device before after journal = ⊥
+AnswersImage status.BadCert device before after journal = ⊥
+AnswersImage status.ReadFault device before after journal = ⊥
+AnswersImage status.Memory device before after journal = ⊥
+AnswersImage status.TooLong device before after journal = ⊥
+AnswersImage status.Wild device before after journal = ⊥
+AnswersImage status.NeedChoice device before after journal = ⊥
 
 -- The answer to words that are a reading, over the text that the input is, where it is told: that of the image which
 -- it denotes, or its first faulty line, or that it is too long; or a fault of the source or want of memory, with
 -- nothing written.
-pub data AnswersInput (rules : Rules) (answered : Status) (input before after : Option (List ℕ)) (journal : List Event) : Type 0 where
-  of_image : (image : List (Option ℕ)) → IfSome input (λ text. IsImageOf rules text image)
-      → AnswersImage answered image before after journal → AnswersInput rules answered input before after journal
-  of_bad : (line : ℕ) (fault : HexFault) → IfSome input (λ text. IsBad rules text line fault)
+pub data AnswersInput (reading : Reading) (answered : Status) (input before after : Option (List ℕ)) (journal : List Event) : Type 0 where
+  of_image : (image : List (Option ℕ)) → IfSome input (λ text. IsImageOf (rules_of reading) text image)
+      → AnswersImage answered (device_of reading image) before after journal → AnswersInput reading answered input before after journal
+  of_bad : (line : ℕ) (fault : HexFault) → IfSome input (λ text. IsBad (rules_of reading) text line fault)
       → AnswersLine status.BadImage (bad_line line fault) answered before after journal
-      → AnswersInput rules answered input before after journal
-  of_long : IfSome input (IsTooLong rules) → AnswersLine status.TooLong long_line answered before after journal
-      → AnswersInput rules answered input before after journal
+      → AnswersInput reading answered input before after journal
+  of_long : IfSome input (IsTooLong (rules_of reading)) → AnswersLine status.TooLong long_line answered before after journal
+      → AnswersInput reading answered input before after journal
   unread : (answered ≡ status.ReadFault) ⊎ (answered ≡ status.Memory) → after ≡ before → journal ≡ []
-      → AnswersInput rules answered input before after journal
+      → AnswersInput reading answered input before after journal
 
 -- a status that tells a fault, or want of memory, in place of the answer
 abbrev pub IsCutShort : Status → Type 0

@@ -1,7 +1,6 @@
 -- What a report says of every run of the chip.
 use Rattle.std.specs.Prelude.{◌≡◌, ℕ, Option, Some, Err, List, ◌++◌, Contains, codes}
 use Rattle.call_context.specs.declared.shown.Cause.{Cause}
-use Rattle.ihex_read.specs.declared.rule_set.Rules.{Rules}
 use Rattle.ihex_read.specs.declared.rule_set.Tail.TheVariants.{Blank}
 use Rattle.ihex_read.specs.ImageText.{Denotes}
 use Rattle.ihex_read.specs.Lines as texts
@@ -15,11 +14,14 @@ use Rattle.chip_law.specs.Shown.{HasLine, IsShownIn}
 use Rattle.chip_law.specs.Single.{Single}
 use Rattle.round_core.specs.Machine.{Held, held_at, replay}
 use Rattle.round_core.specs.declared.event.Event.{Event}
+use Rattle.vsa_top.specs.declared.msp430.device.Device.{Device}
 use Rattle.vsa_top.specs.declared.msp430.state.State.{State}
+use Rattle.vsa_top.specs.declared.words.Reading.{Reading}
 use Rattle.vsa_top.specs.Answer.{works_behind}
 use Rattle.vsa_top.specs.Msp430Chip.{msp430}
 use Rattle.vsa_top.specs.Msp430Fetch.{fetched}
 use Rattle.vsa_top.specs.Msp430Table.{instr_of, instr_text}
+use Rattle.vsa_top.specs.Words.{rules_of, device_of}
 
 -- the report begins with this text
 abbrev pub Says : List ℕ → List ℕ → Type 0
@@ -27,27 +29,29 @@ Says text report = (rest : List ℕ) × (report ≡ text ++ rest)
 
 -- The report says CLOSED. Whatever a run of the chip meets, in any number of steps, has its line in the report, and no
 -- run leaves the model.
-pub record CoversEveryRun (image : List (Option ℕ)) (report : List ℕ) : Type 0 where
+pub record CoversEveryRun (device : Device) (report : List ℕ) : Type 0 where
   pub says : Says (codes "CLOSED\n") report
-  pub shows : (n : ℕ) (item : Single) → Meets (msp430 image) n item
+  pub shows : (n : ℕ) (item : Single) → Meets (msp430 device) n item
       → IsShownIn (λ pc bytes. instr_text pc (instr_of bytes)) report item
-  pub stays : (n : ℕ) → GoesWild (msp430 image) n → ⊥
+  pub stays : (n : ℕ) → GoesWild (msp430 device) n → ⊥
 
 -- The report has the line of an open site, which is the address of a node of the book, and no instruction that is built
 -- stands there.
-pub record IsOpenSite (image : List (Option ℕ)) (journal : List Event) (report : List ℕ) (pc : ℕ) (cause : Cause) : Type 0 where
+pub record IsOpenSite (device : Device) (journal : List Event) (report : List ℕ) (pc : ℕ) (cause : Cause) : Type 0 where
   pub line : HasLine report (open_line_of pc cause)
-  pub node : (node : Node) × (held : Held State) × (held_at (replay (msp430 image) journal).nodes node ≡ Some held) × (pc_of node ≡ pc)
-  pub limit : fetched image pc ≡ Err cause
+  pub node : (node : Node) × (held : Held State) × (held_at (replay (msp430 device) journal).nodes node ≡ Some held) × (pc_of node ≡ pc)
+  pub limit : fetched device.image pc ≡ Err cause
 
 -- The report says OPEN. Some work of the book leaves a site open, and each that does is shown.
-pub record ShowsOpenSites (image : List (Option ℕ)) (journal : List Event) (report : List ℕ) : Type 0 where
+pub record ShowsOpenSites (device : Device) (journal : List Event) (report : List ℕ) : Type 0 where
   pub says : Says (codes "OPEN\n") report
-  pub some : (work : Work State) × (site : ℕ × Cause) × Contains (works_behind image journal) work × Contains work.opens site
-  pub each : (work : Work State) (pc : ℕ) (cause : Cause) → Contains (works_behind image journal) work
-      → Contains work.opens (pc, cause) → IsOpenSite image journal report pc cause
+  pub some : (work : Work State) × (site : ℕ × Cause) × Contains (works_behind device journal) work × Contains work.opens site
+  pub each : (work : Work State) (pc : ℕ) (cause : Cause) → Contains (works_behind device journal) work
+      → Contains work.opens (pc, cause) → IsOpenSite device journal report pc cause
 
--- Where the input is told and denotes an image under the rules, the sink got a report of which P holds.
-abbrev pub ReportsOn : Rules → (input before after : Option (List ℕ)) → (List (Option ℕ) → List ℕ → Type 0) → Type 0
-ReportsOn rules input before after P = (text : List ℕ) (image : List (Option ℕ)) → input ≡ Some text
-    → Denotes rules Blank (texts.lines_of text) image → (report : List ℕ) × (after ≡ appended before report) × P image report
+-- Where the input is told and denotes an image under the reading, the sink got a report of which P holds, of the device with
+-- this image.
+abbrev pub ReportsOn : Reading → (input before after : Option (List ℕ)) → (Device → List ℕ → Type 0) → Type 0
+ReportsOn reading input before after P = (text : List ℕ) (image : List (Option ℕ)) → input ≡ Some text
+    → Denotes (rules_of reading) Blank (texts.lines_of text) image
+    → (report : List ℕ) × (after ≡ appended before report) × P (device_of reading image) report

@@ -1,7 +1,9 @@
 pub mod Answer
 pub mod Headline
 pub mod Msp430Chip
+pub mod Msp430Cover
 pub mod Msp430Fetch
+pub mod Msp430Machine
 pub mod Msp430State
 pub mod Msp430Table
 pub mod Report

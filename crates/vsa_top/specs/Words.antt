@@ -6,11 +6,16 @@ use Rattle.hex.specs.Hex.{hex_digit_value}
 use Rattle.ihex_read.specs.declared.rule_set.Rules.{Rules}
 use Rattle.ihex_read.specs.declared.rule_set.Rules.TheVariants.{Msp430}
 use Rattle.ihex_read.specs.ImageText.{IsRamRange}
+use Rattle.vsa_top.specs.declared.msp430.device.Device.{Device}
 use Rattle.vsa_top.specs.declared.words.Reading.{Reading}
 
 -- the rules of an image under a reading
 abbrev pub rules_of : Reading → Rules
 rules_of reading = Msp430 reading.lo reading.hi
+
+-- the device with an image under a reading
+abbrev pub device_of : Reading → List (Option ℕ) → Device
+device_of reading image = record { image = image; lo = reading.lo; hi = reading.hi }
 
 -- the number of four digits, the highest first, where each has a value
 abbrev pub number_from : (a b c d : Option ℕ) → Option ℕ

@@ -1,11 +1,12 @@
 //! What an answer says of every run.
 
 ghost use Rattle.std.specs.Prelude.{◌≡◌, ℕ, Option, Some, List};
-ghost use Rattle.ihex_read.specs.declared.rule_set.Rules.{Rules};
 ghost use Rattle.round_core.specs.declared.event.Event.{Event as AnEvent};
 ghost use Rattle.vsa_top.specs.declared.outcome.Status.TheVariants.{Done, Open, ReadFault, WriteFault};
 ghost use Rattle.vsa_top.specs.declared.outcome.Status.{Status as AStatus};
 ghost use Rattle.vsa_top.specs.Answer.{AnswersInput, IsImageOf, IsOfImage};
+ghost use Rattle.vsa_top.specs.Words.{rules_of};
+ghost use Rattle.vsa_top.specs.declared.words.Reading.{Reading as AReading};
 ghost use Rattle.vsa_top.specs.Headline.{CoversEveryRun, ShowsOpenSites, ReportsOn};
 
 use crate::msp430::Msp430;
@@ -15,12 +16,12 @@ use ihex_read::{image_or_fault, images_have_bytes};
 /// A report that is told as closed covers every run, and one that is told as open shows its open sites. An image within
 /// the limit gets one of them, where nothing fails and memory is there.
 pub(crate) fn reports_hold()
-    ensures closed { (rules : Rules) (input before after : Option (List ℕ)) (journal : List AnEvent)
-        → AnswersInput rules Done input before after journal → ReportsOn rules input before after CoversEveryRun }
-    ensures open { (rules : Rules) (input before after : Option (List ℕ)) (journal : List AnEvent)
-        → AnswersInput rules Open input before after journal → ReportsOn rules input before after (λ image report. ShowsOpenSites image journal report) }
-    ensures complete { (rules : Rules) (answered : AStatus) (input before after : Option (List ℕ)) (journal : List AnEvent) (text : List ℕ) (image : List (Option ℕ))
-        → AnswersInput rules answered input before after journal → input ≡ Some text → IsImageOf rules text image
+    ensures closed { (reading : AReading) (input before after : Option (List ℕ)) (journal : List AnEvent)
+        → AnswersInput reading Done input before after journal → ReportsOn reading input before after CoversEveryRun }
+    ensures open { (reading : AReading) (input before after : Option (List ℕ)) (journal : List AnEvent)
+        → AnswersInput reading Open input before after journal → ReportsOn reading input before after (λ device report. ShowsOpenSites device journal report) }
+    ensures complete { (reading : AReading) (answered : AStatus) (input before after : Option (List ℕ)) (journal : List AnEvent) (text : List ℕ) (image : List (Option ℕ))
+        → AnswersInput reading answered input before after journal → input ≡ Some text → IsImageOf (rules_of reading) text image
         → ¬ (answered ≡ ReadFault) → ¬ (answered ≡ WriteFault) → IsOfImage answered }
 {
     image_or_fault();

@@ -4,7 +4,7 @@ ghost use Rattle.std.specs.Prelude.{◌≡◌, ◌≢◌, if◌then◌else◌, [
 ghost use Rattle.vsa_io.specs.Stream.{HasRisen, AppendsPrefix, appended};
 ghost use Rattle.vsa_top.specs.Headline.{CoversEveryRun, ShowsOpenSites, ReportsOn};
 ghost use Rattle.ihex_read.specs.ImageText.{IsRamRange};
-ghost use Rattle.vsa_top.specs.declared.words.Reading.{Reading};
+ghost use Rattle.vsa_top.specs.declared.words.Reading.{Reading as AReading};
 ghost use Rattle.vsa_top.specs.Answer.{usage_line, bad_line as the_bad_line, AnswersLine, AnswersImage, AnswersInput, IsCutShort, IsImageOf, IsOfImage};
 ghost use Rattle.vsa_top.specs.Words.{Reads, rules_of};
 
@@ -14,8 +14,8 @@ use crate::input::{InputError, image_in};
 use crate::msp430::Msp430;
 use crate::outcome::{Gate, Outcome, Status};
 use crate::report::report_of;
-use crate::words::reading_of;
-use ihex_read::{HexFault, Rules};
+use crate::words::{Reading, reading_of};
+use ihex_read::HexFault;
 use std::alloc::{AllocError, Global};
 use std::sync::Wait;
 use std::thread::Threads;
@@ -59,6 +59,7 @@ fn answer_line<K: Sink>(alloc: Global, sink: &mut K, line: &[u8], status: Status
 }
 
 /// The line that tells a faulty line.
+#[tactic(auto, unfolding(crate::specs::Answer::bad_line))]
 fn bad_line(alloc: Global, line: u32, fault: HexFault) -> Result<Vec<u8>, AllocError>
     ensures { IfOk result (λ text. text.items ≡ the_bad_line line fault) }
 {
@@ -90,7 +91,7 @@ fn answer_bad<K: Sink>(
 
 /// Analyses a program, and writes the report.
 fn analyse_image<K: Sink>(alloc: Global, chip: &Msp430, sink: &mut K) -> Result<Outcome, Memory>
-    ensures answer { IfOk result (λ outcome. AnswersImage outcome.status chip.now.image (K.held sink.old) (K.held sink.new) outcome.journal.items) }
+    ensures answer { IfOk result (λ outcome. AnswersImage outcome.status chip.now.device (K.held sink.old) (K.held sink.new) outcome.journal.items) }
     ensures cause { IfOk result (λ outcome. outcome.status ≡ Status.WriteFault → HasRisen (K.faults sink.old) (K.faults sink.new)) }
     ensures quiet { IfOk result (λ outcome. outcome.status ≢ Status.WriteFault → K.faults sink.new ≡ K.faults sink.old) }
     ensures unwritten { OnErr result (K.held sink.new ≡ K.held sink.old) }
@@ -115,16 +116,21 @@ fn status_of(is_closed: bool) -> Status
 }
 
 /// Reads an image text, analyses it, and writes the report.
-fn analyse<S: Source, K: Sink>(alloc: Global, rules: Rules, source: &mut S, sink: &mut K) -> Outcome
-    requires { IsRamRange rules }
-    ensures answer { AnswersInput rules result.status (S.left source.old) (K.held sink.old) (K.held sink.new) result.journal.items }
+fn analyse<S: Source, K: Sink>(
+    alloc: Global,
+    reading: Reading,
+    source: &mut S,
+    sink: &mut K,
+) -> Outcome
+    requires { IsRamRange (rules_of reading) }
+    ensures answer { AnswersInput reading result.status (S.left source.old) (K.held sink.old) (K.held sink.new) result.journal.items }
     ensures read_fault { result.status ≡ Status.ReadFault → HasRisen (S.faults source.old) (S.faults source.new) }
     ensures write_fault { result.status ≡ Status.WriteFault → HasRisen (K.faults sink.old) (K.faults sink.new) }
     ensures quiet_source { ¬ IsCutShort result.status → S.faults source.new ≡ S.faults source.old }
     ensures quiet_sink { ¬ IsCutShort result.status → K.faults sink.new ≡ K.faults sink.old }
 {
-    let answered = match image_in(alloc, source, rules) {
-        Ok(image) => analyse_image(alloc, &Msp430::new(image), sink),
+    let answered = match image_in(alloc, source, reading.rules()) {
+        Ok(image) => analyse_image(alloc, &Msp430::new(image, reading.lo, reading.hi), sink),
         Err(InputError::Bad { line, fault }) => answer_bad(alloc, sink, line, fault),
         Err(InputError::TooLong) => Ok(answer_line(alloc, sink, b"LONG\n", Status::TooLong)),
         Err(InputError::Failed) => Ok(without_journal(alloc, Status::ReadFault)),
@@ -148,23 +154,23 @@ pub fn vsa<R: Threads + Wait + Sync, S: Source, K: Sink, G: Gate>(
     // THE HEADLINE. Where the input denotes an image under the rules that the words ask and the status is Done, which
     // tells a report that says CLOSED, whatever the chip meets on any run has its line in the report, and no run
     // leaves the model.
-    ensures headline { (reading : Reading) → Reads words.now reading → result.status ≡ Status.Done
-        → ReportsOn (rules_of reading) (S.left source.old) (K.held sink.old) (K.held sink.new) CoversEveryRun }
+    ensures headline { (reading : AReading) → Reads words.now reading → result.status ≡ Status.Done
+        → ReportsOn reading (S.left source.old) (K.held sink.old) (K.held sink.new) CoversEveryRun }
     // Where the status is Open the report says OPEN and shows each open site, of which there is one: the address of a
     // node of the book at which no instruction that is built stands.
-    ensures open_sites { (reading : Reading) → Reads words.now reading → result.status ≡ Status.Open
-        → ReportsOn (rules_of reading) (S.left source.old) (K.held sink.old) (K.held sink.new) (λ image report. ShowsOpenSites image result.journal.items report) }
+    ensures open_sites { (reading : AReading) → Reads words.now reading → result.status ≡ Status.Open
+        → ReportsOn reading (S.left source.old) (K.held sink.old) (K.held sink.new) (λ device report. ShowsOpenSites device result.journal.items report) }
 
     // Words that aren't a reading are refused, and no others.
-    ensures usage { ((reading : Reading) → ¬ Reads words.now reading)
+    ensures usage { ((reading : AReading) → ¬ Reads words.now reading)
         → AnswersLine Status.Usage usage_line result.status (K.held sink.old) (K.held sink.new) result.journal.items }
     // The bytes are exactly the report of the book that the journal leads to, or tell the first faulty line of the
     // input, or that it is too long.
-    ensures answer { (reading : Reading) → Reads words.now reading
-        → AnswersInput (rules_of reading) result.status (S.left source.old) (K.held sink.old) (K.held sink.new) result.journal.items }
+    ensures answer { (reading : AReading) → Reads words.now reading
+        → AnswersInput reading result.status (S.left source.old) (K.held sink.old) (K.held sink.new) result.journal.items }
 
     // An input that denotes an image within the limit gets its report where no count of faults rose, or Memory.
-    ensures complete { (reading : Reading) (text : List ℕ) (image : List (Option ℕ)) → Reads words.now reading
+    ensures complete { (reading : AReading) (text : List ℕ) (image : List (Option ℕ)) → Reads words.now reading
         → S.left source.old ≡ Some text → IsImageOf (rules_of reading) text image
         → ¬ HasRisen (S.faults source.old) (S.faults source.new) → ¬ HasRisen (K.faults sink.old) (K.faults sink.new)
         → IsOfImage result.status }
@@ -179,5 +185,5 @@ pub fn vsa<R: Threads + Wait + Sync, S: Source, K: Sink, G: Gate>(
         return answer_line(alloc, sink, b"USAGE\n", Status::Usage);
     };
     reports_hold();
-    analyse(alloc, reading.rules(), source, sink)
+    analyse(alloc, reading, source, sink)
 }

@@ -5,6 +5,7 @@ ghost use Rattle.vsa_top.specs.Msp430Chip.{msp430, nothing, work_at};
 ghost use Rattle.vsa_top.specs.Msp430Fetch.{word_at, reset_address, built, fetched};
 ghost use Rattle.vsa_top.specs.Msp430Table.{IsInstr, instr_of, instr_text};
 
+use crate::msp430::device::Device;
 use crate::msp430::instr::{Instr, is_load_word, next_address, text_at, word_from};
 use crate::msp430::state::{ChipState, State};
 use arrayvec::ArrayString;
@@ -14,32 +15,34 @@ use ihex_read::Image;
 use std::alloc::Global;
 use vsa_io::Memory;
 
-/// An MSP430 with a program in its memory.
+/// The chip of a device.
 #[derive(Drop)]
 pub struct Msp430 {
-    image: Image,
+    device: Device,
 }
 
 impl Msp430 {
-    /// The chip with this program.
-    pub fn new(image: Image) -> Msp430
-        ensures { result.image ≡ image }
+    /// The chip with this program, and with RAM between these addresses.
+    pub fn new(image: Image, lo: u16, hi: u16) -> Msp430
+        ensures { result.device ≡ record { image = image; lo = lo; hi = hi } }
     {
-        Msp430 { image }
+        Msp430 {
+            device: Device { image, lo, hi },
+        }
     }
 
     /// The low and the high byte of the word at an address, where the image has both.
     fn word(&self, at: u16) -> Option<(u8, u8)>
-        ensures { result ≡ word_at self.now.image at }
+        ensures { result ≡ word_at self.now.device.image at }
     {
-        let low = self.image.byte(at)?;
-        let high = self.image.byte(at.wrapping_add(1))?;
+        let low = self.device.image.byte(at)?;
+        let high = self.device.image.byte(at.wrapping_add(1))?;
         Some((low, high))
     }
 
     /// Where the program starts: the word at FFFEh without bit 0.
     fn reset(&self) -> u16
-        ensures { result ≡ reset_address self.now.image }
+        ensures { result ≡ reset_address self.now.device.image }
     {
         match self.word(0xFFFE) {
             Some((low, high)) => word_from(low - low % 2, high),
@@ -50,7 +53,7 @@ impl Msp430 {
     /// The instruction at an address with its bytes, or why there is none.
     #[tactic(auto, unfolding(crate::specs::Msp430Fetch::fetched))]
     fn fetch(&self, pc: u16) -> Result<(Instr, InstrBytes), Cause>
-        ensures exact { result ≡ fetched self.now.image pc }
+        ensures exact { result ≡ fetched self.now.device.image pc }
         ensures in_range { IfOk result (λ found. IsInstr found.0) }
     {
         let Some((low, high)) = self.word(pc) else {
@@ -74,7 +77,7 @@ impl Msp430 {
         frame: Frame,
         at: &State,
     ) -> Result<Work<State>, Memory>
-        ensures { IfOk result (λ work. work ≡ work_at pc calls.now frame at.now (fetched self.now.image pc)) }
+        ensures { IfOk result (λ work. work ≡ work_at pc calls.now frame at.now (fetched self.now.device.image pc)) }
     {
         let mut work = empty_work(alloc);
         work.items.push(Item::Stack {
@@ -128,18 +131,18 @@ fn empty_work(alloc: Global) -> Work<State>
 
 #[tactic(auto, unfolding(crate::specs::Msp430Chip::msp430))]
 impl Chip for Msp430 {
-    type Base = Image;
+    type Base = Device;
 
     type State = ChipState;
 
     type Abs = State;
 
-    ghost base = { λ chip. chip.image };
+    ghost base = { λ chip. chip.device };
 
     ghost meaning = { msp430 };
 
-    fn base(&self, alloc: Global) -> Result<Image, Memory> {
-        self.image.copy(alloc)
+    fn base(&self, alloc: Global) -> Result<Device, Memory> {
+        self.device.copy(alloc)
     }
 
     fn start(&self, _alloc: Global) -> Result<(Node, State), Memory> {

@@ -1,6 +1,5 @@
-use Rattle.std.proofs.Common.{◌≡◌, ◌∙◌, sym, ap, subst}
+use Rattle.std.proofs.Common.{◌≡◌, sym, subst}
 use Rattle.vsa_top.specs.Answer.{AnswersInput}
-use Rattle.vsa_top.specs.Words.{rules_of}
 use Rattle.vsa_top.proofs.top.vsa.Goals as goal
 
 pub returns-in_default-clause-answer : goal.returns-in_default-clause-answer
@@ -11,28 +10,28 @@ returns-clause-headline g c = λ reading reads done.
     let input = g.S.Source.left c.args.source.now in
     let before = g.K.Sink.held c.args.sink.now in
     let after = g.K.Sink.held c.analyse.new.sink in
-    let same : rules_of reading ≡ c.rules.result = ap rules_of (c.in-Some.ensures.alone reading reads) ∙ sym c.rules.ensures in
-    c.reports_hold.ensures.closed (rules_of reading) input before after c.analyse.result.journal.items
-    (subst (λ status. AnswersInput (rules_of reading) status input before after c.analyse.result.journal.items) done
-    (subst (λ rules. AnswersInput rules c.analyse.result.status input before after c.analyse.result.journal.items) (sym same) c.analyse.ensures.answer))
+    let same : reading ≡ c.in-Some.reading = c.in-Some.ensures.alone reading reads in
+    c.reports_hold.ensures.closed reading input before after c.analyse.result.journal.items
+    (subst (λ status. AnswersInput reading status input before after c.analyse.result.journal.items) done
+    (subst (λ r. AnswersInput r c.analyse.result.status input before after c.analyse.result.journal.items) (sym same) c.analyse.ensures.answer))
 
 pub returns-clause-open_sites : goal.returns-clause-open_sites
 returns-clause-open_sites g c = λ reading reads open_status.
     let input = g.S.Source.left c.args.source.now in
     let before = g.K.Sink.held c.args.sink.now in
     let after = g.K.Sink.held c.analyse.new.sink in
-    let same : rules_of reading ≡ c.rules.result = ap rules_of (c.in-Some.ensures.alone reading reads) ∙ sym c.rules.ensures in
-    c.reports_hold.ensures.open (rules_of reading) input before after c.analyse.result.journal.items
-    (subst (λ status. AnswersInput (rules_of reading) status input before after c.analyse.result.journal.items) open_status
-    (subst (λ rules. AnswersInput rules c.analyse.result.status input before after c.analyse.result.journal.items) (sym same) c.analyse.ensures.answer))
+    let same : reading ≡ c.in-Some.reading = c.in-Some.ensures.alone reading reads in
+    c.reports_hold.ensures.open reading input before after c.analyse.result.journal.items
+    (subst (λ status. AnswersInput reading status input before after c.analyse.result.journal.items) open_status
+    (subst (λ r. AnswersInput r c.analyse.result.status input before after c.analyse.result.journal.items) (sym same) c.analyse.ensures.answer))
 
 pub returns-clause-usage : goal.returns-clause-usage
 returns-clause-usage g c = λ none. absurd (none c.in-Some.reading c.in-Some.ensures.reads)
 
 pub returns-clause-answer : goal.returns-clause-answer
 returns-clause-answer g c = λ reading reads.
-    let same : rules_of reading ≡ c.rules.result = ap rules_of (c.in-Some.ensures.alone reading reads) ∙ sym c.rules.ensures in
-    subst (λ rules. AnswersInput rules c.analyse.result.status (g.S.Source.left c.args.source.now) (g.K.Sink.held c.args.sink.now)
+    let same : reading ≡ c.in-Some.reading = c.in-Some.ensures.alone reading reads in
+    subst (λ r. AnswersInput r c.analyse.result.status (g.S.Source.left c.args.source.now) (g.K.Sink.held c.args.sink.now)
     (g.K.Sink.held c.analyse.new.sink) c.analyse.result.journal.items) (sym same) c.analyse.ensures.answer
 
 pub returns-clause-complete : goal.returns-clause-complete
@@ -40,9 +39,9 @@ returns-clause-complete g c = λ reading text image reads e is quiet_source quie
     let input = g.S.Source.left c.args.source.now in
     let before = g.K.Sink.held c.args.sink.now in
     let after = g.K.Sink.held c.analyse.new.sink in
-    let same : rules_of reading ≡ c.rules.result = ap rules_of (c.in-Some.ensures.alone reading reads) ∙ sym c.rules.ensures in
-    c.reports_hold.ensures.complete (rules_of reading) c.analyse.result.status input before after c.analyse.result.journal.items text image
-    (subst (λ rules. AnswersInput rules c.analyse.result.status input before after c.analyse.result.journal.items) (sym same) c.analyse.ensures.answer) e is
+    let same : reading ≡ c.in-Some.reading = c.in-Some.ensures.alone reading reads in
+    c.reports_hold.ensures.complete reading c.analyse.result.status input before after c.analyse.result.journal.items text image
+    (subst (λ r. AnswersInput r c.analyse.result.status input before after c.analyse.result.journal.items) (sym same) c.analyse.ensures.answer) e is
     (λ fault. quiet_source (c.analyse.ensures.read_fault fault)) (λ fault. quiet_sink (c.analyse.ensures.write_fault fault))
 
 pub returns-in_default-clause-complete : goal.returns-in_default-clause-complete

@@ -1,0 +1,13 @@
+//! Values that may remember a place of the state that an interrupt suspended, and what is known of a RAM.
+//!
+//! A [`Word`] or a [`Byte`] is a set of numbers and perhaps an [`Entry`]: the relation of each number to what a place held
+//! when the interrupt came. `HoldsOfWord` in `specs/Words.antt` says when one holds of a number.
+//!
+//! [`Cells`] is what any representation of cells has to do, over the one list of them in `specs/Cells.antt`.
+#![tactic(auto)]
+
+mod cells;
+mod word;
+
+pub use cells::{Cell, Cells};
+pub use word::{Byte, Entry, Word};

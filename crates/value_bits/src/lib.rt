@@ -1,0 +1,34 @@
+//! Known bits of sets of 8-bit and 16-bit numbers, and bitwise and decimal operations on such sets, as an analysis of
+//! machine code does them.
+//!
+//! The sets are those of `value_set`. [`w16`] works on words and [`w8`] on bytes. What an operation makes of numbers
+//! stands in `specs/Numbers.antt`, as the manuals of the two chips say it: SLAU049, chapter 3, of the MSP430, and the
+//! MCS-51 Programmer's Guide and Instruction Set. What is known of bits stands in `specs/Bits.antt`, and which set each
+//! call gives in `specs/Sets.antt`:
+//!
+//! - Of at most 256 combinations of members, with an unknown carry counted as two, a call gathers all results.
+//! - Of more, a bit of the result is known where the known bits of the operands decide it, and the result is the set of
+//!   the numbers with such bits.
+//! - A decimal operation of more than 256 combinations gives any number, and so does a decimal sum where a member has a
+//!   digit above 9.
+//!
+//! Proved of each call: it gives just that set, the set has the result of each combination of members, and of operands
+//! of one number it is that one result. No call takes memory, and each takes at most a fixed number of steps.
+#![tactic(auto)]
+
+mod bytes;
+mod decimal;
+mod knowing;
+mod making;
+mod operations;
+mod tri;
+pub mod w16;
+pub mod w8;
+mod words;
+
+pub use tri::{Top, Tri};
+
+#[cfg(test)]
+mod brute;
+#[cfg(test)]
+mod tests;

@@ -1,0 +1,247 @@
+//! Known bits of sets of 16-bit numbers, and bitwise and decimal operations on them.
+
+ghost use Rattle.std.specs.Prelude.{◌≡◌, ℕ, ◌+◌, ◌*◌, ◌<◌, ◌≤◌, ◌++◌, ◌&&◌, IsTrue, IsFalse, length, map, bit_and, bit_or, bit_xor};
+ghost use Rattle.value_set.specs.Form.{Has, IsNormal, members};
+ghost use Rattle.value_set.specs.Summing.{single};
+ghost use Rattle.value_bits.specs.Bits as known;
+ghost use Rattle.value_bits.specs.Bits.{Agrees, IsBit, logic_of};
+ghost use Rattle.value_bits.specs.Numbers.{shifted_right, exchanged, sign_extended, low_byte, high_byte, word_of, is_decimal, decimal_sum};
+ghost use Rattle.value_bits.specs.Sets.{IsTop, IsOneTop};
+ghost use Rattle.value_bits.specs.Sets as sets;
+
+use crate::knowing::{exchanged_bits, extended_bits, joined, known_bits, logic_bits, shift_bits};
+use crate::operations::{Bitwise, DecimalSum, Exchange, Shift, SignExtension};
+use crate::tri::{Logic, Top, Tri};
+use crate::words::{chosen, gathered, is_few, top_carry, with_bits};
+use crate::{bytes, decimal};
+use arrayvec::ArrayVec;
+use value_set::{Vs8, Vs16};
+
+/// How many bits a number has.
+const WIDTH: usize = 16;
+
+/// What is known of the bits of the members of a set, the lowest bit first.
+pub fn bits(a: &Vs16) -> [Tri; 16]
+    ensures value { result ≡ known.known_bits 16 a.now }
+    ensures agrees { (v : ℕ) → Has 65536 a.now v → Agrees result v }
+{
+    let mut all = [Tri::Either; WIDTH];
+    all.copy_from_slice(known_bits(16, &a.form()).as_slice());
+    all
+}
+
+/// The set of the numbers with some bits, the lowest bit first.
+pub fn from_bits(bits: &[Tri; 16]) -> Vs16
+    ensures value { result ≡ known.from_bits 16 bits.now }
+    ensures normal { IsNormal 65536 result }
+    ensures holds { (v : ℕ) → Agrees bits.now v → Has 65536 result v }
+{
+    with_bits(bits)
+}
+
+/// The bitwise AND of each member of a set with each of another.
+pub fn and(a: &Vs16, b: &Vs16) -> Vs16
+    ensures value { result ≡ sets.logic_set 16 Logic.And a.now b.now }
+    ensures normal { IsNormal 65536 result }
+    ensures holds { (x y : ℕ) → Has 65536 a.now x → Has 65536 b.now y → Has 65536 result (bit_and x y) }
+    ensures alone { (x y : ℕ) → a.now ≡ single x → b.now ≡ single y → result ≡ single (bit_and x y) }
+{
+    logic(Logic::And, a, b)
+}
+
+/// The bitwise OR of each member of a set with each of another.
+pub fn or(a: &Vs16, b: &Vs16) -> Vs16
+    ensures value { result ≡ sets.logic_set 16 Logic.Or a.now b.now }
+    ensures normal { IsNormal 65536 result }
+    ensures holds { (x y : ℕ) → Has 65536 a.now x → Has 65536 b.now y → Has 65536 result (bit_or x y) }
+    ensures alone { (x y : ℕ) → a.now ≡ single x → b.now ≡ single y → result ≡ single (bit_or x y) }
+{
+    logic(Logic::Or, a, b)
+}
+
+/// The bitwise exclusive OR of each member of a set with each of another.
+pub fn xor(a: &Vs16, b: &Vs16) -> Vs16
+    ensures value { result ≡ sets.logic_set 16 Logic.Xor a.now b.now }
+    ensures normal { IsNormal 65536 result }
+    ensures holds { (x y : ℕ) → Has 65536 a.now x → Has 65536 b.now y → Has 65536 result (bit_xor x y) }
+    ensures alone { (x y : ℕ) → a.now ≡ single x → b.now ≡ single y → result ≡ single (bit_xor x y) }
+{
+    logic(Logic::Xor, a, b)
+}
+
+/// The results of a logic operation.
+fn logic(logic: Logic, a: &Vs16, b: &Vs16) -> Vs16
+    ensures value { result ≡ sets.logic_set 16 logic a.now b.now }
+    ensures normal { IsNormal 65536 result }
+    ensures holds { (x y : ℕ) → Has 65536 a.now x → Has 65536 b.now y → Has 65536 result (logic_of logic x y) }
+    ensures alone { (x y : ℕ) → a.now ≡ single x → b.now ≡ single y → result ≡ single (logic_of logic x y) }
+{
+    let none = Vs16::one(0);
+    if is_few(a, b, &none) {
+        return Vs16::combine(&Bitwise { width: 16, logic }, a, b, &none);
+    }
+    with_bits(logic_bits(16, logic, &a.form(), &b.form()).as_slice())
+}
+
+/// Each member shifted to the right by one place. An unknown bit at the top counts as an unknown carry.
+pub fn shift_right(a: &Vs16, top: Top) -> Vs16
+    ensures value { result ≡ sets.shift_set 15 a.now top }
+    ensures normal { IsNormal 65536 result }
+    ensures holds { (x bit : ℕ) → Has 65536 a.now x → IsTop 15 top x bit → Has 65536 result (shifted_right 15 x bit) }
+    ensures alone { (x bit : ℕ) → a.now ≡ single x → IsOneTop top → IsTop 15 top x bit → result ≡ single (shifted_right 15 x bit) }
+{
+    let none = Vs16::one(0);
+    let carry = top_carry(top);
+    if is_few(a, &none, &carry) {
+        return Vs16::combine(&Shift { place: 15, top }, a, &none, &carry);
+    }
+    with_bits(shift_bits(15, top, known_bits(16, &a.form()).as_slice()).as_slice())
+}
+
+/// Each member with its bytes exchanged.
+pub fn swap_bytes(a: &Vs16) -> Vs16
+    ensures value { result ≡ sets.exchange_set 8 a.now }
+    ensures normal { IsNormal 65536 result }
+    ensures holds { (x : ℕ) → Has 65536 a.now x → Has 65536 result (exchanged 256 x) }
+    ensures alone { (x : ℕ) → a.now ≡ single x → result ≡ single (exchanged 256 x) }
+{
+    let none = Vs16::one(0);
+    if is_few(a, &none, &none) {
+        return Vs16::combine(&Exchange { n: 256 }, a, &none, &none);
+    }
+    with_bits(exchanged_bits(8, known_bits(16, &a.form()).as_slice()).as_slice())
+}
+
+/// The low byte of each member, with its sign extended to the high byte.
+pub fn sign_extend(a: &Vs16) -> Vs16
+    ensures value { result ≡ sets.sign_extend_set a.now }
+    ensures normal { IsNormal 65536 result }
+    ensures holds { (x : ℕ) → Has 65536 a.now x → Has 65536 result (sign_extended x) }
+    ensures alone { (x : ℕ) → a.now ≡ single x → result ≡ single (sign_extended x) }
+{
+    let none = Vs16::one(0);
+    if is_few(a, &none, &none) {
+        return Vs16::combine(&SignExtension, a, &none, &none);
+    }
+    with_bits(extended_bits(known_bits(16, &a.form()).as_slice()).as_slice())
+}
+
+/// The low byte of each member.
+pub fn low(a: &Vs16) -> Vs8
+    ensures value { result ≡ sets.low_set a.now }
+    ensures normal { IsNormal 256 result }
+    ensures holds { (x : ℕ) → Has 65536 a.now x → Has 256 result (low_byte x) }
+    ensures alone { (x : ℕ) → a.now ≡ single x → result ≡ single (low_byte x) }
+{
+    if a.count() <= 256 {
+        return bytes::gathered(low_bytes(a).as_slice());
+    }
+    bytes::with_bits(&known_bits(16, &a.form()).as_slice()[..8])
+}
+
+/// The low bytes of the members, one after another.
+fn low_bytes(a: &Vs16) -> ArrayVec<u8, 256>
+    requires { length (members 65536 a.now) ≤ 256 }
+    ensures { result.items ≡ map (λ x. low_byte x) (members 65536 a.now) }
+{
+    let mut all = ArrayVec::new();
+    for place in 0..a.count() {
+        all.push((a.nth(place) % 256) as u8);
+    }
+    all
+}
+
+/// The high byte of each member.
+pub fn high(a: &Vs16) -> Vs8
+    ensures value { result ≡ sets.high_set a.now }
+    ensures normal { IsNormal 256 result }
+    ensures holds { (x : ℕ) → Has 65536 a.now x → Has 256 result (high_byte x) }
+    ensures alone { (x : ℕ) → a.now ≡ single x → result ≡ single (high_byte x) }
+{
+    if a.count() <= 256 {
+        return bytes::gathered(high_bytes(a).as_slice());
+    }
+    bytes::with_bits(&known_bits(16, &a.form()).as_slice()[8..])
+}
+
+/// The high bytes of the members, one after another.
+fn high_bytes(a: &Vs16) -> ArrayVec<u8, 256>
+    requires { length (members 65536 a.now) ≤ 256 }
+    ensures { result.items ≡ map (λ x. high_byte x) (members 65536 a.now) }
+{
+    let mut all = ArrayVec::new();
+    for place in 0..a.count() {
+        all.push((a.nth(place) / 256) as u8);
+    }
+    all
+}
+
+/// The words of each low byte with each high byte.
+pub fn pair(low: &Vs8, high: &Vs8) -> Vs16
+    ensures value { result ≡ sets.pair_set low.now high.now }
+    ensures normal { IsNormal 65536 result }
+    ensures holds { (x y : ℕ) → Has 256 low.now x → Has 256 high.now y → Has 65536 result (word_of x y) }
+    ensures alone { (x y : ℕ) → low.now ≡ single x → high.now ≡ single y → result ≡ single (word_of x y) }
+{
+    if low.count() * high.count() <= 256 {
+        return gathered(words(low, high).as_slice());
+    }
+    let lows = known_bits(8, &low.form());
+    with_bits(joined(lows.as_slice(), known_bits(8, &high.form()).as_slice()).as_slice())
+}
+
+/// The words of the members, one after another.
+fn words(low: &Vs8, high: &Vs8) -> ArrayVec<u16, 256>
+    requires { length (members 256 low.now) * length (members 256 high.now) ≤ 256 }
+    ensures { result.items ≡ sets.words (members 256 low.now) (members 256 high.now) }
+{
+    let mut all = ArrayVec::new();
+    for place in 0..low.count() {
+        push_words(&mut all, low.nth(place), high);
+    }
+    all
+}
+
+/// Adds the words of one low byte.
+fn push_words(all: &mut ArrayVec<u16, 256>, low: u8, high: &Vs8)
+    requires { length all.old.items + length (members 256 high.now) ≤ 256 }
+    ensures { all.new.items ≡ all.old.items ++ map (λ y. word_of low y) (members 256 high.now) }
+{
+    for place in 0..high.count() {
+        all.push(low as u16 + high.nth(place) as u16 * 256);
+    }
+}
+
+/// The decimal sum of each member of a set with each of another and a carry. An unknown carry counts as two. Where a
+/// member has a digit above 9 it is any number.
+pub fn decimal_add(a: &Vs16, b: &Vs16, carry: Tri) -> Vs16
+    ensures value { result ≡ sets.decimal_add_set 4 a.now b.now carry }
+    ensures normal { IsNormal 65536 result }
+    ensures holds { (x y bit : ℕ) → Has 65536 a.now x → Has 65536 b.now y → IsBit carry bit → IsTrue (is_decimal 4 x) → IsTrue (is_decimal 4 y) → Has 65536 result (decimal_sum 4 x y bit) }
+    ensures free { (x y v : ℕ) → Has 65536 a.now x → Has 65536 b.now y → IsFalse (is_decimal 4 x && is_decimal 4 y) → v < 65536 → Has 65536 result v }
+    ensures alone { (x y bit : ℕ) → a.now ≡ single x → b.now ≡ single y → carry ≡ known.tri bit → bit < 2 → IsTrue (is_decimal 4 x) → IsTrue (is_decimal 4 y) → result ≡ single (decimal_sum 4 x y bit) }
+{
+    let carries = chosen(carry);
+    if !is_few(a, b, &carries) {
+        return Vs16::any();
+    }
+    if !are_decimal(a) {
+        return Vs16::any();
+    }
+    if !are_decimal(b) {
+        return Vs16::any();
+    }
+    Vs16::combine(&DecimalSum { digits: 4 }, a, b, &carries)
+}
+
+/// Whether each digit of each member is at most 9.
+fn are_decimal(a: &Vs16) -> bool
+    ensures { result ≡ sets.are_decimal 4 a.now }
+{
+    for place in 0..a.count() {
+        if !decimal::is_decimal(4, a.nth(place)) {
+            return false;
+        }
+    }
+    true
+}
