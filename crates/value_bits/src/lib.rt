@@ -19,6 +19,7 @@
 mod bytes;
 mod decimal;
 mod knowing;
+mod laws;
 mod making;
 mod operations;
 mod tri;
@@ -26,6 +27,7 @@ pub mod w16;
 pub mod w8;
 mod words;
 
+pub use laws::{halves_hold, logic_holds};
 pub use tri::{Top, Tri};
 
 #[cfg(test)]
