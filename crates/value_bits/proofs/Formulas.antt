@@ -1,29 +1,32 @@
 -- The sets of the formulas are in normal form, and have the result of each combination of members.
-use Rattle.std.proofs.Common.{◌≡◌, ℕ, ◌-◌, ◌*◌, ◌^◌, ◌<◌, ◌≤◌, ◌++◌, List, [], ◌∷◌, map, length, take, drop, refl, ap, subst, inl, inr, arith}
+use Rattle.std.proofs.Common.{◌≡◌, ℕ, ◌+◌, ◌-◌, ◌*◌, ◌^◌, ◌<◌, ◌≤◌, ◌++◌, ◌&&◌, Bool, true, false, cond, IsFalse, List, [], ◌∷◌, map, length, take, drop, replicate, get_or, refl, sym, ap, subst, inl, inr, arith}
 use Rattle.std.proofs.Math.Nat.{pow-suc, mod-lt}
 use Rattle.std.proofs.lemmas.Bool.{cases_lt}
-use Rattle.std.proofs.lemmas.Nat.{pow_pos}
-use Rattle.std.proofs.lemmas.List.{length-map, length-append, length-take-le, length-drop}
+use Rattle.std.proofs.lemmas.Nat.{pow_pos, pow-add}
+use Rattle.std.proofs.lemmas.List.{length-map, length-append, length-take-le, length-drop, length-replicate}
 use Rattle.std.proofs.lemmas.List.FromFn.{length-map-range_with_len}
 use Rattle.value_set.specs.declared.form.Form.{Form}
 use Rattle.value_set.specs.Form.{members, Has, IsNormal, gather}
 use Rattle.value_set.specs.Summing.{single, count_of}
 use Rattle.value_bits.specs.declared.tri.Tri.{Tri}
 use Rattle.value_bits.specs.declared.tri.Tri.TheVariants.{Zero, One, Either}
+use Rattle.value_bits.specs.declared.tri.Top.{Top}
+use Rattle.value_bits.specs.declared.tri.Top.TheVariants.{Sign, Low, Put}
 use Rattle.value_bits.specs.declared.tri.Logic.{Logic}
-use Rattle.value_bits.specs.Numbers.{low_byte, high_byte, word_of}
-use Rattle.value_bits.specs.Bits.{Agrees, known_bit, known_bits, filled, least, greatest, numbers, unknown_count, lowest_unknown, from_bits, logic_of, tri_logic}
-use Rattle.value_bits.specs.Sets.{combine_or, logic_bits, logic_set, low_set, high_set, words, pair_set}
-use Rattle.value_bits.specs.Staying.{logic_stays}
+use Rattle.value_bits.specs.Numbers.{shifted_right, exchanged, sign_extended, low_byte, high_byte, word_of, is_decimal, decimal_sum, decimal_total, decimal_adjusted}
+use Rattle.value_bits.specs.Bits.{IsBit, Agrees, known_bit, known_bits, filled, least, greatest, numbers, unknown_count, lowest_unknown, from_bits, logic_of, tri_logic}
+use Rattle.value_bits.specs.Sets.{chosen, any, combine_or, logic_bits, logic_set, IsTop, top_answer, shift_answer, top_carry, top_bit, shift_bits, shift_set, exchange_set, sign_extend_set, low_set, high_set, words, pair_set, are_decimal, decimal_add_set, decimal_adjust_set}
+use Rattle.value_bits.specs.Staying.{logic_stays, top_answer_below, shifted_below, exchanged_below, sign_stays, digits_below, adjusted_below}
 use Rattle.value_bits.proofs.Within.{IsIn, in_from_Contains, Contains_from_in, in_map, in_steps, member_below}
 use Rattle.value_bits.proofs.Fillings.{AllBelow, numbers_below, few_numbers}
 use Rattle.value_bits.proofs.Agreeing.{numbers_have, run_has, few_value, many_value}
 use Rattle.value_bits.proofs.Known.{known_agrees}
 use Rattle.value_bits.proofs.Logics.{logic_agrees}
-use Rattle.value_bits.proofs.Moves.{low_agrees, high_agrees, pair_agrees}
-use Rattle.value_bits.proofs.Choosing.{combine_few, combine_many, single_has}
+use Rattle.value_bits.proofs.Moves.{shift_agrees, exchange_agrees, sign_agrees, low_agrees, high_agrees, pair_agrees}
+use Rattle.value_bits.proofs.Choosing.{combine_few, combine_many, single_has, chosen_has, top_choice}
 use Rattle.value_bits.proofs.Halves.{low_few, low_many, high_few, high_many, pair_few, pair_many, words_have, words_some}
-use Rattle.value_bits.proofs.Makes.{fits_to, make_has, make_normal}
+use Rattle.value_bits.proofs.Decimals.{decimal_member}
+use Rattle.value_bits.proofs.Makes.{fits_to, make_has, make_normal, any_normal, any_has}
 use Rattle.value_bits.proofs.Gathers.{Stays, some_members, gather_normal, gather_has, in_mapped, in_flat, combine_normal, combine_has}
 
 -- ---- the set of some bits
@@ -187,3 +190,142 @@ pair_has lows highs x y n k h i = elim (cases_lt 256 (length (members 256 lows) 
       (bits_have 16 (known_bits 8 lows ++ known_bits 8 highs) (word_of x y) (pair_long lows highs)
       (pair_agrees (known_bits 8 lows) (known_bits 8 highs) x y (known_long 8 lows) (known_agrees 8 x lows n h) (known_agrees 8 y highs k i)))
 ]
+
+-- ---- numbers whose bits move
+
+exchange_kept : (half : ℕ) → Stays (2 ^ (half + half)) (λ x y z. exchanged (2 ^ half) x)
+exchange_kept half x y z h k = let square : 2 ^ (half + half) ≡ 2 ^ half * 2 ^ half = pow-add 2 half half in
+    subst (λ (n : ℕ). exchanged (2 ^ half) x < n) (sym square) (exchanged_below (2 ^ half) x (subst (λ (n : ℕ). x < n) square h))
+
+exchange_long : (half : ℕ) (set : Form) → length (drop half (known_bits (half + half) set) ++ take half (known_bits (half + half) set)) ≡ half + half
+exchange_long half set = let bits = known_bits (half + half) set in let long = known_long (half + half) set in
+    omega (arith, long, length-append (drop half bits) (take half bits), length-drop half bits, length-take-le half bits (omega (arith, long)))
+
+pub exchange_normal : (half : ℕ) (set : Form) → IsNormal (2 ^ (half + half)) set → IsNormal (2 ^ (half + half)) (exchange_set half set)
+unfolding exchange_set
+exchange_normal half set n = let m = 2 ^ (half + half) in let pos = pow_pos (half + half) in let bits = known_bits (half + half) set in
+    choose_normal m (λ x y z. exchanged (2 ^ half) x) set (single 0) (single 0) (from_bits (half + half) (drop half bits ++ take half bits)) pos n (zero_normal m pos) (omega arith)
+    (exchange_kept half) (bits_normal (half + half) (drop half bits ++ take half bits) (exchange_long half set))
+
+pub exchange_has : (half : ℕ) (set : Form) (x : ℕ) → IsNormal (2 ^ (half + half)) set → Has (2 ^ (half + half)) set x → Has (2 ^ (half + half)) (exchange_set half set) (exchanged (2 ^ half) x)
+unfolding exchange_set
+exchange_has half set x n h = let m = 2 ^ (half + half) in let pos = pow_pos (half + half) in let bits = known_bits (half + half) set in
+    choose_has m (λ x y z. exchanged (2 ^ half) x) set (single 0) (single 0) (from_bits (half + half) (drop half bits ++ take half bits)) x 0 0 pos n (zero_normal m pos)
+    (exchange_kept half) h (single_has m 0) (single_has m 0)
+    (bits_have (half + half) (drop half bits ++ take half bits) (exchanged (2 ^ half) x) (exchange_long half set)
+    (exchange_agrees half bits x (known_long (half + half) set) (known_agrees (half + half) x set n h)))
+
+sign_kept : Stays 65536 (λ x y z. sign_extended x)
+sign_kept x y z h k = sign_stays x y 0 h k (omega arith)
+
+sign_long : (set : Form) → length (take 8 (known_bits 16 set) ++ replicate 8 (get_or (known_bits 16 set) 7 Either)) ≡ 16
+sign_long set = omega (arith, low_long set, length-append (take 8 (known_bits 16 set)) (replicate 8 (get_or (known_bits 16 set) 7 Either)), length-replicate 8 (get_or (known_bits 16 set) 7 Either))
+
+pub sign_normal : (set : Form) → IsNormal 65536 set → IsNormal 65536 (sign_extend_set set)
+unfolding sign_extend_set
+sign_normal set n = let bits = take 8 (known_bits 16 set) ++ replicate 8 (get_or (known_bits 16 set) 7 Either) in
+    choose_normal 65536 (λ x y z. sign_extended x) set (single 0) (single 0) (from_bits 16 bits) (omega arith) n (zero_normal 65536 (omega arith)) (omega arith) sign_kept
+    (bits_normal 16 bits (sign_long set))
+
+pub sign_has : (set : Form) (x : ℕ) → IsNormal 65536 set → Has 65536 set x → Has 65536 (sign_extend_set set) (sign_extended x)
+unfolding sign_extend_set
+sign_has set x n h = let bits = take 8 (known_bits 16 set) ++ replicate 8 (get_or (known_bits 16 set) 7 Either) in
+    choose_has 65536 (λ x y z. sign_extended x) set (single 0) (single 0) (from_bits 16 bits) x 0 0 (omega arith) n (zero_normal 65536 (omega arith)) sign_kept
+    h (single_has 65536 0) (single_has 65536 0)
+    (bits_have 16 bits (sign_extended x) (sign_long set) (sign_agrees (known_bits 16 set) x (known_long 16 set) (known_agrees 16 x set n h)))
+
+chosen_some : (m : ℕ) (b : Tri) → 1 ≤ length (members m (chosen b))
+chosen_some m Zero = omega arith
+chosen_some m One = omega arith
+chosen_some m Either = omega arith
+
+top_some : (m : ℕ) (top : Top) → 1 ≤ length (members m (top_carry top))
+top_some m Sign = omega arith
+top_some m Low = omega arith
+top_some m (Put given) = chosen_some m given
+
+shift_kept : (place : ℕ) (top : Top) → Stays (2 ^ (place + 1)) (shift_answer place top)
+shift_kept place top x y z h k = shifted_below place x (top_answer place top x z) h (top_answer_below place top x z)
+
+shift_long : (place : ℕ) (set : Form) (top : Top) → length (shift_bits place top (known_bits (place + 1) set)) ≡ place + 1
+shift_long place set top = let bits = known_bits (place + 1) set in
+    omega (arith, known_long (place + 1) set, length-append (drop 1 bits) (top_bit place top bits ∷ []), length-drop 1 bits)
+
+pub shift_normal : (place : ℕ) (set : Form) (top : Top) → IsNormal (2 ^ (place + 1)) set → IsNormal (2 ^ (place + 1)) (shift_set place set top)
+unfolding shift_set
+shift_normal place set top n = let m = 2 ^ (place + 1) in let pos = pow_pos (place + 1) in let bits = shift_bits place top (known_bits (place + 1) set) in
+    choose_normal m (shift_answer place top) set (single 0) (top_carry top) (from_bits (place + 1) bits) pos n (zero_normal m pos) (top_some m top) (shift_kept place top)
+    (bits_normal (place + 1) bits (shift_long place set top))
+
+pub shift_has : (place : ℕ) (set : Form) (top : Top) (x bit : ℕ) → IsNormal (2 ^ (place + 1)) set → Has (2 ^ (place + 1)) set x → IsTop place top x bit
+    → Has (2 ^ (place + 1)) (shift_set place set top) (shifted_right place x bit)
+unfolding shift_set
+shift_has place set top x bit n h is = let m = 2 ^ (place + 1) in let pos = pow_pos (place + 1) in let bits = shift_bits place top (known_bits (place + 1) set) in
+    let found = top_choice m place top x bit is in
+    let agrees = shift_agrees place top (known_bits (place + 1) set) x bit (known_long (place + 1) set) (known_agrees (place + 1) x set n h) is in
+    subst (λ (v : ℕ). Has m (combine_or m (shift_answer place top) set (single 0) (top_carry top) (from_bits (place + 1) bits)) v) found.2
+    (choose_has m (shift_answer place top) set (single 0) (top_carry top) (from_bits (place + 1) bits) x 0 found.0 pos n (zero_normal m pos) (shift_kept place top)
+    h (single_has m 0) found.1
+    (subst (λ (v : ℕ). Has m (from_bits (place + 1) bits) v) (sym found.2) (bits_have (place + 1) bits (shifted_right place x bit) (shift_long place set top) agrees)))
+
+-- ---- decimal operations
+
+either_way : (P : Form → Type 0) (b : Bool) (x y : Form) → (b ≡ true → P x) → (b ≡ false → P y) → P (cond b x y)
+either_way P true x y one other = one refl
+either_way P false x y one other = other refl
+
+sixteen_positive : (digits : ℕ) → 0 < 16 ^ digits
+sixteen_positive digits = let below = digits_below digits 0 in omega (arith, below)
+
+decimal_kept : (digits : ℕ) → Stays (16 ^ digits) (decimal_sum digits)
+decimal_kept digits x y z h k = digits_below digits (decimal_total digits x y z)
+
+pub decimal_add_normal : (digits : ℕ) (a b : Form) (carry : Tri) → IsNormal (16 ^ digits) a → IsNormal (16 ^ digits) b → IsNormal (16 ^ digits) (decimal_add_set digits a b carry)
+unfolding decimal_add_set
+decimal_add_normal digits a b carry n k = let m = 16 ^ digits in let pos = sixteen_positive digits in
+    either_way (λ s. IsNormal m s) (are_decimal digits a && are_decimal digits b) (combine_or m (decimal_sum digits) a b (chosen carry) (any m)) (any m)
+    (λ _. choose_normal m (decimal_sum digits) a b (chosen carry) (any m) pos n k (chosen_some m carry) (decimal_kept digits) (any_normal m pos))
+    (λ _. any_normal m pos)
+
+pub decimal_add_has : (digits : ℕ) (a b : Form) (carry : Tri) (x y bit : ℕ) → IsNormal (16 ^ digits) a → IsNormal (16 ^ digits) b
+    → Has (16 ^ digits) a x → Has (16 ^ digits) b y → IsBit carry bit → Has (16 ^ digits) (decimal_add_set digits a b carry) (decimal_sum digits x y bit)
+unfolding decimal_add_set
+decimal_add_has digits a b carry x y bit n k h i is = let m = 16 ^ digits in let pos = sixteen_positive digits in
+    let all = any_has m (decimal_sum digits x y bit) (digits_below digits (decimal_total digits x y bit)) in
+    either_way (λ s. Has m s (decimal_sum digits x y bit)) (are_decimal digits a && are_decimal digits b) (combine_or m (decimal_sum digits) a b (chosen carry) (any m)) (any m)
+    (λ _. choose_has m (decimal_sum digits) a b (chosen carry) (any m) x y bit pos n k (decimal_kept digits) h i (chosen_has m bit carry is) all)
+    (λ _. all)
+
+both_true : (a b : Bool) → (a && b) ≡ true → (a ≡ true) × (b ≡ true)
+both_true true b h = (refl, h)
+both_true false b h = absurd (cc h)
+
+pub decimal_add_free : (digits : ℕ) (a b : Form) (carry : Tri) (x y v : ℕ) → Has (16 ^ digits) a x → Has (16 ^ digits) b y
+    → IsFalse (is_decimal digits x && is_decimal digits y) → v < 16 ^ digits → Has (16 ^ digits) (decimal_add_set digits a b carry) v
+unfolding decimal_add_set
+decimal_add_free digits a b carry x y v h i unclear below = let m = 16 ^ digits in
+    either_way (λ s. Has m s v) (are_decimal digits a && are_decimal digits b) (combine_or m (decimal_sum digits) a b (chosen carry) (any m)) (any m)
+    (λ all. let each = both_true (are_decimal digits a) (are_decimal digits b) all in
+    let first : is_decimal digits x ≡ true = decimal_member digits x a each.0 h in
+    let second : is_decimal digits y ≡ true = decimal_member digits y b each.1 i in
+    absurd (cc (first, second, unclear)))
+    (λ _. any_has m v below)
+
+chosen_normal : (m : ℕ) (b : Tri) → 1 < m → IsNormal m (chosen b)
+chosen_normal m Zero h = (omega arith, omega arith, (omega arith, omega arith, tt))
+chosen_normal m One h = (omega arith, omega arith, (omega arith, h, tt))
+chosen_normal m Either h = (omega arith, omega arith, (omega arith, omega arith, (omega arith, h, tt)))
+
+adjust_kept : Stays 256 decimal_adjusted
+adjust_kept x y z h k = adjusted_below x y z
+
+pub adjust_normal : (set : Form) (carry half : Tri) → IsNormal 256 set → IsNormal 256 (decimal_adjust_set set carry half)
+unfolding decimal_adjust_set
+adjust_normal set carry half n = choose_normal 256 decimal_adjusted set (chosen carry) (chosen half) (any 256) (omega arith) n (chosen_normal 256 carry (omega arith)) (chosen_some 256 half)
+    adjust_kept (any_normal 256 (omega arith))
+
+pub adjust_has : (set : Form) (carry half : Tri) (x y z : ℕ) → IsNormal 256 set → Has 256 set x → IsBit carry y → IsBit half z
+    → Has 256 (decimal_adjust_set set carry half) (decimal_adjusted x y z)
+unfolding decimal_adjust_set
+adjust_has set carry half x y z n h is too = choose_has 256 decimal_adjusted set (chosen carry) (chosen half) (any 256) x y z (omega arith) n (chosen_normal 256 carry (omega arith))
+    adjust_kept h (chosen_has 256 y carry is) (chosen_has 256 z half too) (any_has 256 (decimal_adjusted x y z) (adjusted_below x y z))
