@@ -33,4 +33,8 @@ pub use tri::{Top, Tri};
 #[cfg(test)]
 mod brute;
 #[cfg(test)]
+mod plain;
+#[cfg(test)]
+mod samples;
+#[cfg(test)]
 mod tests;
