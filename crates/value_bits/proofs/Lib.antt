@@ -9,3 +9,6 @@ pub mod Moves
 pub mod Choosing
 pub mod Halves
 mod Examples
+pub mod Makes
+pub mod Gathers
+pub mod Formulas

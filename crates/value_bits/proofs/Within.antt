@@ -51,7 +51,7 @@ list_all_in p v [] h i = absurd i
 list_all_in p v (x ∷ xs) h (inl e) = ap p (sym e) ∙ (both_true (p x) (list_all p xs) h).0
 list_all_in p v (x ∷ xs) h (inr i) = list_all_in p v xs (both_true (p x) (list_all p xs) h).1 i
 
-ascends_below : (low m v : ℕ) (xs : List ℕ) → Ascends low m xs → IsIn v xs → v < m
+pub ascends_below : (low m v : ℕ) (xs : List ℕ) → Ascends low m xs → IsIn v xs → v < m
 ascends_below low m v [] a h = absurd h
 ascends_below low m v (x ∷ xs) a (inl e) = omega (arith, a.1, e)
 ascends_below low m v (x ∷ xs) a (inr h) = ascends_below (x + 1) m v xs a.2 h

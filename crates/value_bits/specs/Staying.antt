@@ -19,7 +19,7 @@ logic_stays width And x y z h k l = let small = and_le_l x y in omega (arith, sm
 logic_stays width Or x y z h k l = or_lt width x y h k
 logic_stays width Xor x y z h k l = xor_lt width x y h k
 
-top_answer_below : (place : ℕ) (top : Top) (x z : ℕ) → top_answer place top x z < 2
+pub top_answer_below : (place : ℕ) (top : Top) (x z : ℕ) → top_answer place top x z < 2
 top_answer_below place Sign x z = bit_at-lt x place
 top_answer_below place Low x z = bit_at-lt x 0
 top_answer_below place (Put given) x z = mod-lt z {m = 2} (omega arith)

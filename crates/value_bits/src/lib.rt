@@ -19,6 +19,7 @@
 mod bytes;
 mod decimal;
 mod knowing;
+mod laws;
 mod making;
 mod operations;
 mod tri;
@@ -26,9 +27,14 @@ pub mod w16;
 pub mod w8;
 mod words;
 
+pub use laws::{bits_hold, decimals_hold, halves_hold, logic_holds, moves_hold};
 pub use tri::{Top, Tri};
 
 #[cfg(test)]
 mod brute;
+#[cfg(test)]
+mod plain;
+#[cfg(test)]
+mod samples;
 #[cfg(test)]
 mod tests;

@@ -1,0 +1,57 @@
+//! What the sets of the formulas hold, for every set of numbers of a width. Proofs over formulas call these.
+
+ghost use Rattle.std.specs.Prelude.{◌≡◌, ℕ, ◌+◌, ◌^◌, ◌<◌, ◌&&◌, IsFalse, List, length};
+ghost use Rattle.value_set.specs.declared.form.Form.{Form as AForm};
+ghost use Rattle.value_set.specs.Form.{Has, IsNormal};
+ghost use Rattle.value_bits.specs.declared.tri.Tri.{Tri as ATri};
+ghost use Rattle.value_bits.specs.declared.tri.Top.{Top as ATop};
+ghost use Rattle.value_bits.specs.declared.tri.Logic.{Logic as ALogic};
+ghost use Rattle.value_bits.specs.Numbers.{shifted_right, exchanged, sign_extended, low_byte, high_byte, word_of, is_decimal, decimal_sum, decimal_adjusted};
+ghost use Rattle.value_bits.specs.Bits.{IsBit, Agrees, known_bits, from_bits, logic_of};
+ghost use Rattle.value_bits.specs.Sets.{IsTop, logic_set, shift_set, exchange_set, sign_extend_set, low_set, high_set, pair_set, decimal_add_set, decimal_adjust_set};
+
+/// The set of AND, OR or XOR is one in normal form, and has the result of each two members.
+pub fn logic_holds()
+    ensures normal { (width : ℕ) (logic : ALogic) (a b : AForm) → IsNormal (2 ^ width) a → IsNormal (2 ^ width) b → IsNormal (2 ^ width) (logic_set width logic a b) }
+    ensures holds { (width x y : ℕ) (logic : ALogic) (a b : AForm) → IsNormal (2 ^ width) a → IsNormal (2 ^ width) b → Has (2 ^ width) a x → Has (2 ^ width) b y → Has (2 ^ width) (logic_set width logic a b) (logic_of logic x y) }
+{}
+
+/// The low and the high bytes of words, and the words of such bytes, are sets in normal form, and have those of each
+/// member.
+pub fn halves_hold()
+    ensures low_normal { (a : AForm) → IsNormal 65536 a → IsNormal 256 (low_set a) }
+    ensures low { (v : ℕ) (a : AForm) → IsNormal 65536 a → Has 65536 a v → Has 256 (low_set a) (low_byte v) }
+    ensures high_normal { (a : AForm) → IsNormal 65536 a → IsNormal 256 (high_set a) }
+    ensures high { (v : ℕ) (a : AForm) → IsNormal 65536 a → Has 65536 a v → Has 256 (high_set a) (high_byte v) }
+    ensures pair_normal { (low high : AForm) → IsNormal 256 low → IsNormal 256 high → IsNormal 65536 (pair_set low high) }
+    ensures pair { (x y : ℕ) (low high : AForm) → IsNormal 256 low → IsNormal 256 high → Has 256 low x → Has 256 high y → Has 65536 (pair_set low high) (word_of x y) }
+{}
+
+/// Numbers with exchanged halves, with a sign that is extended, or shifted to the right by one place: their sets are in
+/// normal form, and have that of each member.
+pub fn moves_hold()
+    ensures exchange_normal { (half : ℕ) (a : AForm) → IsNormal (2 ^ (half + half)) a → IsNormal (2 ^ (half + half)) (exchange_set half a) }
+    ensures exchange { (half x : ℕ) (a : AForm) → IsNormal (2 ^ (half + half)) a → Has (2 ^ (half + half)) a x → Has (2 ^ (half + half)) (exchange_set half a) (exchanged (2 ^ half) x) }
+    ensures sign_normal { (a : AForm) → IsNormal 65536 a → IsNormal 65536 (sign_extend_set a) }
+    ensures sign { (x : ℕ) (a : AForm) → IsNormal 65536 a → Has 65536 a x → Has 65536 (sign_extend_set a) (sign_extended x) }
+    ensures shift_normal { (place : ℕ) (a : AForm) (top : ATop) → IsNormal (2 ^ (place + 1)) a → IsNormal (2 ^ (place + 1)) (shift_set place a top) }
+    ensures shift { (place x bit : ℕ) (a : AForm) (top : ATop) → IsNormal (2 ^ (place + 1)) a → Has (2 ^ (place + 1)) a x → IsTop place top x bit → Has (2 ^ (place + 1)) (shift_set place a top) (shifted_right place x bit) }
+{}
+
+/// The sets of decimal sums and adjustments are in normal form, and have the result of each combination of members and
+/// bits. A sum of numbers of which one has a digit above 9 is any number.
+pub fn decimals_hold()
+    ensures add_normal { (digits : ℕ) (a b : AForm) (carry : ATri) → IsNormal (16 ^ digits) a → IsNormal (16 ^ digits) b → IsNormal (16 ^ digits) (decimal_add_set digits a b carry) }
+    ensures add { (digits x y bit : ℕ) (a b : AForm) (carry : ATri) → IsNormal (16 ^ digits) a → IsNormal (16 ^ digits) b → Has (16 ^ digits) a x → Has (16 ^ digits) b y → IsBit carry bit → Has (16 ^ digits) (decimal_add_set digits a b carry) (decimal_sum digits x y bit) }
+    ensures free { (digits x y v : ℕ) (a b : AForm) (carry : ATri) → Has (16 ^ digits) a x → Has (16 ^ digits) b y → IsFalse (is_decimal digits x && is_decimal digits y) → v < 16 ^ digits → Has (16 ^ digits) (decimal_add_set digits a b carry) v }
+    ensures adjust_normal { (a : AForm) (carry half : ATri) → IsNormal 256 a → IsNormal 256 (decimal_adjust_set a carry half) }
+    ensures adjust { (x y z : ℕ) (a : AForm) (carry half : ATri) → IsNormal 256 a → Has 256 a x → IsBit carry y → IsBit half z → Has 256 (decimal_adjust_set a carry half) (decimal_adjusted x y z) }
+{}
+
+/// Each member of a set has the bits that are known of it. The set of some bits is one in normal form, and has each number
+/// with such bits.
+pub fn bits_hold()
+    ensures known { (width v : ℕ) (a : AForm) → IsNormal (2 ^ width) a → Has (2 ^ width) a v → Agrees (known_bits width a) v }
+    ensures from_normal { (width : ℕ) (bits : List ATri) → length bits ≡ width → IsNormal (2 ^ width) (from_bits width bits) }
+    ensures from { (width v : ℕ) (bits : List ATri) → length bits ≡ width → Agrees bits v → Has (2 ^ width) (from_bits width bits) v }
+{}
