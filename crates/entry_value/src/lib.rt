@@ -7,7 +7,9 @@
 #![tactic(auto)]
 
 mod cells;
+mod laws;
 mod word;
 
 pub use cells::{Cell, Cells};
+pub use laws::{inclusion_covers, reads_hold, writes_cover};
 pub use word::{Byte, Entry, Word};

@@ -1,0 +1,47 @@
+//! What cells hold, over their definitions and for every list of cells. Proofs of representations of cells call these.
+
+ghost use Rattle.std.specs.Prelude.{◌≡◌, ◌≤◌, ◌<◌, ℕ, ◌⊎◌, All, true, Option, List};
+ghost use Rattle.value_set.specs.declared.form.Form.{Form as AForm};
+ghost use Rattle.value_set.specs.Form.{Has, IsNormal};
+ghost use Rattle.entry_value.specs.declared.cells.Cell.{Cell as ACell};
+ghost use Rattle.entry_value.specs.declared.word.Word.{Word as AWord};
+ghost use Rattle.entry_value.specs.Words.{Suspended, HoldsOfWord};
+ghost use Rattle.entry_value.specs.Cells as the_cells;
+ghost use Rattle.entry_value.specs.Cells.{CellMap, AreCells, StandsUnder, number_at, written};
+
+use value_bits::halves_hold;
+use value_set::{
+    inclusion_is_tested, joins_include_both, members_are_below, single_and_whole_sets,
+    widenings_include_both,
+};
+
+/// What is read at an address holds of what stands there.
+pub fn reads_hold()
+    ensures { (first : Option Suspended) (ram : ℕ → ℕ) (lo hi from at size : ℕ) (cells : List ACell) → AreCells lo hi from cells → at < 65536 → (size ≡ 1) ⊎ (size ≡ 2)
+        → StandsUnder first cells ram → HoldsOfWord first (the_cells.read cells at size) (number_at ram at size) }
+{
+    halves_hold();
+    single_and_whole_sets();
+}
+
+/// What stood under cells stands under those behind a write of a number, of which the value holds.
+pub fn writes_cover()
+    ensures one { (first : Option Suspended) (ram : ℕ → ℕ) (from at size v : ℕ) (map : CellMap) (word : AWord)
+        → map.hi < 65536 → AreCells map.lo map.hi from map.cells → at < 65536 → (size ≡ 1) ⊎ (size ≡ 2)
+        → IsNormal 65536 word.set → (size ≡ 1 → (n : ℕ) → Has 65536 word.set n → n < 256)
+        → StandsUnder first map.cells ram → HoldsOfWord first word v → StandsUnder first (the_cells.write_one map at size word).cells (written ram at size v) }
+    ensures any { (first : Option Suspended) (ram : ℕ → ℕ) (from size address v : ℕ) (map : CellMap) (at : AForm) (word : AWord)
+        → map.hi < 65536 → AreCells map.lo map.hi from map.cells → IsNormal 65536 at → (size ≡ 1) ⊎ (size ≡ 2)
+        → IsNormal 65536 word.set → (size ≡ 1 → (n : ℕ) → Has 65536 word.set n → n < 256)
+        → StandsUnder first map.cells ram → Has 65536 at address → HoldsOfWord first word v → StandsUnder first (the_cells.write_any map at size word).cells (written ram address size v) }
+{
+    members_are_below();
+    joins_include_both();
+}
+
+/// Cells within others: what stands under these stands under those.
+pub fn inclusion_covers()
+    ensures { (first : Option Suspended) (ram : ℕ → ℕ) (new held : List ACell) → the_cells.are_within new held ≡ true → StandsUnder first new ram → StandsUnder first held ram }
+{
+    inclusion_is_tested();
+}
