@@ -147,6 +147,10 @@ pub any_form : Joins → JoinsStayLow → (from size : ℕ) (map : CellMap) (at 
 unfolding write_any
 any_form joins stay from size map at word normal byte are = kept_form map.lo map.hi from (cell_behind at size word) map.cells (behind_form joins stay map.lo map.hi size at word normal byte) are
 
-pub any_range : (size : ℕ) (map : CellMap) (at : Form) (word : Word) → ((write_any map at size word).lo ≡ map.lo) × ((write_any map at size word).hi ≡ map.hi)
+pub any_lo : (size : ℕ) (map : CellMap) (at : Form) (word : Word) → (write_any map at size word).lo ≡ map.lo
 unfolding write_any
-any_range size map at word = (refl, refl)
+any_lo size map at word = refl
+
+pub any_hi : (size : ℕ) (map : CellMap) (at : Form) (word : Word) → (write_any map at size word).hi ≡ map.hi
+unfolding write_any
+any_hi size map at word = refl

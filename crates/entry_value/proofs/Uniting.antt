@@ -47,9 +47,9 @@ held_stands first ram bytes f lo hi from new are cell covers h = of_both (Stands
     (λ word normal says. covers.one cell.word word (number_at ram cell.place cell.size) h.normal normal (small_number ram bytes cell.place cell.size) h.holds)
     (normal_found lo hi from new are cell.place cell.size))
 
-new_stands : (first : Option Suspended) (ram : ℕ → ℕ) → AreBytes ram → (f : Word → Word → Word) (lo hi from : ℕ) (new : List Cell) → Each (Holds first ram) new → (cell : Cell)
+new_stands : (first : Option Suspended) (ram : ℕ → ℕ) → AreBytes ram → (f : Word → Word → Word) (lo hi : ℕ) (new : List Cell) → Each (Holds first ram) new → (cell : Cell)
     → Covers first cell.size f → IsCell lo hi cell → OfSome (StandsAt first ram) (with_both f new cell)
-new_stands first ram bytes f lo hi from new held cell covers is = of_both (StandsAt first ram) f cell (cell_at new cell.place cell.size)
+new_stands first ram bytes f lo hi new held cell covers is = of_both (StandsAt first ram) f cell (cell_at new cell.place cell.size)
     (of_some_then (λ word. IsNormalWord word × HoldsOfWord first word (number_at ram cell.place cell.size))
     (λ word. is_nothing cell.size (f cell.word word) ≡ false → HoldsOfWord first (f cell.word word) (number_at ram cell.place cell.size))
     (cell_at new cell.place cell.size)
@@ -61,9 +61,9 @@ new_stands first ram bytes f lo hi from new held cell covers is = of_both (Stand
 abbrev pub IsAlike : (lo hi : ℕ) → Cell → Cell → Type 0
 IsAlike lo hi cell new = IsCell lo hi new × (new.place ≡ cell.place) × (new.size ≡ cell.size)
 
-form_stays : (f : Word → Word → Word) (lo hi from : ℕ) (new : List Cell) → AreCells lo hi from new → (cell : Cell) → Forms cell.size f → IsCell lo hi cell
+form_stays : (f : Word → Word → Word) (lo hi low high start : ℕ) (new : List Cell) → AreCells low high start new → (cell : Cell) → Forms cell.size f → IsCell lo hi cell
     → OfSome (IsAlike lo hi cell) (with_both f new cell)
-form_stays f lo hi from new are cell forms is = of_both (IsAlike lo hi cell) f cell (cell_at new cell.place cell.size)
+form_stays f lo hi low high start new are cell forms is = of_both (IsAlike lo hi cell) f cell (cell_at new cell.place cell.size)
     (of_some_then (λ word. IsNormalWord word × (cell.size ≡ 1 → (n : ℕ) → Has 65536 word.set n → n < 256))
     (λ word. let c : Cell = record { place = cell.place; size = cell.size; word = f cell.word word } in is_nothing cell.size (f cell.word word) ≡ false → IsAlike lo hi cell c)
     (cell_at new cell.place cell.size)
@@ -80,7 +80,7 @@ form_stays f lo hi from new are cell forms is = of_both (IsAlike lo hi cell) f c
       refl,
     ))
     (found_at (λ p s word. IsNormalWord word × (s ≡ 1 → (n : ℕ) → Has 65536 word.set n → n < 256)) new cell.place cell.size
-    (each_then (IsCell lo hi) (λ c. IsNormalWord c.word × (c.size ≡ 1 → (n : ℕ) → Has 65536 c.word.set n → n < 256)) new (λ c h. (h.normal, h.byte)) (each_cell lo hi from new are))))
+    (each_then (IsCell low high) (λ c. IsNormalWord c.word × (c.size ≡ 1 → (n : ℕ) → Has 65536 c.word.set n → n < 256)) new (λ c h. (h.normal, h.byte)) (each_cell low high start new are))))
 
 same_start : (from place other : ℕ) → other ≡ place → from ≤ place → from ≤ other
 same_start from place other e h = omega arith
@@ -101,35 +101,32 @@ kept_form lo hi from f (cell ∷ cells) step are = alike_form lo hi from cell (f
 
 -- ---- joined cells
 
-abbrev BothAre : (lo hi from : ℕ) → (held new : List Cell) → Type 0
-BothAre lo hi from held new = AreCells lo hi from held × AreCells lo hi from new
-
-pub join_covers_held : Joins → (first : Option Suspended) (ram : ℕ → ℕ) (lo hi from : ℕ) (held new : List Cell) → AreCells lo hi from held → AreCells lo hi from new
+pub join_covers_held : Joins → (first : Option Suspended) (ram : ℕ → ℕ) (lo hi from low high start : ℕ) (held new : List Cell) → AreCells lo hi from held → AreCells low high start new
     → StandsUnder first held ram → StandsUnder first (join_cells held new) ram
 unfolding join_cells
-join_covers_held joins first ram lo hi from held new are others h = (
+join_covers_held joins first ram lo hi from low high start held new are others h = (
   h.0,
   each_in (StandsAt first ram) (kept (with_both word_join new) held)
       (each_kept (Holds first ram) (StandsAt first ram) (with_both word_join new) held
-      (λ cell holds. held_stands first ram h.0 word_join lo hi from new others cell (join_covers joins first cell.size) holds)
+      (λ cell holds. held_stands first ram h.0 word_join low high start new others cell (join_covers joins first cell.size) holds)
       (each_holds first ram lo hi from held are h)),
 )
 
-pub join_covers_new : Joins → (first : Option Suspended) (ram : ℕ → ℕ) (lo hi from : ℕ) (held new : List Cell) → AreCells lo hi from held → AreCells lo hi from new
+pub join_covers_new : Joins → (first : Option Suspended) (ram : ℕ → ℕ) (lo hi from low high start : ℕ) (held new : List Cell) → AreCells lo hi from held → AreCells low high start new
     → StandsUnder first new ram → StandsUnder first (join_cells held new) ram
 unfolding join_cells
-join_covers_new joins first ram lo hi from held new are others h = (
+join_covers_new joins first ram lo hi from low high start held new are others h = (
   h.0,
   each_in (StandsAt first ram) (kept (with_both word_join new) held)
       (each_kept (IsCell lo hi) (StandsAt first ram) (with_both word_join new) held
-      (λ cell is. new_stands first ram h.0 word_join lo hi from new (each_holds first ram lo hi from new others h) cell (join_covers joins first cell.size) is)
+      (λ cell is. new_stands first ram h.0 word_join lo hi new (each_holds first ram low high start new others h) cell (join_covers joins first cell.size) is)
       (each_cell lo hi from held are)),
 )
 
-pub join_form : Joins → JoinsStayLow → (lo hi from : ℕ) (held new : List Cell) → AreCells lo hi from held → AreCells lo hi from new → AreCells lo hi from (join_cells held new)
+pub join_form : Joins → JoinsStayLow → (lo hi from low high start : ℕ) (held new : List Cell) → AreCells lo hi from held → AreCells low high start new → AreCells lo hi from (join_cells held new)
 unfolding join_cells
-join_form joins stays lo hi from held new are others = kept_form lo hi from (with_both word_join new) held
-    (λ cell is. form_stays word_join lo hi from new others cell (join_forms joins stays cell.size) is) are
+join_form joins stays lo hi from low high start held new are others = kept_form lo hi from (with_both word_join new) held
+    (λ cell is. form_stays word_join lo hi low high start new others cell (join_forms joins stays cell.size) is) are
 
 -- ---- widened cells
 
@@ -142,40 +139,40 @@ of_size P marks new cell byte word = elim (cases_Bool (cell.size == 1)) [
   | inr wide ↦ rw wide (word (eqb-false cell.size 1 wide))
 ]
 
-pub widen_covers_held : Sets → (first : Option Suspended) (ram : ℕ → ℕ) (lo hi from : ℕ) (held new : List Cell) (marks : List ℕ) → AreCells lo hi from held → AreCells lo hi from new
+pub widen_covers_held : Sets → (first : Option Suspended) (ram : ℕ → ℕ) (lo hi from low high start : ℕ) (held new : List Cell) (marks : List ℕ) → AreCells lo hi from held → AreCells low high start new
     → All (λ mark. mark < 65536) marks → StandsUnder first held ram → StandsUnder first (widen_cells held new marks) ram
 unfolding widen_cells
-widen_covers_held sets first ram lo hi from held new marks are others below h = (
+widen_covers_held sets first ram lo hi from low high start held new marks are others below h = (
   h.0,
   each_in (StandsAt first ram) (kept (cell_widened marks new) held)
       (each_kept (Holds first ram) (StandsAt first ram) (cell_widened marks new) held
       (λ cell holds. of_size (StandsAt first ram) marks new cell
-      (λ one. held_stands first ram h.0 (λ a b. byte_widened a b marks) lo hi from new others cell (byte_covers sets first cell.size marks one) holds)
-      (λ wide. held_stands first ram h.0 (λ a b. word_widen a b marks) lo hi from new others cell (widen_covers sets.widens first cell.size marks below) holds))
+      (λ one. held_stands first ram h.0 (λ a b. byte_widened a b marks) low high start new others cell (byte_covers sets first cell.size marks one) holds)
+      (λ wide. held_stands first ram h.0 (λ a b. word_widen a b marks) low high start new others cell (widen_covers sets.widens first cell.size marks below) holds))
       (each_holds first ram lo hi from held are h)),
 )
 
-pub widen_covers_new : Sets → (first : Option Suspended) (ram : ℕ → ℕ) (lo hi from : ℕ) (held new : List Cell) (marks : List ℕ) → AreCells lo hi from held → AreCells lo hi from new
+pub widen_covers_new : Sets → (first : Option Suspended) (ram : ℕ → ℕ) (lo hi from low high start : ℕ) (held new : List Cell) (marks : List ℕ) → AreCells lo hi from held → AreCells low high start new
     → All (λ mark. mark < 65536) marks → StandsUnder first new ram → StandsUnder first (widen_cells held new marks) ram
 unfolding widen_cells
-widen_covers_new sets first ram lo hi from held new marks are others below h =
-    let all = each_holds first ram lo hi from new others h in (
+widen_covers_new sets first ram lo hi from low high start held new marks are others below h =
+    let all = each_holds first ram low high start new others h in (
       h.0,
       each_in (StandsAt first ram) (kept (cell_widened marks new) held)
           (each_kept (IsCell lo hi) (StandsAt first ram) (cell_widened marks new) held
           (λ cell is. of_size (StandsAt first ram) marks new cell
-          (λ one. new_stands first ram h.0 (λ a b. byte_widened a b marks) lo hi from new all cell (byte_covers sets first cell.size marks one) is)
-          (λ wide. new_stands first ram h.0 (λ a b. word_widen a b marks) lo hi from new all cell (widen_covers sets.widens first cell.size marks below) is))
+          (λ one. new_stands first ram h.0 (λ a b. byte_widened a b marks) lo hi new all cell (byte_covers sets first cell.size marks one) is)
+          (λ wide. new_stands first ram h.0 (λ a b. word_widen a b marks) lo hi new all cell (widen_covers sets.widens first cell.size marks below) is))
           (each_cell lo hi from held are)),
     )
 
-pub widen_form : Sets → PairsStayLow → (lo hi from : ℕ) (held new : List Cell) (marks : List ℕ) → AreCells lo hi from held → AreCells lo hi from new
+pub widen_form : Sets → PairsStayLow → (lo hi from low high start : ℕ) (held new : List Cell) (marks : List ℕ) → AreCells lo hi from held → AreCells low high start new
     → All (λ mark. mark < 65536) marks → AreCells lo hi from (widen_cells held new marks)
 unfolding widen_cells
-widen_form sets stays lo hi from held new marks are others below = kept_form lo hi from (cell_widened marks new) held
+widen_form sets stays lo hi from low high start held new marks are others below = kept_form lo hi from (cell_widened marks new) held
     (λ cell is. of_size (IsAlike lo hi cell) marks new cell
-    (λ one. form_stays (λ a b. byte_widened a b marks) lo hi from new others cell (byte_forms sets stays cell.size marks) is)
-    (λ wide. form_stays (λ a b. word_widen a b marks) lo hi from new others cell (widen_forms sets.widens cell.size marks wide below) is))
+    (λ one. form_stays (λ a b. byte_widened a b marks) lo hi low high start new others cell (byte_forms sets stays cell.size marks) is)
+    (λ wide. form_stays (λ a b. word_widen a b marks) lo hi low high start new others cell (widen_forms sets.widens cell.size marks wide below) is))
     are
 
 -- ---- cells within others

@@ -184,12 +184,15 @@ with_form lo hi from at size word cells below first is normal byte are =
           (each_filter (IsCell lo hi) (λ c. not (meets at size c)) cells (each_cell lo hi from cells are))))
     ]
 
-pub one_form : (from at size : ℕ) (map : CellMap) (word : Word) → map.hi < 65536 → from ≤ map.lo → IsSize size → IsNormal 65536 word.set
-    → (size ≡ 1 → (n : ℕ) → Has 65536 word.set n → n < 256) → AreCells map.lo map.hi from map.cells
-    → AreCells map.lo map.hi from (write_one map at size word).cells
+pub one_form : (from at size : ℕ) (map : CellMap) (word : Word) → map.hi < 65536 → from ≤ map.lo → AreCells map.lo map.hi from map.cells → IsSize size → IsNormal 65536 word.set
+    → (size ≡ 1 → (n : ℕ) → Has 65536 word.set n → n < 256) → AreCells map.lo map.hi from (write_one map at size word).cells
 unfolding write_one
-one_form from at size map word below first is normal byte are = with_form map.lo map.hi from at size word map.cells below first is normal byte are
+one_form from at size map word below first are is normal byte = with_form map.lo map.hi from at size word map.cells below first is normal byte are
 
-pub one_range : (at size : ℕ) (map : CellMap) (word : Word) → ((write_one map at size word).lo ≡ map.lo) × ((write_one map at size word).hi ≡ map.hi)
+pub one_lo : (at size : ℕ) (map : CellMap) (word : Word) → (write_one map at size word).lo ≡ map.lo
 unfolding write_one
-one_range at size map word = (refl, refl)
+one_lo at size map word = refl
+
+pub one_hi : (at size : ℕ) (map : CellMap) (word : Word) → (write_one map at size word).hi ≡ map.hi
+unfolding write_one
+one_hi at size map word = refl

@@ -39,9 +39,38 @@ pub fn writes_cover()
     joins_include_both();
 }
 
+/// The cells behind a write are cells of the same range.
+pub fn writes_keep_form()
+    ensures one { (from at size : ℕ) (map : CellMap) (word : AWord) → map.hi < 65536 → from ≤ map.lo → AreCells map.lo map.hi from map.cells → (size ≡ 1) ⊎ (size ≡ 2)
+        → IsNormal 65536 word.set → (size ≡ 1 → (n : ℕ) → Has 65536 word.set n → n < 256) → AreCells map.lo map.hi from (the_cells.write_one map at size word).cells }
+    ensures one_lo { (at size : ℕ) (map : CellMap) (word : AWord) → (the_cells.write_one map at size word).lo ≡ map.lo }
+    ensures one_hi { (at size : ℕ) (map : CellMap) (word : AWord) → (the_cells.write_one map at size word).hi ≡ map.hi }
+    ensures any_lo { (size : ℕ) (map : CellMap) (at : AForm) (word : AWord) → (the_cells.write_any map at size word).lo ≡ map.lo }
+    ensures any_hi { (size : ℕ) (map : CellMap) (at : AForm) (word : AWord) → (the_cells.write_any map at size word).hi ≡ map.hi }
+{}
+
 /// Cells within others: what stands under these stands under those.
 pub fn inclusion_covers()
     ensures { (first : Option Suspended) (ram : ℕ → ℕ) (new held : List ACell) → the_cells.are_within new held ≡ true → StandsUnder first new ram → StandsUnder first held ram }
 {
     inclusion_is_tested();
+}
+
+/// What stands under one of two lists of cells stands under their join, and what stands under either stands under the
+/// first one widened by the other.
+pub fn unions_cover()
+    ensures own { (first : Option Suspended) (ram : ℕ → ℕ) (lo hi from low high start : ℕ) (held new : List ACell) → AreCells lo hi from held → AreCells low high start new
+        → StandsUnder first held ram → StandsUnder first (the_cells.join_cells held new) ram }
+    ensures others { (first : Option Suspended) (ram : ℕ → ℕ) (lo hi from low high start : ℕ) (held new : List ACell) → AreCells lo hi from held → AreCells low high start new
+        → StandsUnder first new ram → StandsUnder first (the_cells.join_cells held new) ram }
+    ensures held { (first : Option Suspended) (ram : ℕ → ℕ) (lo hi from low high start : ℕ) (held new : List ACell) (marks : List ℕ) → AreCells lo hi from held → AreCells low high start new
+        → All (λ mark. mark < 65536) marks → StandsUnder first held ram → StandsUnder first (the_cells.widen_cells held new marks) ram }
+    ensures added { (first : Option Suspended) (ram : ℕ → ℕ) (lo hi from low high start : ℕ) (held new : List ACell) (marks : List ℕ) → AreCells lo hi from held → AreCells low high start new
+        → All (λ mark. mark < 65536) marks → StandsUnder first new ram → StandsUnder first (the_cells.widen_cells held new marks) ram }
+{
+    halves_hold();
+    single_and_whole_sets();
+    inclusion_is_tested();
+    joins_include_both();
+    widenings_include_both();
 }
