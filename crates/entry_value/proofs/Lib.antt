@@ -1,5 +1,6 @@
 pub mod Bytes
 pub mod Each
+pub mod LowSets
 pub mod Masks
 pub mod Premises
 pub mod Reading

@@ -142,10 +142,10 @@ behind_form joins stay lo hi size at word normal byte cell is = of_behind (IsAli
       sym same,
     ))
 
-pub any_form : Joins → JoinsStayLow → (from size : ℕ) (map : CellMap) (at : Form) (word : Word) → IsNormal 65536 word.set → (size ≡ 1 → (n : ℕ) → Has 65536 word.set n → n < 256)
-    → AreCells map.lo map.hi from map.cells → AreCells map.lo map.hi from (write_any map at size word).cells
+pub any_form : Joins → JoinsStayLow → (from size : ℕ) (map : CellMap) (at : Form) (word : Word) → AreCells map.lo map.hi from map.cells → IsNormal 65536 word.set
+    → (size ≡ 1 → (n : ℕ) → Has 65536 word.set n → n < 256) → AreCells map.lo map.hi from (write_any map at size word).cells
 unfolding write_any
-any_form joins stay from size map at word normal byte are = kept_form map.lo map.hi from (cell_behind at size word) map.cells (behind_form joins stay map.lo map.hi size at word normal byte) are
+any_form joins stay from size map at word are normal byte = kept_form map.lo map.hi from (cell_behind at size word) map.cells (behind_form joins stay map.lo map.hi size at word normal byte) are
 
 pub any_lo : (size : ℕ) (map : CellMap) (at : Form) (word : Word) → (write_any map at size word).lo ≡ map.lo
 unfolding write_any

@@ -45,9 +45,27 @@ pub fn writes_keep_form()
         → IsNormal 65536 word.set → (size ≡ 1 → (n : ℕ) → Has 65536 word.set n → n < 256) → AreCells map.lo map.hi from (the_cells.write_one map at size word).cells }
     ensures one_lo { (at size : ℕ) (map : CellMap) (word : AWord) → (the_cells.write_one map at size word).lo ≡ map.lo }
     ensures one_hi { (at size : ℕ) (map : CellMap) (word : AWord) → (the_cells.write_one map at size word).hi ≡ map.hi }
+    ensures any { (from size : ℕ) (map : CellMap) (at : AForm) (word : AWord) → AreCells map.lo map.hi from map.cells
+        → IsNormal 65536 word.set → (size ≡ 1 → (n : ℕ) → Has 65536 word.set n → n < 256) → AreCells map.lo map.hi from (the_cells.write_any map at size word).cells }
     ensures any_lo { (size : ℕ) (map : CellMap) (at : AForm) (word : AWord) → (the_cells.write_any map at size word).lo ≡ map.lo }
     ensures any_hi { (size : ℕ) (map : CellMap) (at : AForm) (word : AWord) → (the_cells.write_any map at size word).hi ≡ map.hi }
-{}
+{
+    joins_include_both();
+}
+
+/// The cells of two lists joined, and those widened, are cells of the range of the first one.
+pub fn unions_keep_form()
+    ensures join { (lo hi from low high start : ℕ) (held new : List ACell) → AreCells lo hi from held → AreCells low high start new → AreCells lo hi from (the_cells.join_cells held new) }
+    ensures widen { (lo hi from low high start : ℕ) (held new : List ACell) (marks : List ℕ) → AreCells lo hi from held → AreCells low high start new
+        → All (λ mark. mark < 65536) marks → AreCells lo hi from (the_cells.widen_cells held new marks) }
+{
+    members_are_below();
+    halves_hold();
+    single_and_whole_sets();
+    inclusion_is_tested();
+    joins_include_both();
+    widenings_include_both();
+}
 
 /// Cells within others: what stands under these stands under those.
 pub fn inclusion_covers()

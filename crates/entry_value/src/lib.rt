@@ -11,5 +11,7 @@ mod laws;
 mod word;
 
 pub use cells::{Cell, Cells};
-pub use laws::{inclusion_covers, reads_hold, unions_cover, writes_cover, writes_keep_form};
+pub use laws::{
+    inclusion_covers, reads_hold, unions_cover, unions_keep_form, writes_cover, writes_keep_form,
+};
 pub use word::{Byte, Entry, Word};
