@@ -1,1 +1,10 @@
+pub mod Bytes
+pub mod Each
+pub mod LowSets
 pub mod Masks
+pub mod Premises
+pub mod Reading
+pub mod Scattering
+pub mod Uniting
+pub mod Values
+pub mod Writing

@@ -11,7 +11,7 @@ use Rattle.value_bits.specs.Sets.{logic_set}
 use Rattle.value_bits.specs.declared.tri.Logic.TheVariants.{And, Or}
 use Rattle.entry_value.specs.declared.word.Entry.{Entry}
 use Rattle.entry_value.specs.declared.word.Word.{Word}
-use Rattle.entry_value.specs.declared.word.Byte.{Byte}
+use Rattle.entry_value.specs.declared.byte.Byte.{Byte}
 
 -- WHAT A VALUE SAYS
 

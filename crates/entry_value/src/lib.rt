@@ -6,8 +6,17 @@
 //! [`Cells`] is what any representation of cells has to do, over the one list of them in `specs/Cells.antt`.
 #![tactic(auto)]
 
+mod byte;
 mod cells;
+mod laws;
 mod word;
 
+pub use byte::Byte;
 pub use cells::{Cell, Cells};
-pub use word::{Byte, Entry, Word};
+pub use laws::{
+    inclusion_covers, reads_hold, unions_cover, unions_keep_form, writes_cover, writes_keep_form,
+};
+pub use word::{Entry, Word};
+
+#[cfg(test)]
+mod tests;

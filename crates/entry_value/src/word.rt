@@ -1,11 +1,11 @@
-//! Words and bytes.
+//! Words and their relations.
 
 ghost use Rattle.std.specs.Prelude.{◌≡◌, true, ℕ, Option, option_map, bit_and, bit_or};
 ghost use Rattle.entry_value.specs.Words as words;
-ghost use Rattle.entry_value.specs.Words.{Suspended, IsFromEntry, HoldsOfWord, HoldsOfByte};
+ghost use Rattle.entry_value.specs.Words.{Suspended, IsFromEntry, HoldsOfWord};
 
-use value_bits::{w8, w16};
-use value_set::{Vs8, Vs16};
+use value_bits::w16;
+use value_set::Vs16;
 
 /// How a number came from a place of the suspended state: what the place held when the interrupt came, AND a mask, OR a
 /// mask.
@@ -24,15 +24,8 @@ pub struct Word {
     pub entry: Option<Entry>,
 }
 
-/// A set of 8-bit numbers, perhaps with a relation.
-#[derive(Clone, Copy, Debug, PartialEq, Eq)]
-pub struct Byte {
-    pub set: Vs8,
-    pub entry: Option<Entry>,
-}
-
 /// A relation that both values have.
-fn common(a: &Option<Entry>, b: &Option<Entry>) -> Option<Entry>
+pub(crate) fn common(a: &Option<Entry>, b: &Option<Entry>) -> Option<Entry>
     ensures { result ≡ words.common_entry a.now b.now }
 {
     match (a, b) {
@@ -42,7 +35,7 @@ fn common(a: &Option<Entry>, b: &Option<Entry>) -> Option<Entry>
 }
 
 /// Whether the second has no relation that the first one lacks.
-fn is_entry_within(a: &Option<Entry>, b: &Option<Entry>) -> bool
+pub(crate) fn is_entry_within(a: &Option<Entry>, b: &Option<Entry>) -> bool
     ensures { result ≡ words.is_entry_within a.now b.now }
 {
     b.is_none() || a == b
@@ -73,7 +66,7 @@ impl Entry {
 }
 
 /// A relation behind an AND with a mask, where there is one.
-fn relation_and(entry: &Option<Entry>, m: u16) -> Option<Entry>
+pub(crate) fn relation_and(entry: &Option<Entry>, m: u16) -> Option<Entry>
     ensures value { result ≡ option_map (words.entry_and m) entry.now }
     ensures holds { (first : Option Suspended) (v : ℕ) → IsFromEntry first entry.now v → IsFromEntry first result (bit_and v m) }
 {
@@ -84,7 +77,7 @@ fn relation_and(entry: &Option<Entry>, m: u16) -> Option<Entry>
 }
 
 /// A relation behind an OR with a mask, where there is one.
-fn relation_or(entry: &Option<Entry>, m: u16) -> Option<Entry>
+pub(crate) fn relation_or(entry: &Option<Entry>, m: u16) -> Option<Entry>
     ensures value { result ≡ option_map (words.entry_or m) entry.now }
     ensures holds { (first : Option Suspended) (v : ℕ) → IsFromEntry first entry.now v → IsFromEntry first result (bit_or v m) }
 {
@@ -146,62 +139,6 @@ impl Word {
         Word {
             set: w16::or(&self.set, &Vs16::one(m)),
             entry: relation_or(&self.entry, m),
-        }
-    }
-}
-
-impl Byte {
-    /// A byte that holds of all that either holds of.
-    pub fn join(&self, other: &Byte) -> Byte
-        ensures value { result ≡ words.byte_join self.now other.now }
-        ensures own { (first : Option Suspended) (v : ℕ) → HoldsOfByte first self.now v → HoldsOfByte first result v }
-        ensures others { (first : Option Suspended) (v : ℕ) → HoldsOfByte first other.now v → HoldsOfByte first result v }
-    {
-        Byte {
-            set: self.set.join(&other.set),
-            entry: common(&self.entry, &other.entry),
-        }
-    }
-
-    /// Such a byte whose set's ends go on to the next marks where it has to grow.
-    pub fn widen(&self, new: &Byte, marks: &[u8]) -> Byte
-        ensures value { result ≡ words.byte_widen self.now new.now marks.now }
-        ensures held { (first : Option Suspended) (v : ℕ) → HoldsOfByte first self.now v → HoldsOfByte first result v }
-        ensures added { (first : Option Suspended) (v : ℕ) → HoldsOfByte first new.now v → HoldsOfByte first result v }
-    {
-        Byte {
-            set: self.set.widen(&new.set, marks),
-            entry: common(&self.entry, &new.entry),
-        }
-    }
-
-    /// Whether the set is within the other one, and the other one's relation is this one's too.
-    pub fn within(&self, other: &Byte) -> bool
-        ensures value { result ≡ words.byte_within self.now other.now }
-        ensures holds { result ≡ true → (first : Option Suspended) (v : ℕ) → HoldsOfByte first self.now v → HoldsOfByte first other.now v }
-    {
-        self.set.within(&other.set) && is_entry_within(&self.entry, &other.entry)
-    }
-
-    /// The byte behind an AND with a constant.
-    pub fn mask_and(&self, m: u8) -> Byte
-        ensures value { result ≡ words.byte_and m self.now }
-        ensures holds { (first : Option Suspended) (v : ℕ) → HoldsOfByte first self.now v → HoldsOfByte first result (bit_and v m) }
-    {
-        Byte {
-            set: w8::and(&self.set, &Vs8::one(m)),
-            entry: relation_and(&self.entry, m as u16),
-        }
-    }
-
-    /// The byte behind an OR with a constant.
-    pub fn mask_or(&self, m: u8) -> Byte
-        ensures value { result ≡ words.byte_or m self.now }
-        ensures holds { (first : Option Suspended) (v : ℕ) → HoldsOfByte first self.now v → HoldsOfByte first result (bit_or v m) }
-    {
-        Byte {
-            set: w8::or(&self.set, &Vs8::one(m)),
-            entry: relation_or(&self.entry, m as u16),
         }
     }
 }

@@ -1,0 +1,70 @@
+-- Facts of each cell of a list.
+use Rattle.std.proofs.Common.{◌≡◌, ℕ, ◌+◌, Bool, true, Option, None, Some, List, [], ◌∷◌, refl, subst, inl, inr, arith, nat_lt}
+use Prim.Native.Nat.{zero, suc}
+use Rattle.std.specs.Prelude.{◌==◌, ◌&&◌}
+use Rattle.std.specs.List.{Contains, filter}
+use Rattle.std.proofs.lemmas.Bool.{cases_Bool, and_parts, eqb-true}
+use Rattle.entry_value.specs.declared.word.Word.{Word}
+use Rattle.entry_value.specs.declared.cells.Cell.{Cell}
+use Rattle.entry_value.specs.Cells.{IsCell, AreCells, cell_at, insert, with_some, kept}
+
+abbrev pub Each : (Cell → Type 0) → List Cell → Type 0
+Each P [] = Unit {0}
+Each P (cell ∷ cells) = P cell × Each P cells
+
+-- a fact of what there is
+abbrev pub OfSome : {A : Type 0} → (A → Type 0) → Option A → Type 0
+OfSome P None = Unit {0}
+OfSome P (Some x) = P x
+
+pub each_from : (P : Cell → Type 0) (cells : List Cell) → ((cell : Cell) → Contains cells cell → P cell) → Each P cells
+each_from P [] h = tt
+each_from P (cell ∷ cells) h = (h cell (0, omega arith, refl), each_from P cells (λ other k. h other (suc k.0, omega (arith, k.1), k.2)))
+
+pub each_in : (P : Cell → Type 0) (cells : List Cell) → Each P cells → (cell : Cell) → Contains cells cell → P cell
+each_in P [] h cell k = absurd (omega (arith, k.1))
+each_in P (c ∷ cells) h cell (zero, below, is) = subst P is h.0
+each_in P (c ∷ cells) h cell (suc k, below, is) = each_in P cells h.1 cell (k, omega arith, is)
+
+pub each_both : (P Q : Cell → Type 0) (cells : List Cell) → Each P cells → Each Q cells → Each (λ cell. P cell × Q cell) cells
+each_both P Q [] h k = tt
+each_both P Q (cell ∷ cells) h k = ((h.0, k.0), each_both P Q cells h.1 k.1)
+
+pub each_then : (P Q : Cell → Type 0) (cells : List Cell) → ((cell : Cell) → P cell → Q cell) → Each P cells → Each Q cells
+each_then P Q [] f h = tt
+each_then P Q (cell ∷ cells) f h = (f cell h.0, each_then P Q cells f h.1)
+
+pub each_insert : (P : Cell → Type 0) (cell : Cell) (cells : List Cell) → P cell → Each P cells → Each P (insert cell cells)
+each_insert P cell [] h k = (h, tt)
+each_insert P cell (c ∷ cells) h k = elim (cases_Bool (nat_lt cell.place c.place)) [
+  | inl before ↦ rw before (h, k)
+  | inr behind ↦ rw behind (k.0, each_insert P cell cells h k.1)
+]
+
+pub each_filter : (P : Cell → Type 0) (test : Cell → Bool) (cells : List Cell) → Each P cells → Each (λ cell. P cell × (test cell ≡ true)) (filter test cells)
+each_filter P test [] h = tt
+each_filter P test (cell ∷ cells) h = elim (cases_Bool (test cell)) [
+  | inl passes ↦ rw passes ((h.0, passes), each_filter P test cells h.1)
+  | inr fails ↦ rw fails (each_filter P test cells h.1)
+]
+
+each_with : (P : Cell → Type 0) (found : Option Cell) (cells : List Cell) → OfSome P found → Each P cells → Each P (with_some found cells)
+each_with P None cells h k = k
+each_with P (Some cell) cells h k = (h, k)
+
+pub each_kept : (P Q : Cell → Type 0) (f : Cell → Option Cell) (cells : List Cell) → ((cell : Cell) → P cell → OfSome Q (f cell)) → Each P cells → Each Q (kept f cells)
+each_kept P Q f [] step h = tt
+each_kept P Q f (cell ∷ cells) step h = each_with Q (f cell) (kept f cells) (step cell h.0) (each_kept P Q f cells step h.1)
+
+pub each_cell : (lo hi from : ℕ) (cells : List Cell) → AreCells lo hi from cells → Each (IsCell lo hi) cells
+each_cell lo hi from [] h = tt
+each_cell lo hi from (cell ∷ cells) h = (h.0, each_cell lo hi (cell.place + cell.size) cells h.2)
+
+pub found_at : (P : (place size : ℕ) → Word → Type 0) (cells : List Cell) (place size : ℕ) → Each (λ cell. P cell.place cell.size cell.word) cells
+    → OfSome (P place size) (cell_at cells place size)
+found_at P [] place size h = tt
+found_at P (cell ∷ cells) place size h = elim (cases_Bool ((cell.place == place) && (cell.size == size))) [
+  | inl same ↦ let parts = and_parts (cell.place == place) (cell.size == size) same in rw same
+      (subst (λ (at : ℕ). P at size cell.word) (eqb-true cell.place place parts.0) (subst (λ (s : ℕ). P cell.place s cell.word) (eqb-true cell.size size parts.1) h.0))
+  | inr other ↦ rw other (found_at P cells place size h.1)
+]

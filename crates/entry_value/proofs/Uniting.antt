@@ -1,0 +1,196 @@
+-- Cells that two states have, and cells within others.
+use Rattle.std.proofs.Common.{◌≡◌, ℕ, ◌+◌, ◌<◌, ◌≤◌, true, false, Option, None, Some, List, [], ◌∷◌, All, refl, sym, subst, inl, inr, arith}
+use Rattle.std.specs.Prelude.{◌==◌}
+use Rattle.std.proofs.lemmas.Bool.{cases_Bool, and_parts, eqb-true, eqb-false}
+use Rattle.value_set.specs.Form.{Has, IsNormal}
+use Rattle.entry_value.specs.declared.word.Word.{Word}
+use Rattle.entry_value.specs.declared.cells.Cell.{Cell}
+use Rattle.entry_value.specs.Words.{Suspended, HoldsOfWord, word_join, word_widen}
+use Rattle.entry_value.specs.Cells.{StandsUnder, IsCell, AreCells, number_at, is_nothing, cell_at, telling, with_some, kept, both_of, with_both, join_cells, byte_widened, cell_widened, widen_cells, is_found_within, are_within}
+use Rattle.entry_value.proofs.Bytes.{AreBytes}
+use Rattle.entry_value.proofs.Each.{Each, OfSome, each_from, each_in, each_then, each_kept, each_cell, found_at}
+use Rattle.entry_value.proofs.Premises.{InclusionIsTested, Joins, Sets}
+use Rattle.entry_value.proofs.Reading.{Holds, each_holds}
+use Rattle.entry_value.proofs.Values.{Covers, Forms, JoinsStayLow, PairsStayLow, join_covers, widen_covers, byte_covers, within_holds, join_forms, widen_forms, byte_forms}
+use Rattle.entry_value.proofs.Writing.{StandsAt, lowered}
+
+-- ---- cells that say something
+
+pub of_telling : (P : Cell → Type 0) (cell : Cell) → (is_nothing cell.size cell.word ≡ false → P cell) → OfSome P (telling cell)
+of_telling P cell h = elim (cases_Bool (is_nothing cell.size cell.word)) [ inl nothing ↦ rw nothing tt | inr says ↦ rw says (h says) ]
+
+of_both : (P : Cell → Type 0) (f : Word → Word → Word) (cell : Cell) (found : Option Word)
+    → OfSome (λ word. let c : Cell = record { place = cell.place; size = cell.size; word = f cell.word word } in is_nothing cell.size (f cell.word word) ≡ false → P c) found
+    → OfSome P (both_of f cell found)
+of_both P f cell None h = tt
+of_both P f cell (Some word) h = of_telling P (record { place = cell.place; size = cell.size; word = f cell.word word }) h
+
+of_some_then : {A : Type 0} (P Q : A → Type 0) (found : Option A) → ((x : A) → P x → Q x) → OfSome P found → OfSome Q found
+of_some_then P Q None f h = tt
+of_some_then P Q (Some x) f h = f x h
+
+pub small_number : (ram : ℕ → ℕ) → AreBytes ram → (place size : ℕ) → size ≡ 1 → number_at ram place size < 256
+small_number ram bytes place size one = subst (λ (s : ℕ). number_at ram place s < 256) (sym one) (bytes place)
+
+abbrev IsNormalWord : Word → Type 0
+IsNormalWord word = IsNormal 65536 word.set
+
+normal_found : (lo hi from : ℕ) (cells : List Cell) → AreCells lo hi from cells → (place size : ℕ) → OfSome IsNormalWord (cell_at cells place size)
+normal_found lo hi from cells are place size = found_at (λ p s word. IsNormalWord word) cells place size
+    (each_then (IsCell lo hi) (λ cell. IsNormalWord cell.word) cells (λ cell is. is.normal) (each_cell lo hi from cells are))
+
+held_stands : (first : Option Suspended) (ram : ℕ → ℕ) → AreBytes ram → (f : Word → Word → Word) (lo hi from : ℕ) (new : List Cell) → AreCells lo hi from new → (cell : Cell)
+    → Covers first cell.size f → Holds first ram cell → OfSome (StandsAt first ram) (with_both f new cell)
+held_stands first ram bytes f lo hi from new are cell covers h = of_both (StandsAt first ram) f cell (cell_at new cell.place cell.size)
+    (of_some_then IsNormalWord (λ word. is_nothing cell.size (f cell.word word) ≡ false → HoldsOfWord first (f cell.word word) (number_at ram cell.place cell.size))
+    (cell_at new cell.place cell.size)
+    (λ word normal says. covers.one cell.word word (number_at ram cell.place cell.size) h.normal normal (small_number ram bytes cell.place cell.size) h.holds)
+    (normal_found lo hi from new are cell.place cell.size))
+
+new_stands : (first : Option Suspended) (ram : ℕ → ℕ) → AreBytes ram → (f : Word → Word → Word) (lo hi : ℕ) (new : List Cell) → Each (Holds first ram) new → (cell : Cell)
+    → Covers first cell.size f → IsCell lo hi cell → OfSome (StandsAt first ram) (with_both f new cell)
+new_stands first ram bytes f lo hi new held cell covers is = of_both (StandsAt first ram) f cell (cell_at new cell.place cell.size)
+    (of_some_then (λ word. IsNormalWord word × HoldsOfWord first word (number_at ram cell.place cell.size))
+    (λ word. is_nothing cell.size (f cell.word word) ≡ false → HoldsOfWord first (f cell.word word) (number_at ram cell.place cell.size))
+    (cell_at new cell.place cell.size)
+    (λ word h says. covers.other cell.word word (number_at ram cell.place cell.size) is.normal h.0 (small_number ram bytes cell.place cell.size) h.1)
+    (found_at (λ p s word. IsNormalWord word × HoldsOfWord first word (number_at ram p s)) new cell.place cell.size
+    (each_then (Holds first ram) (λ c. IsNormalWord c.word × HoldsOfWord first c.word (number_at ram c.place c.size)) new (λ c h. (h.normal, h.holds)) held)))
+
+-- a cell of a form, of a place and a size
+abbrev pub IsAlike : (lo hi : ℕ) → Cell → Cell → Type 0
+IsAlike lo hi cell new = IsCell lo hi new × (new.place ≡ cell.place) × (new.size ≡ cell.size)
+
+form_stays : (f : Word → Word → Word) (lo hi low high start : ℕ) (new : List Cell) → AreCells low high start new → (cell : Cell) → Forms cell.size f → IsCell lo hi cell
+    → OfSome (IsAlike lo hi cell) (with_both f new cell)
+form_stays f lo hi low high start new are cell forms is = of_both (IsAlike lo hi cell) f cell (cell_at new cell.place cell.size)
+    (of_some_then (λ word. IsNormalWord word × (cell.size ≡ 1 → (n : ℕ) → Has 65536 word.set n → n < 256))
+    (λ word. let c : Cell = record { place = cell.place; size = cell.size; word = f cell.word word } in is_nothing cell.size (f cell.word word) ≡ false → IsAlike lo hi cell c)
+    (cell_at new cell.place cell.size)
+    (λ word h says. (
+      record {
+        size = is.size;
+        low = is.low;
+        high = is.high;
+        normal = forms.normal cell.word word is.normal h.0;
+        byte = λ one. forms.byte cell.word word is.normal h.0 one (is.byte one) (h.1 one);
+        says = says;
+      },
+      refl,
+      refl,
+    ))
+    (found_at (λ p s word. IsNormalWord word × (s ≡ 1 → (n : ℕ) → Has 65536 word.set n → n < 256)) new cell.place cell.size
+    (each_then (IsCell low high) (λ c. IsNormalWord c.word × (c.size ≡ 1 → (n : ℕ) → Has 65536 c.word.set n → n < 256)) new (λ c h. (h.normal, h.byte)) (each_cell low high start new are))))
+
+same_start : (from place other : ℕ) → other ≡ place → from ≤ place → from ≤ other
+same_start from place other e h = omega arith
+
+alike_form : (lo hi from : ℕ) (cell : Cell) (found : Option Cell) (rest : List Cell) → from ≤ cell.place → OfSome (IsAlike lo hi cell) found
+    → AreCells lo hi (cell.place + cell.size) rest → AreCells lo hi from (with_some found rest)
+alike_form lo hi from cell None rest h alike are = lowered lo hi (cell.place + cell.size) from rest (omega arith) are
+alike_form lo hi from cell (Some new) rest h alike are = (
+  alike.0,
+  same_start from cell.place new.place alike.1 h,
+  lowered lo hi (cell.place + cell.size) (new.place + new.size) rest (omega (arith, alike.1, alike.2)) are,
+)
+
+pub kept_form : (lo hi from : ℕ) (f : Cell → Option Cell) (cells : List Cell) → ((cell : Cell) → IsCell lo hi cell → OfSome (IsAlike lo hi cell) (f cell)) → AreCells lo hi from cells
+    → AreCells lo hi from (kept f cells)
+kept_form lo hi from f [] step are = tt
+kept_form lo hi from f (cell ∷ cells) step are = alike_form lo hi from cell (f cell) (kept f cells) are.1 (step cell are.0) (kept_form lo hi (cell.place + cell.size) f cells step are.2)
+
+-- ---- joined cells
+
+pub join_covers_held : Joins → (first : Option Suspended) (ram : ℕ → ℕ) (lo hi from low high start : ℕ) (held new : List Cell) → AreCells lo hi from held → AreCells low high start new
+    → StandsUnder first held ram → StandsUnder first (join_cells held new) ram
+unfolding join_cells
+join_covers_held joins first ram lo hi from low high start held new are others h = (
+  h.0,
+  each_in (StandsAt first ram) (kept (with_both word_join new) held)
+      (each_kept (Holds first ram) (StandsAt first ram) (with_both word_join new) held
+      (λ cell holds. held_stands first ram h.0 word_join low high start new others cell (join_covers joins first cell.size) holds)
+      (each_holds first ram lo hi from held are h)),
+)
+
+pub join_covers_new : Joins → (first : Option Suspended) (ram : ℕ → ℕ) (lo hi from low high start : ℕ) (held new : List Cell) → AreCells lo hi from held → AreCells low high start new
+    → StandsUnder first new ram → StandsUnder first (join_cells held new) ram
+unfolding join_cells
+join_covers_new joins first ram lo hi from low high start held new are others h = (
+  h.0,
+  each_in (StandsAt first ram) (kept (with_both word_join new) held)
+      (each_kept (IsCell lo hi) (StandsAt first ram) (with_both word_join new) held
+      (λ cell is. new_stands first ram h.0 word_join lo hi new (each_holds first ram low high start new others h) cell (join_covers joins first cell.size) is)
+      (each_cell lo hi from held are)),
+)
+
+pub join_form : Joins → JoinsStayLow → (lo hi from low high start : ℕ) (held new : List Cell) → AreCells lo hi from held → AreCells low high start new → AreCells lo hi from (join_cells held new)
+unfolding join_cells
+join_form joins stays lo hi from low high start held new are others = kept_form lo hi from (with_both word_join new) held
+    (λ cell is. form_stays word_join lo hi low high start new others cell (join_forms joins stays cell.size) is) are
+
+-- ---- widened cells
+
+-- a fact of what is made by the widening of the cell's size
+of_size : (P : Cell → Type 0) (marks : List ℕ) (new : List Cell) (cell : Cell)
+    → (cell.size ≡ 1 → OfSome P (with_both (λ h n. byte_widened h n marks) new cell)) → ((cell.size ≡ 1 → ⊥) → OfSome P (with_both (λ h n. word_widen h n marks) new cell))
+    → OfSome P (cell_widened marks new cell)
+of_size P marks new cell byte word = elim (cases_Bool (cell.size == 1)) [
+  | inl one ↦ rw one (byte (eqb-true cell.size 1 one))
+  | inr wide ↦ rw wide (word (eqb-false cell.size 1 wide))
+]
+
+pub widen_covers_held : Sets → (first : Option Suspended) (ram : ℕ → ℕ) (lo hi from low high start : ℕ) (held new : List Cell) (marks : List ℕ) → AreCells lo hi from held → AreCells low high start new
+    → All (λ mark. mark < 65536) marks → StandsUnder first held ram → StandsUnder first (widen_cells held new marks) ram
+unfolding widen_cells
+widen_covers_held sets first ram lo hi from low high start held new marks are others below h = (
+  h.0,
+  each_in (StandsAt first ram) (kept (cell_widened marks new) held)
+      (each_kept (Holds first ram) (StandsAt first ram) (cell_widened marks new) held
+      (λ cell holds. of_size (StandsAt first ram) marks new cell
+      (λ one. held_stands first ram h.0 (λ a b. byte_widened a b marks) low high start new others cell (byte_covers sets first cell.size marks one) holds)
+      (λ wide. held_stands first ram h.0 (λ a b. word_widen a b marks) low high start new others cell (widen_covers sets.widens first cell.size marks below) holds))
+      (each_holds first ram lo hi from held are h)),
+)
+
+pub widen_covers_new : Sets → (first : Option Suspended) (ram : ℕ → ℕ) (lo hi from low high start : ℕ) (held new : List Cell) (marks : List ℕ) → AreCells lo hi from held → AreCells low high start new
+    → All (λ mark. mark < 65536) marks → StandsUnder first new ram → StandsUnder first (widen_cells held new marks) ram
+unfolding widen_cells
+widen_covers_new sets first ram lo hi from low high start held new marks are others below h =
+    let all = each_holds first ram low high start new others h in (
+      h.0,
+      each_in (StandsAt first ram) (kept (cell_widened marks new) held)
+          (each_kept (IsCell lo hi) (StandsAt first ram) (cell_widened marks new) held
+          (λ cell is. of_size (StandsAt first ram) marks new cell
+          (λ one. new_stands first ram h.0 (λ a b. byte_widened a b marks) lo hi new all cell (byte_covers sets first cell.size marks one) is)
+          (λ wide. new_stands first ram h.0 (λ a b. word_widen a b marks) lo hi new all cell (widen_covers sets.widens first cell.size marks below) is))
+          (each_cell lo hi from held are)),
+    )
+
+pub widen_form : Sets → PairsStayLow → (lo hi from low high start : ℕ) (held new : List Cell) (marks : List ℕ) → AreCells lo hi from held → AreCells low high start new
+    → All (λ mark. mark < 65536) marks → AreCells lo hi from (widen_cells held new marks)
+unfolding widen_cells
+widen_form sets stays lo hi from low high start held new marks are others below = kept_form lo hi from (cell_widened marks new) held
+    (λ cell is. of_size (IsAlike lo hi cell) marks new cell
+    (λ one. form_stays (λ a b. byte_widened a b marks) lo hi low high start new others cell (byte_forms sets stays cell.size marks) is)
+    (λ wide. form_stays (λ a b. word_widen a b marks) lo hi low high start new others cell (widen_forms sets.widens cell.size marks wide below) is))
+    are
+
+-- ---- cells within others
+
+found_within : InclusionIsTested → (first : Option Suspended) (v : ℕ) (found : Option Word) (held : Word) → is_found_within found held ≡ true
+    → OfSome (λ word. HoldsOfWord first word v) found → HoldsOfWord first held v
+found_within tested first v None held within h = absurd (cc)
+found_within tested first v (Some new) held within h = within_holds tested first new held v within h
+
+each_within : InclusionIsTested → (first : Option Suspended) (ram : ℕ → ℕ) (new held : List Cell) → are_within new held ≡ true → Each (StandsAt first ram) new → Each (StandsAt first ram) held
+each_within tested first ram new [] within h = tt
+each_within tested first ram new (cell ∷ cells) within h =
+    let parts = and_parts (is_found_within (cell_at new cell.place cell.size) cell.word) (are_within new cells) within in (
+      found_within tested first (number_at ram cell.place cell.size) (cell_at new cell.place cell.size) cell.word parts.0
+          (found_at (λ place size word. HoldsOfWord first word (number_at ram place size)) new cell.place cell.size h),
+      each_within tested first ram new cells parts.1 h,
+    )
+
+pub within_covers : InclusionIsTested → (first : Option Suspended) (ram : ℕ → ℕ) (new held : List Cell) → are_within new held ≡ true → StandsUnder first new ram → StandsUnder first held ram
+within_covers tested first ram new held within h =
+    (h.0, each_in (StandsAt first ram) held (each_within tested first ram new held within (each_from (StandsAt first ram) new h.1)))

@@ -1,0 +1,94 @@
+//! What cells hold, over their definitions and for every list of cells. Proofs of representations of cells call these.
+
+ghost use Rattle.std.specs.Prelude.{◌≡◌, ◌≤◌, ◌<◌, ℕ, ◌⊎◌, All, true, Option, List};
+ghost use Rattle.value_set.specs.declared.form.Form.{Form as AForm};
+ghost use Rattle.value_set.specs.Form.{Has, IsNormal};
+ghost use Rattle.entry_value.specs.declared.cells.Cell.{Cell as ACell};
+ghost use Rattle.entry_value.specs.declared.word.Word.{Word as AWord};
+ghost use Rattle.entry_value.specs.Words.{Suspended, HoldsOfWord};
+ghost use Rattle.entry_value.specs.Cells as the_cells;
+ghost use Rattle.entry_value.specs.Cells.{CellMap, AreCells, StandsUnder, number_at, written};
+
+use value_bits::halves_hold;
+use value_set::{
+    inclusion_is_tested, joins_include_both, members_are_below, single_and_whole_sets,
+    widenings_include_both,
+};
+
+/// What is read at an address holds of what stands there.
+pub fn reads_hold()
+    ensures { (first : Option Suspended) (ram : ℕ → ℕ) (lo hi from at size : ℕ) (cells : List ACell) → AreCells lo hi from cells → at < 65536 → (size ≡ 1) ⊎ (size ≡ 2)
+        → StandsUnder first cells ram → HoldsOfWord first (the_cells.read cells at size) (number_at ram at size) }
+{
+    halves_hold();
+    single_and_whole_sets();
+}
+
+/// What stood under cells stands under those behind a write of a number, of which the value holds.
+pub fn writes_cover()
+    ensures one { (first : Option Suspended) (ram : ℕ → ℕ) (from at size v : ℕ) (map : CellMap) (word : AWord)
+        → map.hi < 65536 → AreCells map.lo map.hi from map.cells → at < 65536 → (size ≡ 1) ⊎ (size ≡ 2)
+        → IsNormal 65536 word.set → (size ≡ 1 → (n : ℕ) → Has 65536 word.set n → n < 256)
+        → StandsUnder first map.cells ram → HoldsOfWord first word v → StandsUnder first (the_cells.write_one map at size word).cells (written ram at size v) }
+    ensures any { (first : Option Suspended) (ram : ℕ → ℕ) (from size address v : ℕ) (map : CellMap) (at : AForm) (word : AWord)
+        → map.hi < 65536 → AreCells map.lo map.hi from map.cells → IsNormal 65536 at → (size ≡ 1) ⊎ (size ≡ 2)
+        → IsNormal 65536 word.set → (size ≡ 1 → (n : ℕ) → Has 65536 word.set n → n < 256)
+        → StandsUnder first map.cells ram → Has 65536 at address → HoldsOfWord first word v → StandsUnder first (the_cells.write_any map at size word).cells (written ram address size v) }
+{
+    members_are_below();
+    joins_include_both();
+}
+
+/// The cells behind a write are cells of the same range.
+pub fn writes_keep_form()
+    ensures one { (from at size : ℕ) (map : CellMap) (word : AWord) → map.hi < 65536 → from ≤ map.lo → AreCells map.lo map.hi from map.cells → (size ≡ 1) ⊎ (size ≡ 2)
+        → IsNormal 65536 word.set → (size ≡ 1 → (n : ℕ) → Has 65536 word.set n → n < 256) → AreCells map.lo map.hi from (the_cells.write_one map at size word).cells }
+    ensures one_lo { (at size : ℕ) (map : CellMap) (word : AWord) → (the_cells.write_one map at size word).lo ≡ map.lo }
+    ensures one_hi { (at size : ℕ) (map : CellMap) (word : AWord) → (the_cells.write_one map at size word).hi ≡ map.hi }
+    ensures any { (from size : ℕ) (map : CellMap) (at : AForm) (word : AWord) → AreCells map.lo map.hi from map.cells
+        → IsNormal 65536 word.set → (size ≡ 1 → (n : ℕ) → Has 65536 word.set n → n < 256) → AreCells map.lo map.hi from (the_cells.write_any map at size word).cells }
+    ensures any_lo { (size : ℕ) (map : CellMap) (at : AForm) (word : AWord) → (the_cells.write_any map at size word).lo ≡ map.lo }
+    ensures any_hi { (size : ℕ) (map : CellMap) (at : AForm) (word : AWord) → (the_cells.write_any map at size word).hi ≡ map.hi }
+{
+    joins_include_both();
+}
+
+/// The cells of two lists joined, and those widened, are cells of the range of the first one.
+pub fn unions_keep_form()
+    ensures join { (lo hi from low high start : ℕ) (held new : List ACell) → AreCells lo hi from held → AreCells low high start new → AreCells lo hi from (the_cells.join_cells held new) }
+    ensures widen { (lo hi from low high start : ℕ) (held new : List ACell) (marks : List ℕ) → AreCells lo hi from held → AreCells low high start new
+        → All (λ mark. mark < 65536) marks → AreCells lo hi from (the_cells.widen_cells held new marks) }
+{
+    members_are_below();
+    halves_hold();
+    single_and_whole_sets();
+    inclusion_is_tested();
+    joins_include_both();
+    widenings_include_both();
+}
+
+/// Cells within others: what stands under these stands under those.
+pub fn inclusion_covers()
+    ensures { (first : Option Suspended) (ram : ℕ → ℕ) (new held : List ACell) → the_cells.are_within new held ≡ true → StandsUnder first new ram → StandsUnder first held ram }
+{
+    inclusion_is_tested();
+}
+
+/// What stands under one of two lists of cells stands under their join, and what stands under either stands under the
+/// first one widened by the other.
+pub fn unions_cover()
+    ensures own { (first : Option Suspended) (ram : ℕ → ℕ) (lo hi from low high start : ℕ) (held new : List ACell) → AreCells lo hi from held → AreCells low high start new
+        → StandsUnder first held ram → StandsUnder first (the_cells.join_cells held new) ram }
+    ensures others { (first : Option Suspended) (ram : ℕ → ℕ) (lo hi from low high start : ℕ) (held new : List ACell) → AreCells lo hi from held → AreCells low high start new
+        → StandsUnder first new ram → StandsUnder first (the_cells.join_cells held new) ram }
+    ensures held { (first : Option Suspended) (ram : ℕ → ℕ) (lo hi from low high start : ℕ) (held new : List ACell) (marks : List ℕ) → AreCells lo hi from held → AreCells low high start new
+        → All (λ mark. mark < 65536) marks → StandsUnder first held ram → StandsUnder first (the_cells.widen_cells held new marks) ram }
+    ensures added { (first : Option Suspended) (ram : ℕ → ℕ) (lo hi from low high start : ℕ) (held new : List ACell) (marks : List ℕ) → AreCells lo hi from held → AreCells low high start new
+        → All (λ mark. mark < 65536) marks → StandsUnder first new ram → StandsUnder first (the_cells.widen_cells held new marks) ram }
+{
+    halves_hold();
+    single_and_whole_sets();
+    inclusion_is_tested();
+    joins_include_both();
+    widenings_include_both();
+}
