@@ -1,0 +1,4 @@
+mod Lists
+mod Members
+mod Passes
+mod Places

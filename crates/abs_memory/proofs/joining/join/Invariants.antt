@@ -1,0 +1,14 @@
+use Rattle.std.proofs.Common.{◌≡◌, ◌++◌, drop}
+use Rattle.entry_value.specs.Words.{word_join}
+use Rattle.entry_value.specs.Cells.{kept, with_both}
+use Rattle.abs_memory.specs.Finding.{Ascend}
+use Rattle.abs_memory.proofs.Passes.{Follows}
+use Rattle.abs_memory.proofs.joining.join.Given as goal
+
+abbrev pub invariant-loop-cell : goal.invariant-loop-cell
+invariant-loop-cell l =
+    record {
+      ascend : Ascend 0 l.others;
+      follows : Follows l.new l.others (drop l.cell-index l.held);
+      passed : l.all.items ++ kept (with_both word_join l.new) (drop l.cell-index l.held) ≡ kept (with_both word_join l.new) l.held;
+    }

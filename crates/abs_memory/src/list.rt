@@ -1,0 +1,109 @@
+//! The list.
+
+ghost use Rattle.std.specs.Prelude.{◌≡◌, ◌≤◌};
+
+use crate::{finding, joining, reading, writing};
+use entry_value::{
+    Cell, Cells, Word, inclusion_covers, reads_hold, unions_cover, unions_keep_form, writes_cover,
+    writes_keep_form,
+};
+use std::alloc::Global;
+use std::marker::Model;
+use value_set::Vs16;
+use vsa_io::Memory;
+
+/// Cells in ascending order of their places.
+#[derive(Drop)]
+pub struct CellList {
+    lo: u16,
+    hi: u16,
+    cells: Vec<Cell>,
+}
+
+impl Model for CellList {
+    ghost use Rattle.entry_value.specs.Cells.{CellMap};
+
+    ghost Value = { CellMap };
+
+    ghost use Rattle.abs_memory.specs.Listed.{IsList};
+
+    ghost view = { λ list. record { lo = list.lo; hi = list.hi; cells = list.cells.items } };
+
+    ghost invariant = { λ list. IsList list.lo list.hi list.cells.items };
+}
+
+impl Cells for CellList {
+    ghost map = { λ list. list };
+
+    fn empty(alloc: Global, lo: u16, hi: u16) -> Result<Self, Memory> {
+        Ok(CellList {
+            lo,
+            hi,
+            cells: Vec::new(alloc),
+        })
+    }
+
+    fn read(&self, at: u16, size: u8) -> Word {
+        reads_hold();
+        reading::read(&self.cells, at, size)
+    }
+
+    fn write_one(&mut self, at: u16, size: u8, value: Word) -> Result<(), Memory> {
+        writes_cover();
+        writes_keep_form();
+        let _normal = value.set.form();
+        self.cells.reserve(1)?;
+        let cell = Cell {
+            place: at,
+            size,
+            word: value,
+        };
+        writing::write_one(&mut self.cells, self.lo, self.hi, cell);
+        Ok(())
+    }
+
+    fn write_any(&mut self, at: &Vs16, size: u8, value: Word) -> Result<(), Memory> {
+        writes_cover();
+        writes_keep_form();
+        let _normal = (at.form(), value.set.form());
+        writing::write_any(&mut self.cells, at, size, &value);
+        Ok(())
+    }
+
+    fn next(&self, from: u32) -> Option<(u16, u8, Word)> {
+        finding::next(&self.cells, from)
+    }
+
+    fn join(&self, alloc: Global, other: &Self) -> Result<Self, Memory> {
+        unions_cover();
+        unions_keep_form();
+        Ok(CellList {
+            lo: self.lo,
+            hi: self.hi,
+            cells: joining::join(alloc, &self.cells, &other.cells)?,
+        })
+    }
+
+    fn widen(&self, alloc: Global, new: &Self, marks: &[u16]) -> Result<Self, Memory> {
+        unions_cover();
+        unions_keep_form();
+        Ok(CellList {
+            lo: self.lo,
+            hi: self.hi,
+            cells: joining::widen(alloc, &self.cells, &new.cells, marks)?,
+        })
+    }
+
+    fn within(&self, other: &Self) -> bool {
+        inclusion_covers();
+        joining::are_within(&self.cells, &other.cells)
+    }
+
+    fn copy(&self, alloc: Global) -> Result<Self, Memory> {
+        Ok(CellList {
+            lo: self.lo,
+            hi: self.hi,
+            cells: self.cells.as_slice().to_vec(alloc)?,
+        })
+    }
+}
