@@ -39,7 +39,7 @@ IsWalk image zero at passed text = text ≡ []
 IsWalk image (suc words) at passed text =
     ((at < passed) × IsWalk image words (at + 2) passed text)
     ⊎ ((passed ≤ at) × ((answer : Result (Instr × ℕ) NoInstr) × (rest : List ℕ) × Decodes image at answer
-        × (text ≡ lines_at image at answer ++ rest) × IsWalk image words (at + 2) (passed_at at answer) rest))
+    × (text ≡ lines_at image at answer ++ rest) × IsWalk image words (at + 2) (passed_at at answer) rest))
 
 -- the text of an image: that of its 32,768 words, from 0000h to FFFEh
 unfoldable pub IsDisassembly : List (Option ℕ) → List ℕ → Type 0
