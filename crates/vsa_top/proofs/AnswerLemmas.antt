@@ -7,7 +7,7 @@ use Rattle.vsa_io.specs.Stream.{appended, AppendsPrefix}
 use Rattle.vsa_top.specs.declared.msp430.device.Device.{Device}
 use Rattle.vsa_top.specs.declared.outcome.Status.{Status}
 use Rattle.vsa_top.specs.declared.outcome.Status.TheVariants.{Done, Open, WriteFault}
-use Rattle.vsa_top.specs.Answer.{IsAnalysis, AnswersImage, works_behind, report_behind}
+use Rattle.vsa_top.specs.Answer.{IsAnalysis, AnswersAnalysis, works_behind, report_behind}
 use Rattle.vsa_top.specs.Report.{are_closed}
 
 at_once : (device : Device) (journal : List Event) (before after : Option (List ℕ)) (closed : Bool) (answered : Status)
@@ -15,13 +15,13 @@ at_once : (device : Device) (journal : List Event) (before after : Option (List 
     → (answered ≡ (if closed then Done else Open)) ⊎ (answered ≡ WriteFault)
     → (answered ≡ (if closed then Done else Open) → after ≡ appended before (report_behind device journal))
     → AppendsPrefix before (report_behind device journal) after
-    → AnswersImage answered device before after journal
+    → AnswersAnalysis answered device before after journal
 at_once device journal before after true answered is told (inl same) written prefix =
-    subst (λ s. AnswersImage s device before after journal) (sym same) (is, sym told, written same)
+    subst (λ s. AnswersAnalysis s device before after journal) (sym same) (is, sym told, written same)
 at_once device journal before after false answered is told (inl same) written prefix =
-    subst (λ s. AnswersImage s device before after journal) (sym same) (is, sym told, written same)
+    subst (λ s. AnswersAnalysis s device before after journal) (sym same) (is, sym told, written same)
 at_once device journal before after closed answered is told (inr fault) written prefix =
-    subst (λ s. AnswersImage s device before after journal) (sym fault) (is, prefix)
+    subst (λ s. AnswersAnalysis s device before after journal) (sym fault) (is, prefix)
 
 -- by the base of the book, its text, its status and its journal
 pub image_answer : (device : Device) (book : Kept Device) (journal : List Event) (text : List ℕ) (before after : Option (List ℕ))
@@ -34,11 +34,11 @@ pub image_answer : (device : Device) (book : Kept Device) (journal : List Event)
     → (answered ≡ status → after ≡ appended before text)
     → AppendsPrefix before text after
     → journal ≡ book.journal
-    → AnswersImage answered device before after journal
+    → AnswersAnalysis answered device before after journal
 image_answer device book journal text before after closed status answered base is text_is told status_is end written prefix journal_is =
-    let whole : AnswersImage answered book.base before after book.journal = at_once book.base book.journal before after closed answered is told
+    let whole : AnswersAnalysis answered book.base before after book.journal = at_once book.base book.journal before after closed answered is told
     (elim end [ inl same ↦ inl (same ∙ status_is) | inr fault ↦ inr fault ])
     (λ same. written (same ∙ sym status_is) ∙ ap (appended before) text_is)
     (subst (λ t. AppendsPrefix before t after) text_is prefix) in
-    subst (λ i. AnswersImage answered i before after journal) base
-    (subst (λ j. AnswersImage answered book.base before after j) (sym journal_is) whole)
+    subst (λ i. AnswersAnalysis answered i before after journal) base
+    (subst (λ j. AnswersAnalysis answered book.base before after j) (sym journal_is) whole)

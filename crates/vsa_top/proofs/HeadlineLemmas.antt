@@ -33,14 +33,16 @@ use Rattle.vsa_top.specs.declared.msp430.instr.Instr.{Instr}
 use Rattle.vsa_top.specs.declared.msp430.state.State.{State}
 use Rattle.vsa_top.specs.declared.outcome.Status.{Status}
 use Rattle.vsa_top.specs.declared.outcome.Status.TheVariants.{Done, Open, Usage, BadImage, BadCert, ReadFault, WriteFault, Memory, TooLong, Wild, NeedChoice}
-use Rattle.vsa_top.specs.Answer.{text_limit, IsBad, IsTooLong, IsOfImage, IsImageOf, IsAnalysis, AnswersInput, AnswersImage, AnswersLine, works_behind, report_behind}
+use Rattle.vsa_top.specs.Answer.{text_limit, IsBad, IsTooLong, IsOfImage, IsImageOf, IsAnalysis, AnswersInput, AnswersImage, AnswersAnalysis, AnswersText, works_behind, report_behind}
 use Rattle.vsa_top.specs.Answer.AnswersInput.{of_image, of_bad, of_long, unread}
-use Rattle.vsa_top.specs.Answer.AnswersLine.{whole, cut}
+use Rattle.vsa_top.specs.Answer.AnswersText.{whole, cut}
 use Rattle.vsa_top.specs.Headline.{Says, CoversEveryRun, ShowsOpenSites, ReportsOn}
 use Rattle.vsa_top.specs.Msp430Chip.{msp430, work_of, work_at, IsProgram}
 use Rattle.vsa_top.specs.Msp430Fetch.{fetched}
 use Rattle.vsa_top.specs.Msp430Table.{instr_of, instr_text}
 use Rattle.vsa_top.specs.Report.{are_closed, is_empty, lines_of, with_lines, least_of, head_line, summary_of, report_text, report_of}
+use Rattle.vsa_top.specs.declared.words.Mode.{Mode}
+use Rattle.vsa_top.specs.declared.words.Mode.TheVariants.{Analyse, Disasm}
 use Rattle.vsa_top.specs.declared.words.Reading.{Reading}
 use Rattle.vsa_top.specs.Words.{rules_of, device_of}
 use Rattle.vsa_top.proofs.ShownLemmas.{report_has, report_has_item, in_with_lines_new, in_flat_map, in_map}
@@ -159,7 +161,7 @@ same_image one rules (Some read) text image other e denoted found =
     one rules Blank (texts.lines_of text) other image (subst (λ t. Denotes rules Blank (texts.lines_of t) other) same found.denoted) denoted
 
 -- a line alone is told by its own status, or by that of the sink's fault
-told_alone : {told answered : Status} {line : List ℕ} {before after : Option (List ℕ)} {journal : List Event} → AnswersLine told line answered before after journal
+told_alone : {told answered : Status} {line : List ℕ} {before after : Option (List ℕ)} {journal : List Event} → AnswersText told line answered before after journal
     → (answered ≡ told) ⊎ (answered ≡ WriteFault)
 told_alone (whole same is none) = inl same
 told_alone (cut same is none) = inr same
@@ -195,24 +197,32 @@ open_sites of_units device journal analysis left = record {
       };
 }
 
+-- an image that is told as open was analysed
+open_analysis : (mode : Mode) (device : Device) (before after : Option (List ℕ)) (journal : List Event) → AnswersImage mode device Open before after journal
+    → AnswersAnalysis Open device before after journal
+open_analysis Analyse device before after journal answer = answer
+open_analysis Disasm device before after journal answer = elim (told_alone answer.2) [ inl a ↦ absurd (cc) | inr b ↦ absurd (cc) ]
+
 pub closed_lem : CoverRuns → HaveBytes → HaveOneImage → (reading : Reading) (input before after : Option (List ℕ)) (journal : List Event)
-    → AnswersInput reading Done input before after journal → ReportsOn reading input before after CoversEveryRun
-closed_lem cover bytes one reading input before after journal (of_image other found answer) text image e denoted =
+    → reading.mode ≡ Analyse → AnswersInput reading Done input before after journal → ReportsOn reading input before after CoversEveryRun
+closed_lem cover bytes one reading input before after journal mode (of_image other found answer) text image e denoted =
     let same = same_image one (rules_of reading) input text image other e denoted found in
-    let is = subst (λ i. AnswersImage Done (device_of reading i) before after journal) same answer in
+    let analysed = subst (λ m. AnswersImage m (device_of reading other) Done before after journal) mode answer in
+    let is = subst (λ i. AnswersAnalysis Done (device_of reading i) before after journal) same analysed in
     (report_behind (device_of reading image) journal, is.2, covers_every cover bytes reading text image journal denoted is.0 is.1)
-closed_lem cover bytes one reading input before after journal (of_bad line fault bad answer) text image e denoted =
+closed_lem cover bytes one reading input before after journal mode (of_bad line fault bad answer) text image e denoted =
     elim (told_alone answer) [ inl a ↦ absurd (cc) | inr b ↦ absurd (cc) ]
-closed_lem cover bytes one reading input before after journal (of_long long answer) text image e denoted =
+closed_lem cover bytes one reading input before after journal mode (of_long long answer) text image e denoted =
     elim (told_alone answer) [ inl a ↦ absurd (cc) | inr b ↦ absurd (cc) ]
-closed_lem cover bytes one reading input before after journal (unread why kept none) text image e denoted =
+closed_lem cover bytes one reading input before after journal mode (unread why kept none) text image e denoted =
     elim why [ inl a ↦ absurd (cc) | inr b ↦ absurd (cc) ]
 
 pub open_lem : AreOfUnits → HaveOneImage → (reading : Reading) (input before after : Option (List ℕ)) (journal : List Event)
     → AnswersInput reading Open input before after journal → ReportsOn reading input before after (λ device report. ShowsOpenSites device journal report)
 open_lem of_units one reading input before after journal (of_image other found answer) text image e denoted =
     let same = same_image one (rules_of reading) input text image other e denoted found in
-    let is = subst (λ i. AnswersImage Open (device_of reading i) before after journal) same answer in
+    let analysed = open_analysis reading.mode (device_of reading other) before after journal answer in
+    let is = subst (λ i. AnswersAnalysis Open (device_of reading i) before after journal) same analysed in
     (report_behind (device_of reading image) journal, is.2, open_sites of_units (device_of reading image) journal is.0 is.1)
 open_lem of_units one reading input before after journal (of_bad line fault bad answer) text image e denoted =
     elim (told_alone answer) [ inl a ↦ absurd (cc) | inr b ↦ absurd (cc) ]
@@ -225,20 +235,31 @@ abbrev HaveNotBoth : Type 0
 HaveNotBoth = (rules : Rules) (tail : Tail) (lines : List (List ℕ)) (image : List (Option ℕ)) (line : ℕ) (fault : HexFault)
     → Denotes rules tail lines image → FirstFault rules tail lines line fault → ⊥
 
--- the statuses of an image
-status_of_image : (answered : Status) (device : Device) (before after : Option (List ℕ)) (journal : List Event)
-    → AnswersImage answered device before after journal → (answered ≡ WriteFault → ⊥) → IsOfImage answered
-status_of_image Done device before after journal is no_fault = inl refl
-status_of_image Open device before after journal is no_fault = inr (inl refl)
-status_of_image WriteFault device before after journal is no_fault = absurd (no_fault refl)
-status_of_image Usage device before after journal is no_fault = absurd is
-status_of_image BadImage device before after journal is no_fault = absurd is
-status_of_image BadCert device before after journal is no_fault = absurd is
-status_of_image ReadFault device before after journal is no_fault = absurd is
-status_of_image Memory device before after journal is no_fault = absurd is
-status_of_image TooLong device before after journal is no_fault = absurd is
-status_of_image Wild device before after journal is no_fault = absurd is
-status_of_image NeedChoice device before after journal is no_fault = absurd is
+-- the statuses of an analysis
+status_of_analysis : (answered : Status) (device : Device) (before after : Option (List ℕ)) (journal : List Event)
+    → AnswersAnalysis answered device before after journal → (answered ≡ WriteFault → ⊥) → IsOfImage Analyse answered
+status_of_analysis Done device before after journal is no_fault = inl refl
+status_of_analysis Open device before after journal is no_fault = inr (inl refl)
+status_of_analysis WriteFault device before after journal is no_fault = absurd (no_fault refl)
+status_of_analysis Usage device before after journal is no_fault = absurd is
+status_of_analysis BadImage device before after journal is no_fault = absurd is
+status_of_analysis BadCert device before after journal is no_fault = absurd is
+status_of_analysis ReadFault device before after journal is no_fault = absurd is
+status_of_analysis Memory device before after journal is no_fault = absurd is
+status_of_analysis TooLong device before after journal is no_fault = absurd is
+status_of_analysis Wild device before after journal is no_fault = absurd is
+status_of_analysis NeedChoice device before after journal is no_fault = absurd is
+
+-- the statuses of an image in a mode
+status_of_image : (mode : Mode) (answered : Status) (device : Device) (before after : Option (List ℕ)) (journal : List Event)
+    → AnswersImage mode device answered before after journal → (answered ≡ WriteFault → ⊥) → IsOfImage mode answered
+status_of_image Analyse answered device before after journal is no_fault = status_of_analysis answered device before after journal is no_fault
+status_of_image Disasm answered device before after journal is no_fault =
+    elim (told_alone is.2) [ inl done ↦ inl done | inr fault ↦ absurd (no_fault fault) ]
+
+memory_of_image : (mode : Mode) (answered : Status) → answered ≡ Memory → IsOfImage mode answered
+memory_of_image Analyse answered memory = inr (inr memory)
+memory_of_image Disasm answered memory = inr memory
 
 -- a text of an image isn't refused
 not_bad : HaveNotBoth → (rules : Rules) (text : List ℕ) (image : List (Option ℕ)) (line : ℕ) (fault : HexFault) → IsImageOf rules text image
@@ -252,12 +273,12 @@ not_long rules text image is long = omega (arith, is.fits, long.longer)
 
 pub complete_lem : HaveNotBoth → (reading : Reading) (answered : Status) (input before after : Option (List ℕ)) (journal : List Event) (text : List ℕ)
     (image : List (Option ℕ)) → AnswersInput reading answered input before after journal → input ≡ Some text → IsImageOf (rules_of reading) text image
-    → (answered ≡ ReadFault → ⊥) → (answered ≡ WriteFault → ⊥) → IsOfImage answered
+    → (answered ≡ ReadFault → ⊥) → (answered ≡ WriteFault → ⊥) → IsOfImage reading.mode answered
 complete_lem both reading answered input before after journal text image (of_image other found answer) e is no_read no_write =
-    status_of_image answered (device_of reading other) before after journal answer no_write
+    status_of_image reading.mode answered (device_of reading other) before after journal answer no_write
 complete_lem both reading answered input before after journal text image (of_bad line fault bad answer) e is no_read no_write =
     absurd (not_bad both (rules_of reading) text image line fault is (subst (λ i. IfSome i (λ t. IsBad (rules_of reading) t line fault)) e bad))
 complete_lem both reading answered input before after journal text image (of_long long answer) e is no_read no_write =
     absurd (not_long (rules_of reading) text image is (subst (λ i. IfSome i (IsTooLong (rules_of reading))) e long))
 complete_lem both reading answered input before after journal text image (unread why kept none) e is no_read no_write =
-    elim why [ inl fault ↦ absurd (no_read fault) | inr memory ↦ inr (inr memory) ]
+    elim why [ inl fault ↦ absurd (no_read fault) | inr memory ↦ memory_of_image reading.mode answered memory ]

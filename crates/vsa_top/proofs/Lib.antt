@@ -1,4 +1,5 @@
 pub mod AnswerLemmas
+pub mod DisassemblyLemmas
 pub mod HeadlineLemmas
 pub mod InputLemmas
 pub mod Msp430Laws

@@ -17,6 +17,7 @@ use Rattle.round_core.specs.Kept.{live_works}
 use Rattle.round_core.specs.Machine.{replay, IsLegalJournal, IsFinished}
 use Rattle.vsa_top.specs.declared.msp430.device.Device.{Device}
 use Rattle.vsa_top.specs.declared.msp430.state.State.{State}
+use Rattle.vsa_top.specs.Disassembly.{IsDisassembly}
 use Rattle.vsa_top.specs.Msp430Chip.{msp430}
 use Rattle.vsa_top.specs.Msp430Table.{instr_of, instr_text}
 use Rattle.vsa_top.specs.Report.{report_of, are_closed}
@@ -26,6 +27,8 @@ use Rattle.vsa_top.specs.declared.input.InputError.{InputError}
 use Rattle.vsa_top.specs.declared.input.InputError.TheVariants.{Failed, Memory, Bad, TooLong}
 use Rattle.vsa_top.specs.declared.outcome.Status.{Status}
 use Rattle.vsa_top.specs.declared.outcome.Status.TheVariants as status
+use Rattle.vsa_top.specs.declared.words.Mode.{Mode}
+use Rattle.vsa_top.specs.declared.words.Mode.TheVariants.{Analyse, Disasm}
 use Rattle.vsa_top.specs.declared.words.Reading.{Reading}
 
 -- the longest image text
@@ -86,40 +89,50 @@ pub record IsAnalysis (device : Device) (journal : List Event) : Type 0 where
   pub finished : IsFinished (replay (msp430 device) journal)
   pub turns : AreTurns journal
 
--- An answer by a line alone: this status with the line behind what was held, or the fault of the sink with a front of
--- the line, perhaps nothing. There is no journal.
-pub data AnswersLine (told : Status) (line : List ℕ) (answered : Status) (before after : Option (List ℕ)) (journal : List Event) : Type 0 where
-  whole : answered ≡ told → after ≡ appended before line → journal ≡ [] → AnswersLine told line answered before after journal
-  cut : answered ≡ status.WriteFault → AppendsPrefix before line after → journal ≡ []
-      → AnswersLine told line answered before after journal
+-- An answer by a text alone: this status with the text behind what was held, or the fault of the sink with a front of
+-- the text, perhaps nothing. There is no journal.
+pub data AnswersText (told : Status) (text : List ℕ) (answered : Status) (before after : Option (List ℕ)) (journal : List Event) : Type 0 where
+  whole : answered ≡ told → after ≡ appended before text → journal ≡ [] → AnswersText told text answered before after journal
+  cut : answered ≡ status.WriteFault → AppendsPrefix before text after → journal ≡ []
+      → AnswersText told text answered before after journal
 
--- what a device gets: Open exactly where the book has an open
-abbrev pub AnswersImage : Status → Device → (before after : Option (List ℕ)) → List Event → Type 0
-AnswersImage status.Done device before after journal = IsAnalysis device journal
+-- what a device gets that is analysed: Open exactly where the book has an open
+abbrev pub AnswersAnalysis : Status → Device → (before after : Option (List ℕ)) → List Event → Type 0
+AnswersAnalysis status.Done device before after journal = IsAnalysis device journal
     × (are_closed (works_behind device journal) ≡ true) × (after ≡ appended before (report_behind device journal))
-AnswersImage status.Open device before after journal = IsAnalysis device journal
+AnswersAnalysis status.Open device before after journal = IsAnalysis device journal
     × (are_closed (works_behind device journal) ≡ false) × (after ≡ appended before (report_behind device journal))
-AnswersImage status.WriteFault device before after journal =
+AnswersAnalysis status.WriteFault device before after journal =
     IsAnalysis device journal × AppendsPrefix before (report_behind device journal) after
-AnswersImage status.Usage device before after journal = ⊥
-AnswersImage status.BadImage device before after journal = ⊥
-AnswersImage status.BadCert device before after journal = ⊥
-AnswersImage status.ReadFault device before after journal = ⊥
-AnswersImage status.Memory device before after journal = ⊥
-AnswersImage status.TooLong device before after journal = ⊥
-AnswersImage status.Wild device before after journal = ⊥
-AnswersImage status.NeedChoice device before after journal = ⊥
+AnswersAnalysis status.Usage device before after journal = ⊥
+AnswersAnalysis status.BadImage device before after journal = ⊥
+AnswersAnalysis status.BadCert device before after journal = ⊥
+AnswersAnalysis status.ReadFault device before after journal = ⊥
+AnswersAnalysis status.Memory device before after journal = ⊥
+AnswersAnalysis status.TooLong device before after journal = ⊥
+AnswersAnalysis status.Wild device before after journal = ⊥
+AnswersAnalysis status.NeedChoice device before after journal = ⊥
+
+-- what an image gets that is disassembled: Done with its disassembly
+abbrev pub AnswersDisassembly : List (Option ℕ) → Status → (before after : Option (List ℕ)) → List Event → Type 0
+AnswersDisassembly image answered before after journal =
+    (text : List ℕ) × IsDisassembly image text × AnswersText status.Done text answered before after journal
+
+-- what a device gets in a mode
+abbrev pub AnswersImage : Mode → Device → Status → (before after : Option (List ℕ)) → List Event → Type 0
+AnswersImage Analyse device answered before after journal = AnswersAnalysis answered device before after journal
+AnswersImage Disasm device answered before after journal = AnswersDisassembly device.image answered before after journal
 
 -- The answer to words that are a reading, over the text that the input is, where it is told: that of the image which
 -- it denotes, or its first faulty line, or that it is too long; or a fault of the source or want of memory, with
 -- nothing written.
 pub data AnswersInput (reading : Reading) (answered : Status) (input before after : Option (List ℕ)) (journal : List Event) : Type 0 where
   of_image : (image : List (Option ℕ)) → IfSome input (λ text. IsImageOf (rules_of reading) text image)
-      → AnswersImage answered (device_of reading image) before after journal → AnswersInput reading answered input before after journal
+      → AnswersImage reading.mode (device_of reading image) answered before after journal → AnswersInput reading answered input before after journal
   of_bad : (line : ℕ) (fault : HexFault) → IfSome input (λ text. IsBad (rules_of reading) text line fault)
-      → AnswersLine status.BadImage (bad_line line fault) answered before after journal
+      → AnswersText status.BadImage (bad_line line fault) answered before after journal
       → AnswersInput reading answered input before after journal
-  of_long : IfSome input (IsTooLong (rules_of reading)) → AnswersLine status.TooLong long_line answered before after journal
+  of_long : IfSome input (IsTooLong (rules_of reading)) → AnswersText status.TooLong long_line answered before after journal
       → AnswersInput reading answered input before after journal
   unread : (answered ≡ status.ReadFault) ⊎ (answered ≡ status.Memory) → after ≡ before → journal ≡ []
       → AnswersInput reading answered input before after journal
@@ -128,6 +141,7 @@ pub data AnswersInput (reading : Reading) (answered : Status) (input before afte
 abbrev pub IsCutShort : Status → Type 0
 IsCutShort answered = (answered ≡ status.ReadFault) ⊎ (answered ≡ status.WriteFault) ⊎ (answered ≡ status.Memory)
 
--- a status that an image gets where nothing fails: that of its report, or want of memory
-abbrev pub IsOfImage : Status → Type 0
-IsOfImage answered = (answered ≡ status.Done) ⊎ (answered ≡ status.Open) ⊎ (answered ≡ status.Memory)
+-- a status that an image gets in a mode where nothing fails: that of its report or its disassembly, or want of memory
+abbrev pub IsOfImage : Mode → Status → Type 0
+IsOfImage Analyse answered = (answered ≡ status.Done) ⊎ (answered ≡ status.Open) ⊎ (answered ≡ status.Memory)
+IsOfImage Disasm answered = (answered ≡ status.Done) ⊎ (answered ≡ status.Memory)

@@ -1,4 +1,5 @@
 pub mod Answer
+pub mod Disassembly
 pub mod Headline
 pub mod Msp430Chip
 pub mod Msp430Cover

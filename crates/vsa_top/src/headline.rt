@@ -6,6 +6,7 @@ ghost use Rattle.vsa_top.specs.declared.outcome.Status.TheVariants.{Done, Open, 
 ghost use Rattle.vsa_top.specs.declared.outcome.Status.{Status as AStatus};
 ghost use Rattle.vsa_top.specs.Answer.{AnswersInput, IsImageOf, IsOfImage};
 ghost use Rattle.vsa_top.specs.Words.{rules_of};
+ghost use Rattle.vsa_top.specs.declared.words.Mode.TheVariants.{Analyse};
 ghost use Rattle.vsa_top.specs.declared.words.Reading.{Reading as AReading};
 ghost use Rattle.vsa_top.specs.Headline.{CoversEveryRun, ShowsOpenSites, ReportsOn};
 
@@ -14,15 +15,15 @@ use closing_law::{closed_books_cover_runs, works_are_of_units};
 use ihex_read::{image_or_fault, images_have_bytes};
 
 /// A report that is told as closed covers every run, and one that is told as open shows its open sites. An image within
-/// the limit gets one of them, where nothing fails and memory is there.
+/// the limit gets one of them, or its disassembly, where nothing fails and memory is there.
 pub(crate) fn reports_hold()
     ensures closed { (reading : AReading) (input before after : Option (List ℕ)) (journal : List AnEvent)
-        → AnswersInput reading Done input before after journal → ReportsOn reading input before after CoversEveryRun }
+        → reading.mode ≡ Analyse → AnswersInput reading Done input before after journal → ReportsOn reading input before after CoversEveryRun }
     ensures open { (reading : AReading) (input before after : Option (List ℕ)) (journal : List AnEvent)
         → AnswersInput reading Open input before after journal → ReportsOn reading input before after (λ device report. ShowsOpenSites device journal report) }
     ensures complete { (reading : AReading) (answered : AStatus) (input before after : Option (List ℕ)) (journal : List AnEvent) (text : List ℕ) (image : List (Option ℕ))
         → AnswersInput reading answered input before after journal → input ≡ Some text → IsImageOf (rules_of reading) text image
-        → ¬ (answered ≡ ReadFault) → ¬ (answered ≡ WriteFault) → IsOfImage answered }
+        → ¬ (answered ≡ ReadFault) → ¬ (answered ≡ WriteFault) → IsOfImage reading.mode answered }
 {
     image_or_fault();
     images_have_bytes();

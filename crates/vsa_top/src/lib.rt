@@ -1,6 +1,7 @@
 //! The top call: from words and an input to a report.
 #![tactic(auto)]
 
+mod disassembly;
 mod fixpoint;
 mod headline;
 mod input;

@@ -1,7 +1,9 @@
 //! Whole calls, over streams in memory.
 
+use crate::disassembly::disassembly_of;
 use crate::outcome::{NoGate, Status};
 use crate::top::vsa;
+use ihex_read::Image;
 use std::alloc::{AllocError, Global};
 use std::process::Abort;
 use std::sync::Wait;
@@ -53,6 +55,97 @@ const REPORT: &str =
 #[test]
 fn row_eight_bytes(rt: HostRuntime) -> Result<(), Fail> {
     answers(&rt, "analyse msp430", EIGHT_BYTES, Status::Done, REPORT)
+}
+
+const DISASSEMBLY: &str = "F000 31408002 MOV #0280h,SP\nF004 FF3F JMP F004h\nFFFE 00F0 AND PC,PC\n";
+
+#[test]
+fn row_of_a_disassembly(rt: HostRuntime) -> Result<(), Fail> {
+    answers(&rt, "disasm msp430", EIGHT_BYTES, Status::Done, DISASSEMBLY)
+}
+
+/// The disassembly of a record's bytes in front of the reset vector.
+fn is_disassembled<R: Abort + Threads + Wait + AllocGlobal + Sync>(
+    rt: &R,
+    record: &str,
+    lines: &str,
+) -> Result<(), Fail> {
+    let input = format!(in rt.alloc(); "{record}\n:02FFFE0000F011\n:00000001FF\n")?;
+    let text = format!(in rt.alloc(); "{lines}FFFE 00F0 AND PC,PC\n")?;
+    answers(
+        rt,
+        "disasm msp430",
+        input.as_str(),
+        Status::Done,
+        text.as_str(),
+    )
+}
+
+#[test]
+fn rows_of_disassembly(rt: HostRuntime) -> Result<(), Fail> {
+    for (record, lines) in [
+        // an excluded word, and what follows it
+        (":04F0000000000343C6", "F000 0000 ?\nF002 0343 MOV #0,R3\n"),
+        // one byte alone, at an odd and at an even address
+        (":01F001005AB4", "F001 5A ?\n"),
+        (":01F00400A566", "F004 A5 ?\n"),
+        (":03F001005AFF3F74", "F001 5A ?\nF002 FF3F JMP F002h\n"),
+        // a missing extension word, half of one, and the second one of two
+        (":02F0000031409D", "F000 3140 ?\n"),
+        (":03F000003140801C", "F000 3140 ?\nF002 80 ?\n"),
+        (":04F00000B2403412D4", "F000 B240 ?\nF002 3412 PUSH @R4+\n"),
+        // both extension words
+        (
+            ":06F00000B24034120002D0",
+            "F000 B24034120002 MOV #1234h,&0200h\n",
+        ),
+    ] {
+        is_disassembled(&rt, record, lines)?;
+    }
+    Ok(())
+}
+
+#[test]
+fn rows_of_the_last_word(rt: HostRuntime) -> Result<(), Fail> {
+    let input = ":02FFFE00314090\n:00000001FF\n";
+    answers(&rt, "disasm msp430", input, Status::Done, "FFFE 3140 ?\n")?;
+    // An extension word at 0000h: what was told there stays, and belongs to the last instruction too.
+    let mut bytes = vec![in rt.alloc(); Some(0x34), Some(0x12)]?;
+    bytes.resize(65534, None)?;
+    bytes.push(Some(0x31))?;
+    bytes.push(Some(0x40))?;
+    let lines = disassembly_of(rt.alloc(), &Image::new(bytes))?;
+    let text = "0000 3412 PUSH @R4+\nFFFE 31403412 MOV #1234h,SP\n";
+    assert_eq!(rt; lines.as_slice(), text.as_bytes());
+    Ok(())
+}
+
+#[test]
+fn rows_of_a_disassembly_that_fails(rt: HostRuntime) -> Result<(), Fail> {
+    answers(
+        &rt,
+        "disasm msp430",
+        ":00000001FF\n",
+        Status::BadImage,
+        "BAD 1 NoReset\n",
+    )?;
+    // A sink that is full behind ten bytes.
+    let words = words_of(rt.alloc(), "disasm msp430")?;
+    let bytes = Vec::from_slice(rt.alloc(), EIGHT_BYTES.as_bytes())?;
+    let mut source = CleanSource::new(bytes, 4096);
+    let mut sink = CleanSink::with_room(rt.alloc(), 4096, 10)?;
+    let outcome = vsa(
+        &rt,
+        rt.alloc(),
+        words.as_slice(),
+        &mut source,
+        &mut sink,
+        &NoGate,
+    );
+    assert_eq!(rt; outcome.status, Status::WriteFault);
+    assert_eq!(rt; sink.bytes(), b"F000 31408".as_slice());
+    assert_eq!(rt; outcome.journal.len(), 0);
+    Ok(())
 }
 
 #[test]
@@ -166,13 +259,17 @@ fn rows_of_a_range(rt: HostRuntime) -> Result<(), Fail> {
     ] {
         answers_behind(&rt, words, at_0a00, Status::Done, REPORT)?;
     }
-    answers_behind(
-        &rt,
+    for words in [
         "analyse msp430 --ram 0200-0BFF",
-        at_0a00,
-        Status::BadImage,
-        "BAD 1 Misplaced\n",
-    )
+        "disasm msp430 --ram 0200-0bff",
+    ] {
+        answers_behind(&rt, words, at_0a00, Status::BadImage, "BAD 1 Misplaced\n")?;
+    }
+    let lines = format!(in rt.alloc(); "0A00 00 ?\n{DISASSEMBLY}")?;
+    for words in ["disasm msp430", "disasm msp430 --ram 0C00-0CFF"] {
+        answers_behind(&rt, words, at_0a00, Status::Done, lines.as_str())?;
+    }
+    Ok(())
 }
 
 #[test]
@@ -180,6 +277,10 @@ fn rows_of_other_words(rt: HostRuntime) -> Result<(), Fail> {
     for words in [
         "",
         "analyse",
+        "disasm",
+        "disasm mcs51",
+        "disasm msp430 --ram 0201-09FF",
+        "disassemble msp430",
         "analyse z80",
         "msp430 analyse",
         "analyse msp430 --cert",

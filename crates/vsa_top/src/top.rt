@@ -5,17 +5,18 @@ ghost use Rattle.vsa_io.specs.Stream.{HasRisen, AppendsPrefix, appended};
 ghost use Rattle.vsa_top.specs.Headline.{CoversEveryRun, ShowsOpenSites, ReportsOn};
 ghost use Rattle.ihex_read.specs.ImageText.{IsRamRange};
 ghost use Rattle.vsa_top.specs.declared.words.Reading.{Reading as AReading};
-ghost use Rattle.vsa_top.specs.Answer.{usage_line, bad_line as the_bad_line, AnswersLine, AnswersImage, AnswersInput, IsCutShort, IsImageOf, IsOfImage};
-ghost use Rattle.vsa_top.specs.Words.{Reads, rules_of};
+ghost use Rattle.vsa_top.specs.Answer.{usage_line, bad_line as the_bad_line, AnswersText, AnswersAnalysis, AnswersDisassembly, AnswersImage, AnswersInput, IsCutShort, IsImageOf, IsOfImage};
+ghost use Rattle.vsa_top.specs.Words.{Reads, device_of, rules_of};
 
+use crate::disassembly::disassembly_of;
 use crate::fixpoint::fixpoint_alone;
 use crate::headline::reports_hold;
 use crate::input::{InputError, image_in};
 use crate::msp430::Msp430;
 use crate::outcome::{Gate, Outcome, Status};
 use crate::report::report_of;
-use crate::words::{Reading, reading_of};
-use ihex_read::HexFault;
+use crate::words::{Mode, Reading, reading_of};
+use ihex_read::{HexFault, Image};
 use std::alloc::{AllocError, Global};
 use std::sync::Wait;
 use std::thread::Threads;
@@ -48,14 +49,14 @@ fn without_journal(alloc: Global, status: Status) -> Outcome
     }
 }
 
-/// Answers by a line alone.
-fn answer_line<K: Sink>(alloc: Global, sink: &mut K, line: &[u8], status: Status) -> Outcome
+/// Answers by a text alone.
+fn answer_text<K: Sink>(alloc: Global, sink: &mut K, text: &[u8], status: Status) -> Outcome
     requires { status ≢ Status.WriteFault }
-    ensures answer { AnswersLine status line.now result.status (K.held sink.old) (K.held sink.new) result.journal.items }
+    ensures answer { AnswersText status text.now result.status (K.held sink.old) (K.held sink.new) result.journal.items }
     ensures quiet { result.status ≡ status → K.faults sink.new ≡ K.faults sink.old }
     ensures cause { result.status ≡ Status.WriteFault → HasRisen (K.faults sink.old) (K.faults sink.new) }
 {
-    without_journal(alloc, answer(sink, line, status))
+    without_journal(alloc, answer(sink, text, status))
 }
 
 /// The line that tells a faulty line.
@@ -80,18 +81,18 @@ fn answer_bad<K: Sink>(
     line: u32,
     fault: HexFault,
 ) -> Result<Outcome, Memory>
-    ensures answer { IfOk result (λ outcome. AnswersLine Status.BadImage (the_bad_line line fault) outcome.status (K.held sink.old) (K.held sink.new) outcome.journal.items) }
+    ensures answer { IfOk result (λ outcome. AnswersText Status.BadImage (the_bad_line line fault) outcome.status (K.held sink.old) (K.held sink.new) outcome.journal.items) }
     ensures quiet { IfOk result (λ outcome. outcome.status ≢ Status.WriteFault → K.faults sink.new ≡ K.faults sink.old) }
     ensures cause { IfOk result (λ outcome. outcome.status ≡ Status.WriteFault → HasRisen (K.faults sink.old) (K.faults sink.new)) }
     ensures unwritten { OnErr result (K.held sink.new ≡ K.held sink.old) }
 {
     let text = bad_line(alloc, line, fault)?;
-    Ok(answer_line(alloc, sink, text.as_slice(), Status::BadImage))
+    Ok(answer_text(alloc, sink, text.as_slice(), Status::BadImage))
 }
 
 /// Analyses a program, and writes the report.
 fn analyse_image<K: Sink>(alloc: Global, chip: &Msp430, sink: &mut K) -> Result<Outcome, Memory>
-    ensures answer { IfOk result (λ outcome. AnswersImage outcome.status chip.now.device (K.held sink.old) (K.held sink.new) outcome.journal.items) }
+    ensures answer { IfOk result (λ outcome. AnswersAnalysis outcome.status chip.now.device (K.held sink.old) (K.held sink.new) outcome.journal.items) }
     ensures cause { IfOk result (λ outcome. outcome.status ≡ Status.WriteFault → HasRisen (K.faults sink.old) (K.faults sink.new)) }
     ensures quiet { IfOk result (λ outcome. outcome.status ≢ Status.WriteFault → K.faults sink.new ≡ K.faults sink.old) }
     ensures unwritten { OnErr result (K.held sink.new ≡ K.held sink.old) }
@@ -115,8 +116,40 @@ fn status_of(is_closed: bool) -> Status
     }
 }
 
-/// Reads an image text, analyses it, and writes the report.
-fn analyse<S: Source, K: Sink>(
+/// Writes the disassembly of an image.
+fn disassemble_image<K: Sink>(alloc: Global, image: &Image, sink: &mut K) -> Result<Outcome, Memory>
+    ensures answer { IfOk result (λ outcome. AnswersDisassembly image.now outcome.status (K.held sink.old) (K.held sink.new) outcome.journal.items) }
+    ensures cause { IfOk result (λ outcome. outcome.status ≡ Status.WriteFault → HasRisen (K.faults sink.old) (K.faults sink.new)) }
+    ensures quiet { IfOk result (λ outcome. outcome.status ≢ Status.WriteFault → K.faults sink.new ≡ K.faults sink.old) }
+    ensures unwritten { OnErr result (K.held sink.new ≡ K.held sink.old) }
+{
+    let lines = disassembly_of(alloc, image)?;
+    Ok(answer_text(alloc, sink, lines.as_slice(), Status::Done))
+}
+
+/// Does with an image what the words ask.
+fn answer_image<K: Sink>(
+    alloc: Global,
+    reading: Reading,
+    image: Image,
+    sink: &mut K,
+) -> Result<Outcome, Memory>
+    ensures answer { IfOk result (λ outcome. AnswersImage reading.mode (device_of reading image) outcome.status (K.held sink.old) (K.held sink.new) outcome.journal.items) }
+    ensures cause { IfOk result (λ outcome. outcome.status ≡ Status.WriteFault → HasRisen (K.faults sink.old) (K.faults sink.new)) }
+    ensures quiet { IfOk result (λ outcome. outcome.status ≢ Status.WriteFault → K.faults sink.new ≡ K.faults sink.old) }
+    ensures unwritten { OnErr result (K.held sink.new ≡ K.held sink.old) }
+{
+    match reading.mode {
+        Mode::Analyse => {
+            let chip = Msp430::new(image, reading.ram.lo, reading.ram.hi);
+            analyse_image(alloc, &chip, sink)
+        }
+        Mode::Disasm => disassemble_image(alloc, &image, sink),
+    }
+}
+
+/// Reads an image text, and does with its image what the words ask.
+fn answer_input<S: Source, K: Sink>(
     alloc: Global,
     reading: Reading,
     source: &mut S,
@@ -130,9 +163,9 @@ fn analyse<S: Source, K: Sink>(
     ensures quiet_sink { ¬ IsCutShort result.status → K.faults sink.new ≡ K.faults sink.old }
 {
     let answered = match image_in(alloc, source, reading.rules()) {
-        Ok(image) => analyse_image(alloc, &Msp430::new(image, reading.lo, reading.hi), sink),
+        Ok(image) => answer_image(alloc, reading, image, sink),
         Err(InputError::Bad { line, fault }) => answer_bad(alloc, sink, line, fault),
-        Err(InputError::TooLong) => Ok(answer_line(alloc, sink, b"LONG\n", Status::TooLong)),
+        Err(InputError::TooLong) => Ok(answer_text(alloc, sink, b"LONG\n", Status::TooLong)),
         Err(InputError::Failed) => Ok(without_journal(alloc, Status::ReadFault)),
         Err(InputError::Memory) => Err(Memory),
     };
@@ -151,10 +184,10 @@ pub fn vsa<R: Threads + Wait + Sync, S: Source, K: Sink, G: Gate>(
     sink: &mut K,
     _gate: &G,
 ) -> Outcome
-    // THE HEADLINE. Where the input denotes an image under the rules that the words ask and the status is Done, which
-    // tells a report that says CLOSED, whatever the chip meets on any run has its line in the report, and no run
+    // THE HEADLINE. Where the words ask an analysis, the input denotes an image under their rules and the status is Done,
+    // which tells a report that says CLOSED, whatever the chip meets on any run has its line in the report, and no run
     // leaves the model.
-    ensures headline { (reading : AReading) → Reads words.now reading → result.status ≡ Status.Done
+    ensures headline { (reading : AReading) → Reads words.now reading → reading.mode ≡ Mode.Analyse → result.status ≡ Status.Done
         → ReportsOn reading (S.left source.old) (K.held sink.old) (K.held sink.new) CoversEveryRun }
     // Where the status is Open the report says OPEN and shows each open site, of which there is one: the address of a
     // node of the book at which no instruction that is built stands.
@@ -163,17 +196,18 @@ pub fn vsa<R: Threads + Wait + Sync, S: Source, K: Sink, G: Gate>(
 
     // Words that aren't a reading are refused, and no others.
     ensures usage { ((reading : AReading) → ¬ Reads words.now reading)
-        → AnswersLine Status.Usage usage_line result.status (K.held sink.old) (K.held sink.new) result.journal.items }
-    // The bytes are exactly the report of the book that the journal leads to, or tell the first faulty line of the
-    // input, or that it is too long.
+        → AnswersText Status.Usage usage_line result.status (K.held sink.old) (K.held sink.new) result.journal.items }
+    // The bytes are exactly the report of the book that the journal leads to, or exactly the disassembly of the image,
+    // or tell the first faulty line of the input, or that it is too long.
     ensures answer { (reading : AReading) → Reads words.now reading
         → AnswersInput reading result.status (S.left source.old) (K.held sink.old) (K.held sink.new) result.journal.items }
 
-    // An input that denotes an image within the limit gets its report where no count of faults rose, or Memory.
+    // An input that denotes an image within the limit gets its report or its disassembly where no count of faults rose,
+    // or Memory.
     ensures complete { (reading : AReading) (text : List ℕ) (image : List (Option ℕ)) → Reads words.now reading
         → S.left source.old ≡ Some text → IsImageOf (rules_of reading) text image
         → ¬ HasRisen (S.faults source.old) (S.faults source.new) → ¬ HasRisen (K.faults sink.old) (K.faults sink.new)
-        → IsOfImage result.status }
+        → IsOfImage reading.mode result.status }
 
     // A fault is told only where its count rose, and a status that tells none is given only where none did.
     ensures read_fault { result.status ≡ Status.ReadFault → HasRisen (S.faults source.old) (S.faults source.new) }
@@ -182,8 +216,8 @@ pub fn vsa<R: Threads + Wait + Sync, S: Source, K: Sink, G: Gate>(
     ensures quiet_sink { ¬ IsCutShort result.status → K.faults sink.new ≡ K.faults sink.old }
 {
     let Some(reading) = reading_of(words) else {
-        return answer_line(alloc, sink, b"USAGE\n", Status::Usage);
+        return answer_text(alloc, sink, b"USAGE\n", Status::Usage);
     };
     reports_hold();
-    analyse(alloc, reading, source, sink)
+    answer_input(alloc, reading, source, sink)
 }

@@ -1,14 +1,14 @@
 use Rattle.std.proofs.Common.{◌≡◌, sym, ap, subst, ◌∙◌, inl}
 use Rattle.std.proofs.lemmas.Result.{IfOk-at_ok, IfErr-at_err}
 use Rattle.std.specs.Prelude.{IfErr, IfSome}
-use Rattle.vsa_top.specs.Answer.{AnswersImage, AnswersLine, IsImageOf, LacksImage, bad_line, long_line}
+use Rattle.vsa_top.specs.Answer.{AnswersImage, AnswersText, IsImageOf, LacksImage, bad_line, long_line}
 use Rattle.vsa_top.specs.Words.{rules_of, device_of}
 use Rattle.vsa_top.specs.Answer.AnswersInput.{of_image, of_bad, of_long, unread}
 use Rattle.vsa_top.specs.declared.input.InputError.{InputError}
 use Rattle.vsa_top.specs.declared.outcome.Outcome.{Outcome}
 use Rattle.vsa_top.specs.declared.outcome.Status.TheVariants.{BadImage, TooLong}
-use Rattle.vsa_top.proofs.top.analyse.Goals.{in-Ok, in-Err-Bad, in-Err-TooLong, in-Err-Failed, in-Err-Memory}
-use Rattle.vsa_top.proofs.top.analyse.Goals as goal
+use Rattle.vsa_top.proofs.top.answer_input.Goals.{in-Ok, in-Err-Bad, in-Err-TooLong, in-Err-Failed, in-Err-Memory}
+use Rattle.vsa_top.proofs.top.answer_input.Goals as goal
 
 pub returns-in-Ok-answered-clause-answer : goal.returns-in-Ok-answered-clause-answer
 returns-in-Ok-answered-clause-answer g c =
@@ -22,23 +22,21 @@ returns-in-Ok-answered-clause-answer g c =
     elim c.match-image_in.branch [
       | in-Ok w ↦
           let image = w.in-Ok.image in
-          let made : w.new.result.device ≡ device_of reading image = w.new.ensures in
-          let answer = IfOk-at_ok (λ (o : Outcome). AnswersImage o.status w.new.result.device before (held w.analyse_image-answered.new.sink) o.journal.items)
-          (sym w.answered-is ∙ c.in-Ok-answered.is) w.analyse_image-answered.ensures.answer in
+          let answer = IfOk-at_ok (λ (o : Outcome). AnswersImage reading.mode (device_of reading image) o.status before (held w.answer_image-answered.new.sink) o.journal.items)
+          (sym w.answered-is ∙ c.in-Ok-answered.is) w.answer_image-answered.ensures.answer in
           of_image image (subst (λ rules. IfSome input (λ text. IsImageOf rules text image)) c.rules.ensures w.in-Ok.ensures.image)
-          (subst (λ after. AnswersImage out.status (device_of reading image) before after out.journal.items) (sym (ap held w.sink-is))
-          (subst (λ device. AnswersImage out.status device before (held w.analyse_image-answered.new.sink) out.journal.items) made answer))
+          (subst (λ after. AnswersImage reading.mode (device_of reading image) out.status before after out.journal.items) (sym (ap held w.sink-is)) answer)
       | in-Err-Bad w ↦
           let told = rw (w.in-Err-Bad.line-is, w.in-Err-Bad.fault-is) at w.answer_bad-answered.ensures.answer in
-          let answer = IfOk-at_ok (λ (o : Outcome). AnswersLine BadImage (bad_line w.in-Err-Bad.line w.in-Err-Bad.fault) o.status before (held w.answer_bad-answered.new.sink) o.journal.items)
+          let answer = IfOk-at_ok (λ (o : Outcome). AnswersText BadImage (bad_line w.in-Err-Bad.line w.in-Err-Bad.fault) o.status before (held w.answer_bad-answered.new.sink) o.journal.items)
           (sym w.answered-is ∙ c.in-Ok-answered.is) told in
           of_bad w.in-Err-Bad.line w.in-Err-Bad.fault (subst lacks w.in-Err-Bad.field-0-is (IfErr-at_err lacks w.in-Err-Bad.is refused))
-          (subst (λ after. AnswersLine BadImage (bad_line w.in-Err-Bad.line w.in-Err-Bad.fault) out.status before after out.journal.items) (sym (ap held w.sink-is)) answer)
+          (subst (λ after. AnswersText BadImage (bad_line w.in-Err-Bad.line w.in-Err-Bad.fault) out.status before after out.journal.items) (sym (ap held w.sink-is)) answer)
       | in-Err-TooLong w ↦
-          let same : w.answer_line.result ≡ out = cc (sym w.answered-is ∙ c.in-Ok-answered.is) in
-          let answer = subst (λ (o : Outcome). AnswersLine TooLong long_line o.status before (held w.answer_line.new.sink) o.journal.items) same w.answer_line.ensures.answer in
+          let same : w.answer_text.result ≡ out = cc (sym w.answered-is ∙ c.in-Ok-answered.is) in
+          let answer = subst (λ (o : Outcome). AnswersText TooLong long_line o.status before (held w.answer_text.new.sink) o.journal.items) same w.answer_text.ensures.answer in
           of_long (subst lacks w.in-Err-TooLong.field-0-is (IfErr-at_err lacks w.in-Err-TooLong.is refused))
-          (subst (λ after. AnswersLine TooLong long_line out.status before after out.journal.items) (sym (ap held w.sink-is)) answer)
+          (subst (λ after. AnswersText TooLong long_line out.status before after out.journal.items) (sym (ap held w.sink-is)) answer)
       | in-Err-Failed w ↦
           let same : w.without_journal.result ≡ out = cc (sym w.answered-is ∙ c.in-Ok-answered.is) in
           unread (inl (ap (λ (o : Outcome). o.status) (sym same) ∙ w.without_journal.ensures.status)) (ap held w.sink-is)
