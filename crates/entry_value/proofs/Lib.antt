@@ -1,5 +1,6 @@
 pub mod Bytes
 pub mod Each
+mod Examples
 pub mod LowSets
 pub mod Masks
 pub mod Premises

@@ -4,6 +4,8 @@
 //! when the interrupt came. `HoldsOfWord` in `specs/Words.antt` says when one holds of a number.
 //!
 //! [`Cells`] is what any representation of cells has to do, over the one list of them in `specs/Cells.antt`.
+//! The laws, as [`reads_hold`], are functions that do nothing: they say of every list of cells that what is read holds of
+//! what stands there, that writes, joins and widenings cover each RAM behind them, and that they keep the cells' form.
 #![tactic(auto)]
 
 mod byte;
