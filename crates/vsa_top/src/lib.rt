@@ -1,4 +1,4 @@
-//! The top call: from words and an input to a report.
+//! The top call: from words and an input to a report or a disassembly.
 #![tactic(auto)]
 
 mod disassembly;

@@ -5,7 +5,7 @@ use round_core::Event;
 /// How a call ended, with the program's exit status as its number.
 #[derive(Clone, Copy, Debug, PartialEq, Eq)]
 pub enum Status {
-    /// The report is closed.
+    /// The report is closed, or the image is disassembled.
     Done = 0,
     /// The report is open.
     Open = 1,
@@ -33,7 +33,7 @@ pub enum Status {
 #[derive(Drop)]
 pub struct Outcome {
     pub status: Status,
-    /// The events whose replay gives the printed book.
+    /// The events whose replay gives the printed book, where one is printed.
     pub journal: Vec<Event>,
 }
 
