@@ -11,3 +11,6 @@ mod reading;
 mod writing;
 
 pub use list::CellList;
+
+#[cfg(test)]
+mod tests;
