@@ -14,3 +14,5 @@ pub use list::CellList;
 
 #[cfg(test)]
 mod tests;
+#[cfg(test)]
+mod walks;

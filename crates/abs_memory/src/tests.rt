@@ -19,7 +19,7 @@ fn number(v: u16) -> Word {
 }
 
 /// A byte that is one number.
-fn byte(v: u8) -> Word
+pub(crate) fn byte(v: u8) -> Word
     ensures { (n : ℕ) → Has 65536 result.set n → n < 256 }
 {
     Word {
@@ -29,7 +29,7 @@ fn byte(v: u8) -> Word
 }
 
 /// A word that is one of some numbers.
-fn numbers(list: &[u16]) -> Result<Word, Fail> {
+pub(crate) fn numbers(list: &[u16]) -> Result<Word, Fail> {
     Ok(Word {
         set: Vs16::gather(list).ok_or("a list of words")?,
         entry: None,
@@ -136,7 +136,10 @@ fn writes_at_some<C: Cells>(rt: &impl Abort, alloc: Global) -> Result<(), Fail> 
     assert_eq!(rt; cells.read(0x204, 2), any_word());
     let beside = Vs16::gather([0x200, 0x202].as_slice()).ok_or("two addresses")?;
     cells.write_any(&beside, 2, number(0x0006))?;
-    assert_eq!(rt; cells.read(0x200, 2), numbers([0x0005, 0x0006, 0x1234].as_slice())?);
+    assert_eq!(rt;
+        cells.read(0x200, 2),
+        numbers([0x0005, 0x0006, 0x1234].as_slice())?
+    );
     assert_eq!(rt; cells.read(0x203, 1), any_byte()?);
     let below = Vs16::gather([0x1FF, 0x210].as_slice()).ok_or("two addresses")?;
     cells.write_any(&below, 2, number(0x0007))?;
