@@ -11,3 +11,8 @@ mod reading;
 mod writing;
 
 pub use list::CellList;
+
+#[cfg(test)]
+mod tests;
+#[cfg(test)]
+mod walks;
