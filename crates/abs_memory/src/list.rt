@@ -1,4 +1,4 @@
-//! The list.
+//! The list of cells, as a representation of them.
 
 ghost use Rattle.std.specs.Prelude.{◌≡◌, ◌≤◌};
 
@@ -12,7 +12,8 @@ use std::marker::Model;
 use value_set::Vs16;
 use vsa_io::Memory;
 
-/// Cells in ascending order of their places.
+/// The cells of a RAM in ascending order of their places. A read and a write at one address find them by binary search;
+/// the other calls go over them once. A write at some addresses needs no memory.
 #[derive(Drop)]
 pub struct CellList {
     lo: u16,
