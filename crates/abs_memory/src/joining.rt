@@ -8,7 +8,7 @@ ghost use Rattle.abs_memory.specs.Finding.{Ascend};
 
 use crate::finding::{first_at, from_place};
 use crate::writing::telling;
-use entry_value::{Cell, Entry, Word};
+use entry_value::{Cell, Word, common};
 use std::alloc::{AllocError, Global};
 use value_bits::w16;
 use value_set::Vs8;
@@ -43,16 +43,6 @@ pub(crate) fn join(alloc: Global, held: &[Cell], new: &[Cell]) -> Result<Vec<Cel
         }
     }
     Ok(all)
-}
-
-/// A relation that both values have.
-fn common(a: &Option<Entry>, b: &Option<Entry>) -> Option<Entry>
-    ensures { result ≡ words.common_entry a.now b.now }
-{
-    match (a, b) {
-        (Some(one), Some(other)) if one == other => *a,
-        _ => None,
-    }
 }
 
 /// The marks below 100h.

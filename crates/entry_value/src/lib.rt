@@ -18,7 +18,7 @@ pub use cells::{Cell, Cells};
 pub use laws::{
     inclusion_covers, reads_hold, unions_cover, unions_keep_form, writes_cover, writes_keep_form,
 };
-pub use word::{Entry, Word};
+pub use word::{Entry, Word, common};
 
 #[cfg(test)]
 mod tests;

@@ -25,7 +25,7 @@ pub struct Word {
 }
 
 /// A relation that both values have.
-pub(crate) fn common(a: &Option<Entry>, b: &Option<Entry>) -> Option<Entry>
+pub fn common(a: &Option<Entry>, b: &Option<Entry>) -> Option<Entry>
     ensures { result ≡ words.common_entry a.now b.now }
 {
     match (a, b) {
