@@ -5,3 +5,4 @@ pub mod Plain
 pub mod PlainLaws
 pub mod Same
 pub mod SameLaws
+pub mod Single

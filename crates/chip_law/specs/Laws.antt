@@ -9,9 +9,9 @@ use Rattle.call_context.specs.declared.node.Unit.TheVariants.{One, Back}
 use Rattle.call_context.specs.Nodes.{pc_of, frame_of, IsLocation}
 use Rattle.chip_law.specs.declared.chip.Work.{Work}
 use Rattle.chip_law.specs.Meaning.{Meaning}
-use Rattle.chip_law.specs.Single.{Single, AreShowing}
-use Rattle.chip_law.specs.Single.Single.{Edge}
-use Rattle.chip_law.specs.Single.Outcome.{Next, Wild}
+use Rattle.call_context.specs.Single.{Single, AreShowing}
+use Rattle.call_context.specs.Single.Single.{Edge}
+use Rattle.chip_law.specs.Outcome.Outcome.{Next, Wild}
 
 -- an interrupt's frame that was entered at one stack pointer
 abbrev pub HasEntry : Frame → Type 0

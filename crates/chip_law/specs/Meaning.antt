@@ -5,7 +5,7 @@ use Rattle.std.specs.Prelude.{ℕ, Bool, Option}
 use Rattle.call_context.specs.declared.node.Node.{Node}
 use Rattle.call_context.specs.declared.node.Unit.{Unit as WorkUnit}
 use Rattle.chip_law.specs.declared.chip.Work.{Work}
-use Rattle.chip_law.specs.Single.{Outcome}
+use Rattle.chip_law.specs.Outcome.{Outcome}
 
 -- S are the single states of the chip, and A the abstract ones
 pub record Meaning (S A : Type 0) : Type 1 where

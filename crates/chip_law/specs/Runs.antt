@@ -1,8 +1,8 @@
 -- Runs of a chip from reset, and what is met on them.
 use Rattle.std.specs.Prelude.{ℕ, zero, suc, List, Contains}
 use Rattle.chip_law.specs.Meaning.{Meaning}
-use Rattle.chip_law.specs.Single.{Single}
-use Rattle.chip_law.specs.Single.Outcome.{Next, Wild}
+use Rattle.call_context.specs.Single.{Single}
+use Rattle.chip_law.specs.Outcome.Outcome.{Next, Wild}
 
 module _ {S A : Type 0} (m : Meaning S A) where
   -- some run of n steps from a reset state ends in the state

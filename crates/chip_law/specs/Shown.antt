@@ -2,7 +2,7 @@
 use Rattle.std.specs.Prelude.{◌≡◌, ◌⊎◌, ℕ, List, [], ◌∷◌, ◌++◌}
 use Rattle.call_context.specs.declared.shown.Item.{Item}
 use Rattle.chip_law.specs.Line.{item_line_of}
-use Rattle.chip_law.specs.Single.{Single, Shows}
+use Rattle.call_context.specs.Single.{Single, Shows}
 
 -- a line begins at the start of a text, or behind a line feed
 abbrev pub EndsLine : List ℕ → Type 0

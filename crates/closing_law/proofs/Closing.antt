@@ -14,9 +14,9 @@ use Rattle.chip_law.specs.Laws.{IsLawful, Lands, Resumes, IsWaitedFor, HasEntry}
 use Rattle.chip_law.specs.Laws.Lands.{stays, enters, leaves}
 use Rattle.chip_law.specs.Meaning.{Meaning}
 use Rattle.chip_law.specs.Runs.{RunsTo}
-use Rattle.chip_law.specs.Single.{Single, AreShowing}
-use Rattle.chip_law.specs.Single.Single.{Edge}
-use Rattle.chip_law.specs.Single.Outcome.{Next}
+use Rattle.call_context.specs.Single.{Single, AreShowing}
+use Rattle.call_context.specs.Single.Single.{Edge}
+use Rattle.chip_law.specs.Outcome.Outcome.{Next}
 use Rattle.chip_law.specs.Table.{IsWork, HoldsMore, IsClosedTable, IsSuspended, Stands}
 use Rattle.chip_law.specs.Table.IsWork.{of_location, of_return}
 use Rattle.closing_law.specs.Covered.{StandsSomewhere, IsShown, CoversRuns}

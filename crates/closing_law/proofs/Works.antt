@@ -1,5 +1,5 @@
 -- Each work of a book is that of a unit.
-use Rattle.std.proofs.Common.{Bool, true, false, Option, None, Some, List, [], ◌∷◌, refl, sym, subst, cond, inl, inr}
+use Rattle.std.proofs.Common.{Bool, true, false, Some, List, [], ◌∷◌, refl, sym, subst, cond, inl, inr}
 use Rattle.std.specs.Prelude.{Contains, map, filter}
 use Rattle.std.specs.List.{AllByRecursion}
 use Rattle.call_context.specs.declared.node.Unit.{Unit as WorkUnit}
@@ -10,7 +10,7 @@ use Rattle.round_core.specs.declared.event.Event.{Event}
 use Rattle.round_core.specs.declared.event.Event.TheVariants.{Claim, Post, GiveBack}
 use Rattle.round_core.specs.Kept.{is_live, live_works}
 use Rattle.round_core.specs.EntryLaws.{inputs_of-later, out_at-all, all-map, all-with_done}
-use Rattle.round_core.specs.Machine.{BookState, Held, Done, Out, after, all_raised, posted, opening, out_at, replay, IsLegal, IsLegalJournal}
+use Rattle.round_core.specs.Machine.{BookState, Held, Done, Out, after, all_raised, posted, opening, replay, IsLegal, IsLegalJournal}
 use Rattle.round_core.specs.ReplayLaws.{IsWellOut, IsSteady, IsSteady-opening, IsSteady-after, inputs_of-unit, replay_from-keeps, after-claim, after-post, after-give_back}
 use Rattle.round_core.specs.HeldLaws.{AllStay, AllStay-all_raised}
 use Rattle.closing_law.specs.Worked.{IsOfUnit}

@@ -5,7 +5,7 @@ use Rattle.call_context.specs.Nodes.{IsLocation}
 use Rattle.chip_law.specs.declared.chip.Work.{Work}
 use Rattle.chip_law.specs.Meaning.{Meaning}
 use Rattle.chip_law.specs.Runs.{RunsTo, Meets, GoesWild}
-use Rattle.chip_law.specs.Single.{Single, AreShowing}
+use Rattle.call_context.specs.Single.{Single, AreShowing}
 use Rattle.chip_law.specs.Table.{IsWork, Stands}
 
 module _ {S A : Type 0} (m : Meaning S A) (table : Node → Option A) where

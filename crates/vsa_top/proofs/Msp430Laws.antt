@@ -17,9 +17,9 @@ use Rattle.call_context.specs.Plain.{HasWord, is_within, joined, widened}
 use Rattle.call_context.specs.PlainLaws.{in_none, in_cons, in_first, in_rest, within_has, within_itself, within_further, within_even, joined_held, joined_new, joined_form, widened_held, widened_new, widened_form}
 use Rattle.chip_law.specs.Laws.{IsLawful, Lands}
 use Rattle.chip_law.specs.Laws.Lands.{stays}
-use Rattle.chip_law.specs.Single.{Single, AreShowing}
-use Rattle.chip_law.specs.Single.Single.{Instr as Ran, Edge as Went, Stack as Stood}
-use Rattle.chip_law.specs.Single.Outcome.{Next, Wild}
+use Rattle.call_context.specs.Single.{Single, AreShowing}
+use Rattle.call_context.specs.Single.Single.{Instr as Ran, Edge as Went, Stack as Stood}
+use Rattle.chip_law.specs.Outcome.Outcome.{Next, Wild}
 use Rattle.vsa_top.specs.declared.msp430.instr.Instr.{Instr}
 use Rattle.vsa_top.specs.declared.msp430.state.State.{State}
 use Rattle.vsa_top.specs.declared.msp430.state.ChipState.{ChipState}

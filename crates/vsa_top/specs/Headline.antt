@@ -11,7 +11,7 @@ use Rattle.chip_law.specs.declared.chip.Work.{Work}
 use Rattle.chip_law.specs.Line.{open_line_of}
 use Rattle.chip_law.specs.Runs.{Meets, GoesWild}
 use Rattle.chip_law.specs.Shown.{HasLine, IsShownIn}
-use Rattle.chip_law.specs.Single.{Single}
+use Rattle.call_context.specs.Single.{Single}
 use Rattle.round_core.specs.Machine.{Held, held_at, replay}
 use Rattle.round_core.specs.declared.event.Event.{Event}
 use Rattle.vsa_top.specs.declared.msp430.device.Device.{Device}

@@ -1,9 +1,10 @@
 -- The MSP430 (SLAU049, MSP430x1xx Family User's Guide, chapter 3): what it does in single states.
 use Rattle.std.specs.Prelude.{◌≡◌, ℕ, ◌+◌, ◌-◌, ◌/◌, ◌%◌, ◌<◌, ◌==◌, if◌then◌else◌, Bool, false, Ok, Err, List, [], ◌∷◌, length, slice_index, slice_set, All}
 use Rattle.call_context.specs.declared.shown.Cause.{Cause}
-use Rattle.chip_law.specs.Single.{Single, Outcome}
-use Rattle.chip_law.specs.Single.Single.{Instr as Ran, Edge as Went, Stack as Stood}
-use Rattle.chip_law.specs.Single.Outcome.{Next, Wild}
+use Rattle.call_context.specs.Single.{Single}
+use Rattle.chip_law.specs.Outcome.{Outcome}
+use Rattle.call_context.specs.Single.Single.{Instr as Ran, Edge as Went, Stack as Stood}
+use Rattle.chip_law.specs.Outcome.Outcome.{Next, Wild}
 use Rattle.vsa_top.specs.declared.msp430.device.Device.{Device}
 use Rattle.vsa_top.specs.declared.msp430.instr.Instr.{Instr}
 use Rattle.vsa_top.specs.declared.msp430.instr.Instr.TheVariants.{Load, Copy, Jump}

@@ -15,11 +15,6 @@ pub data Single : Type 0 where
   -- the stack pointer before the step
   Stack : (pc sp : ℕ) → Single
 
--- what a step leads to: the next state with what the step did, or out of what the model says
-pub data Outcome (S : Type 0) : Type 0 where
-  Next : (items : List Single) (state : S) → Outcome S
-  Wild : Outcome S
-
 -- an item over sets has the numbers
 abbrev pub Shows : Item → Single → Type 0
 Shows (sets.Instr pc bytes) (Instr at these) = (at ≡ pc) × (these ≡ bytes)
