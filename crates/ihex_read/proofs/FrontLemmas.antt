@@ -1,6 +1,6 @@
 -- What the front of a text tells of the text that goes on.
-use Rattle.std.proofs.Common.{◌≡◌, ℕ, ◌<◌, ◌≤◌, List, [], ◌∷◌, ◌++◌, length, sym, ◌∙◌, ap, subst, append_assoc, length-append, arith}
-use Rattle.std.specs.Prelude.{map}
+use Rattle.std.proofs.Common.{◌≡◌, ℕ, ◌<◌, ◌≤◌, List, [], ◌∷◌, ◌++◌, length, refl, sym, ◌∙◌, ap, subst, append_assoc, length-append, arith}
+use Rattle.std.specs.Prelude.{map, Option}
 use Rattle.std.proofs.lemmas.List.{length-map}
 use Rattle.ihex_read.specs.declared.rule_set.Rules.{Rules}
 use Rattle.ihex_read.specs.declared.rule_set.Tail.{Tail}
@@ -8,11 +8,11 @@ use Rattle.ihex_read.specs.declared.rule_set.Tail.TheVariants.{Second}
 use Rattle.ihex_read.specs.declared.fault.HexFault.{HexFault}
 use Rattle.ihex_read.specs.declared.fault.HexError.{HexError}
 use Rattle.ihex_read.specs.declared.fault.HexError.TheVariants.{Bad, Memory}
-use Rattle.ihex_read.specs.ImageText.{Ends, FirstFault, of_line, no_end, trailing}
+use Rattle.ihex_read.specs.ImageText.{Denotes, Ends, FirstFault, IsImage, of_line, no_end, trailing}
 use Rattle.ihex_read.specs.Lines.{without_return, last_line, lines_behind, lines_of}
 use Rattle.ihex_read.specs.Reading.{feeds_of, HasEnded, FaultsWithin, TellsFront}
 use Rattle.ihex_read.proofs.PieceLemmas.{pieces_of, lines_of-joined, lines_of-joined_end, feeds_of-joined, feeds_of-joined_end}
-use Rattle.ihex_read.proofs.TextLemmas.{no_end_behind_fault, no_end_among_open}
+use Rattle.ihex_read.proofs.TextLemmas.{no_end_behind_fault, no_end_among_open, one_end}
 
 -- a line of the front cuts the front
 pub front_cut : (front more before : List (List ℕ)) (line : List ℕ) (behind : List (List ℕ)) → front ++ more ≡ before ++ line ∷ behind
@@ -117,3 +117,13 @@ pub none_behind_end : (rules : Rules) (tail : Tail) (text more : List ℕ) (line
 none_behind_end rules tail text more line fault second ended faults =
     let rest = end_stays rules text more ended in
     no_fault_behind rules tail (lines_of (text ++ more)) ended.0 ended.1 rest.0 rest.1 second faults.0
+
+pub faultless_end : (rules : Rules) (text : List ℕ) (line : ℕ) (fault : HexFault) → HasEnded rules text → FirstFault rules Second (lines_of text) line fault → ⊥
+faultless_end rules text line fault ended = no_fault_behind rules Second (lines_of text) ended.0 ended.1 ended.2 ended.3 refl
+
+pub denotes_more : (rules : Rules) (text more : List ℕ) (image : List (Option ℕ)) → HasEnded rules text → Denotes rules Second (lines_of text) image
+    → Denotes rules Second (lines_of (text ++ more)) image
+denotes_more rules text more image ended denoted =
+    let rest = end_stays rules text more ended in
+    let same = one_end rules (lines_of text) ended.0 denoted.0 ended.1 denoted.1 ended.2 denoted.2 ended.3 denoted.3 in
+    (ended.0, ended.1, rest.0, rest.1, tt, subst (IsImage image) (sym same.0) denoted.5)

@@ -4,9 +4,11 @@ ghost use Rattle.std.specs.Prelude.{◌≡◌, ◌⊎◌, ◌++◌, ℕ, All, Li
 ghost use Rattle.ihex_read.specs.declared.fault.HexFault.{HexFault};
 ghost use Rattle.ihex_read.specs.declared.rule_set.Rules.{Rules};
 ghost use Rattle.ihex_read.specs.declared.rule_set.Tail.{Tail};
+ghost use Rattle.ihex_read.specs.declared.rule_set.Tail.TheVariants.{Second};
 ghost use Rattle.ihex_read.specs.Image.{IsByte};
 ghost use Rattle.ihex_read.specs.ImageText.{Denotes, FirstFault};
-ghost use Rattle.ihex_read.specs.Reading.{FaultsWithin};
+ghost use Rattle.ihex_read.specs.Lines.{lines_of};
+ghost use Rattle.ihex_read.specs.Reading.{FaultsWithin, HasEnded};
 
 /// Every list of lines has an image or a first fault, never both, and no second one of either.
 pub fn image_or_fault()
@@ -31,4 +33,14 @@ pub fn images_have_bytes()
 pub fn whole_faults_stay()
     ensures { (rules : Rules) (tail : Tail) (text more : List ℕ) (line : ℕ) (fault : HexFault) →
         FaultsWithin rules tail text line fault → FaultsWithin rules tail (text ++ more) line fault }
+{}
+
+/// A text that has ended, where a second text is expected behind it, stays so however the text goes on: it has no fault,
+/// and it denotes the same image.
+pub fn ended_texts_stay()
+    ensures ended { (rules : Rules) (text more : List ℕ) → HasEnded rules text → HasEnded rules (text ++ more) }
+    ensures faultless { (rules : Rules) (text : List ℕ) (line : ℕ) (fault : HexFault) →
+        HasEnded rules text → ¬ FirstFault rules Second (lines_of text) line fault }
+    ensures denoted { (rules : Rules) (text more : List ℕ) (image : List (Option ℕ)) →
+        HasEnded rules text → Denotes rules Second (lines_of text) image → Denotes rules Second (lines_of (text ++ more)) image }
 {}

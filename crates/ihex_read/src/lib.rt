@@ -31,7 +31,7 @@ mod stage;
 pub use address_map::Image;
 pub use fault::{HexError, HexFault};
 pub use feeding::{MOST_BYTES, Reader};
-pub use law::{image_or_fault, images_have_bytes, whole_faults_stay};
+pub use law::{ended_texts_stay, image_or_fault, images_have_bytes, whole_faults_stay};
 pub use rule_set::{Rules, Tail};
 
 #[cfg(test)]

@@ -1,71 +1,260 @@
--- What the words ask, by their number.
-use Rattle.std.proofs.Common.{◌≡◌, ℕ, List, [], ◌∷◌, Option, None, Some, length, get_or, sym, ◌∙◌, ap, subst, inl, inr, arith}
-use Rattle.std.specs.Prelude.{◌⊎◌, IfNone, IfSome, MatchOption, map, codes, string_bytes}
+-- What the words ask: numbers of steps, options, and readings, of which there is at most one.
+use Rattle.std.proofs.Common.{◌≡◌, ℕ, ◌+◌, ◌-◌, ◌*◌, ◌<◌, ◌≤◌, Bool, true, false, List, [], ◌∷◌, Option, None, Some, refl, sym, ◌∙◌, ap, ap₂, subst, arith, All}
+use Rattle.std.proofs.lemmas.List.Elements.{All-cons, All-head, All-tail}
+use Rattle.std.specs.Prelude.{IfNone, IfSome, if◌then◌else◌, length, MatchOption, map, codes, string_bytes}
+use Rattle.std.specs.List.{IsFirstAndRest}
 use Rattle.std.specs.declared.string.String.{String}
 use Rattle.std.specs.declared.alloc.Global.{Global}
-use Rattle.std.proofs.lemmas.List.{length-map}
 use Rattle.vsa_top.specs.declared.words.Mode.{Mode}
+use Rattle.vsa_top.specs.declared.words.Mode.TheVariants.{Analyse, Disasm, Run}
+use Rattle.vsa_top.specs.declared.words.Options.{Options}
 use Rattle.vsa_top.specs.declared.words.Ram.{Ram}
 use Rattle.vsa_top.specs.declared.words.Reading.{Reading}
-use Rattle.vsa_top.specs.Words.{IsRange, Reads, mode_word, reading_with}
-use Rattle.vsa_top.specs.Words.Reads.{plain, ranged}
+use Rattle.vsa_top.specs.Words.{Adds, IsDigit, IsNumberBehind, IsRange, IsSteps, Reads, Say, number_behind, mode_word, may_say, reading_by, reading_with, allowed_reading, with_range, with_number}
+use Rattle.vsa_top.specs.Words.Adds.{ranged, stepped}
 
-pub reads_length : (words : List (String Global)) (reading : Reading) → Reads words reading → (length words ≡ 2) ⊎ (length words ≡ 4)
-reads_length words reading (plain same is) = inl (sym (length-map words string_bytes) ∙ ap length same)
-reads_length words reading (ranged text same is) = inr (sym (length-map words string_bytes) ∙ ap length same)
+-- NUMBERS
 
--- four words are these
-pub four_words : {A : Type 0} (words : List A) (a b c d : A) → 4 ≡ length words → a ≡ get_or words 0 a → b ≡ get_or words 1 b → c ≡ get_or words 2 c
-    → d ≡ get_or words 3 d → words ≡ a ∷ b ∷ c ∷ d ∷ []
-four_words (p ∷ q ∷ r ∷ s ∷ []) a b c d four first second third fourth = cc (first, second, third, fourth)
-four_words (p ∷ q ∷ r ∷ s ∷ t ∷ words) a b c d four first second third fourth = absurd (omega arith)
-four_words (p ∷ q ∷ r ∷ []) a b c d four first second third fourth = absurd (omega arith)
-four_words (p ∷ q ∷ []) a b c d four first second third fourth = absurd (omega arith)
-four_words (p ∷ []) a b c d four first second third fourth = absurd (omega arith)
-four_words [] a b c d four first second third fourth = absurd (omega arith)
+grows : (digits : List ℕ) (n : ℕ) → n ≤ number_behind n digits
+grows [] n = omega arith
+grows (digit ∷ digits) n = let h = grows digits (10 * n + (digit - 48)) in omega (arith, h)
 
--- other numbers of words are no reading
-pub none_by_length : (words : List (String Global)) → ¬ (length words ≡ 2) → ¬ (length words ≡ 4) → (reading : Reading) → Reads words reading → ⊥
-none_by_length words two four reading reads = elim (reads_length words reading reads) [ inl h ↦ two h | inr h ↦ four h ]
+-- a number that is above a million already stays there
+pub too_great : (n digit : ℕ) (rest digits : List ℕ) → IsFirstAndRest digits digit rest → 1000000 < 10 * n + (digit - 48)
+    → (number : ℕ) → IsNumberBehind n digits number → ⊥
+too_great n digit rest digits first great number is =
+    let value : number ≡ number_behind (10 * n + (digit - 48)) rest = is.value ∙ ap (number_behind n) first.0 in
+    absurd (omega (arith, great, value, is.allowed, grows rest (10 * n + (digit - 48))))
 
--- the words ask for a range
-abbrev pub AreRanged : List (String Global) → List ℕ → List ℕ → Type 0
-AreRanged words mode text = map string_bytes words ≡ mode ∷ codes "msp430" ∷ codes "--ram" ∷ text ∷ []
+-- the first digit, and what is behind
+pub digit_and_rest : (n digit : ℕ) (rest digits : List ℕ) (found : Option ℕ) → IsFirstAndRest digits digit rest → 48 ≤ digit → digit < 58
+    → MatchOption found ((number : ℕ) → IsNumberBehind (10 * n + (digit - 48)) rest number → ⊥) (IsNumberBehind (10 * n + (digit - 48)) rest)
+    → MatchOption found ((number : ℕ) → IsNumberBehind n digits number → ⊥) (IsNumberBehind n digits)
+digit_and_rest n digit rest digits None first low high none = λ number is.
+    none number (record {
+      all_digits = All-tail IsDigit digit rest (subst (All IsDigit) first.0 is.all_digits);
+      value = is.value ∙ ap (number_behind n) first.0;
+      allowed = is.allowed;
+    })
+digit_and_rest n digit rest digits (Some number) first low high is = record {
+  all_digits = subst (All IsDigit) (sym first.0) (All-cons IsDigit digit rest (low, high) is.all_digits);
+  value = is.value ∙ ap (number_behind n) (sym first.0);
+  allowed = is.allowed;
+}
 
--- what the first word asks, and what a range says, where they do
+-- OPTIONS
+
+one_some : {A : Type 0} (a b : A) → Some a ≡ Some b → a ≡ b
+one_some a b h = cc h
+
+same_ram : (ram other : Ram) → ram.lo ≡ other.lo → ram.hi ≡ other.hi → ram ≡ other
+same_ram ram other lo hi = ap₂ (λ (l h : ℕ). let back : Ram = record { lo = l; hi = h } in back) lo hi
+
+one_range : (text : List ℕ) (ram other : Ram) → IsRange text ram → IsRange text other → ram ≡ other
+one_range text ram other is also =
+    same_ram ram other (one_some ram.lo other.lo (sym is.first ∙ also.first)) (one_some ram.hi other.hi (sym is.last ∙ also.last))
+
+one_number : (text : List ℕ) (steps other : ℕ) → IsSteps text steps → IsSteps text other → steps ≡ other
+one_number text steps other is also = is.number.value ∙ sym also.number.value
+
+one_addition : (option text : List ℕ) (behind a b : Options) → Adds option text behind a → Adds option text behind b → a ≡ b
+one_addition option text behind _ _ (ranged ram name none range) (ranged other name2 none2 range2) =
+    ap (λ (r : Ram). let said : Options = record { ram = Some r; steps = behind.steps } in said) (one_range text ram other range range2)
+one_addition option text behind _ _ (ranged ram name none range) (stepped steps name2 none2 number) = absurd (cc (sym name ∙ name2))
+one_addition option text behind _ _ (stepped steps name none number) (ranged ram name2 none2 range) = absurd (cc (sym name ∙ name2))
+one_addition option text behind _ _ (stepped steps name none number) (stepped other name2 none2 number2) =
+    ap (λ (n : ℕ). let said : Options = record { ram = behind.ram; steps = Some n } in said) (one_number text steps other number number2)
+
+-- the words say one thing
+pub say_one : (words : List (List ℕ)) (a b : Options) → Say words a → Say words b → a ≡ b
+say_one [] a b said also = said ∙ sym also
+say_one (option ∷ []) a b said also = elim said [ ]
+say_one (option ∷ text ∷ words) a b said also =
+    let same : said.0 ≡ also.0 = say_one words said.0 also.0 said.1 also.1 in
+    one_addition option text also.0 a b (subst (λ behind. Adds option text behind a) same said.2) also.2
+
+abbrev pub Texts : List (String Global) → List (List ℕ)
+Texts words = map string_bytes words
+
+-- two words in front of others
+pub two_texts : (words behind rest : List (String Global)) (option text : String Global) → IsFirstAndRest words option behind → IsFirstAndRest behind text rest
+    → Texts words ≡ string_bytes option ∷ string_bytes text ∷ Texts rest
+two_texts words behind rest option text first second = ap (map string_bytes) (first.0 ∙ ap (λ xs. option ∷ xs) second.0)
+
+abbrev pub IsSaid : Option Options → List (List ℕ) → Type 0
+IsSaid found words = MatchOption found ((options : Options) → Say words options → ⊥) (Say words)
+
+abbrev pub SayNone : List (List ℕ) → Type 0
+SayNone words = (options : Options) → Say words options → ⊥
+
+-- where the words behind say nothing
+pub none_behind : (words rest : List (List ℕ)) (option text : List ℕ) → words ≡ option ∷ text ∷ rest → SayNone rest → SayNone words
+none_behind words rest option text two none =
+    let there : SayNone (option ∷ text ∷ rest) = λ options said. none said.0 said.1 in subst SayNone (sym two) there
+
+adds_none : (option text : List ℕ) (behind options : Options) → (option ≡ codes "--ram" → ⊥) → (option ≡ codes "--steps" → ⊥)
+    → Adds option text behind options → ⊥
+adds_none option text behind _ no_ram no_steps (ranged ram name none range) = no_ram name
+adds_none option text behind _ no_ram no_steps (stepped steps name none number) = no_steps name
+
+-- an option that is none
+pub no_option : (words rest : List (List ℕ)) (option text : List ℕ) → words ≡ option ∷ text ∷ rest
+    → (option ≡ codes "--ram" → ⊥) → (option ≡ codes "--steps" → ⊥) → SayNone words
+no_option words rest option text two no_ram no_steps =
+    let there : SayNone (option ∷ text ∷ rest) = λ options said. adds_none option text said.0 options no_ram no_steps said.2 in
+    subst SayNone (sym two) there
+
+adds_range : (option text : List ℕ) (behind options : Options) → option ≡ codes "--ram" → Adds option text behind options
+    → (behind.ram ≡ None) × (ram : Ram) × IsRange text ram
+adds_range option text behind _ is (ranged ram name none range) = (none, ram, range)
+adds_range option text behind _ is (stepped steps name none number) = absurd (cc (sym is ∙ name))
+
+adds_number : (option text : List ℕ) (behind options : Options) → option ≡ codes "--steps" → Adds option text behind options
+    → (behind.steps ≡ None) × (steps : ℕ) × IsSteps text steps
+adds_number option text behind _ is (ranged ram name none range) = absurd (cc (sym is ∙ name))
+adds_number option text behind _ is (stepped steps name none number) = (none, steps, number)
+
+-- what `--ram` adds
+ram_added : (rest : List (List ℕ)) (option text : List ℕ) (held : Option Ram) (steps : Option ℕ) (ram : Option Ram) → option ≡ codes "--ram"
+    → Say rest (record { ram = held; steps = steps }) → MatchOption ram ((r : Ram) → IsRange text r → ⊥) (IsRange text)
+    → IsSaid (with_range (record { ram = held; steps = steps }) ram) (option ∷ text ∷ rest)
+ram_added rest option text held steps None name said none = λ options also.
+    let adds = adds_range option text also.0 options name also.2 in none adds.1 adds.2
+ram_added rest option text None steps (Some ram) name said range = (record { ram = None; steps = steps }, said, ranged ram name refl range)
+ram_added rest option text (Some held) steps (Some ram) name said range = λ options also.
+    let adds = adds_range option text also.0 options name also.2 in
+    let same = say_one rest also.0 (record { ram = Some held; steps = steps }) also.1 said in
+    absurd (cc (sym adds.0 ∙ ap (λ (o : Options). o.ram) same))
+
+-- what `--steps` adds
+steps_added : (rest : List (List ℕ)) (option text : List ℕ) (ram : Option Ram) (held : Option ℕ) (steps : Option ℕ) → option ≡ codes "--steps"
+    → Say rest (record { ram = ram; steps = held }) → MatchOption steps ((n : ℕ) → IsSteps text n → ⊥) (IsSteps text)
+    → IsSaid (with_number (record { ram = ram; steps = held }) steps) (option ∷ text ∷ rest)
+steps_added rest option text ram held None name said none = λ options also.
+    let adds = adds_number option text also.0 options name also.2 in none adds.1 adds.2
+steps_added rest option text ram None (Some steps) name said number = (record { ram = ram; steps = None }, said, stepped steps name refl number)
+steps_added rest option text ram (Some held) (Some steps) name said number = λ options also.
+    let adds = adds_number option text also.0 options name also.2 in
+    let same = say_one rest also.0 (record { ram = ram; steps = Some held }) also.1 said in
+    absurd (cc (sym adds.0 ∙ ap (λ (o : Options). o.steps) same))
+
+pub ram_said : (words rest : List (List ℕ)) (option text bytes : List ℕ) (behind : Options) (ram : Option Ram) (found : Option Options)
+    → words ≡ option ∷ text ∷ rest → option ≡ codes "--ram" → bytes ≡ text → Say rest behind
+    → MatchOption ram ((r : Ram) → IsRange bytes r → ⊥) (IsRange bytes) → found ≡ with_range behind ram → IsSaid found words
+ram_said words rest option text bytes behind ram found two name is said range same =
+    let own = subst (λ t. MatchOption ram ((r : Ram) → IsRange t r → ⊥) (IsRange t)) is range in
+    subst (IsSaid found) (sym two) (subst (λ f. IsSaid f (option ∷ text ∷ rest)) (sym same) (ram_added rest option text behind.ram behind.steps ram name said own))
+
+pub steps_said : (words rest : List (List ℕ)) (option text bytes : List ℕ) (behind : Options) (steps : Option ℕ) (found : Option Options)
+    → words ≡ option ∷ text ∷ rest → option ≡ codes "--steps" → bytes ≡ text → Say rest behind
+    → MatchOption steps ((n : ℕ) → IsSteps bytes n → ⊥) (IsSteps bytes) → found ≡ with_number behind steps → IsSaid found words
+steps_said words rest option text bytes behind steps found two name is said number same =
+    let own = subst (λ t. MatchOption steps ((n : ℕ) → IsSteps t n → ⊥) (IsSteps t)) is number in
+    subst (IsSaid found) (sym two) (subst (λ f. IsSaid f (option ∷ text ∷ rest)) (sym same) (steps_added rest option text behind.ram behind.steps steps name said own))
+
+pub said_nothing : (words : List (String Global)) → length words ≡ 0 → Say (Texts words) (record { ram = None; steps = None })
+said_nothing [] none = refl
+said_nothing (word ∷ words) none = absurd (omega arith)
+
+-- READINGS
+
+one_mode : (a b : Mode) → mode_word a ≡ mode_word b → a ≡ b
+one_mode Analyse Analyse h = refl
+one_mode Disasm Disasm h = refl
+one_mode Run Run h = refl
+one_mode Analyse Disasm h = absurd (cc h)
+one_mode Analyse Run h = absurd (cc h)
+one_mode Disasm Analyse h = absurd (cc h)
+one_mode Disasm Run h = absurd (cc h)
+one_mode Run Analyse h = absurd (cc h)
+one_mode Run Disasm h = absurd (cc h)
+
 abbrev pub IsModeOf : List ℕ → Option Mode → Type 0
 IsModeOf word found = MatchOption found ((mode : Mode) → word ≡ mode_word mode → ⊥) (λ mode. word ≡ mode_word mode)
 
-abbrev pub IsRamOf : List ℕ → Option Ram → Type 0
-IsRamOf text found = MatchOption found ((ram : Ram) → IsRange text ram → ⊥) (IsRange text)
+first_word : (a b : List ℕ) (c d : List ℕ) (xs ys : List (List ℕ)) → a ∷ c ∷ xs ≡ b ∷ d ∷ ys → a ≡ b
+first_word a b c d xs ys h = cc h
 
-range_read : (words : List (String Global)) (mode text : List ℕ) (reading : Reading) → AreRanged words mode text → Reads words reading
-    → (mode ≡ mode_word reading.mode) × IsRange text reading.ram
-range_read words mode text reading asked (plain same is) = absurd (cc (sym asked ∙ same))
-range_read words mode text reading asked (ranged own same is) =
-    let e : own ≡ text = cc (sym same ∙ asked) in
-    (cc (sym asked ∙ same), subst (λ t. IsRange t reading.ram) e is)
+second_word : (a b : List ℕ) (c d : List ℕ) (xs ys : List (List ℕ)) → a ∷ c ∷ xs ≡ b ∷ d ∷ ys → c ≡ d
+second_word a b c d xs ys h = cc h
 
-pub ranged_reads : (words : List (String Global)) (word text : List ℕ) (mode : Option Mode) (ram : Option Ram) (found : Option Reading)
-    → AreRanged words word text → IsModeOf word mode → IsRamOf text ram → found ≡ reading_with mode ram → IfSome found (Reads words)
-ranged_reads words word text None ram found asked is range same = rw same tt
-ranged_reads words word text (Some mode) None found asked is range same = rw same tt
-ranged_reads words word text (Some mode) (Some ram) found asked is range same =
-    rw same (ranged text (subst (λ m. AreRanged words m text) is asked) range)
+other_words : (a b : List ℕ) (c d : List ℕ) (xs ys : List (List ℕ)) → a ∷ c ∷ xs ≡ b ∷ d ∷ ys → xs ≡ ys
+other_words a b c d xs ys h = cc h
 
-pub ranged_none : (words : List (String Global)) (word text : List ℕ) (mode : Option Mode) (ram : Option Ram) (found : Option Reading)
-    → AreRanged words word text → IsModeOf word mode → IsRamOf text ram → found ≡ reading_with mode ram
-    → IfNone found ((reading : Reading) → Reads words reading → ⊥)
-ranged_none words word text None ram found asked is range same =
-    rw same (λ reading reads. is reading.mode (range_read words word text reading asked reads).0)
-ranged_none words word text (Some mode) None found asked is range same =
-    rw same (λ reading reads. range reading.ram (range_read words word text reading asked reads).1)
-ranged_none words word text (Some mode) (Some ram) found asked is range same = rw same tt
+-- what a reading of these words has: its mode, and what is said
+record Parts (mode chip : List ℕ) (rest : List (List ℕ)) (reading : Reading) : Type 0 where
+  asked : Mode
+  options : Options
+  word : mode ≡ mode_word asked
+  chips : chip ≡ codes "msp430"
+  said : Say rest options
+  allowed : may_say asked options ≡ true
+  is : reading ≡ reading_by asked options
 
--- the words are those of a range
-pub are_ranged : (words : List (String Global)) (mode chip option range : String Global) (text : List ℕ) → 4 ≡ length words
-    → mode ≡ get_or words 0 mode → chip ≡ get_or words 1 chip → option ≡ get_or words 2 option → range ≡ get_or words 3 range
-    → string_bytes chip ≡ codes "msp430" → string_bytes option ≡ codes "--ram" → text ≡ string_bytes range
-    → AreRanged words (string_bytes mode) text
-are_ranged words mode chip option range text four first second third fourth is_chip is_option is_text =
-    ap (map string_bytes) (four_words words mode chip option range four first second third fourth) ∙ cc (is_chip, is_option, is_text)
+parts_of : (words : List (String Global)) (mode chip : List ℕ) (rest : List (List ℕ)) (reading : Reading) → Texts words ≡ mode ∷ chip ∷ rest
+    → Reads words reading → Parts mode chip rest reading
+parts_of words mode chip rest reading two reads =
+    let same = sym two ∙ reads.whole in record {
+      asked = reads.mode;
+      options = reads.options;
+      word = first_word mode (mode_word reads.mode) chip (codes "msp430") rest reads.said same;
+      chips = second_word mode (mode_word reads.mode) chip (codes "msp430") rest reads.said same;
+      said = subst (λ ws. Say ws reads.options) (sym (other_words mode (mode_word reads.mode) chip (codes "msp430") rest reads.said same)) reads.say;
+      allowed = reads.allowed;
+      is = reads.is;
+    }
+
+-- words of another chip
+pub no_chip : (words : List (String Global)) (mode chip : List ℕ) (rest : List (List ℕ)) → Texts words ≡ mode ∷ chip ∷ rest
+    → (chip ≡ codes "msp430" → ⊥) → (reading : Reading) → Reads words reading → ⊥
+no_chip words mode chip rest two other reading reads = other (parts_of words mode chip rest reading two reads).chips
+
+-- fewer than two words
+pub too_few : (words : List (String Global)) → length words < 2 → (reading : Reading) → Reads words reading → ⊥
+too_few [] few reading reads = absurd (cc reads.whole)
+too_few (word ∷ []) few reading reads = absurd (cc reads.whole)
+too_few (word ∷ other ∷ words) few reading reads = absurd (omega (arith, few))
+
+allowed_reads : (words : List (String Global)) (mode : Mode) (rest : List (List ℕ)) (options : Options) (allowed : Bool)
+    → Texts words ≡ mode_word mode ∷ codes "msp430" ∷ rest → Say rest options → may_say mode options ≡ allowed
+    → IfSome (if allowed then Some (reading_by mode options) else None) (Reads words)
+allowed_reads words mode rest options true two said is = record { mode = mode; said = rest; options = options; whole = two; say = said; allowed = is; is = refl }
+allowed_reads words mode rest options false two said is = tt
+
+with_words : (words : List (String Global)) (word : List ℕ) (chip : List ℕ) (mode : Mode) (rest : List (List ℕ)) → Texts words ≡ word ∷ chip ∷ rest
+    → word ≡ mode_word mode → chip ≡ codes "msp430" → Texts words ≡ mode_word mode ∷ codes "msp430" ∷ rest
+with_words words word chip mode rest two is named = two ∙ ap₂ (λ (a b : List ℕ). a ∷ b ∷ rest) is named
+
+pub reads_found : (words : List (String Global)) (word chip : List ℕ) (rest : List (List ℕ)) (mode : Option Mode) (options : Option Options) (found : Option Reading)
+    → Texts words ≡ word ∷ chip ∷ rest → chip ≡ codes "msp430" → IsModeOf word mode → IsSaid options rest → found ≡ reading_with mode options
+    → IfSome found (Reads words)
+reads_found words word chip rest None options found two named is said same = rw same tt
+reads_found words word chip rest (Some mode) None found two named is said same = rw same tt
+reads_found words word chip rest (Some mode) (Some options) found two named is said same =
+    rw same (allowed_reads words mode rest options (may_say mode options) (with_words words word chip mode rest two is named) said refl)
+
+-- the one reading that there may be
+parts_alone : (mode : Mode) (options : Options) (word chip : List ℕ) (rest : List (List ℕ)) (other : Reading) → word ≡ mode_word mode → Say rest options
+    → Parts word chip rest other → (other ≡ reading_by mode options) × (may_say mode options ≡ true)
+parts_alone mode options word chip rest other is said parts =
+    let modes : parts.asked ≡ mode = one_mode parts.asked mode (sym parts.word ∙ is) in
+    let same : parts.options ≡ options = say_one rest parts.options options parts.said said in
+    (parts.is ∙ ap₂ reading_by modes same, sym (ap₂ may_say modes same) ∙ parts.allowed)
+
+alone_by : (words : List (String Global)) (mode : Mode) (options : Options) (allowed : Bool)
+    → ((other : Reading) → Reads words other → (other ≡ reading_by mode options) × (may_say mode options ≡ true)) → may_say mode options ≡ allowed
+    → IfSome (if allowed then Some (reading_by mode options) else None) (λ reading. (other : Reading) → Reads words other → other ≡ reading)
+    × IfNone (if allowed then Some (reading_by mode options) else None) ((reading : Reading) → Reads words reading → ⊥)
+alone_by words mode options true only is = (λ other reads. (only other reads).0, tt)
+alone_by words mode options false only is = (tt, λ reading reads. absurd (cc (sym (only reading reads).1 ∙ is)))
+
+pub reads_alone : (words : List (String Global)) (word chip : List ℕ) (rest : List (List ℕ)) (mode : Option Mode) (options : Option Options) (found : Option Reading)
+    → Texts words ≡ word ∷ chip ∷ rest → IsModeOf word mode → IsSaid options rest → found ≡ reading_with mode options
+    → IfSome found (λ reading. (other : Reading) → Reads words other → other ≡ reading) × IfNone found ((reading : Reading) → Reads words reading → ⊥)
+reads_alone words word chip rest None options found two is said same =
+    rw same (tt, λ reading reads. let parts = parts_of words word chip rest reading two reads in is parts.asked parts.word)
+reads_alone words word chip rest (Some mode) None found two is said same =
+    rw same (tt, λ reading reads. let parts = parts_of words word chip rest reading two reads in said parts.options parts.said)
+reads_alone words word chip rest (Some mode) (Some options) found two is said same =
+    rw same (alone_by words mode options (may_say mode options)
+    (λ other reads. parts_alone mode options word chip rest other is said (parts_of words word chip rest other two reads)) refl)

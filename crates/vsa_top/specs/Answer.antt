@@ -1,15 +1,16 @@
 -- What the program answers to an input.
-use Rattle.std.specs.Prelude.{◌≡◌, ◌⊎◌, true, false, ℕ, ◌≤◌, ◌<◌, Option, IfSome, List, [], ◌++◌, length, take, codes}
+use Rattle.std.specs.Prelude.{◌≡◌, ◌⊎◌, true, false, ℕ, ◌≤◌, ◌<◌, Option, None, Some, IfSome, List, [], ◌++◌, length, take, codes}
 use Rattle.std.specs.Fmt.{decimal}
 use Rattle.ihex_read.specs.declared.fault.HexFault.{HexFault}
 use Rattle.ihex_read.specs.declared.fault.HexError.{HexError}
 use Rattle.ihex_read.specs.declared.fault.HexError.TheVariants as hex_error
 use Rattle.ihex_read.specs.declared.rule_set.Rules.{Rules}
-use Rattle.ihex_read.specs.declared.rule_set.Tail.TheVariants.{Blank}
+use Rattle.ihex_read.specs.declared.rule_set.Tail.{Tail}
+use Rattle.ihex_read.specs.declared.rule_set.Tail.TheVariants.{Blank, Second}
 use Rattle.ihex_read.specs.ImageText.{Denotes, FirstFault}
 use Rattle.ihex_read.specs.Lines.{lines_of}
 use Rattle.ihex_read.specs.Names.{fault_name}
-use Rattle.ihex_read.specs.Reading.{feeds_of, FaultsWithin}
+use Rattle.ihex_read.specs.Reading.{feeds_of, FaultsWithin, HasEnded}
 use Rattle.vsa_io.specs.Stream.{appended, AppendsPrefix}
 use Rattle.chip_law.specs.declared.chip.Work.{Work}
 use Rattle.round_core.specs.declared.event.Event.{Event}
@@ -28,8 +29,14 @@ use Rattle.vsa_top.specs.declared.input.InputError.TheVariants.{Failed, Memory, 
 use Rattle.vsa_top.specs.declared.outcome.Status.{Status}
 use Rattle.vsa_top.specs.declared.outcome.Status.TheVariants as status
 use Rattle.vsa_top.specs.declared.words.Mode.{Mode}
-use Rattle.vsa_top.specs.declared.words.Mode.TheVariants.{Analyse, Disasm}
+use Rattle.vsa_top.specs.declared.words.Mode.TheVariants.{Analyse, Disasm, Run}
 use Rattle.vsa_top.specs.declared.words.Reading.{Reading}
+
+-- a run takes its script behind the image text
+abbrev pub tail_of : Mode → Tail
+tail_of Analyse = Blank
+tail_of Disasm = Blank
+tail_of Run = Second
 
 -- the longest image text
 abbrev pub text_limit : ℕ
@@ -44,15 +51,41 @@ pub record IsImageOf (rules : Rules) (text : List ℕ) (image : List (Option ℕ
   pub fits : length text ≤ text_limit
   pub denoted : Denotes rules Blank (lines_of text) image
 
+-- An image text and a second text behind it. The image text ends with the end record's line, at the first place where that
+-- is whole, or there is nothing behind it.
+pub record AreTexts (rules : Rules) (text : List ℕ) (image : List (Option ℕ)) (second : List ℕ) : Type 0 where
+  pub front : List ℕ
+  pub whole : text ≡ front ++ second
+  pub first : (k : ℕ) → k < length front → HasEnded rules (take k front) → ⊥
+  pub ends : (second ≡ []) ⊎ HasEnded rules front
+  pub fits : length front ≤ text_limit
+  pub denoted : Denotes rules Second (lines_of front) image
+
+-- bytes in front of what is left, where that is told
+abbrev pub begun_with : List ℕ → Option (List ℕ) → Option (List ℕ)
+begun_with begun None = None
+begun_with begun (Some left) = Some (begun ++ left)
+
+-- the text gives the image, with this second text behind it where one is expected
+abbrev pub Gives : Rules → Tail → List ℕ → List (Option ℕ) → List ℕ → Type 0
+Gives rules Blank text image second = IsImageOf rules text image × (second ≡ [])
+Gives rules Second text image second = AreTexts rules text image second
+
+-- the input gives the image, with this second text behind it; they may not be told
+abbrev pub InputGives : Rules → Tail → (input second : Option (List ℕ)) → List (Option ℕ) → Type 0
+InputGives rules tail input second image =
+    IfSome input (λ text. (behind : List ℕ) × (second ≡ Some behind) × Gives rules tail text image behind)
+
 -- the first faulty line of the text's first bytes: it is whole there, with its line feed, or the text has no more bytes
-pub record IsBad (rules : Rules) (text : List ℕ) (line : ℕ) (fault : HexFault) : Type 0 where
-  pub first : FirstFault rules Blank (lines_of (front_of text)) line fault
+pub record IsBad (rules : Rules) (tail : Tail) (text : List ℕ) (line : ℕ) (fault : HexFault) : Type 0 where
+  pub first : FirstFault rules tail (lines_of (front_of text)) line fault
   pub told : (line ≤ feeds_of (front_of text)) ⊎ (length text ≤ text_limit)
 
--- the text has more bytes, and no faulty line is whole among the first ones
-pub record IsTooLong (rules : Rules) (text : List ℕ) : Type 0 where
+-- the text has more bytes, no faulty line is whole among the first ones, and no second text begins there
+pub record IsTooLong (rules : Rules) (tail : Tail) (text : List ℕ) : Type 0 where
   pub longer : text_limit < length text
-  pub faultless : (line : ℕ) (fault : HexFault) → FaultsWithin rules Blank (front_of text) line fault → ⊥
+  pub faultless : (line : ℕ) (fault : HexFault) → FaultsWithin rules tail (front_of text) line fault → ⊥
+  pub unended : tail ≡ Second → HasEnded rules (front_of text) → ⊥
 
 -- what a reader's error is called here
 abbrev pub input_error_of : HexError → InputError
@@ -60,11 +93,11 @@ input_error_of (hex_error.Bad line fault) = Bad line fault
 input_error_of hex_error.Memory = Memory
 
 -- what is told of a text that gives no image; a source that fails and want of memory tell nothing
-abbrev pub LacksImage : Rules → List ℕ → InputError → Type 0
-LacksImage rules text (Bad line fault) = IsBad rules text line fault
-LacksImage rules text TooLong = IsTooLong rules text
-LacksImage rules text Failed = Unit {0}
-LacksImage rules text Memory = Unit {0}
+abbrev pub LacksImage : Rules → Tail → List ℕ → InputError → Type 0
+LacksImage rules tail text (Bad line fault) = IsBad rules tail text line fault
+LacksImage rules tail text TooLong = IsTooLong rules tail text
+LacksImage rules tail text Failed = Unit {0}
+LacksImage rules tail text Memory = Unit {0}
 
 abbrev pub usage_line : List ℕ
 usage_line = codes "USAGE\n"
@@ -122,6 +155,7 @@ AnswersDisassembly image answered before after journal =
 abbrev pub AnswersImage : Mode → Device → Status → (before after : Option (List ℕ)) → List Event → Type 0
 AnswersImage Analyse device answered before after journal = AnswersAnalysis answered device before after journal
 AnswersImage Disasm device answered before after journal = AnswersDisassembly device.image answered before after journal
+AnswersImage Run device answered before after journal = ⊥
 
 -- The answer to words that are a reading, over the text that the input is, where it is told: that of the image which
 -- it denotes, or its first faulty line, or that it is too long; or a fault of the source or want of memory, with
@@ -129,10 +163,10 @@ AnswersImage Disasm device answered before after journal = AnswersDisassembly de
 pub data AnswersInput (reading : Reading) (answered : Status) (input before after : Option (List ℕ)) (journal : List Event) : Type 0 where
   of_image : (image : List (Option ℕ)) → IfSome input (λ text. IsImageOf (rules_of reading) text image)
       → AnswersImage reading.mode (device_of reading image) answered before after journal → AnswersInput reading answered input before after journal
-  of_bad : (line : ℕ) (fault : HexFault) → IfSome input (λ text. IsBad (rules_of reading) text line fault)
+  of_bad : (line : ℕ) (fault : HexFault) → IfSome input (λ text. IsBad (rules_of reading) (tail_of reading.mode) text line fault)
       → AnswersText status.BadImage (bad_line line fault) answered before after journal
       → AnswersInput reading answered input before after journal
-  of_long : IfSome input (IsTooLong (rules_of reading)) → AnswersText status.TooLong long_line answered before after journal
+  of_long : IfSome input (IsTooLong (rules_of reading) (tail_of reading.mode)) → AnswersText status.TooLong long_line answered before after journal
       → AnswersInput reading answered input before after journal
   unread : (answered ≡ status.ReadFault) ⊎ (answered ≡ status.Memory) → after ≡ before → journal ≡ []
       → AnswersInput reading answered input before after journal
@@ -145,3 +179,4 @@ IsCutShort answered = (answered ≡ status.ReadFault) ⊎ (answered ≡ status.W
 abbrev pub IsOfImage : Mode → Status → Type 0
 IsOfImage Analyse answered = (answered ≡ status.Done) ⊎ (answered ≡ status.Open) ⊎ (answered ≡ status.Memory)
 IsOfImage Disasm answered = (answered ≡ status.Done) ⊎ (answered ≡ status.Memory)
+IsOfImage Run answered = ⊥

@@ -1,5 +1,5 @@
 -- What the words of the command line ask.
-use Rattle.std.specs.Prelude.{◌≡◌, ℕ, ◌+◌, ◌*◌, Option, None, Some, List, [], ◌∷◌, length, take, drop, slice_index, map, codes, string_bytes}
+use Rattle.std.specs.Prelude.{◌≡◌, ℕ, ◌+◌, ◌-◌, ◌*◌, ◌<◌, ◌≤◌, Bool, true, All, is_none, if◌then◌else◌, Option, None, Some, List, [], ◌∷◌, length, take, drop, slice_index, map, codes, string_bytes}
 use Rattle.std.specs.declared.string.String.{String}
 use Rattle.std.specs.declared.alloc.Global.{Global}
 use Rattle.hex.specs.Hex.{hex_digit_value}
@@ -8,7 +8,8 @@ use Rattle.ihex_read.specs.declared.rule_set.Rules.TheVariants.{Msp430}
 use Rattle.ihex_read.specs.ImageText.{IsRamRange}
 use Rattle.vsa_top.specs.declared.msp430.device.Device.{Device}
 use Rattle.vsa_top.specs.declared.words.Mode.{Mode}
-use Rattle.vsa_top.specs.declared.words.Mode.TheVariants.{Analyse, Disasm}
+use Rattle.vsa_top.specs.declared.words.Mode.TheVariants.{Analyse, Disasm, Run}
+use Rattle.vsa_top.specs.declared.words.Options.{Options}
 use Rattle.vsa_top.specs.declared.words.Ram.{Ram}
 use Rattle.vsa_top.specs.declared.words.Reading.{Reading}
 
@@ -46,19 +47,87 @@ pub record IsRange (text : List ℕ) (ram : Ram) : Type 0 where
 abbrev pub usual : Ram
 usual = record { lo = 512; hi = 2559 }
 
+-- how many steps a run has, if the words don't say
+abbrev pub usual_steps : ℕ
+usual_steps = 100
+
+-- the number that decimal digits write, behind those of another one
+abbrev pub number_behind : ℕ → List ℕ → ℕ
+number_behind n [] = n
+number_behind n (digit ∷ digits) = number_behind (10 * n + (digit - 48)) digits
+
+abbrev pub IsDigit : ℕ → Type 0
+IsDigit digit = (48 ≤ digit) × (digit < 58)
+
+-- the number of decimal digits behind those of another one, where it is at most a million
+pub record IsNumberBehind (n : ℕ) (digits : List ℕ) (number : ℕ) : Type 0 where
+  pub all_digits : All IsDigit digits
+  pub value : number ≡ number_behind n digits
+  pub allowed : number ≤ 1000000
+
+-- a number of 1 to 7 decimal digits, at most a million
+pub record IsSteps (text : List ℕ) (steps : ℕ) : Type 0 where
+  pub some : 1 ≤ length text
+  pub few : length text ≤ 7
+  pub number : IsNumberBehind 0 text steps
+
+-- an option with its text, and what the words behind it say: each option stands at most once
+pub data Adds (option text : List ℕ) (behind : Options) : Options → Type 0 where
+  ranged : (ram : Ram) → option ≡ codes "--ram" → behind.ram ≡ None → IsRange text ram
+      → Adds option text behind (record { ram = Some ram; steps = behind.steps })
+  stepped : (steps : ℕ) → option ≡ codes "--steps" → behind.steps ≡ None → IsSteps text steps
+      → Adds option text behind (record { ram = behind.ram; steps = Some steps })
+
+-- what the words behind the mode and the chip say: options with their texts, in any order
+abbrev pub Say : List (List ℕ) → Options → Type 0
+Say [] options = options ≡ record { ram = None; steps = None }
+Say (option ∷ []) options = ⊥
+Say (option ∷ text ∷ words) options = (behind : Options) × Say words behind × Adds option text behind options
+
 -- the word of a mode
 abbrev pub mode_word : Mode → List ℕ
 mode_word Analyse = codes "analyse"
 mode_word Disasm = codes "disasm"
+mode_word Run = codes "run"
 
--- the words ask this reading: by a mode and a chip, and perhaps by a range of RAM
-pub data Reads (words : List (String Global)) (reading : Reading) : Type 0 where
-  plain : map string_bytes words ≡ mode_word reading.mode ∷ codes "msp430" ∷ [] → reading.ram ≡ usual → Reads words reading
-  ranged : (text : List ℕ) → map string_bytes words ≡ mode_word reading.mode ∷ codes "msp430" ∷ codes "--ram" ∷ text ∷ []
-      → IsRange text reading.ram → Reads words reading
+-- a run alone has steps
+abbrev pub may_say : Mode → Options → Bool
+may_say Run options = true
+may_say Analyse options = is_none options.steps
+may_say Disasm options = is_none options.steps
 
--- a mode and a range of RAM, where both are there
-abbrev pub reading_with : Option Mode → Option Ram → Option Reading
-reading_with (Some mode) (Some ram) = Some (record { mode = mode; ram = ram })
+abbrev pub or_else : {A : Type 0} → Option A → A → A
+or_else None other = other
+or_else (Some said) other = said
+
+-- the reading of a mode and what the options say
+abbrev pub reading_by : Mode → Options → Reading
+reading_by mode options = record { mode = mode; ram = or_else options.ram usual; steps = or_else options.steps usual_steps }
+
+-- the words ask this reading: by a mode, a chip and options that the mode has
+pub record Reads (words : List (String Global)) (reading : Reading) : Type 0 where
+  pub mode : Mode
+  pub said : List (List ℕ)
+  pub options : Options
+  pub whole : map string_bytes words ≡ mode_word mode ∷ codes "msp430" ∷ said
+  pub say : Say said options
+  pub allowed : may_say mode options ≡ true
+  pub is : reading ≡ reading_by mode options
+
+-- options with one more, where they have none of its kind and it is one
+abbrev pub with_range : Options → Option Ram → Option Options
+with_range options None = None
+with_range options (Some ram) = if is_none options.ram then Some (record { ram = Some ram; steps = options.steps }) else None
+
+abbrev pub with_number : Options → Option ℕ → Option Options
+with_number options None = None
+with_number options (Some steps) = if is_none options.steps then Some (record { ram = options.ram; steps = Some steps }) else None
+
+abbrev pub allowed_reading : Mode → Options → Option Reading
+allowed_reading mode options = if may_say mode options then Some (reading_by mode options) else None
+
+-- the reading of a mode and its options, where both are there
+abbrev pub reading_with : Option Mode → Option Options → Option Reading
+reading_with (Some mode) (Some options) = allowed_reading mode options
 reading_with (Some mode) None = None
-reading_with None ram = None
+reading_with None options = None

@@ -1,12 +1,13 @@
 //! Reading the image text of a source.
 
-ghost use Rattle.std.specs.Prelude.{◌≡◌, ◌≢◌, ◌+◌, ◌++◌, ◌≤◌, ℕ, List, None, length, IfOk, IfErr, OnOk, IfSome};
+ghost use Rattle.std.specs.Prelude.{◌≡◌, ◌≢◌, ◌+◌, ◌++◌, ◌<◌, ◌≤◌, ◌↔◌, ℕ, List, [], None, Some, IsTrue, length, take, IfOk, IfErr, OnOk, IfSome};
 ghost use Rattle.ihex_read.specs.ImageText.{IsRamRange};
-ghost use Rattle.ihex_read.specs.declared.rule_set.Tail.TheVariants.{Blank};
+ghost use Rattle.ihex_read.specs.declared.rule_set.Tail.TheVariants.{Second};
+ghost use Rattle.ihex_read.specs.Reading.{HasEnded};
 ghost use Rattle.vsa_io.specs.Stream.{HasRisen};
-ghost use Rattle.vsa_top.specs.Answer.{IsImageOf, LacksImage};
+ghost use Rattle.vsa_top.specs.Answer.{InputGives, LacksImage, begun_with};
 
-use ihex_read::{HexError, HexFault, Image, MOST_BYTES, Reader, Rules, Tail, whole_faults_stay};
+use ihex_read::{HexError, HexFault, Image, MOST_BYTES, Reader, Rules, Tail, ended_texts_stay, whole_faults_stay};
 use std::alloc::Global;
 use vsa_io::{Failed, Memory, Source};
 
@@ -56,43 +57,83 @@ impl From<HexError> for InputError {
     }
 }
 
-/// Feeds a piece, of which there is room for so many bytes.
-fn feed_piece(reader: &mut Reader, room: usize, piece: &[u8]) -> Result<(), InputError>
+/// Whether a second text begins behind the text that was used.
+fn is_at_second(reader: &Reader, tail: Tail) -> bool
+    ensures { IsTrue result ↔ (tail ≡ Second) × HasEnded reader.now.rules reader.now.text }
+{
+    match tail {
+        Tail::Second => reader.ended(),
+        Tail::Blank => false,
+    }
+}
+
+/// Feeds a piece, of which there is room for so many bytes, and answers how many of them were used: all, save that none
+/// behind the end record's line is where a second text is expected.
+fn feed_piece(
+    reader: &mut Reader,
+    tail: Tail,
+    room: usize,
+    piece: &[u8],
+) -> Result<usize, InputError>
+    requires tail { reader.old.tail ≡ tail }
     requires faultless { reader.old.error ≡ None }
-    requires blank { reader.old.tail ≡ Blank }
     requires room { length reader.old.text + room ≡ MOST_BYTES }
-    ensures within { OnOk result (length piece.now ≤ room) }
-    ensures text { OnOk result (reader.new ≡ record reader.old { text = reader.old.text ++ piece.now }) }
-    ensures refused { IfErr result (λ error. (behind : List ℕ) → LacksImage reader.old.rules ((reader.old.text ++ piece.now) ++ behind) error) }
+    ensures within { IfOk result (λ used. (used ≤ room) × (used ≤ length piece.now)) }
+    ensures text { IfOk result (λ used. reader.new ≡ record reader.old { text = reader.old.text ++ take used piece.now }) }
+    ensures first { IfOk result (λ used. reader.old.tail ≡ Second
+        → (k : ℕ) → k < length (reader.old.text ++ take used piece.now) → HasEnded reader.old.rules (take k (reader.old.text ++ take used piece.now)) → ⊥) }
+    ensures stops { IfOk result (λ used. used < length piece.now
+        → (reader.old.tail ≡ Second) × HasEnded reader.old.rules (reader.old.text ++ take used piece.now)) }
+    ensures refused { IfErr result (λ error. (behind : List ℕ) → LacksImage reader.old.rules reader.old.tail ((reader.old.text ++ piece.now) ++ behind) error) }
     ensures read { IfErr result (λ error. error ≢ InputError.Failed) }
 {
     whole_faults_stay();
     let count = piece.len().min(room);
-    reader.feed(&piece[..count])?;
-    if count < piece.len() {
+    let used = reader.feed(&piece[..count])?;
+    if used < piece.len() && !is_at_second(reader, tail) {
         return Err(InputError::TooLong);
     }
-    Ok(())
+    Ok(used)
 }
 
-/// The image that a source's text denotes. It is read in pieces, and none of them is kept.
-pub fn image_in<S: Source>(alloc: Global, source: &mut S, rules: Rules) -> Result<Image, InputError>
+/// The image that a source's text gives, and what was read of a second text behind it. The text is read in pieces, and none
+/// of them is kept.
+pub fn image_in<S: Source>(
+    alloc: Global,
+    source: &mut S,
+    rules: Rules,
+    tail: Tail,
+) -> Result<(Image, Vec<u8>), InputError>
     requires { IsRamRange rules }
-    ensures image { IfOk result (λ image. IfSome (S.left source.old) (λ text. IsImageOf rules text image)) }
-    ensures refused { IfErr result (λ error. IfSome (S.left source.old) (λ text. LacksImage rules text error)) }
+    ensures image { IfOk result (λ given. InputGives rules tail (S.left source.old) (begun_with given.1.items (S.left source.new)) given.0) }
+    ensures refused { IfErr result (λ error. IfSome (S.left source.old) (λ text. LacksImage rules tail text error)) }
     ensures cause { IfErr result (λ error. error ≡ InputError.Failed → HasRisen (S.faults source.old) (S.faults source.new)) }
     ensures quiet { OnOk result (S.faults source.new ≡ S.faults source.old) }
     ensures quiet_refusal { IfErr result (λ error. error ≢ InputError.Failed → S.faults source.new ≡ S.faults source.old) }
 {
-    let mut reader = Reader::new(alloc, rules, Tail::Blank)?;
+    ended_texts_stay();
+    let mut reader = Reader::new(alloc, rules, tail)?;
     let mut buffer = [0u8; 4096];
     let mut room = MOST_BYTES;
     loop {
         let count = source.read(&mut buffer)?;
         if count == 0 {
-            return Ok(reader.end()?);
+            return Ok((reader.end()?, Vec::new(alloc)));
         }
-        feed_piece(&mut reader, room, &buffer[..count])?;
-        room -= count;
+        let used = feed_piece(&mut reader, tail, room, &buffer[..count])?;
+        if used < count {
+            let begun = copy_of(alloc, &buffer[used..count])?;
+            return Ok((reader.end()?, begun));
+        }
+        room -= used;
     }
+}
+
+/// A copy of bytes.
+fn copy_of(alloc: Global, bytes: &[u8]) -> Result<Vec<u8>, Memory>
+    ensures { IfOk result (λ copy. copy.items ≡ bytes.now) }
+{
+    let mut copy = Vec::new(alloc);
+    copy.extend_from_slice(bytes)?;
+    Ok(copy)
 }

@@ -16,7 +16,7 @@ use crate::msp430::Msp430;
 use crate::outcome::{Gate, Outcome, Status};
 use crate::report::report_of;
 use crate::words::{Mode, Reading, reading_of};
-use ihex_read::{HexFault, Image};
+use ihex_read::{HexFault, Image, Tail};
 use std::alloc::{AllocError, Global};
 use std::sync::Wait;
 use std::thread::Threads;
@@ -144,7 +144,7 @@ fn answer_image<K: Sink>(
             let chip = Msp430::new(image, reading.ram.lo, reading.ram.hi);
             analyse_image(alloc, &chip, sink)
         }
-        Mode::Disasm => disassemble_image(alloc, &image, sink),
+        Mode::Disasm | Mode::Run => disassemble_image(alloc, &image, sink),
     }
 }
 
@@ -162,8 +162,8 @@ fn answer_input<S: Source, K: Sink>(
     ensures quiet_source { ¬ IsCutShort result.status → S.faults source.new ≡ S.faults source.old }
     ensures quiet_sink { ¬ IsCutShort result.status → K.faults sink.new ≡ K.faults sink.old }
 {
-    let answered = match image_in(alloc, source, reading.rules()) {
-        Ok(image) => answer_image(alloc, reading, image, sink),
+    let answered = match image_in(alloc, source, reading.rules(), Tail::Blank) {
+        Ok((image, _)) => answer_image(alloc, reading, image, sink),
         Err(InputError::Bad { line, fault }) => answer_bad(alloc, sink, line, fault),
         Err(InputError::TooLong) => Ok(answer_text(alloc, sink, b"LONG\n", Status::TooLong)),
         Err(InputError::Failed) => Ok(without_journal(alloc, Status::ReadFault)),

@@ -1,13 +1,14 @@
 //! The words of the command line.
 
-ghost use Rattle.std.specs.Prelude.{◌≡◌, ◌<◌, ◌↔◌, IfNone, IfSome, IsTrue, MatchOption, string_bytes};
+ghost use Rattle.std.specs.Prelude.{◌≡◌, ◌<◌, ◌≤◌, ◌↔◌, ℕ, IfNone, IfSome, IsTrue, MatchOption, length, map, string_bytes};
 ghost use Rattle.hex.specs.Hex.{hex_digit_value};
 ghost use Rattle.ihex_read.specs.ImageText.{IsRamRange};
 ghost use Rattle.ihex_read.specs.declared.rule_set.Rules.TheVariants.{Msp430};
 ghost use Rattle.vsa_top.specs.declared.words.Mode.{Mode as AMode};
+ghost use Rattle.vsa_top.specs.declared.words.Options.{Options as AOptions};
 ghost use Rattle.vsa_top.specs.declared.words.Ram.{Ram as ARam};
 ghost use Rattle.vsa_top.specs.declared.words.Reading.{Reading as AReading};
-ghost use Rattle.vsa_top.specs.Words.{IsRange, Reads, mode_word, number_of as the_number, reading_with as both, rules_of};
+ghost use Rattle.vsa_top.specs.Words.{IsNumberBehind, IsRange, IsSteps, Reads, Say, may_say as the_mode_may_say, mode_word, number_of as the_number, reading_with as both, rules_of, with_number, with_range};
 
 use ihex_read::Rules;
 
@@ -18,6 +19,8 @@ pub enum Mode {
     Analyse,
     /// Its disassembly is written.
     Disasm,
+    /// It runs along a script, and the trace is written.
+    Run,
 }
 
 /// The first and the last address of the MSP430's RAM. They begin and end whole words, behind the peripherals.
@@ -35,11 +38,26 @@ impl Ram {
     };
 }
 
+/// What the words behind the mode and the chip say.
+#[derive(Clone, Copy, Debug, PartialEq, Eq)]
+pub struct Options {
+    pub ram: Option<Ram>,
+    pub steps: Option<u32>,
+}
+
+/// How many steps a run has, if the words don't say.
+const USUAL_STEPS: u32 = 100;
+
+/// The greatest number of steps.
+const MOST_STEPS: u32 = 1_000_000;
+
 /// What the words ask.
 #[derive(Clone, Copy, Debug, PartialEq, Eq)]
 pub struct Reading {
     pub mode: Mode,
     pub ram: Ram,
+    /// At most 1,000,000; those of a run.
+    pub steps: u32,
 }
 
 impl Reading {
@@ -108,6 +126,34 @@ fn range_of(text: &[u8]) -> Option<Ram>
     if is_ram_range(ram) { Some(ram) } else { None }
 }
 
+/// The number of decimal digits behind those of another one, where it is at most a million.
+fn number_behind(number: u32, digits: &[u8]) -> Option<u32>
+    requires { number ≤ 1000000 }
+    ensures { MatchOption result ((steps : ℕ) → ¬ IsNumberBehind number digits.now steps) (IsNumberBehind number digits.now) }
+{
+    let Some((digit, rest)) = digits.split_first() else {
+        return Some(number);
+    };
+    if !digit.is_ascii_digit() {
+        return None;
+    }
+    let longer = 10 * number + (*digit - b'0') as u32;
+    if longer > MOST_STEPS {
+        return None;
+    }
+    number_behind(longer, rest)
+}
+
+/// A number of 1 to 7 decimal digits, at most a million.
+fn steps_of(text: &[u8]) -> Option<u32>
+    ensures { MatchOption result ((steps : ℕ) → ¬ IsSteps text.now steps) (IsSteps text.now) }
+{
+    if text.is_empty() || text.len() > 7 {
+        return None;
+    }
+    number_behind(0, text)
+}
+
 /// The mode of a word.
 fn mode_of(word: &String) -> Option<Mode>
     ensures { MatchOption result ((mode : AMode) → ¬ (string_bytes word.now ≡ mode_word mode)) (λ mode. string_bytes word.now ≡ mode_word mode) }
@@ -116,32 +162,93 @@ fn mode_of(word: &String) -> Option<Mode>
         Some(Mode::Analyse)
     } else if is_word(word, "disasm") {
         Some(Mode::Disasm)
+    } else if is_word(word, "run") {
+        Some(Mode::Run)
     } else {
         None
     }
 }
 
-/// A mode and a range of RAM, where both are there.
-fn reading_with(mode: Option<Mode>, ram: Option<Ram>) -> Option<Reading>
-    ensures { result ≡ both mode ram }
+/// Options with a range of RAM, where they have none and it is one.
+fn with_ram(options: Options, ram: Option<Ram>) -> Option<Options>
+    ensures { result ≡ with_range options ram }
 {
+    match (options.ram, ram) {
+        (None, Some(ram)) => Some(Options {
+            ram: Some(ram),
+            steps: options.steps,
+        }),
+        _ => None,
+    }
+}
+
+/// Options with a number of steps, where they have none and it is one.
+fn with_steps(options: Options, steps: Option<u32>) -> Option<Options>
+    ensures { result ≡ with_number options steps }
+{
+    match (options.steps, steps) {
+        (None, Some(steps)) => Some(Options {
+            ram: options.ram,
+            steps: Some(steps),
+        }),
+        _ => None,
+    }
+}
+
+/// What the words behind the mode and the chip say.
+fn options_of(words: &[String]) -> Option<Options>
+    ensures { MatchOption result ((options : AOptions) → ¬ Say (map string_bytes words.now) options) (Say (map string_bytes words.now)) }
+{
+    let Some((option, behind)) = words.split_first() else {
+        return Some(Options {
+            ram: None,
+            steps: None,
+        });
+    };
+    let (text, rest) = behind.split_first()?;
+    let options = options_of(rest)?;
+    if is_word(option, "--ram") {
+        with_ram(options, range_of(text.as_bytes()))
+    } else if is_word(option, "--steps") {
+        with_steps(options, steps_of(text.as_bytes()))
+    } else {
+        None
+    }
+}
+
+/// Whether a mode has these options.
+fn may_say(mode: Mode, options: Options) -> bool
+    ensures { result ≡ the_mode_may_say mode options }
+{
+    mode == Mode::Run || options.steps.is_none()
+}
+
+/// The reading of a mode and its options, where both are there.
+fn reading_with(mode: Option<Mode>, options: Option<Options>) -> Option<Reading>
+    ensures { result ≡ both mode options }
+{
+    let (mode, options) = (mode?, options?);
+    if !may_say(mode, options) {
+        return None;
+    }
     Some(Reading {
-        mode: mode?,
-        ram: ram?,
+        mode,
+        ram: options.ram.unwrap_or(Ram::USUAL),
+        steps: options.steps.unwrap_or(USUAL_STEPS),
     })
 }
 
-/// What the words ask, where they are a mode and `msp430`, perhaps with `--ram LO-HI` behind.
+/// What the words ask, where they are a mode and `msp430`, and then options that the mode has: `--ram LO-HI`, and for a
+/// run `--steps N`.
 pub fn reading_of(words: &[String]) -> Option<Reading>
     ensures reads { IfSome result (Reads words.now) }
     ensures alone { IfSome result (λ reading. (other : AReading) → Reads words.now other → other ≡ reading) }
     ensures none { IfNone result ((reading : AReading) → ¬ Reads words.now reading) }
 {
-    match words {
-        [mode, chip] if is_word(chip, "msp430") => reading_with(mode_of(mode), Some(Ram::USUAL)),
-        [mode, chip, option, range] if is_word(chip, "msp430") && is_word(option, "--ram") => {
-            reading_with(mode_of(mode), range_of(range.as_bytes()))
-        }
-        _ => None,
+    let (mode, behind) = words.split_first()?;
+    let (chip, rest) = behind.split_first()?;
+    if !is_word(chip, "msp430") {
+        return None;
     }
+    reading_with(mode_of(mode), options_of(rest))
 }
