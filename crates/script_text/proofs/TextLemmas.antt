@@ -26,9 +26,6 @@ joined_feed (line ∷ whole) begun = rw (joined_feed whole begun) (sym (append_a
 pub feeds_append : (text more : List ℕ) → feeds_of (text ++ more) ≡ feeds_of text + feeds_of more
 feeds_append text more = sum_by-append _ text more
 
-pub read_start : HasRead [] [] []
-read_start = record { cut = λ more. refl; denotes = refl; feeds = refl; small = omega arith }
-
 behind_byte : (begun more : List ℕ) (b : ℕ) → (b == 10) ≡ false → lines_behind begun (b ∷ more) ≡ lines_behind (begun ++ b ∷ []) more
 behind_byte begun more b other = rw other refl
 
@@ -100,11 +97,6 @@ pub end_line : (whole : List (List ℕ)) (begun numbers : List ℕ) → HasRead 
     script_of (joined whole begun) ≡ numbers_behind (length whole) numbers (without_return begun ∷ [])
 end_line whole [] numbers read some = absurd (omega arith)
 end_line whole (b ∷ begun) numbers read some = as_it_stands whole (b ∷ begun) numbers read
-
--- as many lines as the text has bytes at most
-pub whole_count : (whole : List (List ℕ)) (begun : List ℕ) → length whole ≤ length (joined whole begun)
-whole_count [] begun = omega arith
-whole_count (line ∷ whole) begun = omega (arith, whole_count whole begun, length-append line (10 ∷ joined whole begun))
 
 feeds_more : (b : ℕ) (text : List ℕ) → feeds_of (b ∷ text) ≡ feeds_of (b ∷ []) + feeds_of text
 feeds_more b text = feeds_append (b ∷ []) text
