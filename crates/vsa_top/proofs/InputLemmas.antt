@@ -117,7 +117,7 @@ IsTaken-none rules tail input reader is =
     subst (λ r. IsTaken rules tail input input r text_limit) (sym is) same
 
 -- where a piece was taken
-took : (text : List ℕ) (left : Option (List ℕ)) (buffer : List ℕ) (count : ℕ) (after : Option (List ℕ)) → Takes left count buffer after
+pub took : (text : List ℕ) (left : Option (List ℕ)) (buffer : List ℕ) (count : ℕ) (after : Option (List ℕ)) → Takes left count buffer after
     → begun_with text left ≡ begun_with (text ++ take count buffer) after
 took text None buffer count after takes = ap (begun_with (text ++ take count buffer)) (sym takes)
 took text (Some left) buffer count after takes =

@@ -6,6 +6,7 @@ pub mod Msp430Laws
 pub mod Msp430Sets
 pub mod Msp430Steps
 pub mod ReportLemmas
+pub mod ScriptLemmas
 pub mod ShownLemmas
 pub mod TurnLemmas
 pub mod WordsLemmas

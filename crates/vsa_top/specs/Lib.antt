@@ -8,5 +8,6 @@ pub mod Msp430Machine
 pub mod Msp430State
 pub mod Msp430Table
 pub mod Report
+pub mod Scripts
 pub mod Turns
 pub mod Words

@@ -8,6 +8,7 @@ mod input;
 mod msp430;
 mod outcome;
 mod report;
+mod script;
 mod top;
 mod words;
 
