@@ -6,7 +6,7 @@ use Rattle.std.proofs.lemmas.List.Elements.{Contains-append_right}
 use Rattle.std.proofs.lemmas.Option.{same_Some}
 use Rattle.std.specs.Option.{option_map}
 use Rattle.call_context.specs.Nodes.{pc_of}
-use Rattle.call_context.specs.PlainLaws.{in_none, in_cons, in_first, in_rest}
+use Rattle.call_context.specs.Members.{in_none, in_cons, in_first, in_rest}
 use Rattle.call_context.specs.declared.node.Frame.{Frame}
 use Rattle.call_context.specs.declared.node.Node.{Node}
 use Rattle.call_context.specs.declared.node.Node.TheVariants.{At, Exit}
