@@ -1,10 +1,6 @@
 -- The lines of a report, without their line feeds.
 use Rattle.std.specs.Prelude.{ℕ, Bool, ◌==◌, List, [], ◌∷◌, ◌++◌, codes, if◌then◌else◌}
 use Rattle.std.specs.List.{flat_map}
-use Rattle.call_context.specs.declared.plain.Vs8.{Vs8}
-use Rattle.call_context.specs.declared.plain.Vs8.TheVariants as bytes
-use Rattle.call_context.specs.declared.plain.Vs16.{Vs16}
-use Rattle.call_context.specs.declared.plain.Vs16.TheVariants as words
 use Rattle.call_context.specs.declared.shown.Set.{Set}
 use Rattle.call_context.specs.declared.shown.Set.TheVariants.{B, W}
 use Rattle.call_context.specs.declared.shown.Space.{Space}
@@ -13,22 +9,27 @@ use Rattle.call_context.specs.declared.shown.Cause.{Cause}
 use Rattle.call_context.specs.declared.shown.Cause.TheVariants.{Fetch, Targets, Store, Unbuilt}
 use Rattle.call_context.specs.declared.shown.Item.{Item}
 use Rattle.call_context.specs.declared.shown.Item.TheVariants.{Instr, Edge, Access, Stack}
-use Rattle.chip_law.specs.Digits.{hex}
+use Rattle.chip_law.specs.Digits.{hex, short_hex}
+use Rattle.value_set.specs.declared.form.Form.{Form}
+use Rattle.value_set.specs.declared.form.Form.TheVariants.{Values, Run}
 
 -- numbers with commas between them
 abbrev pub comma_list : ℕ → List ℕ → List ℕ
 comma_list digits [] = []
 comma_list digits (x ∷ xs) = hex digits x ++ flat_map (λ y. 44 ∷ hex digits y) xs
 
--- a star for all numbers, the numbers of a list, or base, stride and count
-abbrev pub word_set_text : Vs16 → List ℕ
-word_set_text (words.Listed values) = comma_list 4 values
-word_set_text words.Even = codes "0000/2/8000"
-word_set_text words.Any = codes "*"
+-- a star for all m numbers, the numbers of a list, or base, stride and count of a run
+abbrev pub form_text : (digits m : ℕ) → Form → List ℕ
+form_text digits m (Values values) = comma_list digits values
+form_text digits m (Run run) =
+    if run.count == m then codes "*"
+    else hex digits run.base ++ codes "/" ++ short_hex run.stride ++ codes "/" ++ short_hex run.count
 
-abbrev pub byte_set_text : Vs8 → List ℕ
-byte_set_text (bytes.Listed values) = comma_list 2 values
-byte_set_text bytes.Any = codes "*"
+abbrev pub word_set_text : Form → List ℕ
+word_set_text values = form_text 4 65536 values
+
+abbrev pub byte_set_text : Form → List ℕ
+byte_set_text values = form_text 2 256 values
 
 abbrev pub set_text : Set → List ℕ
 set_text (B values) = byte_set_text values

@@ -8,3 +8,6 @@ mod line;
 pub use chip::{Chip, ChipText, LawfulChip, Work};
 pub use digits::{hex_byte, hex_word};
 pub use line::{item_line, open_line, put_item, put_open};
+
+#[cfg(test)]
+mod tests;

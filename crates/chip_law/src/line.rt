@@ -1,13 +1,14 @@
 //! The lines of a report, one for each item and open.
 
 ghost use Rattle.std.specs.Prelude.{◌≡◌, ◌++◌, ◌∷◌, codes, IfOk, OnOk, OnErr};
-ghost use Rattle.chip_law.specs.Digits.{hex};
+ghost use Rattle.chip_law.specs.Digits.{hex, short_hex};
 ghost use Rattle.chip_law.specs.Line.{word_set_text, byte_set_text, set_text, item_line_of, open_line_of, bytes_text, space_text, kind_text, comma_list};
 
 use crate::chip::ChipText;
-use crate::digits::{hex_byte, hex_word};
-use call_context::{Cause, Item, Set, Space, Vs8, Vs16};
+use crate::digits::{hex_byte, hex_word, push_short_hex};
+use call_context::{Cause, Item, Set, Space};
 use std::alloc::{AllocError, Global};
+use value_set::{Form, Progression, Vs8, Vs16};
 use vsa_io::Memory;
 
 /// Adds words with commas between them.
@@ -40,25 +41,55 @@ fn push_bytes(line: &mut Vec<u8>, values: &[u16]) -> Result<(), AllocError>
     Ok(())
 }
 
+/// Adds the stride and the count of a run.
+fn push_steps(line: &mut Vec<u8>, run: &Progression) -> Result<(), AllocError>
+    ensures { OnOk result (line.new.items ≡ line.old.items ++ codes "/" ++ short_hex run.now.stride ++ codes "/" ++ short_hex run.now.count) }
+{
+    line.push(b'/')?;
+    push_short_hex(line, run.stride as u32)?;
+    line.push(b'/')?;
+    push_short_hex(line, run.count)
+}
+
 /// Adds the text of a set of words.
 fn push_word_set(line: &mut Vec<u8>, values: &Vs16) -> Result<(), AllocError>
     ensures { OnOk result (line.new.items ≡ line.old.items ++ word_set_text values.now) }
 {
-    match values {
-        Vs16::Listed(few) => push_words(line, few.as_slice()),
-        Vs16::Even => line.extend_from_slice(b"0000/2/8000"),
-        Vs16::Any => line.extend_from_slice(b"*"),
+    match values.form() {
+        Form::Values(few) => push_words(line, few.as_slice()),
+        Form::Run(run) => {
+            if run.count == 65536 {
+                return line.extend_from_slice(b"*");
+            }
+            line.extend_from_slice(&hex_word(run.base))?;
+            push_steps(line, &run)
+        }
+    }
+}
+
+/// Adds the text of a set of bytes.
+fn push_byte_set(line: &mut Vec<u8>, values: &Vs8) -> Result<(), AllocError>
+    ensures { OnOk result (line.new.items ≡ line.old.items ++ byte_set_text values.now) }
+{
+    match values.form() {
+        Form::Values(few) => push_bytes(line, few.as_slice()),
+        Form::Run(run) => {
+            if run.count == 256 {
+                return line.extend_from_slice(b"*");
+            }
+            line.extend_from_slice(&hex_byte((run.base % 256) as u8))?;
+            push_steps(line, &run)
+        }
     }
 }
 
 /// Adds the text of a set.
-fn push_set(line: &mut Vec<u8>, values: &Set) -> Result<(), AllocError>
+pub fn push_set(line: &mut Vec<u8>, values: &Set) -> Result<(), AllocError>
     ensures { OnOk result (line.new.items ≡ line.old.items ++ set_text values.now) }
 {
     match values {
         Set::W(words) => push_word_set(line, words),
-        Set::B(Vs8::Listed(few)) => push_bytes(line, few.as_slice()),
-        Set::B(Vs8::Any) => line.extend_from_slice(b"*"),
+        Set::B(bytes) => push_byte_set(line, bytes),
     }
 }
 

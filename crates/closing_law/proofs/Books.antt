@@ -8,7 +8,7 @@ use Rattle.call_context.specs.declared.node.Node.{Node}
 use Rattle.call_context.specs.declared.node.Node.TheVariants.{At, Exit}
 use Rattle.call_context.specs.declared.node.Unit.{Unit as WorkUnit}
 use Rattle.call_context.specs.declared.node.Unit.TheVariants.{One, Back}
-use Rattle.call_context.specs.PlainLaws.{in_none, in_cons, in_first, in_rest}
+use Rattle.call_context.specs.Members.{in_none, in_cons, in_first, in_rest}
 use Rattle.call_context.specs.Same.{same_frame, same_unit}
 use Rattle.call_context.specs.SameLaws.{same_frame-refl, same_unit-eq}
 use Rattle.chip_law.specs.declared.chip.Work.{Work}

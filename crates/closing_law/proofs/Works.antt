@@ -3,7 +3,7 @@ use Rattle.std.proofs.Common.{Bool, true, false, Some, List, [], ◌∷◌, refl
 use Rattle.std.specs.Prelude.{Contains, map, filter}
 use Rattle.std.specs.List.{AllByRecursion}
 use Rattle.call_context.specs.declared.node.Unit.{Unit as WorkUnit}
-use Rattle.call_context.specs.PlainLaws.{in_none, in_cons}
+use Rattle.call_context.specs.Members.{in_none, in_cons}
 use Rattle.chip_law.specs.declared.chip.Work.{Work}
 use Rattle.chip_law.specs.Meaning.{Meaning}
 use Rattle.round_core.specs.declared.event.Event.{Event}

@@ -6,7 +6,7 @@ use Rattle.std.proofs.lemmas.List.Elements.{Contains-append_right}
 use Rattle.std.proofs.lemmas.Option.{same_Some}
 use Rattle.std.specs.Option.{option_map}
 use Rattle.call_context.specs.Nodes.{pc_of}
-use Rattle.call_context.specs.PlainLaws.{in_none, in_cons, in_first, in_rest}
+use Rattle.call_context.specs.Members.{in_none, in_cons, in_first, in_rest}
 use Rattle.call_context.specs.declared.node.Frame.{Frame}
 use Rattle.call_context.specs.declared.node.Node.{Node}
 use Rattle.call_context.specs.declared.node.Node.TheVariants.{At, Exit}
@@ -29,7 +29,8 @@ use Rattle.ihex_read.specs.Lines as texts
 use Rattle.round_core.specs.Machine.{Held, held_at, inputs_of, replay, IsLegalJournal, IsFinished}
 use Rattle.round_core.specs.declared.event.Event.{Event}
 use Rattle.vsa_top.specs.declared.msp430.device.Device.{Device}
-use Rattle.vsa_top.specs.declared.msp430.instr.Instr.{Instr}
+use Rattle.msp430_decode.specs.declared.instr.Instr.{Instr}
+use Rattle.vsa_top.specs.declared.msp430.action.Action.{Action}
 use Rattle.vsa_top.specs.declared.msp430.state.State.{State}
 use Rattle.vsa_top.specs.declared.outcome.Status.{Status}
 use Rattle.vsa_top.specs.declared.outcome.Status.TheVariants.{Done, Open, Usage, BadImage, BadCert, ReadFault, WriteFault, Memory, TooLong, Wild, NeedChoice}
@@ -38,8 +39,7 @@ use Rattle.vsa_top.specs.Answer.AnswersInput.{of_image, of_bad, of_long, unread}
 use Rattle.vsa_top.specs.Answer.AnswersText.{whole, cut}
 use Rattle.vsa_top.specs.Headline.{Says, CoversEveryRun, ShowsOpenSites, ReportsOn}
 use Rattle.vsa_top.specs.Msp430Chip.{msp430, work_of, work_at, IsProgram}
-use Rattle.vsa_top.specs.Msp430Fetch.{fetched}
-use Rattle.vsa_top.specs.Msp430Table.{instr_of, instr_text}
+use Rattle.vsa_top.specs.Msp430Built.{fetched, instr_text}
 use Rattle.vsa_top.specs.Report.{are_closed, is_empty, lines_of, with_lines, least_of, head_line, summary_of, report_text, report_of}
 use Rattle.vsa_top.specs.declared.words.Mode.{Mode}
 use Rattle.vsa_top.specs.declared.words.Mode.TheVariants.{Analyse, Disasm}
@@ -80,7 +80,7 @@ some_open {A = A} (first ∷ works) h =
     ] refl
 
 -- an open of a unit's work stands where no instruction is fetched
-open_at : (pc : ℕ) (calls : List ℕ) (frame : Frame) (a : State) (found : Result (Instr × List ℕ) Cause) (at : ℕ) (cause : Cause)
+open_at : (pc : ℕ) (calls : List ℕ) (frame : Frame) (a : State) (found : Result (Action × Instr) Cause) (at : ℕ) (cause : Cause)
     → Contains (work_at pc calls frame a found).opens (at, cause) → (at ≡ pc) × (found ≡ Err cause)
 open_at pc calls frame a (Err why) at cause h = elim (in_cons (pc, why) [] (at, cause) h) [
   | inl same ↦ (ap (λ o. o.0) (sym same), ap (λ (o : ℕ × Cause). Err o.1) same)
@@ -113,25 +113,22 @@ unfolding msp430
 is_site device nodes work at cause is h =
     unit_open device nodes is.unit is.at is.exit is.held.0 at cause is.held.1 (subst (λ (w : Work State). Contains w.opens (at, cause)) is.is_work h)
 
-abbrev text_at : ℕ → List ℕ → List ℕ
-text_at = λ pc bytes. instr_text pc (instr_of bytes)
-
 -- the head of a report
-says_head : (closed : Bool) (works : List (Work State)) → are_closed works ≡ closed → Says (head_line closed) (report_of text_at works)
+says_head : (closed : Bool) (works : List (Work State)) → are_closed works ≡ closed → Says (head_line closed) (report_of instr_text works)
 says_head closed works e =
-    let lines = with_lines [] (flat_map (lines_of text_at) works) in
+    let lines = with_lines [] (flat_map (lines_of instr_text) works) in
     let least = least_of _ (flat_map (λ (w : Work State). w.items) works) in
     let body = flat_map (λ line. line ++ 10 ∷ []) lines in
     (body ++ summary_of least lines, ap (λ c. report_text c lines least) e ∙ append_assoc (head_line closed) body (summary_of least lines))
 
 -- the report has the line of each open
 report_has_open : (works : List (Work State)) (work : Work State) (site : ℕ × Cause) → Contains works work → Contains work.opens site
-    → HasLine (report_of text_at works) (open_line_of site.0 site.1)
+    → HasLine (report_of instr_text works) (open_line_of site.0 site.1)
 report_has_open works work site w o =
-    report_has (are_closed works) (with_lines [] (flat_map (lines_of text_at) works)) (least_of _ (flat_map (λ w. w.items) works)) (open_line_of site.0 site.1)
-    (in_with_lines_new (flat_map (lines_of text_at) works) [] (open_line_of site.0 site.1)
-    (in_flat_map (lines_of text_at) works work (open_line_of site.0 site.1) w
-    (Contains-append_right (map (item_line_of text_at) work.items) (map (λ o. open_line_of o.0 o.1) work.opens) (open_line_of site.0 site.1)
+    report_has (are_closed works) (with_lines [] (flat_map (lines_of instr_text) works)) (least_of _ (flat_map (λ w. w.items) works)) (open_line_of site.0 site.1)
+    (in_with_lines_new (flat_map (lines_of instr_text) works) [] (open_line_of site.0 site.1)
+    (in_flat_map (lines_of instr_text) works work (open_line_of site.0 site.1) w
+    (Contains-append_right (map (item_line_of instr_text) work.items) (map (λ o. open_line_of o.0 o.1) work.opens) (open_line_of site.0 site.1)
     (in_map (λ (o : ℕ × Cause). open_line_of o.0 o.1) work.opens site o))))
 
 -- what is known of books and of texts
@@ -179,7 +176,7 @@ covers_every cover bytes reading text image journal denoted analysis closed =
       shows = λ n item met. let found = covering.shows n item met in record {
         item = found.2.0;
         has = found.2.2;
-        line = report_has_item text_at (works_behind (device_of reading image) journal) found.0 found.2.0 found.1 found.2.1;
+        line = report_has_item instr_text (works_behind (device_of reading image) journal) found.0 found.2.0 found.1 found.2.1;
       };
       stays = covering.stays;
     }

@@ -20,7 +20,7 @@ use Rattle.vsa_top.specs.declared.msp430.device.Device.{Device}
 use Rattle.vsa_top.specs.declared.msp430.state.State.{State}
 use Rattle.vsa_top.specs.Disassembly.{IsDisassembly}
 use Rattle.vsa_top.specs.Msp430Chip.{msp430}
-use Rattle.vsa_top.specs.Msp430Table.{instr_of, instr_text}
+use Rattle.vsa_top.specs.Msp430Built.{instr_text}
 use Rattle.vsa_top.specs.Report.{report_of, are_closed}
 use Rattle.vsa_top.specs.Turns.{AreTurns}
 use Rattle.vsa_top.specs.Words.{rules_of, device_of}
@@ -114,7 +114,7 @@ works_behind device journal = live_works (replay (msp430 device) journal)
 
 -- the report of the book that a journal leads to
 abbrev pub report_behind : Device → List Event → List ℕ
-report_behind device journal = report_of (λ pc bytes. instr_text pc (instr_of bytes)) (works_behind device journal)
+report_behind device journal = report_of instr_text (works_behind device journal)
 
 -- a journal of one worker, each event of which is legal, to a finished book
 pub record IsAnalysis (device : Device) (journal : List Event) : Type 0 where

@@ -19,8 +19,7 @@ use Rattle.vsa_top.specs.declared.msp430.state.State.{State}
 use Rattle.vsa_top.specs.declared.words.Reading.{Reading}
 use Rattle.vsa_top.specs.Answer.{works_behind}
 use Rattle.vsa_top.specs.Msp430Chip.{msp430}
-use Rattle.vsa_top.specs.Msp430Fetch.{fetched}
-use Rattle.vsa_top.specs.Msp430Table.{instr_of, instr_text}
+use Rattle.vsa_top.specs.Msp430Built.{fetched, instr_text}
 use Rattle.vsa_top.specs.Words.{rules_of, device_of}
 
 -- the report begins with this text
@@ -32,7 +31,7 @@ Says text report = (rest : List ℕ) × (report ≡ text ++ rest)
 pub record CoversEveryRun (device : Device) (report : List ℕ) : Type 0 where
   pub says : Says (codes "CLOSED\n") report
   pub shows : (n : ℕ) (item : Single) → Meets (msp430 device) n item
-      → IsShownIn (λ pc bytes. instr_text pc (instr_of bytes)) report item
+      → IsShownIn instr_text report item
   pub stays : (n : ℕ) → GoesWild (msp430 device) n → ⊥
 
 -- The report has the line of an open site, which is the address of a node of the book, and no instruction that is built

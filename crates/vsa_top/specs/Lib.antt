@@ -1,12 +1,12 @@
 pub mod Answer
 pub mod Disassembly
 pub mod Headline
+pub mod Msp430Built
 pub mod Msp430Chip
 pub mod Msp430Cover
-pub mod Msp430Fetch
 pub mod Msp430Machine
+pub mod Msp430Marks
 pub mod Msp430State
-pub mod Msp430Table
 pub mod Report
 pub mod Scripts
 pub mod Turns

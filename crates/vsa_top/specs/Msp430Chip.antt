@@ -13,28 +13,30 @@ use Rattle.ihex_read.specs.Image.{IsByte}
 use Rattle.chip_law.specs.declared.chip.Work.{Work}
 use Rattle.chip_law.specs.Meaning.{Meaning}
 use Rattle.vsa_top.specs.declared.msp430.device.Device.{Device}
-use Rattle.vsa_top.specs.declared.msp430.instr.Instr.{Instr}
+use Rattle.msp430_decode.specs.declared.instr.Instr.{Instr}
+use Rattle.msp430_decode.specs.Table.{bytes_of}
+use Rattle.vsa_top.specs.declared.msp430.action.Action.{Action}
 use Rattle.vsa_top.specs.declared.msp430.state.State.{State}
 use Rattle.vsa_top.specs.declared.msp430.state.ChipState.{ChipState}
 use Rattle.vsa_top.specs.Msp430Cover.{HasChipForm, CoversState}
-use Rattle.vsa_top.specs.Msp430Fetch.{fetched, reset_address}
-use Rattle.vsa_top.specs.Msp430Machine.{register_of, IsResetOf, StepsTo}
+use Rattle.vsa_top.specs.Msp430Built.{fetched, next_of}
+use Rattle.vsa_top.specs.Msp430Machine.{register_of, reset_address, IsResetOf, StepsTo}
+use Rattle.vsa_top.specs.Msp430Marks.{stops}
 use Rattle.vsa_top.specs.Msp430State.{unknown, state_within, state_joined, state_widened, state_behind}
-use Rattle.vsa_top.specs.Msp430Table.{next_of}
 
 abbrev pub nothing : Work State
 nothing = record { items = []; posts = []; waits = []; opens = [] }
 
 -- the work of a location, by what stands there
-abbrev pub work_at : ℕ → List ℕ → Frame → State → Result (Instr × List ℕ) Cause → Work State
+abbrev pub work_at : ℕ → List ℕ → Frame → State → Result (Action × Instr) Cause → Work State
 work_at pc calls frame a (Err cause) = record {
   items = items.Stack pc (W a.sp) ∷ [];
   posts = [];
   waits = [];
   opens = (pc, cause) ∷ [];
 }
-work_at pc calls frame a (Ok found) = let next = next_of pc found.0 in record {
-  items = items.Stack pc (W a.sp) ∷ items.Instr pc found.1 ∷ items.Edge pc next ∷ [];
+work_at pc calls frame a (Ok found) = let next = next_of pc found in record {
+  items = items.Stack pc (W a.sp) ∷ items.Instr pc (bytes_of found.1) ∷ items.Edge pc next ∷ [];
   posts = (At next calls frame, state_behind found.0 a) ∷ [];
   waits = [];
   opens = [];
@@ -60,7 +62,7 @@ msp430 device = record {
   work = work_of device.image;
   within = state_within;
   join = state_joined;
-  widen = λ coarse. state_widened;
+  widen = λ coarse. state_widened (stops coarse device);
   top = λ node. unknown;
   HasForm = HasChipForm;
   Covers = CoversState device;

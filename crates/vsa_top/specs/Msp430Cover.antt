@@ -6,8 +6,8 @@ use Rattle.call_context.specs.declared.node.Frame.{Frame}
 use Rattle.call_context.specs.declared.node.Frame.TheVariants.{Base, Irq}
 use Rattle.call_context.specs.declared.node.Node.{Node}
 use Rattle.call_context.specs.declared.node.Node.TheVariants.{At, Exit}
-use Rattle.call_context.specs.declared.plain.Vs16.{Vs16}
-use Rattle.call_context.specs.Plain.{HasWord}
+use Rattle.value_set.specs.declared.form.Form.{Form}
+use Rattle.value_set.specs.Form.{Has, IsNormal}
 use Rattle.vsa_top.specs.declared.msp430.device.Device.{Device}
 use Rattle.vsa_top.specs.declared.msp430.state.State.{State}
 use Rattle.vsa_top.specs.declared.msp430.state.ChipState.{ChipState}
@@ -15,6 +15,10 @@ use Rattle.vsa_top.specs.Msp430Machine.{register_of, IsChipState}
 use Rattle.vsa_top.specs.Msp430State.{set_of}
 
 -- VALUES
+
+-- the set has the word
+abbrev pub HasWord : Form → ℕ → Type 0
+HasWord set value = Has 65536 set value
 
 -- how a number came from a register of the suspended state: that register, AND a mask, OR a mask; PC is register 0
 pub record Relation : Type 0 where
@@ -24,7 +28,7 @@ pub record Relation : Type 0 where
 
 -- a set of numbers, perhaps with a relation
 pub record Value : Type 0 where
-  pub set : Vs16
+  pub set : Form
   pub relation : Option Relation
 
 -- SR holds its bits 8 to 0, and each other register all of its bits
@@ -106,12 +110,12 @@ CoversState device (Exit pc frame) a s first =
 abbrev pub IsEvenWord : ℕ → Type 0
 IsEvenWord word = (word < 65536) × (word % 2 ≡ 0)
 
--- a set of words, and one of even words
-abbrev pub AreWords : Vs16 → Type 0
-AreWords set = (value : ℕ) → HasWord set value → value < 65536
+-- a set of words in its one form, and one of even words
+abbrev pub AreWords : Form → Type 0
+AreWords set = IsNormal 65536 set
 
-abbrev pub AreEvenWords : Vs16 → Type 0
-AreEvenWords set = (value : ℕ) → HasWord set value → IsEvenWord value
+abbrev pub AreEvenWords : Form → Type 0
+AreEvenWords set = AreWords set × ((value : ℕ) → HasWord set value → value % 2 ≡ 0)
 
 pub record IsState (a : State) : Type 0 where
   pub sp : AreEvenWords a.sp

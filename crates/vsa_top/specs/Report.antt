@@ -1,5 +1,5 @@
 -- The report of an analysis, made from the works of its units.
-use Rattle.std.specs.Prelude.{ℕ, ◌&&◌, ◌||◌, min, if◌then◌else◌, Bool, true, false, Option, None, Some, List, [], ◌∷◌, ◌++◌, map, count_by, codes, nat_eq}
+use Rattle.std.specs.Prelude.{ℕ, ◌+◌, ◌-◌, ◌*◌, ◌%◌, ◌==◌, nat_lt, ◌&&◌, ◌||◌, min, if◌then◌else◌, Bool, true, false, Option, None, Some, List, [], ◌∷◌, ◌++◌, map, count_by, codes, nat_eq}
 use Rattle.std.specs.List.{flat_map, starts_with, ends_with}
 use Rattle.std.specs.Fmt.{decimal}
 use Rattle.std.specs.Ordering.{nat_cmp}
@@ -7,7 +7,9 @@ use Rattle.std.specs.Cmp.Lexicographic.{slice_cmp}
 use Rattle.std.specs.BTreeSet.{insert_key}
 use Rattle.std.specs.declared.alloc.Global.{Global}
 use Rattle.std.specs.declared.vec.Vec.{Vec}
-use Rattle.call_context.specs.declared.plain.Vs16.TheVariants.{Listed, Even, Any}
+use Rattle.value_set.specs.declared.form.Form.{Form}
+use Rattle.value_set.specs.declared.form.Form.TheVariants.{Values, Run}
+use Rattle.value_set.specs.declared.form.Progression.{Progression}
 use Rattle.call_context.specs.declared.shown.Set.TheVariants.{B, W}
 use Rattle.call_context.specs.declared.shown.Cause.{Cause}
 use Rattle.call_context.specs.declared.shown.Item.{Item}
@@ -48,11 +50,24 @@ abbrev pub first_value : List ℕ → Option ℕ
 first_value [] = None
 first_value (value ∷ values) = Some value
 
--- the least stack pointer that an item shows by a list, which ascends
+-- a run of all words, or of all even words
+abbrev pub is_whole : Progression → Bool
+is_whole run = (run.count == 65536) || ((run.count == 32768) && (run.stride == 2) && (run.base == 0))
+
+-- the least number of a run modulo 65536: its base, or where it goes round the first number behind the turn
+abbrev pub least_in_run : Progression → ℕ
+least_in_run run =
+    if nat_lt (run.base + (run.count - 1) * run.stride) 65536 then run.base
+    else (run.stride - (65536 - run.base) % run.stride) % run.stride
+
+-- the least number of a set of words that isn't whole
+abbrev pub least_word : Form → Option ℕ
+least_word (Values values) = first_value values
+least_word (Run run) = if is_whole run then None else Some (least_in_run run)
+
+-- the least stack pointer that an item shows by a set that isn't whole
 abbrev pub least_stack : Item → Option ℕ
-least_stack (Stack pc (W (Listed values))) = first_value values
-least_stack (Stack pc (W Even)) = None
-least_stack (Stack pc (W Any)) = None
+least_stack (Stack pc (W values)) = least_word values
 least_stack (Stack pc (B values)) = None
 least_stack (Instr pc bytes) = None
 least_stack (Edge origin target) = None
@@ -71,7 +86,7 @@ abbrev pub value_text : Option ℕ → List ℕ
 value_text None = codes "none"
 value_text (Some value) = hex 4 value
 
--- the least stack pointer of the lines that tell a list, and the number of those that tell a whole set
+-- the least stack pointer of the lines that don't tell a whole set, and the number of those that do
 abbrev pub summary_of : Option ℕ → List (List ℕ) → List ℕ
 summary_of least lines = codes "T " ++ value_text least ++ codes " " ++ decimal (count_by is_whole_stack lines) ++ codes "\n"
 

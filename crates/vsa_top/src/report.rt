@@ -3,18 +3,20 @@
 ghost use Rattle.std.specs.Prelude.{◌≡◌, ◌++◌, ◌∷◌, ◌&&◌, if◌then◌else◌, true, [], None, map, count_by, IfOk, OnOk};
 ghost use Rattle.round_core.specs.Kept.{live_works};
 ghost use Rattle.round_core.specs.Machine.{replay};
-ghost use Rattle.vsa_top.specs.Report.{with_lines, lines_of, is_empty, are_closed, lesser as the_lesser, least_stack as least_shown, least_of, is_whole_stack as tells_whole_stack, report_text, report_of as the_report, bytes_of, summary_of};
+ghost use Rattle.value_set.specs.Form.{IsNormalRun};
+ghost use Rattle.vsa_top.specs.Report.{with_lines, lines_of, is_empty, are_closed, lesser as the_lesser, least_stack as least_shown, least_of, is_whole, least_in_run, least_word, is_whole_stack as tells_whole_stack, report_text, report_of as the_report, bytes_of, summary_of};
 ghost use Rattle.std.specs.BTreeSet.{insert_key};
 ghost use Rattle.std.specs.Cmp.Lexicographic.{slice_cmp};
 ghost use Rattle.std.specs.List.{flat_map};
 ghost use Rattle.std.specs.Ordering.{nat_cmp};
 ghost use Rattle.chip_law.specs.Line.{item_line_of, open_line_of};
 
-use call_context::{Cause, Item, Set, Vs16};
+use call_context::{Cause, Item, Set};
 use chip_law::{ChipText, Work, hex_word, item_line, open_line};
 use round_core::Book;
 use std::alloc::{AllocError, Global};
 use std::collections::BTreeSet;
+use value_set::{Form, Progression, Vs16};
 use vsa_io::Memory;
 
 /// The text of a report, and whether it is closed.
@@ -35,20 +37,55 @@ fn lesser(a: Option<u16>, b: Option<u16>) -> Option<u16>
     }
 }
 
-/// The least stack pointer that an item shows by a list.
+/// Whether a run has all words, or all even words.
+fn is_whole_run(run: &Progression) -> bool
+    ensures { result ≡ is_whole run.now }
+{
+    run.count == 65536 || (run.count == 32768 && run.stride == 2 && run.base == 0)
+}
+
+/// The least number of a run of words.
+fn least_of_run(run: &Progression) -> u16
+    requires { IsNormalRun 65536 run.now.base run.now.stride run.now.count }
+    ensures { result ≡ least_in_run run.now }
+{
+    let stride = run.stride as u32;
+    let base = run.base as u32;
+    if base + (run.count - 1) * stride < 65536 {
+        return run.base;
+    }
+    ((stride - (65536 - base) % stride) % stride) as u16
+}
+
+/// The least number of a set of words that isn't whole.
+pub fn least_number(values: &Vs16) -> Option<u16>
+    ensures { result ≡ least_word values.now }
+{
+    match values.form() {
+        Form::Values(few) => few.as_slice().first().copied(),
+        Form::Run(run) => {
+            if is_whole_run(&run) {
+                return None;
+            }
+            Some(least_of_run(&run))
+        }
+    }
+}
+
+/// The least stack pointer that an item shows by a set that isn't whole.
 fn least_stack(item: &Item) -> Option<u16>
     ensures { result ≡ least_shown item.now }
 {
     match item {
         Item::Stack {
-            at: Set::W(Vs16::Listed(values)),
+            at: Set::W(values),
             ..
-        } => values.as_slice().first().copied(),
+        } => least_number(values),
         _ => None,
     }
 }
 
-/// The least stack pointer of a number and of what items show by lists.
+/// The least stack pointer of a number and of what items show.
 fn least_stack_of(least: Option<u16>, items: &[Item]) -> Option<u16>
     ensures { result ≡ least_of least items.now }
 {

@@ -2,6 +2,7 @@
 
 use crate::disassembly::disassembly_of;
 use crate::outcome::{NoGate, Status};
+use crate::report::least_number;
 use crate::top::vsa;
 use ihex_read::Image;
 use std::alloc::{AllocError, Global};
@@ -9,6 +10,7 @@ use std::process::Abort;
 use std::sync::Wait;
 use std::test::Fail;
 use std::thread::Threads;
+use value_set::Vs16;
 use vsa_io::{CleanSink, CleanSource, MemSource};
 
 /// The words of a command line.
@@ -157,6 +159,27 @@ fn row_of_a_copy(rt: HostRuntime) -> Result<(), Fail> {
 }
 
 #[test]
+fn rows_of_the_least_stack_pointer(rt: HostRuntime) {
+    for (base, stride, count, least) in [
+        (0x0200, 2, 0x20, Some(0x0200)),
+        (0x0274, 2, 3, Some(0x0274)),
+        // runs that go round
+        (0xFFF0, 2, 0x20, Some(0x0000)),
+        (0xFFF0, 3, 0x20, Some(0x0002)),
+        (0x0001, 2, 0x8000, Some(0x0001)),
+        // whole sets
+        (0x0000, 2, 0x8000, None),
+        (0x0000, 1, 0x10000, None),
+    ] {
+        if let Some(set) = Vs16::run(base, stride, count) {
+            assert_eq!(rt; least_number(&set), least);
+        } else {
+            assert!(rt; false);
+        }
+    }
+}
+
+#[test]
 fn rows_open(rt: HostRuntime) -> Result<(), Fail> {
     let rows = [
         (
@@ -167,11 +190,39 @@ fn rows_open(rt: HostRuntime) -> Result<(), Fail> {
             ":02F000000343C8\n:02FFFE0000F011\n:00000001FF\n",
             "OPEN\nO F000 Unbuilt\nS F000 0000/2/8000\nT none 1\n",
         ),
+        // an excluded word
+        (
+            ":02F0000000000E\n:02FFFE0000F011\n:00000001FF\n",
+            "OPEN\nO F000 Fetch\nS F000 0000/2/8000\nT none 1\n",
+        ),
+        // MOV.B R4,R4, and MOV #0280h,PC
+        (
+            ":02F00000444486\n:02FFFE0000F011\n:00000001FF\n",
+            "OPEN\nO F000 Unbuilt\nS F000 0000/2/8000\nT none 1\n",
+        ),
+        (
+            ":04F00000304080021A\n:02FFFE0000F011\n:00000001FF\n",
+            "OPEN\nO F000 Unbuilt\nS F000 0000/2/8000\nT none 1\n",
+        ),
+        // MOV #1234h,R4 without its extension word
+        (
+            ":02F0000034409A\n:02FFFE0000F011\n:00000001FF\n",
+            "OPEN\nO F000 Fetch\nS F000 0000/2/8000\nT none 1\n",
+        ),
     ];
     for (input, report) in rows {
         answers(&rt, "analyse msp430", input, Status::Open, report)?;
     }
     Ok(())
+}
+
+#[test]
+fn row_of_an_unknown_stack(rt: HostRuntime) -> Result<(), Fail> {
+    // MOV R4,SP and a jump to itself
+    let input = ":04F000000144FF3F89\n:02FFFE0000F011\n:00000001FF\n";
+    let report =
+        "CLOSED\nE F000 F002\nE F002 F002\nI F000 0144 MOV R4,SP\nI F002 FF3F JMP F002h\nS F000 0000/2/8000\nS F002 0000/2/8000\nT none 2\n";
+    answers(&rt, "analyse msp430", input, Status::Done, report)
 }
 
 #[test]

@@ -92,7 +92,7 @@ fn answer_bad<K: Sink>(
 
 /// Analyses a program, and writes the report.
 fn analyse_image<K: Sink>(alloc: Global, chip: &Msp430, sink: &mut K) -> Result<Outcome, Memory>
-    ensures answer { IfOk result (λ outcome. AnswersAnalysis outcome.status chip.now.device (K.held sink.old) (K.held sink.new) outcome.journal.items) }
+    ensures answer { IfOk result (λ outcome. AnswersAnalysis outcome.status chip.now (K.held sink.old) (K.held sink.new) outcome.journal.items) }
     ensures cause { IfOk result (λ outcome. outcome.status ≡ Status.WriteFault → HasRisen (K.faults sink.old) (K.faults sink.new)) }
     ensures quiet { IfOk result (λ outcome. outcome.status ≢ Status.WriteFault → K.faults sink.new ≡ K.faults sink.old) }
     ensures unwritten { OnErr result (K.held sink.new ≡ K.held sink.old) }
@@ -141,7 +141,7 @@ fn answer_image<K: Sink>(
 {
     match reading.mode {
         Mode::Analyse => {
-            let chip = Msp430::new(image, reading.ram.lo, reading.ram.hi);
+            let chip = Msp430::new(alloc, image, reading.ram.lo, reading.ram.hi)?;
             analyse_image(alloc, &chip, sink)
         }
         Mode::Disasm | Mode::Run => disassemble_image(alloc, &image, sink),

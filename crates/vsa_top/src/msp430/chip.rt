@@ -1,71 +1,92 @@
 //! The chip.
 
-ghost use Rattle.std.specs.Prelude.{◌≡◌, ◌≤◌, [], IfOk, length};
+ghost use Rattle.std.specs.Prelude.{◌≡◌, [], IfOk};
+ghost use Rattle.msp430_decode.specs.Table.{IsInstr};
+ghost use Rattle.vsa_top.specs.Msp430Built.{IsAction, with_action, action_of as the_action, fetched, instr_text as the_text};
 ghost use Rattle.vsa_top.specs.Msp430Chip.{msp430, nothing, work_at};
-ghost use Rattle.vsa_top.specs.Msp430Fetch.{word_at, reset_address, built, fetched};
-ghost use Rattle.vsa_top.specs.Msp430Table.{IsInstr, instr_of, instr_text};
+ghost use Rattle.vsa_top.specs.Msp430Machine.{reset_address};
+ghost use Rattle.vsa_top.specs.Msp430Marks.{stops};
 
+use crate::msp430::action::{Action, action_of, next_address};
 use crate::msp430::device::Device;
-use crate::msp430::instr::{Instr, is_load_word, next_address, text_at, word_from};
+use crate::msp430::marks::marks_of;
 use crate::msp430::state::{ChipState, State};
 use arrayvec::ArrayString;
 use call_context::{Calls, Cause, Frame, InstrBytes, Item, Node, Sequence, Set, Unit};
 use chip_law::{Chip, ChipText, Work};
 use ihex_read::Image;
+use msp430_decode::{Instr, decode, encode, from_bytes};
+use msp430_text::text;
 use std::alloc::Global;
+use std::marker::Model;
 use vsa_io::Memory;
 
-/// The chip of a device.
+/// The chip of a device, which contracts see as that device.
 #[derive(Drop)]
 pub struct Msp430 {
     device: Device,
+    /// What widening stops at.
+    marks: Vec<u16>,
+}
+
+impl Model for Msp430 {
+    ghost use Rattle.std.specs.Prelude.{◌≡◌};
+    ghost use Rattle.vsa_top.specs.declared.msp430.device.Device.{Device};
+    ghost use Rattle.vsa_top.specs.Msp430Marks.{marks_of};
+
+    ghost Value = { Device };
+
+    ghost view = { λ chip. chip.device };
+
+    ghost invariant = { λ chip. chip.marks.items ≡ marks_of chip.device };
 }
 
 impl Msp430 {
     /// The chip with this program, and with RAM between these addresses.
-    pub fn new(image: Image, lo: u16, hi: u16) -> Msp430
-        ensures { result.device ≡ record { image = image; lo = lo; hi = hi } }
+    pub fn new(alloc: Global, image: Image, lo: u16, hi: u16) -> Result<Msp430, Memory>
+        ensures { IfOk result (λ chip. chip ≡ record { image = image; lo = lo; hi = hi }) }
     {
-        Msp430 {
-            device: Device { image, lo, hi },
-        }
-    }
-
-    /// The low and the high byte of the word at an address, where the image has both.
-    fn word(&self, at: u16) -> Option<(u8, u8)>
-        ensures { result ≡ word_at self.now.device.image at }
-    {
-        let low = self.device.image.byte(at)?;
-        let high = self.device.image.byte(at.wrapping_add(1))?;
-        Some((low, high))
+        let device = Device { image, lo, hi };
+        let marks = marks_of(alloc, &device)?;
+        Ok(Msp430 { device, marks })
     }
 
     /// Where the program starts: the word at FFFEh without bit 0.
     fn reset(&self) -> u16
-        ensures { result ≡ reset_address self.now.device.image }
+        ensures { result ≡ reset_address self.now.image }
     {
-        match self.word(0xFFFE) {
-            Some((low, high)) => word_from(low - low % 2, high),
-            None => 0,
+        match (
+            self.device.image.byte(0xFFFE),
+            self.device.image.byte(0xFFFF),
+        ) {
+            (Some(low), Some(high)) => (low - low % 2) as u16 + 256 * high as u16,
+            _ => 0,
         }
     }
 
-    /// The instruction at an address with its bytes, or why there is none.
-    #[tactic(auto, unfolding(crate::specs::Msp430Fetch::fetched))]
-    fn fetch(&self, pc: u16) -> Result<(Instr, InstrBytes), Cause>
-        ensures exact { result ≡ fetched self.now.device.image pc }
-        ensures in_range { IfOk result (λ found. IsInstr found.0) }
+    /// What stands at an address, or why the analysis stops there.
+    #[tactic(auto, unfolding(crate::specs::Msp430Built::fetched))]
+    fn fetch(&self, pc: u16) -> Result<(Action, Instr), Cause>
+        ensures exact { result ≡ fetched self.now.image pc }
+        ensures in_range { IfOk result (λ found. IsAction found.0 × IsInstr found.1) }
     {
-        let Some((low, high)) = self.word(pc) else {
+        if pc % 2 != 0 {
             return Err(Cause::Fetch);
-        };
-        if !is_load_word(word_from(low, high)) {
-            return built_of(&[low, high]);
         }
-        match self.word(pc.wrapping_add(2)) {
-            Some((value_low, value_high)) => built_of(&[low, high, value_low, value_high]),
-            None => Err(Cause::Fetch),
+        match decode(&self.device.image, pc) {
+            Ok((instr, _)) => built(instr),
+            Err(_) => Err(Cause::Fetch),
         }
+    }
+
+    /// The numbers that widening stops at: none where it is coarse.
+    fn stops(&self, coarse: bool) -> &[u16]
+        ensures { result.now ≡ stops coarse self.now }
+    {
+        if coarse {
+            return &[];
+        }
+        self.marks.as_slice()
     }
 
     /// The work of a location.
@@ -77,7 +98,7 @@ impl Msp430 {
         frame: Frame,
         at: &State,
     ) -> Result<Work<State>, Memory>
-        ensures { IfOk result (λ work. work ≡ work_at pc calls.now frame at.now (fetched self.now.device.image pc)) }
+        ensures { IfOk result (λ work. work ≡ work_at pc calls.now frame at.now (fetched self.now.image pc)) }
     {
         let mut work = empty_work(alloc);
         work.items.push(Item::Stack {
@@ -85,12 +106,13 @@ impl Msp430 {
             at: Set::W(at.sp),
         })?;
         match self.fetch(pc) {
-            Ok((instr, bytes)) => {
-                let next = next_address(pc, instr);
+            Ok((action, instr)) => {
+                let next = next_address(pc, action, &instr);
+                let bytes = InstrBytes::from_slice(encode(&instr).as_slice());
                 work.items.push(Item::Instr { pc, bytes })?;
                 work.items.push(Item::Edge { from: pc, to: next })?;
                 work.posts
-                    .push((Node::At(next, *calls, frame), at.behind(instr)))?;
+                    .push((Node::At(next, *calls, frame), at.behind(action)))?;
             }
             Err(cause) => work.opens.push((pc, cause))?,
         }
@@ -98,14 +120,14 @@ impl Msp430 {
     }
 }
 
-/// The instruction of these bytes with them, where it is built.
-fn built_of(bytes: &[u8]) -> Result<(Instr, InstrBytes), Cause>
-    requires { length bytes.now ≤ 6 }
-    ensures exact { result ≡ built bytes.now (instr_of bytes.now) }
-    ensures in_range { IfOk result (λ found. IsInstr found.0) }
+/// An instruction of the table with what it does, where it is built.
+fn built(instr: Instr) -> Result<(Action, Instr), Cause>
+    requires { IsInstr instr }
+    ensures exact { result ≡ with_action instr (the_action instr) }
+    ensures in_range { IfOk result (λ found. IsAction found.0 × IsInstr found.1) }
 {
-    match Instr::from_bytes(bytes) {
-        Some(instr) => Ok((instr, InstrBytes::from_slice(bytes))),
+    match action_of(instr) {
+        Some(action) => Ok((action, instr)),
         None => Err(Cause::Unbuilt),
     }
 }
@@ -137,7 +159,7 @@ impl Chip for Msp430 {
 
     type Abs = State;
 
-    ghost base = { λ chip. chip.device };
+    ghost base = { λ chip. chip };
 
     ghost meaning = { msp430 };
 
@@ -175,9 +197,9 @@ impl Chip for Msp430 {
         _alloc: Global,
         held: &State,
         new: &State,
-        _coarse: bool,
+        coarse: bool,
     ) -> Result<State, Memory> {
-        Ok(held.widened(new))
+        Ok(held.widened(new, self.stops(coarse)))
     }
 
     fn top(&self, _alloc: Global, _node: &Node) -> Result<State, Memory> {
@@ -190,11 +212,11 @@ impl Chip for Msp430 {
 }
 
 impl ChipText for Msp430 {
-    ghost text_of = { λ _ pc bytes. instr_text pc (instr_of bytes) };
+    ghost text_of = { λ _ pc bytes. the_text pc bytes };
 
     fn instr_text(&self, pc: u16, bytes: &[u8]) -> ArrayString<40> {
-        match Instr::from_bytes(bytes) {
-            Some(instr) => text_at(pc, instr),
+        match from_bytes(bytes) {
+            Some(instr) => text(&instr, pc),
             None => ArrayString::new(),
         }
     }

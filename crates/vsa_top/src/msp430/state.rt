@@ -2,10 +2,12 @@
 
 ghost use Rattle.std.specs.Prelude.{◌≡◌, ◌<◌, ◌≤◌, true};
 ghost use Rattle.vsa_top.specs.Msp430State.{unknown as nothing_known, state_within, state_joined, state_widened, set_of, with_set, state_behind, all_within, all_joined, all_widened};
-ghost use Rattle.vsa_top.specs.Msp430Table.{IsInstr, is_general, is_destination};
+ghost use Rattle.vsa_top.specs.Msp430Built.{IsAction, is_general, is_destination};
 
-use crate::msp430::instr::Instr;
-use call_context::{Sequence, Vs16};
+use crate::msp430::action::Action;
+use crate::msp430::sets::{even_or_all, even_parts, even_words};
+use call_context::Sequence;
+use value_set::Vs16;
 
 /// The chip's state: its registers, with PC, SP, SR and the constant generator R3 as the first four, the bytes of
 /// RAM from its lowest address up, and whether an interrupt may still come behind an instruction that forbade it.
@@ -39,20 +41,20 @@ fn are_within(new: &[Vs16; 12], held: &[Vs16; 12]) -> bool
 fn join_all(held: &[Vs16; 12], new: &[Vs16; 12]) -> [Vs16; 12]
     ensures { result ≡ all_joined held.now new.now }
 {
-    let mut sets = [Vs16::Any; 12];
+    let mut sets = [Vs16::any(); 12];
     for i in 0..12 {
-        sets[i] = held[i].join(&new[i], Vs16::Any);
+        sets[i] = held[i].join(&new[i]);
     }
     sets
 }
 
 /// Each set widened by the other list's.
-fn widen_all(held: &[Vs16; 12], new: &[Vs16; 12]) -> [Vs16; 12]
-    ensures { result ≡ all_widened held.now new.now }
+fn widen_all(held: &[Vs16; 12], new: &[Vs16; 12], marks: &[u16]) -> [Vs16; 12]
+    ensures { result ≡ all_widened held.now new.now marks.now }
 {
-    let mut sets = [Vs16::Any; 12];
+    let mut sets = [Vs16::any(); 12];
     for i in 0..12 {
-        sets[i] = held[i].widen(&new[i], Vs16::Any);
+        sets[i] = held[i].widen(&new[i], marks);
     }
     sets
 }
@@ -63,8 +65,8 @@ impl State {
         ensures { result ≡ nothing_known }
     {
         State {
-            sp: Vs16::Even,
-            registers: [Vs16::Any; 12],
+            sp: even_words(),
+            registers: [Vs16::any(); 12],
         }
     }
 
@@ -80,18 +82,18 @@ impl State {
         ensures { result ≡ state_joined self.now new.now }
     {
         State {
-            sp: self.sp.join(&new.sp, Vs16::Even),
+            sp: even_or_all(self.sp.join(&new.sp)),
             registers: join_all(&self.registers, &new.registers),
         }
     }
 
-    /// The state whose sets are whole where the other's aren't within this one's.
-    pub fn widened(&self, new: &State) -> State
-        ensures { result ≡ state_widened self.now new.now }
+    /// Each set widened by the other state's, with these marks.
+    pub fn widened(&self, new: &State, marks: &[u16]) -> State
+        ensures { result ≡ state_widened marks.now self.now new.now }
     {
         State {
-            sp: self.sp.widen(&new.sp, Vs16::Even),
-            registers: widen_all(&self.registers, &new.registers),
+            sp: even_or_all(self.sp.widen(&new.sp, marks)),
+            registers: widen_all(&self.registers, &new.registers, marks),
         }
     }
 
@@ -110,7 +112,7 @@ impl State {
     {
         let mut state = *self;
         if register == 1 {
-            state.sp = values.even_parts();
+            state.sp = even_parts(values);
         } else {
             state.registers[register as usize - 4] = values;
         }
@@ -118,14 +120,14 @@ impl State {
     }
 
     /// The state behind an instruction.
-    pub fn behind(&self, instr: Instr) -> State
-        requires { IsInstr instr }
-        ensures { result ≡ state_behind instr self.now }
+    pub fn behind(&self, action: Action) -> State
+        requires { IsAction action }
+        ensures { result ≡ state_behind action self.now }
     {
-        match instr {
-            Instr::Load { value, register } => self.with(register, Vs16::one(value)),
-            Instr::Copy { source, register } => self.with(register, self.set(source)),
-            Instr::Jump { .. } => *self,
+        match action {
+            Action::Load { value, register } => self.with(register, Vs16::one(value)),
+            Action::Copy { source, register } => self.with(register, self.set(source)),
+            Action::Go { .. } => *self,
         }
     }
 }

@@ -4,4 +4,4 @@ use Rattle.vsa_top.proofs.msp430.state.widen_all.Given as goal
 
 abbrev pub invariant-loop-i : goal.invariant-loop-i
 invariant-loop-i l =
-    (take l.i l.sets ++ all_widened (drop l.i l.held) (drop l.i l.new) ≡ all_widened l.held l.new) × (length l.sets ≡ 12)
+    (take l.i l.sets ++ all_widened (drop l.i l.held) (drop l.i l.new) l.marks ≡ all_widened l.held l.new l.marks) × (length l.sets ≡ 12)

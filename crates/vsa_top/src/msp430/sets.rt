@@ -1,0 +1,38 @@
+//! Sets of words and of even words.
+
+ghost use Rattle.std.specs.Prelude.{◌≡◌};
+ghost use Rattle.vsa_top.specs.Msp430State.{even_words as all_even_words, even_or_all as even_or_whole, even_parts as parts};
+
+use value_bits::w16;
+use value_set::Vs16;
+
+/// All even words.
+pub fn even_words() -> Vs16
+    ensures { result ≡ all_even_words }
+{
+    match Vs16::run(0, 2, 0x8000) {
+        Some(set) => set,
+        None => Vs16::any(),
+    }
+}
+
+/// A set of even words as it is, and all of them in place of another set.
+pub fn even_or_all(values: Vs16) -> Vs16
+    ensures { result ≡ even_or_whole values }
+{
+    let whole = even_words();
+    if values.within(&whole) {
+        return values;
+    }
+    whole
+}
+
+/// The words of a set without bit 0.
+pub fn even_parts(values: Vs16) -> Vs16
+    ensures { result ≡ parts values }
+{
+    if values.within(&even_words()) {
+        return values;
+    }
+    even_or_all(w16::and(&values, &Vs16::one(0xFFFE)))
+}
