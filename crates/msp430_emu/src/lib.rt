@@ -2,5 +2,6 @@
 #![tactic(auto)]
 
 mod choices;
+mod memory;
 
 pub use choices::Choices;
