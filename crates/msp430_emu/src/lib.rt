@@ -2,6 +2,8 @@
 #![tactic(auto)]
 
 mod choices;
+mod decimal;
 mod memory;
+mod results;
 
 pub use choices::Choices;
