@@ -5,4 +5,6 @@ pub mod AgainLemmas
 pub mod MadeLemmas
 pub mod StandLemmas
 pub mod UniqueLemmas
+pub mod DecodedLemmas
+pub mod BytesLemmas
 pub mod LawLemmas

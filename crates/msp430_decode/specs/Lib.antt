@@ -5,3 +5,4 @@ pub mod Standing
 pub mod Excluded
 pub mod Fields
 pub mod Reading
+pub mod Decoding

@@ -5,17 +5,20 @@
 //! an instruction, by the fields of its first word and its extension words, with one case for each form. It is said of
 //! numbers, from the instruction to the bytes; the decoder goes the other way, from bit fields. What an image has at an
 //! address is in `specs/Standing.antt`: an instruction `Stands` there, or the image `Lacks` a byte that is needed, or the
-//! first word `IsExcluded`, since no instruction begins so. `Decodes` is the one answer of the three.
+//! first word `IsExcluded`, since no instruction begins so. `Decodes` is the one answer of the three. The same answer as a
+//! function that computes is `decoded` of `specs/Decoding.antt`, beside `instr_of_bytes`, the instruction of some bytes.
 //!
 //! Proved:
 //!
 //! - [`decode`] gives the answer at an address, and no other answer fits there. It names the first missing byte, and it
 //!   says that a first word is excluded whether or not bytes follow it.
-//! - [`encode`] gives the bytes of an instruction, and so those that were decoded.
+//! - [`encode`] gives the bytes of an instruction, and so those that were decoded. [`from_bytes`] gives the instruction
+//!   whose bytes these are.
 //! - [`Instr::length`] is the number of these bytes. [`Instr::jump_target`] says where a jump goes.
 //! - [`one_instruction`], [`one_of_three`] and [`excluded_words`] are laws of the table: bytes are at most one
 //!   instruction, each address of an image has exactly one of the three answers, and `specs/Excluded.antt` lists exactly
-//!   the first words that no instruction begins with.
+//!   the first words that no instruction begins with. [`decoded_is_the_answer`] and [`bytes_of_one_instruction`] say that
+//!   the two functions are what the table says.
 //!
 //! No call takes memory.
 #![tactic(auto)]
@@ -29,13 +32,15 @@ mod law;
 mod operands;
 mod refusal;
 
-pub use decoding::decode;
+pub use decoding::{decode, from_bytes};
 pub use encoding::{encode, offset_target};
 pub use ihex_read::Image;
 pub use instr::{
     Condition, Constant, Destination, Instr, Operation, Register, SingleOperation, Source, Width,
 };
-pub use law::{excluded_words, one_instruction, one_of_three};
+pub use law::{
+    bytes_of_one_instruction, decoded_is_the_answer, excluded_words, one_instruction, one_of_three,
+};
 pub use refusal::NoInstr;
 
 #[cfg(test)]

@@ -2,7 +2,7 @@ ghost use Rattle.std.specs.Prelude.{◌≡◌, ◌≤◌, ◌%◌, IfOk, length}
 
 use super::{
     Condition, Constant, Destination, Instr, NoInstr, Operation, Register, SingleOperation, Source,
-    Width, decode, encode,
+    Width, decode, encode, from_bytes,
 };
 use ihex_read::Image;
 use std::alloc::{AllocError, Global};
@@ -55,6 +55,7 @@ fn assert_instr(rt: &impl Abort, alloc: Global, words: &[u16], instr: Instr) -> 
     assert_eq!(rt; length as usize, bytes.len());
     assert_eq!(rt; found.length(), length);
     assert_eq!(rt; encode(&found).as_slice(), bytes.as_slice());
+    assert_eq!(rt; from_bytes(bytes.as_slice()), Some(instr));
     Ok(())
 }
 
@@ -360,6 +361,24 @@ fn missing_bytes(rt: HostRuntime) -> Result<(), Fail> {
     let (instr, length) = decode(&image, 0xFFFE)?;
     assert_eq!(rt; length, 6);
     assert_eq!(rt; encode(&instr).as_slice(), bytes.as_slice());
+    Ok(())
+}
+
+#[test]
+fn bytes_of_no_instruction(rt: HostRuntime) -> Result<(), Fail> {
+    for bytes in [
+        [].as_slice(),
+        &[0x03],
+        &[0x00, 0x00], // an excluded word
+        &[0x31, 0x40], // MOV #N,SP without N
+        &[0x31, 0x40, 0x80], // with half of it
+        &[0x03, 0x43, 0x03, 0x43], // two instructions
+        &[0x31, 0x40, 0x80, 0x02, 0x00, 0x00], // with a word behind it
+        &[0xB2, 0x40, 0x80, 0x02, 0x20, 0x01, 0x03],
+        &[0xB2, 0x40, 0x80, 0x02, 0x20, 0x01, 0x03, 0x43],
+    ] {
+        assert_eq!(rt; from_bytes(bytes), None);
+    }
     Ok(())
 }
 
