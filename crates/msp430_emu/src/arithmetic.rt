@@ -1,6 +1,8 @@
 //! What instructions make of numbers, and what they do with flags.
 
 ghost use Rattle.std.specs.Prelude.{◌≡◌, ◌<◌, ◌≤◌, IfSome};
+ghost use Rattle.msp430_decode.specs.declared.instr.Source.{Source as ASource};
+ghost use Rattle.msp430_decode.specs.Table.{AreSingle};
 ghost use Rattle.msp430_chip.specs.Arithmetic as arithmetic;
 ghost use Rattle.msp430_emu.specs.Choosing.{asked, left_of};
 
@@ -58,6 +60,7 @@ pub(crate) fn single_result(
     requires x { x < arithmetic.modulus width }
     requires carry { carry ≤ 1 }
     ensures exact { asked result (left_of choices.new) ≡ arithmetic.single_result operation width x carry (left_of choices.old) }
+    ensures below { (operand : ASource) → AreSingle operation width operand → IfSome result (λ made. made.0 < arithmetic.modulus width) }
     ensures kept { choices.new.list ≡ choices.old.list }
 {
     match operation {
