@@ -11,4 +11,6 @@ mod whole;
 pub use whole::text;
 
 #[cfg(test)]
+mod rows;
+#[cfg(test)]
 mod tests;
