@@ -1,3 +1,4 @@
 pub mod ChoosingLemmas
 pub mod DecimalLemmas
 pub mod DoubleLemmas
+pub mod RegisterLemmas

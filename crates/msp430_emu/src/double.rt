@@ -1,6 +1,6 @@
 //! Instructions on two operands.
 
-ghost use Rattle.std.specs.Prelude.{◌≡◌, ◌<◌, ◌≤◌, ℕ, IfSome, IsTrue, List, None, [], false, length, slice_index, true};
+ghost use Rattle.std.specs.Prelude.{◌≡◌, ◌%◌, ◌<◌, ◌≤◌, ℕ, IfSome, IsTrue, List, None, [], false, length, slice_index, true};
 ghost use Rattle.msp430_chip.specs.Asking.{continued};
 ghost use Rattle.msp430_decode.specs.declared.instr.Instr.TheVariants as instr;
 ghost use Rattle.msp430_chip.specs.declared.device.Device.{Device};
@@ -10,6 +10,7 @@ ghost use Rattle.msp430_chip.specs.State as states;
 ghost use Rattle.msp430_chip.specs.Step as steps;
 ghost use Rattle.msp430_emu.specs.Choosing.{asked, left_of};
 ghost use Rattle.msp430_emu.specs.Drafting.{all_shown, asked_as, double_behind, drafted, left_by, shown};
+ghost use Rattle.msp430_emu.specs.Registers.{AreRegisters};
 
 use crate::arithmetic::{reads_destination, result_of, sets_flags, writes_result};
 use crate::choices::Choices;
@@ -52,7 +53,10 @@ fn counter(
     destination: Destination,
     choices: &mut Choices,
 ) -> Option<u16>
+    requires pc { states.register_of s.now 0 % 2 ≡ 0 }
+    requires len { len % 2 ≡ 0 }
     ensures exact { asked result (left_of choices.new) ≡ steps.counter s.now len source destination (left_of choices.old) }
+    ensures even { IfSome result (λ counted. counted % 2 ≡ 0) }
     ensures kept { choices.new.list ≡ choices.old.list }
 {
     if reads_counter(source, destination) {
@@ -127,7 +131,7 @@ fn access_if(is_made: bool, write: bool, width: Width, place: Place) -> Option<A
 }
 
 /// The result of the values x and y in its place, and the flags.
-#[tactic(auto, unfolding(msp430_chip::specs::Step::double_left))]
+#[tactic(auto, using(crate::proofs::RegisterLemmas::registers_kept), unfolding(msp430_chip::specs::Step::double_left))]
 fn double_left(
     operation: Operation,
     width: Width,
@@ -140,6 +144,7 @@ fn double_left(
     requires carry { carry ≤ 1 }
     ensures exact { (device : Device) (ram : List ℕ) → asked_as (left_by device ram) result (left_of choices.new) ≡
         steps.double_left device ram operands.registers operation width operands.place operands.x operands.y carry (left_of choices.old) }
+    ensures form { IfSome result (λ effect. AreRegisters operands.registers → AreRegisters effect.registers) }
     ensures kept { choices.new.list ≡ choices.old.list }
 {
     let registers = &operands.registers;
@@ -158,7 +163,7 @@ fn double_left(
 }
 
 /// The operands of an instruction, of so many bytes, and the registers behind them.
-#[tactic(auto, unfolding(msp430_chip::specs::Step::double))]
+#[tactic(auto, using(crate::proofs::RegisterLemmas::registers_kept), unfolding(msp430_chip::specs::Step::double))]
 fn double_operands(
     layout: &Layout,
     s: &ChipState,
@@ -170,12 +175,14 @@ fn double_operands(
     choices: &mut Choices,
 ) -> Option<Operands>
     requires size { length s.now.ram ≡ states.ram_size layout.now }
-    requires status { states.register_of s.now 2 < 512 }
+    requires registers { AreRegisters s.now.registers }
     requires len { 2 ≤ len }
+    requires even { len % 2 ≡ 0 }
     ensures exact { continued (double_behind layout.now s.now operation width source destination) (asked result (left_of choices.new)) ≡
         steps.double layout.now s.now len operation width source destination (left_of choices.old) }
     ensures x { IfSome result (λ operands. operands.x < numbers.modulus width) }
     ensures y { IfSome result (λ operands. operands.y < numbers.modulus width) }
+    ensures form { IfSome result (λ operands. AreRegisters operands.registers) }
     ensures kept { choices.new.list ≡ choices.old.list }
 {
     let pc = s.registers[0];
@@ -209,10 +216,12 @@ pub(crate) fn double(
     choices: &mut Choices,
 ) -> Option<Draft>
     requires size { length s.now.ram ≡ states.ram_size layout.now }
-    requires status { states.register_of s.now 2 < 512 }
+    requires registers { AreRegisters s.now.registers }
     requires len { 2 ≤ len }
+    requires even { len % 2 ≡ 0 }
     ensures exact { asked_as (drafted layout.now s.now (instr.Double operation width source destination)) result (left_of choices.new) ≡
         steps.double layout.now s.now len operation width source destination (left_of choices.old) }
+    ensures form { IfSome result (λ draft. AreRegisters draft.effect.registers) }
     ensures kept { choices.new.list ≡ choices.old.list }
 {
     let operands = double_operands(

@@ -1,12 +1,13 @@
 //! Jumps, and RETI.
 
-ghost use Rattle.std.specs.Prelude.{◌≡◌, ◌<◌, false, length};
+ghost use Rattle.std.specs.Prelude.{◌≡◌, ◌<◌, IfSome, false, length};
 ghost use Rattle.msp430_decode.specs.declared.instr.Instr.TheVariants as instr;
 ghost use Rattle.msp430_decode.specs.declared.instr.Width.TheVariants as width;
 ghost use Rattle.msp430_chip.specs.State as states;
 ghost use Rattle.msp430_chip.specs.Step as steps;
 ghost use Rattle.msp430_emu.specs.Choosing.{left_of};
 ghost use Rattle.msp430_emu.specs.Drafting.{asked_as, drafted};
+ghost use Rattle.msp430_emu.specs.Registers.{AreRegisters};
 
 use crate::choices::Choices;
 use crate::draft::{Access, Accesses, Draft, Effect};
@@ -32,10 +33,12 @@ fn is_taken(condition: Condition, status: u16) -> bool
 }
 
 /// A jump.
-#[tactic(auto, unfolding(msp430_chip::specs::Step::jump))]
+#[tactic(auto, using(crate::proofs::RegisterLemmas::registers_kept), unfolding(msp430_chip::specs::Step::jump))]
 pub(crate) fn jump(layout: &Layout, s: &ChipState, condition: Condition, offset: u16) -> Draft
-    requires { offset < 1024 }
-    ensures { drafted layout.now s.now (instr.Jump condition offset) result ≡ steps.jump s.now condition offset }
+    requires offset { offset < 1024 }
+    requires registers { AreRegisters s.now.registers }
+    ensures value { drafted layout.now s.now (instr.Jump condition offset) result ≡ steps.jump s.now condition offset }
+    ensures form { AreRegisters result.effect.registers }
 {
     let mut registers = s.registers;
     registers[0] = if is_taken(condition, s.registers[2]) {
@@ -57,14 +60,17 @@ pub(crate) fn jump(layout: &Layout, s: &ChipState, condition: Condition, offset:
 }
 
 /// RETI takes SR from the stack, and then PC.
+#[tactic(auto, using(crate::proofs::RegisterLemmas::registers_kept))]
 pub(crate) fn return_from_interrupt(
     layout: &Layout,
     s: &ChipState,
     choices: &mut Choices,
 ) -> Option<Draft>
-    requires { length s.now.ram ≡ states.ram_size layout.now }
+    requires size { length s.now.ram ≡ states.ram_size layout.now }
+    requires registers { AreRegisters s.now.registers }
     ensures exact { asked_as (drafted layout.now s.now instr.ReturnFromInterrupt) result (left_of choices.new) ≡
         steps.return layout.now s.now (left_of choices.old) }
+    ensures form { IfSome result (λ draft. AreRegisters draft.effect.registers) }
     ensures kept { choices.new.list ≡ choices.old.list }
 {
     let sp = s.registers[1];

@@ -6,6 +6,7 @@ ghost use Rattle.msp430_chip.specs.Operands as operands;
 ghost use Rattle.msp430_chip.specs.State as states;
 ghost use Rattle.msp430_chip.specs.Step as steps;
 ghost use Rattle.msp430_emu.specs.Choosing.{asked, left_of};
+ghost use Rattle.msp430_emu.specs.Registers.{AreRegisters};
 
 use crate::choices::Choices;
 use crate::memory::{Layout, even, read};
@@ -27,8 +28,10 @@ pub(crate) fn value_in(registers: &[u16; 16], register: Register) -> u16
 }
 
 /// The registers with a value in one of them: PC and SP lose bit 0, SR holds its bits 8 to 0, and R3 nothing.
+#[tactic(auto, using(crate::proofs::RegisterLemmas::registers_kept))]
 pub(crate) fn with_register(registers: &[u16; 16], register: Register, value: u16) -> [u16; 16]
-    ensures { result ≡ operands.with_register registers.now register value }
+    ensures value { result ≡ operands.with_register registers.now register value }
+    ensures form { AreRegisters registers.now → AreRegisters result }
 {
     let mut after = *registers;
     match register {
@@ -54,7 +57,7 @@ fn growth(width: Width, register: Register) -> u16
 /// The registers behind an operand: `@Rn+` has grown its register.
 pub(crate) fn grown(registers: &[u16; 16], width: Width, source: Source) -> [u16; 16]
     ensures value { result ≡ operands.grown registers.now width source }
-    ensures status { slice_index registers.now 2 < 512 → slice_index result 2 < 512 }
+    ensures form { AreRegisters registers.now → AreRegisters result }
 {
     match source {
         Source::IndirectIncrement(register) => with_register(

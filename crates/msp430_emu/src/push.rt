@@ -1,6 +1,6 @@
 //! PUSH and CALL.
 
-ghost use Rattle.std.specs.Prelude.{◌≡◌, ◌<◌, ◌≤◌, ◌++◌, ℕ, IfSome, List, false, length, slice_index, true};
+ghost use Rattle.std.specs.Prelude.{◌≡◌, ◌%◌, ◌<◌, ◌≤◌, ◌++◌, ℕ, IfSome, List, false, length, slice_index, true};
 ghost use Rattle.msp430_decode.specs.declared.instr.Instr.TheVariants as instr;
 ghost use Rattle.msp430_decode.specs.declared.instr.Width.TheVariants as widths;
 ghost use Rattle.msp430_chip.specs.declared.device.Device.{Device};
@@ -11,6 +11,7 @@ ghost use Rattle.msp430_chip.specs.State as states;
 ghost use Rattle.msp430_chip.specs.Step as steps;
 ghost use Rattle.msp430_emu.specs.Choosing.{asked, left_of};
 ghost use Rattle.msp430_emu.specs.Drafting.{all_shown, asked_as, drafted, left_by};
+ghost use Rattle.msp430_emu.specs.Registers.{AreRegisters};
 
 use crate::choices::Choices;
 use crate::draft::{Accesses, Draft, Effect};
@@ -70,8 +71,10 @@ fn pushed_word(width: Width, x: u16, choices: &mut Choices) -> Option<u16>
 }
 
 /// A word pushed below SP.
+#[tactic(auto, using(crate::proofs::RegisterLemmas::registers_kept))]
 fn pushed(registers: &[u16; 16], word: u16) -> Effect
-    ensures { (device : Device) (ram : List ℕ) → left_by device ram result ≡ steps.pushed device registers.now ram word }
+    ensures value { (device : Device) (ram : List ℕ) → left_by device ram result ≡ steps.pushed device registers.now ram word }
+    ensures form { AreRegisters registers.now → AreRegisters result.registers }
 {
     let mut after = *registers;
     let sp = lowered(after[1]);
@@ -80,7 +83,7 @@ fn pushed(registers: &[u16; 16], word: u16) -> Effect
 }
 
 /// PUSH pushes the value, and CALL the address behind it and goes to the value.
-#[tactic(auto, unfolding(msp430_chip::specs::Step::push_left))]
+#[tactic(auto, using(crate::proofs::RegisterLemmas::registers_kept), unfolding(msp430_chip::specs::Step::push_left))]
 fn push_left(
     registers: &[u16; 16],
     operation: SingleOperation,
@@ -92,6 +95,7 @@ fn push_left(
     requires { x < numbers.modulus width }
     ensures exact { (device : Device) (ram : List ℕ) → asked_as (left_by device ram) result (left_of choices.new) ≡
         steps.push_left device ram registers.now operation width x next (left_of choices.old) }
+    ensures form { IfSome result (λ effect. AreRegisters registers.now → AreRegisters effect.registers) }
     ensures kept { choices.new.list ≡ choices.old.list }
 {
     match operation {
@@ -120,7 +124,7 @@ fn push_accesses(width: Width, place: Place, sp: u16) -> Accesses
 }
 
 /// PUSH or CALL, of so many bytes.
-#[tactic(auto, unfolding(msp430_chip::specs::Step::push))]
+#[tactic(auto, using(crate::proofs::RegisterLemmas::registers_kept), unfolding(msp430_chip::specs::Step::push))]
 pub(crate) fn push(
     layout: &Layout,
     s: &ChipState,
@@ -131,9 +135,11 @@ pub(crate) fn push(
     choices: &mut Choices,
 ) -> Option<Draft>
     requires size { length s.now.ram ≡ states.ram_size layout.now }
-    requires status { states.register_of s.now 2 < 512 }
+    requires registers { AreRegisters s.now.registers }
+    requires len { len % 2 ≡ 0 }
     ensures exact { asked_as (drafted layout.now s.now (instr.Single operation width operand)) result (left_of choices.new) ≡
         steps.push layout.now s.now len operation width operand (left_of choices.old) }
+    ensures form { IfSome result (λ draft. AreRegisters draft.effect.registers) }
     ensures kept { choices.new.list ≡ choices.old.list }
 {
     let mut before = s.registers;

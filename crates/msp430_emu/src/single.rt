@@ -1,6 +1,6 @@
 //! RRC, SWPB, RRA and SXT.
 
-ghost use Rattle.std.specs.Prelude.{◌≡◌, ◌<◌, ◌≤◌, ◌++◌, ℕ, List, false, length, true};
+ghost use Rattle.std.specs.Prelude.{◌≡◌, ◌%◌, ◌<◌, ◌≤◌, ◌++◌, ℕ, IfSome, List, false, length, true};
 ghost use Rattle.msp430_decode.specs.declared.instr.Instr.TheVariants as instr;
 ghost use Rattle.msp430_decode.specs.declared.instr.Source.{Source as ASource};
 ghost use Rattle.msp430_decode.specs.Table.{AreSingle};
@@ -11,6 +11,7 @@ ghost use Rattle.msp430_chip.specs.State as states;
 ghost use Rattle.msp430_chip.specs.Step as steps;
 ghost use Rattle.msp430_emu.specs.Choosing.{left_of};
 ghost use Rattle.msp430_emu.specs.Drafting.{all_shown, asked_as, drafted, left_by};
+ghost use Rattle.msp430_emu.specs.Registers.{AreRegisters};
 
 use crate::arithmetic::{single_result, single_sets_flags};
 use crate::choices::Choices;
@@ -24,7 +25,7 @@ use msp430_chip::{ChipState, Place};
 use msp430_decode::{SingleOperation, Source, Width};
 
 /// The result of the value x in its place, and the flags.
-#[tactic(auto, unfolding(msp430_chip::specs::Step::single_left))]
+#[tactic(auto, using(crate::proofs::RegisterLemmas::registers_kept), unfolding(msp430_chip::specs::Step::single_left))]
 fn single_left(
     registers: &[u16; 16],
     operation: SingleOperation,
@@ -39,6 +40,7 @@ fn single_left(
     requires form { (operand : ASource) × AreSingle operation width operand }
     ensures exact { (device : Device) (ram : List ℕ) → asked_as (left_by device ram) result (left_of choices.new) ≡
         steps.single_left device ram registers.now operation width place x carry (left_of choices.old) }
+    ensures form { IfSome result (λ effect. AreRegisters registers.now → AreRegisters effect.registers) }
     ensures kept { choices.new.list ≡ choices.old.list }
 {
     if single_sets_flags(operation) && is_status(place) {
@@ -60,7 +62,7 @@ fn single_accesses(width: Width, place: Place) -> Accesses
 }
 
 /// An instruction on one operand that it reads and writes, of so many bytes.
-#[tactic(auto, unfolding(msp430_chip::specs::Step::single))]
+#[tactic(auto, using(crate::proofs::RegisterLemmas::registers_kept), unfolding(msp430_chip::specs::Step::single))]
 pub(crate) fn single(
     layout: &Layout,
     s: &ChipState,
@@ -71,10 +73,12 @@ pub(crate) fn single(
     choices: &mut Choices,
 ) -> Option<Draft>
     requires size { length s.now.ram ≡ states.ram_size layout.now }
-    requires status { states.register_of s.now 2 < 512 }
+    requires registers { AreRegisters s.now.registers }
+    requires len { len % 2 ≡ 0 }
     requires form { AreSingle operation width operand }
     ensures exact { asked_as (drafted layout.now s.now (instr.Single operation width operand)) result (left_of choices.new) ≡
         steps.single layout.now s.now len operation width operand (left_of choices.old) }
+    ensures form { IfSome result (λ draft. AreRegisters draft.effect.registers) }
     ensures kept { choices.new.list ≡ choices.old.list }
 {
     let mut before = s.registers;
