@@ -1,9 +1,11 @@
 -- What a step of the machine says of the chip.
-use Rattle.std.specs.Prelude.{◌≡◌, ℕ, None, Some, List, [], map}
+use Rattle.std.specs.Prelude.{◌≡◌, ℕ, Option, None, Some, List, ◌∷◌, false, map, replicate}
 use Rattle.call_context.specs.Single.{Single}
 use Rattle.msp430_chip.specs.declared.device.Device.{Device}
 use Rattle.msp430_chip.specs.declared.state.ChipState.{ChipState}
+use Rattle.msp430_chip.specs.Outcome.{Outcome}
 use Rattle.msp430_chip.specs.Outcome.Outcome.{Next, Wild as LeavesModel}
+use Rattle.msp430_chip.specs.State.{ram_size, reset_address}
 use Rattle.msp430_chip.specs.Step.{step_of}
 use Rattle.msp430_emu.specs.declared.stepped.Stepped.{Stepped}
 use Rattle.msp430_emu.specs.declared.stepped.Stepped.TheVariants.{Met, Wild, NeedChoice}
@@ -23,6 +25,20 @@ IsStill (Met items) = ⊥
 IsStill (Wild cause) = Unit {0}
 IsStill NeedChoice = Unit {0}
 
--- a device of which only the range of RAM matters
-abbrev pub range : ℕ → ℕ → Device
-range lo hi = record { image = []; lo = lo; hi = hi }
+-- the device of an image and a range of RAM
+abbrev pub device_of : List (Option ℕ) → ℕ → ℕ → Device
+device_of image lo hi = record { image = image; lo = lo; hi = hi }
+
+-- the state behind a reset in which all that is any is 0
+abbrev pub first_state : Device → ChipState
+first_state device = record {
+  registers = reset_address device ∷ replicate 15 0;
+  ram = replicate (ram_size device) 0;
+  late = false;
+}
+
+-- the answer for an outcome, and the state behind it
+abbrev pub Ends : Outcome ChipState → Stepped → ChipState → Type 0
+Ends (Next singles next) (Met items) t = (t ≡ next) × (items.items ≡ map item_of singles)
+Ends (LeavesModel why) (Wild cause) t = cause ≡ why
+Ends outcome other t = ⊥

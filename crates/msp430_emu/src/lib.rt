@@ -1,6 +1,7 @@
 //! The emulator of the MSP430: it runs single states, and answers each question of a step from a list of choices.
 #![tactic(auto)]
 
+mod advance;
 mod arithmetic;
 mod choices;
 mod decimal;
@@ -10,6 +11,7 @@ mod effects;
 mod interrupt;
 mod items;
 mod jump;
+mod machine;
 mod memory;
 mod operands;
 mod plan;
@@ -17,9 +19,12 @@ mod push;
 mod results;
 mod run;
 mod single;
+mod state;
 mod stepped;
+mod writing;
 
 pub use choices::Choices;
 pub use msp430_chip::Wild;
 pub use msp430_decode::NoInstr;
+pub use state::Machine;
 pub use stepped::Stepped;

@@ -13,6 +13,7 @@ use msp430_decode::Width;
 use std::marker::Model;
 
 /// A program and where RAM stands. Contracts see the device.
+#[derive(Drop)]
 pub(crate) struct Layout<'a> {
     pub image: &'a Image,
     pub lo: u16,
