@@ -1,10 +1,16 @@
 //! What holds of all steps.
 
-ghost use Rattle.std.specs.Prelude.{◌≡◌, ◌++◌, ℕ, List, Some};
+ghost use Rattle.std.specs.Prelude.{◌≡◌, ◌++◌, ℕ, All, List, Some, length};
+ghost use Rattle.ihex_read.specs.Image.{IsByte};
+ghost use Rattle.call_context.specs.Single.{Single};
 ghost use Rattle.msp430_chip.specs.declared.device.Device.{Device as ADevice};
 ghost use Rattle.msp430_chip.specs.declared.state.ChipState.{ChipState as AState};
 ghost use Rattle.msp430_chip.specs.Outcome.{Outcome};
+ghost use Rattle.msp430_chip.specs.Outcome.Outcome.{Next};
+ghost use Rattle.msp430_chip.specs.State.{IsChipState};
 ghost use Rattle.msp430_chip.specs.Step.{Step, step_of};
+
+use msp430_decode::decoded_is_the_answer;
 
 /// A step needs a front of the choices and leaves the others, and no list of choices has two fronts with a step.
 pub fn one_front()
@@ -16,3 +22,11 @@ pub fn one_front()
         front ++ rest ≡ other ++ more → Step device s front outcome → Step device s other another →
         (front ≡ other) × (outcome ≡ another) }
 {}
+
+/// A step of a device with an image keeps the form of states.
+pub fn steps_keep_form()
+    ensures { (device : ADevice) (s t : AState) (choices : List ℕ) (items : List Single) → length device.image ≡ 65536 → All IsByte device.image →
+        IsChipState device s → Step device s choices (Next items t) → IsChipState device t }
+{
+    decoded_is_the_answer();
+}

@@ -9,7 +9,7 @@ mod ram;
 mod state;
 
 pub use device::Device;
-pub use law::one_front;
+pub use law::{one_front, steps_keep_form};
 pub use place::{Flags, Place};
 pub use ram::Ram;
 pub use state::{ChipState, Wild};
