@@ -1,8 +1,8 @@
+pub mod Calls
 pub mod DerivedSame
 pub mod Few
+pub mod Members
 pub mod Nodes
-pub mod Plain
-pub mod PlainLaws
 pub mod Same
 pub mod SameLaws
 pub mod Single

@@ -3,7 +3,14 @@ use Rattle.std.specs.Prelude.{◌≡◌, ℕ, Bool, List, Contains}
 use Rattle.call_context.specs.declared.shown.Space.{Space}
 use Rattle.call_context.specs.declared.shown.Item.{Item}
 use Rattle.call_context.specs.declared.shown.Item.TheVariants as sets
-use Rattle.call_context.specs.Plain.{HasValue}
+use Rattle.call_context.specs.declared.shown.Set.{Set}
+use Rattle.call_context.specs.declared.shown.Set.TheVariants.{B, W}
+use Rattle.value_set.specs.Form.{Has}
+
+-- a set has the value
+abbrev pub HasValue : Set → ℕ → Type 0
+HasValue (B values) value = Has 256 values value
+HasValue (W values) value = Has 65536 values value
 
 pub data Single : Type 0 where
   -- the instruction of these bytes runs

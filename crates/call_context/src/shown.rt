@@ -2,9 +2,9 @@
 
 ghost use Rattle.std.specs.Prelude.{◌≡◌, ◌≤◌, ◌<◌, ◌++◌, ◌∷◌, [], length};
 
-use crate::plain::{Vs8, Vs16};
 use arrayvec::ArrayVec;
 use std::marker::Model;
+use value_set::{Vs8, Vs16};
 
 /// A space of addresses.
 #[derive(Clone, Copy, Debug, PartialEq, Eq, Hash)]

@@ -1,7 +1,10 @@
 //! Lists, each once at a concrete type.
 
+ghost use Rattle.std.specs.Prelude.{◌≤◌, length};
+
+use crate::calls::{pop_call, push_call};
 use crate::few::Few;
-use crate::plain::Vs16;
+use crate::node::Calls;
 use crate::sequence::Sequence;
 use crate::shown::{InstrBytes, Item};
 use std::test::Fail;
@@ -34,12 +37,40 @@ fn instruction_bytes(rt: HostRuntime) {
     assert!(rt; matches!(&default, Item::Edge { from: 0, to: 0 }));
 }
 
+/// The string of these sites.
+fn string(sites: &[u16]) -> Calls
+    requires { length sites.now ≤ 8 }
+{
+    Calls::from_slice(sites)
+}
+
 #[test]
-fn plain_sets(rt: HostRuntime) {
-    let one = Vs16::one(2);
-    let two = one.join(&Vs16::one(4), Vs16::Even);
-    assert!(rt; one.within(&two));
-    assert!(rt; !two.within(&one));
-    assert!(rt; two.within(&Vs16::Even));
-    assert!(rt; !Vs16::Any.within(&Vs16::Even));
+fn rows_of_calls(rt: HostRuntime) {
+    // the string, the site, how many are kept, and the string behind the call
+    let rows: [(&[u16], u16, u8, &[u16]); 5] = [
+        (&[], 0xF004, 6, &[0xF004]),
+        (&[0xF004], 0xF008, 6, &[0xF004, 0xF008]),
+        (&[0xF004], 0xF008, 1, &[0xF008]),
+        (&[0xF004, 0xF008, 0xF010], 0xF020, 2, &[0xF010, 0xF020]),
+        (&[0xF004], 0xF008, 0, &[]),
+    ];
+    for (sites, site, k, behind) in rows {
+        let calls = push_call(&string(sites), site, k);
+        assert_eq!(rt; calls.as_slice(), behind);
+    }
+}
+
+#[test]
+fn rows_of_returns(rt: HostRuntime) {
+    // the string, the end of its last site's instruction, the target, and the string behind the return
+    let rows: [(&[u16], Option<u16>, u16, &[u16]); 4] = [
+        (&[0xF004, 0xF008], Some(0xF00C), 0xF00C, &[0xF004]),
+        (&[0xF004, 0xF008], Some(0xF00C), 0xF008, &[0xF004, 0xF008]),
+        (&[0xF004], None, 0xF00C, &[0xF004]),
+        (&[], None, 0xF00C, &[]),
+    ];
+    for (sites, end, target, behind) in rows {
+        let calls = pop_call(&string(sites), end, target);
+        assert_eq!(rt; calls.as_slice(), behind);
+    }
 }

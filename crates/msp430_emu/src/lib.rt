@@ -4,7 +4,14 @@
 mod arithmetic;
 mod choices;
 mod decimal;
+mod double;
+mod draft;
+mod effects;
+mod jump;
 mod memory;
+mod operands;
+mod push;
 mod results;
+mod single;
 
 pub use choices::Choices;
