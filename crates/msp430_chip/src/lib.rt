@@ -3,11 +3,13 @@
 #![tactic(auto)]
 
 mod device;
+mod law;
 mod place;
 mod ram;
 mod state;
 
 pub use device::Device;
+pub use law::{one_front, steps_keep_form};
 pub use place::{Flags, Place};
 pub use ram::Ram;
 pub use state::{ChipState, Wild};
