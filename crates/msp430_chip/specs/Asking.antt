@@ -1,0 +1,28 @@
+-- What a chip leaves free is asked from a list of choices, one question after the other. A choice is a number, and a
+-- question with so many options takes it modulo their number.
+use Rattle.std.specs.Prelude.{ℕ, ◌%◌, if◌then◌else◌, Bool, Option, None, Some, List, [], ◌∷◌}
+
+-- an answer from a list of choices, with the choices that are left; there is none where they end before a question
+abbrev pub Asking : Type 0 → Type 0
+Asking A = List ℕ → Option (A × List ℕ)
+
+-- nothing is asked
+abbrev pub answer : {A : Type 0} → A → Asking A
+answer a choices = Some (a, choices)
+
+-- one question: the number of the option
+unfoldable pub ask : ℕ → Asking ℕ
+ask options [] = None
+ask options (choice ∷ choices) = Some (choice % options, choices)
+
+-- a question that is asked in some cases; else option 0 is the only one
+abbrev pub ask_if : Bool → ℕ → Asking ℕ
+ask_if asked options choices = if asked then ask options choices else Some (0, choices)
+
+abbrev pub continued : {A B : Type 0} → (A → Asking B) → Option (A × List ℕ) → Option (B × List ℕ)
+continued next None = None
+continued next (Some (a, choices)) = next a choices
+
+-- first the one, and then what its answer leads to
+abbrev pub and_then : {A B : Type 0} → Asking A → (A → Asking B) → Asking B
+and_then first next choices = continued next (first choices)

@@ -1,0 +1,8 @@
+pub mod Arithmetic
+pub mod Asking
+pub mod Interrupts
+pub mod Memory
+pub mod Operands
+pub mod Outcome
+pub mod State
+pub mod Step

@@ -1,0 +1,28 @@
+//! The device.
+
+ghost use Rattle.std.specs.Prelude.{◌≡◌, IfOk};
+
+use ihex_read::Image;
+use std::alloc::Global;
+use vsa_io::Memory;
+
+/// An MSP430 with a program in its memory and RAM from its lowest to its highest address, which are even and odd.
+#[derive(Drop)]
+pub struct Device {
+    pub image: Image,
+    pub lo: u16,
+    pub hi: u16,
+}
+
+impl Device {
+    /// The same device once more.
+    pub fn copy(&self, alloc: Global) -> Result<Device, Memory>
+        ensures { IfOk result (λ device. device ≡ self.now) }
+    {
+        Ok(Device {
+            image: self.image.copy(alloc)?,
+            lo: self.lo,
+            hi: self.hi,
+        })
+    }
+}

@@ -1,0 +1,5 @@
+pub mod ChoosingLemmas
+pub mod DecimalLemmas
+pub mod DoubleLemmas
+pub mod RamLemmas
+pub mod RegisterLemmas

@@ -1,0 +1,6 @@
+pub mod Choosing
+pub mod Drafting
+pub mod Planning
+pub mod Ranges
+pub mod Registers
+pub mod Stepping

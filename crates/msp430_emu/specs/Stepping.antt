@@ -1,0 +1,44 @@
+-- What a step of the machine says of the chip.
+use Rattle.std.specs.Prelude.{◌≡◌, ℕ, Option, None, Some, List, ◌∷◌, false, map, replicate}
+use Rattle.call_context.specs.Single.{Single}
+use Rattle.msp430_chip.specs.declared.device.Device.{Device}
+use Rattle.msp430_chip.specs.declared.state.ChipState.{ChipState}
+use Rattle.msp430_chip.specs.Outcome.{Outcome}
+use Rattle.msp430_chip.specs.Outcome.Outcome.{Next, Wild as LeavesModel}
+use Rattle.msp430_chip.specs.State.{ram_size, reset_address}
+use Rattle.msp430_chip.specs.Step.{step_of}
+use Rattle.msp430_emu.specs.declared.stepped.Stepped.{Stepped}
+use Rattle.msp430_emu.specs.declared.stepped.Stepped.TheVariants.{Met, Wild, NeedChoice}
+use Rattle.msp430_emu.specs.Planning.{item_of}
+
+-- a step from s with these choices left, to t with that many left
+abbrev pub Steps : Device → ChipState → List ℕ → Stepped → ChipState → List ℕ → Type 0
+Steps device s choices (Met items) t left =
+    (singles : List Single) × (step_of device s choices ≡ Some (Next singles t, left)) × (items.items ≡ map item_of singles)
+Steps device s choices (Wild cause) t left =
+    (rest : List ℕ) × (step_of device s choices ≡ Some (LeavesModel cause, rest))
+Steps device s choices NeedChoice t left = step_of device s choices ≡ None
+
+-- no step is done
+abbrev pub IsStill : Stepped → Type 0
+IsStill (Met items) = ⊥
+IsStill (Wild cause) = Unit {0}
+IsStill NeedChoice = Unit {0}
+
+-- the device of an image and a range of RAM
+abbrev pub device_of : List (Option ℕ) → ℕ → ℕ → Device
+device_of image lo hi = record { image = image; lo = lo; hi = hi }
+
+-- the state behind a reset in which all that is any is 0
+abbrev pub first_state : Device → ChipState
+first_state device = record {
+  registers = reset_address device ∷ replicate 15 0;
+  ram = replicate (ram_size device) 0;
+  late = false;
+}
+
+-- the answer for an outcome, and the state behind it
+abbrev pub Ends : Outcome ChipState → Stepped → ChipState → Type 0
+Ends (Next singles next) (Met items) t = (t ≡ next) × (items.items ≡ map item_of singles)
+Ends (LeavesModel why) (Wild cause) t = cause ≡ why
+Ends outcome other t = ⊥

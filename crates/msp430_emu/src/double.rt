@@ -1,0 +1,243 @@
+//! Instructions on two operands.
+
+ghost use Rattle.std.specs.Prelude.{◌≡◌, ◌%◌, ◌<◌, ◌≤◌, ℕ, IfSome, IsTrue, List, None, [], false, length, slice_index, true};
+ghost use Rattle.msp430_chip.specs.Asking.{continued};
+ghost use Rattle.msp430_decode.specs.declared.instr.Instr.TheVariants as instr;
+ghost use Rattle.msp430_chip.specs.declared.device.Device.{Device};
+ghost use Rattle.msp430_chip.specs.Arithmetic as numbers;
+ghost use Rattle.msp430_chip.specs.Operands as operands;
+ghost use Rattle.msp430_chip.specs.State as states;
+ghost use Rattle.msp430_chip.specs.Step as steps;
+ghost use Rattle.msp430_emu.specs.Choosing.{asked, left_of};
+ghost use Rattle.msp430_emu.specs.Drafting.{all_shown, asked_as, double_behind, drafted, left_by, shown};
+ghost use Rattle.msp430_emu.specs.Registers.{AreRegisters};
+
+use crate::arithmetic::{reads_destination, result_of, sets_flags, writes_result};
+use crate::choices::Choices;
+use crate::draft::{Access, Accesses, Draft, Effect};
+use crate::effects::{access_to, free_status, put_if, with_status};
+use crate::memory::Layout;
+use crate::operands::{
+    behind, destination_place, grown, has_free_bits, is_status, source_place, value_at,
+    with_free_bits,
+};
+use msp430_chip::{ChipState, Place, Ram};
+use msp430_decode::{Destination, Operation, Register, Source, Width};
+
+/// The operands of an instruction, and the registers behind them.
+#[derive(Clone, Copy)]
+pub(crate) struct Operands {
+    pub registers: [u16; 16],
+    pub origin: Place,
+    pub place: Place,
+    pub x: u16,
+    pub y: u16,
+}
+
+/// Whether PC as a source may be one of two addresses.
+fn reads_counter(source: Source, destination: Destination) -> bool
+    ensures { result ≡ steps.reads_counter source destination }
+{
+    match (source, destination) {
+        (Source::Register(Register::Pc), Destination::Register(_)) => false,
+        (Source::Register(Register::Pc), _) => true,
+        _ => false,
+    }
+}
+
+/// What PC is as an operand.
+fn counter(
+    s: &ChipState,
+    len: u8,
+    source: Source,
+    destination: Destination,
+    choices: &mut Choices,
+) -> Option<u16>
+    requires pc { states.register_of s.now 0 % 2 ≡ 0 }
+    requires len { len % 2 ≡ 0 }
+    ensures exact { asked result (left_of choices.new) ≡ steps.counter s.now len source destination (left_of choices.old) }
+    ensures even { IfSome result (λ counted. counted % 2 ≡ 0) }
+    ensures kept { choices.new.list ≡ choices.old.list }
+{
+    if reads_counter(source, destination) {
+        let option = choices.ask(2)?;
+        return Some(s.registers[0].wrapping_add(2 + 2 * option as u16));
+    }
+    Some(behind(s, len))
+}
+
+/// What the destination held, where the operation reads it.
+fn destination_value(
+    layout: &Layout,
+    ram: &Ram,
+    registers: &[u16; 16],
+    operation: Operation,
+    width: Width,
+    place: Place,
+    choices: &mut Choices,
+) -> Option<u16>
+    requires size { length ram.now ≡ states.ram_size layout.now }
+    requires status { slice_index registers.now 2 < 512 }
+    ensures exact { asked result (left_of choices.new) ≡ steps.destination_value layout.now ram.now registers.now operation width place (left_of choices.old) }
+    ensures below { IfSome result (λ value. value < numbers.modulus width) }
+    ensures held { IfSome result (λ value. IsTrue (operands.has_free_bits width place) → value < 512) }
+    ensures kept { choices.new.list ≡ choices.old.list }
+{
+    if reads_destination(operation) {
+        value_at(layout, ram, registers, width, place, choices)
+    } else {
+        Some(0)
+    }
+}
+
+/// The bits 9 to 15 of SR, where an operand shows them.
+fn status_bits(
+    operation: Operation,
+    width: Width,
+    origin: Place,
+    place: Place,
+    choices: &mut Choices,
+) -> Option<u32>
+    ensures exact { asked result (left_of choices.new) ≡ steps.status_bits operation width origin place (left_of choices.old) }
+    ensures below { IfSome result (λ bits. bits < 128) }
+    ensures kept { choices.new.list ≡ choices.old.list }
+{
+    let is_shown = has_free_bits(width, origin)
+        || (reads_destination(operation) && has_free_bits(width, place));
+    choices.ask_if(is_shown, 128)
+}
+
+/// The accesses of an instruction: the source is read, then the destination, and then it is written.
+fn double_accesses(operation: Operation, width: Width, origin: Place, place: Place) -> Accesses
+    ensures { (pc : ℕ) → all_shown pc result ≡ steps.double_accesses pc operation width origin place }
+{
+    Accesses {
+        first: access_to(false, width, origin),
+        second: access_if(reads_destination(operation), false, width, place),
+        third: access_if(writes_result(operation), true, width, place),
+    }
+}
+
+/// An access of an operand in memory in some cases.
+fn access_if(is_made: bool, write: bool, width: Width, place: Place) -> Option<Access>
+    ensures made { (pc : ℕ) → is_made ≡ true → shown pc result ≡ operands.access_to pc write width place }
+    ensures none { (pc : ℕ) → is_made ≡ false → shown pc result ≡ [] }
+{
+    if is_made {
+        access_to(write, width, place)
+    } else {
+        None
+    }
+}
+
+/// The result of the values x and y in its place, and the flags.
+#[tactic(auto, using(crate::proofs::RegisterLemmas::registers_kept), unfolding(msp430_chip::specs::Step::double_left))]
+fn double_left(
+    operation: Operation,
+    width: Width,
+    operands: Operands,
+    carry: u16,
+    choices: &mut Choices,
+) -> Option<Effect>
+    requires x { operands.x < numbers.modulus width }
+    requires y { operands.y < numbers.modulus width }
+    requires carry { carry ≤ 1 }
+    ensures exact { (device : Device) (ram : List ℕ) → asked_as (left_by device ram) result (left_of choices.new) ≡
+        steps.double_left device ram operands.registers operation width operands.place operands.x operands.y carry (left_of choices.old) }
+    ensures form { IfSome result (λ effect. AreRegisters operands.registers → AreRegisters effect.registers) }
+    ensures kept { choices.new.list ≡ choices.old.list }
+{
+    let registers = &operands.registers;
+    if sets_flags(operation) && is_status(operands.place) {
+        return free_status(registers, choices);
+    }
+    let (value, flags) = result_of(operation, width, operands.x, operands.y, carry, choices)?;
+    let effect = put_if(
+        writes_result(operation),
+        registers,
+        width,
+        operands.place,
+        value,
+    );
+    Some(with_status(flags, effect))
+}
+
+/// The operands of an instruction, of so many bytes, and the registers behind them.
+#[tactic(auto, using(crate::proofs::RegisterLemmas::registers_kept), unfolding(msp430_chip::specs::Step::double))]
+fn double_operands(
+    layout: &Layout,
+    s: &ChipState,
+    len: u8,
+    operation: Operation,
+    width: Width,
+    source: Source,
+    destination: Destination,
+    choices: &mut Choices,
+) -> Option<Operands>
+    requires size { length s.now.ram ≡ states.ram_size layout.now }
+    requires registers { AreRegisters s.now.registers }
+    requires len { 2 ≤ len }
+    requires even { len % 2 ≡ 0 }
+    ensures exact { continued (double_behind layout.now s.now operation width source destination) (asked result (left_of choices.new)) ≡
+        steps.double layout.now s.now len operation width source destination (left_of choices.old) }
+    ensures x { IfSome result (λ operands. operands.x < numbers.modulus width) }
+    ensures y { IfSome result (λ operands. operands.y < numbers.modulus width) }
+    ensures form { IfSome result (λ operands. AreRegisters operands.registers) }
+    ensures kept { choices.new.list ≡ choices.old.list }
+{
+    let pc = s.registers[0];
+    let mut before = s.registers;
+    before[0] = counter(s, len, source, destination, choices)?;
+    let origin = source_place(pc, &before, source);
+    let mut registers = grown(&before, width, source);
+    let place = destination_place(pc, len, &registers, destination);
+    let x = value_at(layout, &s.ram, &before, width, origin, choices)?;
+    let y = destination_value(layout, &s.ram, &registers, operation, width, place, choices)?;
+    let bits = status_bits(operation, width, origin, place, choices)?;
+    registers[0] = behind(s, len);
+    Some(Operands {
+        registers,
+        origin,
+        place,
+        x: with_free_bits(width, origin, bits, x),
+        y: with_free_bits(width, place, bits, y),
+    })
+}
+
+/// An instruction on two operands, of so many bytes.
+pub(crate) fn double(
+    layout: &Layout,
+    s: &ChipState,
+    len: u8,
+    operation: Operation,
+    width: Width,
+    source: Source,
+    destination: Destination,
+    choices: &mut Choices,
+) -> Option<Draft>
+    requires size { length s.now.ram ≡ states.ram_size layout.now }
+    requires registers { AreRegisters s.now.registers }
+    requires len { 2 ≤ len }
+    requires even { len % 2 ≡ 0 }
+    ensures exact { asked_as (drafted layout.now s.now (instr.Double operation width source destination)) result (left_of choices.new) ≡
+        steps.double layout.now s.now len operation width source destination (left_of choices.old) }
+    ensures form { IfSome result (λ draft. AreRegisters draft.effect.registers) }
+    ensures kept { choices.new.list ≡ choices.old.list }
+{
+    let operands = double_operands(
+        layout,
+        s,
+        len,
+        operation,
+        width,
+        source,
+        destination,
+        choices,
+    )?;
+    let carry = s.registers[2] % 2;
+    let effect = double_left(operation, width, operands, carry, choices)?;
+    Some(Draft {
+        accesses: double_accesses(operation, width, operands.origin, operands.place),
+        effect,
+    })
+}

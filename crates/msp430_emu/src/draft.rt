@@ -1,0 +1,45 @@
+//! What an instruction does, before anything is written.
+
+ghost use Rattle.std.specs.Prelude.{◌<◌};
+ghost use Rattle.msp430_chip.specs.Arithmetic.{modulus};
+
+use msp430_decode::Width;
+
+/// A word or a byte to be stored at an address.
+#[derive(Clone, Copy)]
+pub(crate) struct Store {
+    pub width: Width,
+    pub at: u16,
+    pub value: u16,
+    ghost fits: { value < modulus width },
+}
+
+/// A read or a write of a word or a byte, by its lowest address.
+#[derive(Clone, Copy)]
+pub(crate) struct Access {
+    pub write: bool,
+    pub width: Width,
+    pub at: u16,
+}
+
+/// The accesses of a step, in order.
+#[derive(Clone, Copy)]
+pub(crate) struct Accesses {
+    pub first: Option<Access>,
+    pub second: Option<Access>,
+    pub third: Option<Access>,
+}
+
+/// The registers behind an instruction, and its store.
+#[derive(Clone, Copy)]
+pub(crate) struct Effect {
+    pub registers: [u16; 16],
+    pub store: Option<Store>,
+}
+
+/// What an instruction does.
+#[derive(Clone, Copy)]
+pub(crate) struct Draft {
+    pub accesses: Accesses,
+    pub effect: Effect,
+}

@@ -1,0 +1,159 @@
+//! What a step does: an instruction, or the entry of an interrupt.
+
+ghost use Rattle.std.specs.Prelude.{◌≡◌, ◌≤◌, ◌%◌, ℕ, IfSome, IfOk, Result, length, nat_lt};
+ghost use Rattle.msp430_decode.specs.declared.instr.Instr.TheVariants as instr;
+ghost use Rattle.msp430_decode.specs.declared.instr.SingleOperation.TheVariants.{Push, Call};
+ghost use Rattle.msp430_decode.specs.Decoding.{decoded};
+ghost use Rattle.msp430_decode.specs.Table.{AreSingle, IsInstr};
+ghost use Rattle.msp430_chip.specs.declared.device.Device.{Device};
+ghost use Rattle.msp430_chip.specs.State as states;
+ghost use Rattle.msp430_chip.specs.Step as steps;
+ghost use Rattle.msp430_emu.specs.Choosing.{left_of};
+ghost use Rattle.msp430_emu.specs.Drafting.{asked_as, drafted};
+ghost use Rattle.msp430_emu.specs.Planning.{outcome_of, planned};
+ghost use Rattle.msp430_emu.specs.Registers.{AreRegisters};
+
+use crate::choices::Choices;
+use crate::double::double;
+use crate::draft::Draft;
+use crate::interrupt::{allows_interrupts, coming, enter};
+use crate::jump::{jump, return_from_interrupt};
+use crate::memory::Layout;
+use crate::plan::Plan;
+use crate::push::push;
+use crate::single::single;
+use msp430_chip::ChipState;
+use msp430_decode::{Instr, NoInstr, SingleOperation, Source, Width, decode, encode};
+
+/// An instruction on one operand, of so many bytes.
+fn one_operand(
+    layout: &Layout,
+    s: &ChipState,
+    len: u8,
+    operation: SingleOperation,
+    width: Width,
+    operand: Source,
+    choices: &mut Choices,
+) -> Option<Draft>
+    requires size { length s.now.ram ≡ states.ram_size layout.now }
+    requires registers { AreRegisters s.now.registers }
+    requires len { len % 2 ≡ 0 }
+    requires form { AreSingle operation width operand }
+    ensures exact { asked_as (drafted layout.now s.now (instr.Single operation width operand)) result (left_of choices.new) ≡
+        steps.one_operand layout.now s.now len operation width operand (left_of choices.old) }
+    ensures form { IfSome result (λ draft. AreRegisters draft.effect.registers) }
+    ensures kept { choices.new.list ≡ choices.old.list }
+{
+    match operation {
+        SingleOperation::Push | SingleOperation::Call => {
+            push(layout, s, len, operation, width, operand, choices)
+        }
+        SingleOperation::Rrc
+        | SingleOperation::Swpb
+        | SingleOperation::Rra
+        | SingleOperation::Sxt => single(layout, s, len, operation, width, operand, choices),
+    }
+}
+
+/// An instruction of so many bytes.
+fn executed(
+    layout: &Layout,
+    s: &ChipState,
+    instr: Instr,
+    len: u8,
+    choices: &mut Choices,
+) -> Option<Draft>
+    requires size { length s.now.ram ≡ states.ram_size layout.now }
+    requires registers { AreRegisters s.now.registers }
+    requires len { 2 ≤ len }
+    requires even { len % 2 ≡ 0 }
+    requires form { IsInstr instr }
+    ensures exact { asked_as (drafted layout.now s.now instr) result (left_of choices.new) ≡
+        steps.executed layout.now s.now instr len (left_of choices.old) }
+    ensures form { IfSome result (λ draft. AreRegisters draft.effect.registers) }
+    ensures kept { choices.new.list ≡ choices.old.list }
+{
+    match instr {
+        Instr::Double {
+            operation,
+            width,
+            source,
+            destination,
+        } => double(
+            layout,
+            s,
+            len,
+            operation,
+            width,
+            source,
+            destination,
+            choices,
+        ),
+        Instr::Single {
+            operation,
+            width,
+            operand,
+        } => one_operand(layout, s, len, operation, width, operand, choices),
+        Instr::Jump { condition, offset } => Some(jump(layout, s, condition, offset)),
+        Instr::ReturnFromInterrupt => return_from_interrupt(layout, s, choices),
+    }
+}
+
+/// The whole step of an instruction. The bit `late` behind it is what allowed interrupts before it.
+fn done(s: &ChipState, instr: &Instr, draft: Draft) -> Plan
+    requires { IsInstr instr.now }
+    ensures value { (device : Device) → planned device s.now result ≡ drafted device s.now instr.now draft }
+    ensures registers { result.registers ≡ draft.effect.registers }
+{
+    let registers = draft.effect.registers;
+    Plan {
+        bytes: Some(encode(instr)),
+        accesses: draft.accesses,
+        registers,
+        first: draft.effect.store,
+        second: None,
+        late: allows_interrupts(s),
+    }
+}
+
+/// The instruction at PC.
+fn run(layout: &Layout, s: &ChipState, choices: &mut Choices) -> Option<Result<Plan, NoInstr>>
+    requires size { length s.now.ram ≡ states.ram_size layout.now }
+    requires registers { AreRegisters s.now.registers }
+    ensures exact { asked_as (outcome_of layout.now s.now) result (left_of choices.new) ≡
+        steps.run layout.now s.now (decoded layout.now.image (states.register_of s.now 0)) (left_of choices.old) }
+    ensures form { IfSome result (λ found. IfOk found (λ plan. AreRegisters plan.registers)) }
+    ensures kept { choices.new.list ≡ choices.old.list }
+{
+    match decode(layout.image, s.registers[0]) {
+        Ok((instr, len)) => {
+            let draft = executed(layout, s, instr, len, choices)?;
+            Some(Ok(done(s, &instr, draft)))
+        }
+        Err(none) => Some(Err(none)),
+    }
+}
+
+/// What a step does, or why no instruction stands at PC.
+#[tactic(auto, unfolding(msp430_chip::specs::Step::step_of))]
+pub(crate) fn course(
+    layout: &Layout,
+    s: &ChipState,
+    choices: &mut Choices,
+) -> Option<Result<Plan, NoInstr>>
+    requires size { length s.now.ram ≡ states.ram_size layout.now }
+    requires registers { AreRegisters s.now.registers }
+    ensures exact { asked_as (outcome_of layout.now s.now) result (left_of choices.new) ≡ steps.step_of layout.now s.now (left_of choices.old) }
+    ensures form { IfSome result (λ found. IfOk found (λ plan. AreRegisters plan.registers)) }
+    ensures kept { choices.new.list ≡ choices.old.list }
+{
+    let vectors = coming(layout, s);
+    let count = vectors.len();
+    let option = choices.ask_if(count > 0, 1 + count as u32)?;
+    if option == 0 {
+        return run(layout, s, choices);
+    }
+    let vector = vectors.as_slice()[option as usize - 1];
+    let plan = enter(layout, s, vector, choices)?;
+    Some(Ok(plan))
+}

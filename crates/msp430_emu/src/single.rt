@@ -1,0 +1,97 @@
+//! RRC, SWPB, RRA and SXT.
+
+ghost use Rattle.std.specs.Prelude.{◌≡◌, ◌%◌, ◌<◌, ◌≤◌, ◌++◌, ℕ, IfSome, List, false, length, true};
+ghost use Rattle.msp430_decode.specs.declared.instr.Instr.TheVariants as instr;
+ghost use Rattle.msp430_decode.specs.declared.instr.Source.{Source as ASource};
+ghost use Rattle.msp430_decode.specs.Table.{AreSingle};
+ghost use Rattle.msp430_chip.specs.declared.device.Device.{Device};
+ghost use Rattle.msp430_chip.specs.Arithmetic as numbers;
+ghost use Rattle.msp430_chip.specs.Operands as operands;
+ghost use Rattle.msp430_chip.specs.State as states;
+ghost use Rattle.msp430_chip.specs.Step as steps;
+ghost use Rattle.msp430_emu.specs.Choosing.{left_of};
+ghost use Rattle.msp430_emu.specs.Drafting.{all_shown, asked_as, drafted, left_by};
+ghost use Rattle.msp430_emu.specs.Registers.{AreRegisters};
+
+use crate::arithmetic::{single_result, single_sets_flags};
+use crate::choices::Choices;
+use crate::draft::{Accesses, Draft, Effect};
+use crate::effects::{access_to, free_status, put, with_status};
+use crate::memory::Layout;
+use crate::operands::{
+    behind, grown, has_free_bits, is_status, source_place, value_at, with_free_bits,
+};
+use msp430_chip::{ChipState, Place};
+use msp430_decode::{SingleOperation, Source, Width};
+
+/// The result of the value x in its place, and the flags.
+#[tactic(auto, using(crate::proofs::RegisterLemmas::registers_kept), unfolding(msp430_chip::specs::Step::single_left))]
+fn single_left(
+    registers: &[u16; 16],
+    operation: SingleOperation,
+    width: Width,
+    place: Place,
+    x: u16,
+    carry: u16,
+    choices: &mut Choices,
+) -> Option<Effect>
+    requires x { x < numbers.modulus width }
+    requires carry { carry ≤ 1 }
+    requires form { (operand : ASource) × AreSingle operation width operand }
+    ensures exact { (device : Device) (ram : List ℕ) → asked_as (left_by device ram) result (left_of choices.new) ≡
+        steps.single_left device ram registers.now operation width place x carry (left_of choices.old) }
+    ensures form { IfSome result (λ effect. AreRegisters registers.now → AreRegisters effect.registers) }
+    ensures kept { choices.new.list ≡ choices.old.list }
+{
+    if single_sets_flags(operation) && is_status(place) {
+        return free_status(registers, choices);
+    }
+    let (value, flags) = single_result(operation, width, x, carry, choices)?;
+    Some(with_status(flags, put(registers, width, place, value)))
+}
+
+/// The accesses of an operand that is read and written.
+fn single_accesses(width: Width, place: Place) -> Accesses
+    ensures { (pc : ℕ) → all_shown pc result ≡ operands.access_to pc false width place ++ operands.access_to pc true width place }
+{
+    Accesses {
+        first: None,
+        second: access_to(false, width, place),
+        third: access_to(true, width, place),
+    }
+}
+
+/// An instruction on one operand that it reads and writes, of so many bytes.
+#[tactic(auto, using(crate::proofs::RegisterLemmas::registers_kept), unfolding(msp430_chip::specs::Step::single))]
+pub(crate) fn single(
+    layout: &Layout,
+    s: &ChipState,
+    len: u8,
+    operation: SingleOperation,
+    width: Width,
+    operand: Source,
+    choices: &mut Choices,
+) -> Option<Draft>
+    requires size { length s.now.ram ≡ states.ram_size layout.now }
+    requires registers { AreRegisters s.now.registers }
+    requires len { len % 2 ≡ 0 }
+    requires form { AreSingle operation width operand }
+    ensures exact { asked_as (drafted layout.now s.now (instr.Single operation width operand)) result (left_of choices.new) ≡
+        steps.single layout.now s.now len operation width operand (left_of choices.old) }
+    ensures form { IfSome result (λ draft. AreRegisters draft.effect.registers) }
+    ensures kept { choices.new.list ≡ choices.old.list }
+{
+    let mut before = s.registers;
+    before[0] = behind(s, len);
+    let place = source_place(s.registers[0], &before, operand);
+    let registers = grown(&before, width, operand);
+    let x = value_at(layout, &s.ram, &before, width, place, choices)?;
+    let bits = choices.ask_if(has_free_bits(width, place), 128)?;
+    let x = with_free_bits(width, place, bits, x);
+    let carry = s.registers[2] % 2;
+    let effect = single_left(&registers, operation, width, place, x, carry, choices)?;
+    Some(Draft {
+        accesses: single_accesses(width, place),
+        effect,
+    })
+}
