@@ -1,7 +1,6 @@
 //! The machine: a state that runs on.
 
-ghost use Rattle.std.specs.Prelude.{◌≡◌, ◌≤◌, IfOk, IsSome};
-ghost use Rattle.ihex_read.specs.Image.{byte_at};
+ghost use Rattle.std.specs.Prelude.{◌≡◌, ◌≤◌, IfOk};
 ghost use Rattle.msp430_chip.specs.State.{IsChipState, IsResetOf};
 ghost use Rattle.msp430_emu.specs.Choosing.{left_of};
 ghost use Rattle.msp430_emu.specs.Stepping.{IsStill, Steps, first_state, device_of};
@@ -21,8 +20,6 @@ impl Machine {
     /// A machine with RAM from its lowest to its highest address, behind a reset. All that a reset leaves open is 0.
     pub fn reset(alloc: Global, image: &Image, lo: u16, hi: u16) -> Result<Machine, Memory>
         requires range { lo ≤ hi }
-        requires low { IsSome (byte_at image.now 0xFFFE) }
-        requires high { IsSome (byte_at image.now 0xFFFF) }
         ensures reset { IfOk result (λ machine. IsResetOf (device_of image.now lo hi) machine.state) }
         ensures zeros { IfOk result (λ machine. machine.state ≡ first_state (device_of image.now lo hi)) }
         ensures lo { IfOk result (λ machine. machine.lo ≡ lo) }

@@ -28,7 +28,7 @@ use Rattle.std.proofs.lemmas.List.{take_all}
 use Rattle.ihex_read.specs.Lines as texts
 use Rattle.round_core.specs.Machine.{Held, held_at, inputs_of, replay, IsLegalJournal, IsFinished}
 use Rattle.round_core.specs.declared.event.Event.{Event}
-use Rattle.vsa_top.specs.declared.msp430.device.Device.{Device}
+use Rattle.msp430_chip.specs.declared.device.Device.{Device}
 use Rattle.msp430_decode.specs.declared.instr.Instr.{Instr}
 use Rattle.vsa_top.specs.declared.msp430.action.Action.{Action}
 use Rattle.vsa_top.specs.declared.msp430.state.State.{State}

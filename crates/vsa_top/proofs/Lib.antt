@@ -9,5 +9,6 @@ pub mod Msp430Steps
 pub mod ReportLemmas
 pub mod ScriptLemmas
 pub mod ShownLemmas
+pub mod TraceLemmas
 pub mod TurnLemmas
 pub mod WordsLemmas

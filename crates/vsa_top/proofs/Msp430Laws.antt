@@ -23,8 +23,8 @@ use Rattle.msp430_decode.specs.Table.{bytes_of}
 use Rattle.value_set.specs.Joining.{is_within, join}
 use Rattle.value_set.specs.Widening.{widen}
 use Rattle.vsa_top.specs.declared.msp430.action.Action.{Action}
-use Rattle.vsa_top.specs.declared.msp430.device.Device.{Device}
-use Rattle.vsa_top.specs.declared.msp430.state.ChipState.{ChipState}
+use Rattle.msp430_chip.specs.declared.device.Device.{Device}
+use Rattle.msp430_chip.specs.declared.state.ChipState.{ChipState}
 use Rattle.vsa_top.specs.declared.msp430.state.State.{State}
 use Rattle.vsa_top.specs.Msp430Built.{IsAction, fetched, next_of}
 use Rattle.vsa_top.specs.Msp430Chip.{work_at, work_of, IsProgram, msp430}

@@ -7,7 +7,7 @@ use Rattle.msp430_decode.specs.declared.instr.Instr.TheVariants.{Double, Single,
 use Rattle.msp430_decode.specs.declared.instr.Width.{Width}
 use Rattle.msp430_decode.specs.declared.refusal.NoInstr.{NoInstr}
 use Rattle.msp430_decode.specs.Decoding.{decoded}
-use Rattle.vsa_top.specs.declared.msp430.device.Device.{Device}
+use Rattle.msp430_chip.specs.declared.device.Device.{Device}
 use Rattle.vsa_top.specs.Msp430Marks.{mark, marks_by, constant_of, in_width, is_comparison, marks_with, marks_in, marks_found, marks_from, marks_of, stops}
 
 -- the first word's marks, and then the others'

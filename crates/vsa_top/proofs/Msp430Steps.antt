@@ -21,8 +21,8 @@ use Rattle.value_set.specs.declared.form.Form.{Form}
 use Rattle.value_set.specs.Summing.{single}
 use Rattle.vsa_top.specs.declared.msp430.action.Action.{Action}
 use Rattle.vsa_top.specs.declared.msp430.action.Action.TheVariants.{Load, Copy, Go}
-use Rattle.vsa_top.specs.declared.msp430.device.Device.{Device}
-use Rattle.vsa_top.specs.declared.msp430.state.ChipState.{ChipState}
+use Rattle.msp430_chip.specs.declared.device.Device.{Device}
+use Rattle.msp430_chip.specs.declared.state.ChipState.{ChipState}
 use Rattle.vsa_top.specs.declared.msp430.state.State.{State}
 use Rattle.vsa_top.specs.Msp430Built.{is_general, is_destination, is_move, is_word, is_always, IsAction, moved, moved_to, action_of, with_action, found_by, fetched, next_of}
 use Rattle.vsa_top.specs.Msp430Chip.{IsProgram}

@@ -16,7 +16,7 @@ use Rattle.chip_law.specs.declared.chip.Work.{Work}
 use Rattle.round_core.specs.declared.event.Event.{Event}
 use Rattle.round_core.specs.Kept.{live_works}
 use Rattle.round_core.specs.Machine.{replay, IsLegalJournal, IsFinished}
-use Rattle.vsa_top.specs.declared.msp430.device.Device.{Device}
+use Rattle.msp430_chip.specs.declared.device.Device.{Device}
 use Rattle.vsa_top.specs.declared.msp430.state.State.{State}
 use Rattle.vsa_top.specs.Disassembly.{IsDisassembly}
 use Rattle.vsa_top.specs.Msp430Chip.{msp430}

@@ -14,7 +14,7 @@ use Rattle.chip_law.specs.Shown.{HasLine, IsShownIn}
 use Rattle.call_context.specs.Single.{Single}
 use Rattle.round_core.specs.Machine.{Held, held_at, replay}
 use Rattle.round_core.specs.declared.event.Event.{Event}
-use Rattle.vsa_top.specs.declared.msp430.device.Device.{Device}
+use Rattle.msp430_chip.specs.declared.device.Device.{Device}
 use Rattle.vsa_top.specs.declared.msp430.state.State.{State}
 use Rattle.vsa_top.specs.declared.words.Reading.{Reading}
 use Rattle.vsa_top.specs.Answer.{works_behind}

@@ -9,5 +9,6 @@ pub mod Msp430Marks
 pub mod Msp430State
 pub mod Report
 pub mod Scripts
+pub mod Trace
 pub mod Turns
 pub mod Words

@@ -12,12 +12,12 @@ use Rattle.call_context.specs.declared.shown.Set.TheVariants.{W}
 use Rattle.ihex_read.specs.Image.{IsByte}
 use Rattle.chip_law.specs.declared.chip.Work.{Work}
 use Rattle.chip_law.specs.Meaning.{Meaning}
-use Rattle.vsa_top.specs.declared.msp430.device.Device.{Device}
+use Rattle.msp430_chip.specs.declared.device.Device.{Device}
 use Rattle.msp430_decode.specs.declared.instr.Instr.{Instr}
 use Rattle.msp430_decode.specs.Table.{bytes_of}
 use Rattle.vsa_top.specs.declared.msp430.action.Action.{Action}
 use Rattle.vsa_top.specs.declared.msp430.state.State.{State}
-use Rattle.vsa_top.specs.declared.msp430.state.ChipState.{ChipState}
+use Rattle.msp430_chip.specs.declared.state.ChipState.{ChipState}
 use Rattle.vsa_top.specs.Msp430Cover.{HasChipForm, CoversState}
 use Rattle.vsa_top.specs.Msp430Built.{fetched, next_of}
 use Rattle.vsa_top.specs.Msp430Machine.{register_of, reset_address, IsResetOf, StepsTo}

@@ -8,9 +8,9 @@ use Rattle.call_context.specs.declared.node.Node.{Node}
 use Rattle.call_context.specs.declared.node.Node.TheVariants.{At, Exit}
 use Rattle.value_set.specs.declared.form.Form.{Form}
 use Rattle.value_set.specs.Form.{Has, IsNormal}
-use Rattle.vsa_top.specs.declared.msp430.device.Device.{Device}
+use Rattle.msp430_chip.specs.declared.device.Device.{Device}
 use Rattle.vsa_top.specs.declared.msp430.state.State.{State}
-use Rattle.vsa_top.specs.declared.msp430.state.ChipState.{ChipState}
+use Rattle.msp430_chip.specs.declared.state.ChipState.{ChipState}
 use Rattle.vsa_top.specs.Msp430Machine.{register_of, IsChipState}
 use Rattle.vsa_top.specs.Msp430State.{set_of}
 

@@ -5,13 +5,13 @@ use Rattle.call_context.specs.Single.{Single}
 use Rattle.chip_law.specs.Outcome.{Outcome}
 use Rattle.call_context.specs.Single.Single.{Instr as Ran, Edge as Went, Stack as Stood}
 use Rattle.chip_law.specs.Outcome.Outcome.{Next, Wild}
-use Rattle.vsa_top.specs.declared.msp430.device.Device.{Device}
+use Rattle.msp430_chip.specs.declared.device.Device.{Device}
 use Rattle.ihex_read.specs.Image.{byte_at}
 use Rattle.msp430_decode.specs.declared.instr.Instr.{Instr}
 use Rattle.msp430_decode.specs.Table.{bytes_of}
 use Rattle.vsa_top.specs.declared.msp430.action.Action.{Action}
 use Rattle.vsa_top.specs.declared.msp430.action.Action.TheVariants.{Load, Copy, Go}
-use Rattle.vsa_top.specs.declared.msp430.state.ChipState.{ChipState}
+use Rattle.msp430_chip.specs.declared.state.ChipState.{ChipState}
 use Rattle.vsa_top.specs.Msp430Built.{fetched, next_of}
 
 -- the value of a register; PC is R0, SP R1 and SR R2

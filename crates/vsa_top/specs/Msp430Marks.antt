@@ -13,7 +13,7 @@ use Rattle.msp430_decode.specs.declared.instr.Width.{Width}
 use Rattle.msp430_decode.specs.declared.instr.Width.TheVariants.{Word, Byte}
 use Rattle.msp430_decode.specs.declared.refusal.NoInstr.{NoInstr}
 use Rattle.msp430_decode.specs.Decoding.{decoded}
-use Rattle.vsa_top.specs.declared.msp430.device.Device.{Device}
+use Rattle.msp430_chip.specs.declared.device.Device.{Device}
 
 -- a number below 65536
 abbrev pub mark : ℕ → List ℕ

@@ -10,6 +10,7 @@ mod outcome;
 mod report;
 mod script;
 mod top;
+mod trace;
 mod words;
 
 pub use outcome::{Gate, NoGate, Outcome, Status};

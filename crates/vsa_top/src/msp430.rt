@@ -2,7 +2,6 @@
 
 mod action;
 mod chip;
-mod device;
 mod laws;
 mod marks;
 mod sets;

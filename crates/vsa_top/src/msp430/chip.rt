@@ -8,9 +8,9 @@ ghost use Rattle.vsa_top.specs.Msp430Machine.{reset_address};
 ghost use Rattle.vsa_top.specs.Msp430Marks.{stops};
 
 use crate::msp430::action::{Action, action_of, next_address};
-use crate::msp430::device::Device;
+use msp430_chip::{ChipState, Device};
 use crate::msp430::marks::marks_of;
-use crate::msp430::state::{ChipState, State};
+use crate::msp430::state::State;
 use arrayvec::ArrayString;
 use call_context::{Calls, Cause, Frame, InstrBytes, Item, Node, Sequence, Set, Unit};
 use chip_law::{Chip, ChipText, Work};
@@ -31,7 +31,7 @@ pub struct Msp430 {
 
 impl Model for Msp430 {
     ghost use Rattle.std.specs.Prelude.{◌≡◌};
-    ghost use Rattle.vsa_top.specs.declared.msp430.device.Device.{Device};
+    ghost use Rattle.msp430_chip.specs.declared.device.Device.{Device};
     ghost use Rattle.vsa_top.specs.Msp430Marks.{marks_of};
 
     ghost Value = { Device };
@@ -49,6 +49,13 @@ impl Msp430 {
         let device = Device { image, lo, hi };
         let marks = marks_of(alloc, &device)?;
         Ok(Msp430 { device, marks })
+    }
+
+    /// The device.
+    pub fn device(&self) -> &Device
+        ensures { result.now ≡ self.now }
+    {
+        &self.device
     }
 
     /// Where the program starts: the word at FFFEh without bit 0.

@@ -6,17 +6,7 @@ ghost use Rattle.vsa_top.specs.Msp430Built.{IsAction, is_general, is_destination
 
 use crate::msp430::action::Action;
 use crate::msp430::sets::{even_or_all, even_parts, even_words};
-use call_context::Sequence;
 use value_set::Vs16;
-
-/// The chip's state: its registers, with PC, SP, SR and the constant generator R3 as the first four, the bytes of
-/// RAM from its lowest address up, and whether an interrupt may still come behind an instruction that forbade it.
-#[derive(Drop)]
-pub struct ChipState {
-    pub registers: [u16; 16],
-    pub ram: Sequence<u8>,
-    pub late: bool,
-}
 
 /// Sets of values for SP and for R4 to R15, in this order.
 #[derive(Clone, Copy, Debug, PartialEq, Eq)]

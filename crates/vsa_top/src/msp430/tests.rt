@@ -1,6 +1,6 @@
 //! Marks, and states that are widened to them.
 
-use crate::msp430::device::Device;
+use msp430_chip::Device;
 use crate::msp430::marks::marks_of;
 use crate::msp430::sets::even_words;
 use crate::msp430::state::State;
