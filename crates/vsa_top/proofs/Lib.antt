@@ -2,6 +2,7 @@ pub mod AnswerLemmas
 pub mod DisassemblyLemmas
 pub mod HeadlineLemmas
 pub mod InputLemmas
+pub mod LeastLemmas
 pub mod Msp430Laws
 pub mod Msp430MarksLemmas
 pub mod Msp430Sets

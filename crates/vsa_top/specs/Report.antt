@@ -1,5 +1,5 @@
 -- The report of an analysis, made from the works of its units.
-use Rattle.std.specs.Prelude.{ℕ, ◌+◌, ◌-◌, ◌*◌, ◌%◌, ◌==◌, nat_lt, ◌&&◌, ◌||◌, min, if◌then◌else◌, Bool, true, false, Option, None, Some, List, [], ◌∷◌, ◌++◌, map, count_by, codes, nat_eq}
+use Rattle.std.specs.Prelude.{ℕ, ◌+◌, ◌-◌, ◌*◌, ◌%◌, ◌≤◌, ◌==◌, nat_lt, ◌&&◌, ◌||◌, min, if◌then◌else◌, Bool, true, false, Option, None, Some, List, [], ◌∷◌, ◌++◌, map, count_by, codes, nat_eq}
 use Rattle.std.specs.List.{flat_map, starts_with, ends_with}
 use Rattle.std.specs.Fmt.{decimal}
 use Rattle.std.specs.Ordering.{nat_cmp}
@@ -10,6 +10,7 @@ use Rattle.std.specs.declared.vec.Vec.{Vec}
 use Rattle.value_set.specs.declared.form.Form.{Form}
 use Rattle.value_set.specs.declared.form.Form.TheVariants.{Values, Run}
 use Rattle.value_set.specs.declared.form.Progression.{Progression}
+use Rattle.value_set.specs.Form.{Has}
 use Rattle.call_context.specs.declared.shown.Set.TheVariants.{B, W}
 use Rattle.call_context.specs.declared.shown.Cause.{Cause}
 use Rattle.call_context.specs.declared.shown.Item.{Item}
@@ -64,6 +65,10 @@ least_in_run run =
 abbrev pub least_word : Form → Option ℕ
 least_word (Values values) = first_value values
 least_word (Run run) = if is_whole run then None else Some (least_in_run run)
+
+-- a number of a set of words, and no other is less
+abbrev pub IsLeast : Form → ℕ → Type 0
+IsLeast set least = Has 65536 set least × ((value : ℕ) → Has 65536 set value → least ≤ value)
 
 -- the least stack pointer that an item shows by a set that isn't whole
 abbrev pub least_stack : Item → Option ℕ

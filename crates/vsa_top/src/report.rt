@@ -1,10 +1,10 @@
 //! The report of a book.
 
-ghost use Rattle.std.specs.Prelude.{◌≡◌, ◌++◌, ◌∷◌, ◌&&◌, if◌then◌else◌, true, [], None, map, count_by, IfOk, OnOk};
+ghost use Rattle.std.specs.Prelude.{◌≡◌, ◌++◌, ◌∷◌, ◌&&◌, if◌then◌else◌, true, [], None, map, count_by, IfOk, OnOk, IfSome};
 ghost use Rattle.round_core.specs.Kept.{live_works};
 ghost use Rattle.round_core.specs.Machine.{replay};
 ghost use Rattle.value_set.specs.Form.{IsNormalRun};
-ghost use Rattle.vsa_top.specs.Report.{with_lines, lines_of, is_empty, are_closed, lesser as the_lesser, least_stack as least_shown, least_of, is_whole, least_in_run, least_word, is_whole_stack as tells_whole_stack, report_text, report_of as the_report, bytes_of, summary_of};
+ghost use Rattle.vsa_top.specs.Report.{with_lines, lines_of, is_empty, are_closed, lesser as the_lesser, least_stack as least_shown, least_of, is_whole, least_in_run, least_word, IsLeast, is_whole_stack as tells_whole_stack, report_text, report_of as the_report, bytes_of, summary_of};
 ghost use Rattle.std.specs.BTreeSet.{insert_key};
 ghost use Rattle.std.specs.Cmp.Lexicographic.{slice_cmp};
 ghost use Rattle.std.specs.List.{flat_map};
@@ -59,7 +59,8 @@ fn least_of_run(run: &Progression) -> u16
 
 /// The least number of a set of words that isn't whole.
 pub fn least_number(values: &Vs16) -> Option<u16>
-    ensures { result ≡ least_word values.now }
+    ensures value { result ≡ least_word values.now }
+    ensures least { IfSome result (IsLeast values.now) }
 {
     match values.form() {
         Form::Values(few) => few.as_slice().first().copied(),
