@@ -15,3 +15,6 @@ mod results;
 mod single;
 
 pub use choices::Choices;
+
+#[cfg(test)]
+mod arithmetic_rows;
