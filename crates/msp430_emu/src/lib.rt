@@ -28,3 +28,6 @@ pub use msp430_chip::Wild;
 pub use msp430_decode::NoInstr;
 pub use state::Machine;
 pub use stepped::Stepped;
+
+#[cfg(test)]
+mod arithmetic_rows;
