@@ -55,12 +55,11 @@ pub(crate) fn advance(layout: &Layout, state: &mut ChipState, choices: &mut Choi
     ensures bytes { All (λ b. b < 256) state.old.ram → All (λ b. b < 256) state.new.ram }
 {
     let used = choices.used();
-    let Some(found) = course(layout, state, choices) else {
-        choices.rewind(used);
-        return Stepped::NeedChoice;
+    let stepped = match course(layout, state, choices) {
+        None => Stepped::NeedChoice,
+        Some(found) => finish(layout, state, found),
     };
-    let stepped = finish(layout, state, found);
-    if let Stepped::Wild(_) = &stepped {
+    if !matches!(stepped, Stepped::Met(_)) {
         choices.rewind(used);
     }
     stepped

@@ -21,6 +21,8 @@ mod run;
 mod single;
 mod state;
 mod stepped;
+#[cfg(test)]
+mod tests;
 mod writing;
 
 pub use choices::Choices;
