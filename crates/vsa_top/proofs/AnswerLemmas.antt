@@ -1,6 +1,6 @@
 -- What an image gets, put together from the book, its report and what the sink took.
 use Rattle.std.proofs.Common.{◌≡◌, ℕ, Bool, true, false, Option, List, sym, ap, subst, ◌∙◌, inl, inr}
-use Rattle.std.specs.Prelude.{◌⊎◌, if◌then◌else◌}
+use Rattle.std.specs.Prelude.{◌⊎◌, if◌then◌else◌, IfOk, Result, Ok, Err}
 use Rattle.round_core.specs.declared.event.Event.{Event}
 use Rattle.round_core.specs.Kept.{Kept}
 use Rattle.vsa_io.specs.Stream.{appended, AppendsPrefix}
@@ -42,3 +42,8 @@ image_answer device book journal text before after closed status answered base i
     (subst (λ t. AppendsPrefix before t after) text_is prefix) in
     subst (λ i. AnswersAnalysis answered i before after journal) base
     (subst (λ j. AnswersAnalysis answered book.base before after j) (sym journal_is) whole)
+
+-- what holds of each outcome
+pub if_ok : {A E : Type 0} (r : Result A E) (P Q : A → Type 0) → ((a : A) → P a → Q a) → IfOk r P → IfOk r Q
+if_ok (Ok a) P Q each holds = each a holds
+if_ok (Err e) P Q each holds = tt

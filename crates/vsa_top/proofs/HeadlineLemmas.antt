@@ -1,5 +1,5 @@
 -- A report that is told as closed covers every run, and one that is told as open shows its open sites.
-use Rattle.std.proofs.Common.{arith, ◌≡◌, ◌++◌, ℕ, Bool, true, false, Option, None, Some, Result, Ok, Err, List, [], ◌∷◌, refl, sym, ap, subst, ◌∙◌, append_assoc, inl, inr}
+use Rattle.std.proofs.Common.{arith, ◌≡◌, ◌++◌, ◌+◌, ◌-◌, ◌≤◌, ℕ, zero, suc, take, Bool, true, false, Option, None, Some, Result, Ok, Err, List, [], ◌∷◌, refl, sym, ap, subst, ◌∙◌, append_assoc, inl, inr}
 use Rattle.std.specs.Prelude.{◌⊎◌, All, Contains, IfSome, length, map, ◌&&◌}
 use Rattle.std.specs.List.{flat_map}
 use Rattle.std.proofs.lemmas.List.Elements.{Contains-append_right}
@@ -19,32 +19,41 @@ use Rattle.chip_law.specs.Shown.{HasLine}
 use Rattle.closing_law.specs.Covered.{NoneIsOpen, AreCovering}
 use Rattle.closing_law.specs.Worked.{IsOfUnit}
 use Rattle.ihex_read.specs.declared.rule_set.Tail.{Tail}
-use Rattle.ihex_read.specs.declared.rule_set.Tail.TheVariants.{Blank}
+use Rattle.ihex_read.specs.declared.rule_set.Tail.TheVariants.{Blank, Second}
 use Rattle.ihex_read.specs.declared.rule_set.Rules.{Rules}
 use Rattle.ihex_read.specs.Image.{IsByte}
 use Rattle.ihex_read.specs.declared.fault.HexFault.{HexFault}
 use Rattle.ihex_read.specs.ImageText.{Denotes, FirstFault}
-use Rattle.std.proofs.lemmas.List.{take_all}
+use Rattle.ihex_read.specs.Reading.{HasEnded}
+use Rattle.std.proofs.lemmas.List.{append-nil, take_all}
 use Rattle.ihex_read.specs.Lines as texts
 use Rattle.round_core.specs.Machine.{Held, held_at, inputs_of, replay, IsLegalJournal, IsFinished}
 use Rattle.round_core.specs.declared.event.Event.{Event}
 use Rattle.msp430_chip.specs.declared.device.Device.{Device}
+use Rattle.msp430_chip.specs.declared.state.ChipState.{ChipState}
+use Rattle.msp430_chip.specs.Outcome.{Outcome}
+use Rattle.msp430_chip.specs.Outcome.Outcome.{Next, Wild as Leaves}
+use Rattle.msp430_chip.specs.Step.{step_of}
+use Rattle.msp430_emu.specs.Stepping.{first_state}
 use Rattle.msp430_decode.specs.declared.instr.Instr.{Instr}
 use Rattle.vsa_top.specs.declared.msp430.action.Action.{Action}
 use Rattle.vsa_top.specs.declared.msp430.state.State.{State}
 use Rattle.vsa_top.specs.declared.outcome.Status.{Status}
 use Rattle.vsa_top.specs.declared.outcome.Status.TheVariants.{Done, Open, Usage, BadImage, BadCert, ReadFault, WriteFault, Memory, TooLong, Wild, NeedChoice}
-use Rattle.vsa_top.specs.Answer.{text_limit, IsBad, IsTooLong, IsOfImage, IsImageOf, IsAnalysis, AnswersInput, AnswersImage, AnswersAnalysis, AnswersText, works_behind, report_behind}
+use Rattle.vsa_top.specs.Answer.{text_limit, front_of, tail_of, AreTexts, AnswersRun, Gives, InputGives, IsBad, IsTooLong, IsOfImage, IsImageOf, IsAnalysis, AnswersInput, AnswersImage, AnswersAnalysis, AnswersText, works_behind, report_behind}
 use Rattle.vsa_top.specs.Answer.AnswersInput.{of_image, of_bad, of_long, unread}
+use Rattle.vsa_top.specs.Answer.AnswersRun.{of_script, of_refused, of_longer, unread_script}
 use Rattle.vsa_top.specs.Answer.AnswersText.{whole, cut}
 use Rattle.vsa_top.specs.Headline.{Says, CoversEveryRun, ShowsOpenSites, ReportsOn}
 use Rattle.vsa_top.specs.Msp430Chip.{msp430, work_of, work_at, IsProgram}
 use Rattle.vsa_top.specs.Msp430Built.{fetched, instr_text}
+use Rattle.vsa_top.specs.Trace.{Ended, ended_by, run_from}
 use Rattle.vsa_top.specs.Report.{are_closed, is_empty, lines_of, with_lines, least_of, head_line, summary_of, report_text, report_of}
 use Rattle.vsa_top.specs.declared.words.Mode.{Mode}
-use Rattle.vsa_top.specs.declared.words.Mode.TheVariants.{Analyse, Disasm}
+use Rattle.vsa_top.specs.declared.words.Mode.TheVariants.{Analyse, Disasm, Run}
 use Rattle.vsa_top.specs.declared.words.Reading.{Reading}
 use Rattle.vsa_top.specs.Words.{rules_of, device_of}
+use Rattle.vsa_top.proofs.InputLemmas.{front_goes_on}
 use Rattle.vsa_top.proofs.ShownLemmas.{report_has, report_has_item, in_with_lines_new, in_flat_map, in_map}
 
 both : (x y : Bool) → (x && y) ≡ true → (x ≡ true) × (y ≡ true)
@@ -194,17 +203,84 @@ open_sites of_units device journal analysis left = record {
       };
 }
 
+-- the image that a text without a second one gives
+gives_image : (rules : Rules) (input second : Option (List ℕ)) (image : List (Option ℕ)) → InputGives rules Blank input second image
+    → IfSome input (λ t. IsImageOf rules t image)
+gives_image rules None second image gives = tt
+gives_image rules (Some text) second image gives = gives.2.0
+
+abbrev HasRunStatus : Status → Type 0
+HasRunStatus answered = (answered ≡ Done) ⊎ (answered ≡ Wild) ⊎ (answered ≡ NeedChoice)
+
+ended_status : (steps : ℕ) (s : ChipState) (go : ChipState → List ℕ → Ended) (found : Option (Outcome ChipState × List ℕ))
+    → ((t : ChipState) (choices : List ℕ) → HasRunStatus (go t choices).0) → HasRunStatus (ended_by steps s go found).0
+ended_status steps s go None each = inr (inr refl)
+ended_status steps s go (Some (Leaves cause, choices)) each = inr (inl refl)
+ended_status steps s go (Some (Next singles t, choices)) each = each t choices
+
+run_status : (device : Device) (more steps : ℕ) (s : ChipState) (choices : List ℕ) → HasRunStatus (run_from device more steps s choices).0
+unfolding run_from
+run_status device zero steps s choices = inl refl
+run_status device (suc more) steps s choices =
+    ended_status steps s (run_from device more (steps + 1)) (step_of device s choices) (λ t left. run_status device more (steps + 1) t left)
+
+-- the statuses of a run
+run_statuses : (device : Device) (steps : ℕ) (answered : Status) (second before after : Option (List ℕ)) (journal : List Event)
+    → AnswersRun device steps answered second before after journal
+    → (answered ≡ Done) ⊎ (answered ≡ Wild) ⊎ (answered ≡ NeedChoice) ⊎ (answered ≡ BadCert) ⊎ (answered ≡ TooLong) ⊎ (answered ≡ Memory)
+    ⊎ (answered ≡ WriteFault) ⊎ (answered ≡ ReadFault)
+run_statuses device steps answered second before after journal (of_script script is answer) =
+    elim (told_alone answer) [
+      | inl told ↦ elim (run_status device steps 0 (first_state device) script) [
+        | inl done ↦ inl (told ∙ done)
+        | inr other ↦ elim other [ inl wild ↦ inr (inl (told ∙ wild)) | inr need ↦ inr (inr (inl (told ∙ need))) ]
+      ]
+      | inr fault ↦ inr (inr (inr (inr (inr (inr (inl fault))))))
+    ]
+run_statuses device steps answered second before after journal (of_refused line is answer) =
+    elim (told_alone answer) [ inl told ↦ inr (inr (inr (inl told))) | inr fault ↦ inr (inr (inr (inr (inr (inr (inl fault)))))) ]
+run_statuses device steps answered second before after journal (of_longer is answer) =
+    elim (told_alone answer) [ inl told ↦ inr (inr (inr (inr (inl told)))) | inr fault ↦ inr (inr (inr (inr (inr (inr (inl fault)))))) ]
+run_statuses device steps answered second before after journal (unread_script why kept none) =
+    elim why [ inl fault ↦ inr (inr (inr (inr (inr (inr (inr fault)))))) | inr memory ↦ inr (inr (inr (inr (inr (inl memory))))) ]
+
+no_open_run : (answered : Status) → (answered ≡ Done) ⊎ (answered ≡ Wild) ⊎ (answered ≡ NeedChoice) ⊎ (answered ≡ BadCert) ⊎ (answered ≡ TooLong) ⊎ (answered ≡ Memory)
+    ⊎ (answered ≡ WriteFault) ⊎ (answered ≡ ReadFault) → answered ≡ Open → ⊥
+no_open_run Open (inl h) e = cc h
+no_open_run Open (inr (inl h)) e = cc h
+no_open_run Open (inr (inr (inl h))) e = cc h
+no_open_run Open (inr (inr (inr (inl h)))) e = cc h
+no_open_run Open (inr (inr (inr (inr (inl h))))) e = cc h
+no_open_run Open (inr (inr (inr (inr (inr (inl h)))))) e = cc h
+no_open_run Open (inr (inr (inr (inr (inr (inr (inl h))))))) e = cc h
+no_open_run Open (inr (inr (inr (inr (inr (inr (inr h))))))) e = cc h
+no_open_run Done h e = cc e
+no_open_run Usage h e = cc e
+no_open_run BadImage h e = cc e
+no_open_run BadCert h e = cc e
+no_open_run ReadFault h e = cc e
+no_open_run WriteFault h e = cc e
+no_open_run Memory h e = cc e
+no_open_run TooLong h e = cc e
+no_open_run Wild h e = cc e
+no_open_run NeedChoice h e = cc e
+
 -- an image that is told as open was analysed
-open_analysis : (mode : Mode) (device : Device) (before after : Option (List ℕ)) (journal : List Event) → AnswersImage mode device Open before after journal
-    → AnswersAnalysis Open device before after journal
-open_analysis Analyse device before after journal answer = answer
-open_analysis Disasm device before after journal answer = elim (told_alone answer.2) [ inl a ↦ absurd (cc) | inr b ↦ absurd (cc) ]
+open_analysis : (mode : Mode) (rules : Rules) (image : List (Option ℕ)) (device : Device) (steps : ℕ) (input second before after : Option (List ℕ)) (journal : List Event)
+    → InputGives rules (tail_of mode) input second image → AnswersImage mode device steps Open second before after journal
+    → IfSome input (λ t. IsImageOf rules t image) × AnswersAnalysis Open device before after journal
+open_analysis Analyse rules image device steps input second before after journal gives answer = (gives_image rules input second image gives, answer)
+open_analysis Disasm rules image device steps input second before after journal gives answer =
+    elim (told_alone answer.2) [ inl a ↦ absurd (cc) | inr b ↦ absurd (cc) ]
+open_analysis Run rules image device steps input second before after journal gives answer =
+    absurd (no_open_run Open (run_statuses device steps Open second before after journal answer) refl)
 
 pub closed_lem : CoverRuns → HaveBytes → HaveOneImage → (reading : Reading) (input before after : Option (List ℕ)) (journal : List Event)
     → reading.mode ≡ Analyse → AnswersInput reading Done input before after journal → ReportsOn reading input before after CoversEveryRun
-closed_lem cover bytes one reading input before after journal mode (of_image other found answer) text image e denoted =
+closed_lem cover bytes one reading input before after journal mode (of_image other second gives answer) text image e denoted =
+    let found = gives_image (rules_of reading) input second other (subst (λ m. InputGives (rules_of reading) (tail_of m) input second other) mode gives) in
     let same = same_image one (rules_of reading) input text image other e denoted found in
-    let analysed = subst (λ m. AnswersImage m (device_of reading other) Done before after journal) mode answer in
+    let analysed = subst (λ m. AnswersImage m (device_of reading other) reading.steps Done second before after journal) mode answer in
     let is = subst (λ i. AnswersAnalysis Done (device_of reading i) before after journal) same analysed in
     (report_behind (device_of reading image) journal, is.2, covers_every cover bytes reading text image journal denoted is.0 is.1)
 closed_lem cover bytes one reading input before after journal mode (of_bad line fault bad answer) text image e denoted =
@@ -216,10 +292,10 @@ closed_lem cover bytes one reading input before after journal mode (unread why k
 
 pub open_lem : AreOfUnits → HaveOneImage → (reading : Reading) (input before after : Option (List ℕ)) (journal : List Event)
     → AnswersInput reading Open input before after journal → ReportsOn reading input before after (λ device report. ShowsOpenSites device journal report)
-open_lem of_units one reading input before after journal (of_image other found answer) text image e denoted =
-    let same = same_image one (rules_of reading) input text image other e denoted found in
-    let analysed = open_analysis reading.mode (device_of reading other) before after journal answer in
-    let is = subst (λ i. AnswersAnalysis Open (device_of reading i) before after journal) same analysed in
+open_lem of_units one reading input before after journal (of_image other second gives answer) text image e denoted =
+    let analysed = open_analysis reading.mode (rules_of reading) other (device_of reading other) reading.steps input second before after journal gives answer in
+    let same = same_image one (rules_of reading) input text image other e denoted analysed.0 in
+    let is = subst (λ i. AnswersAnalysis Open (device_of reading i) before after journal) same analysed.1 in
     (report_behind (device_of reading image) journal, is.2, open_sites of_units (device_of reading image) journal is.0 is.1)
 open_lem of_units one reading input before after journal (of_bad line fault bad answer) text image e denoted =
     elim (told_alone answer) [ inl a ↦ absurd (cc) | inr b ↦ absurd (cc) ]
@@ -248,34 +324,88 @@ status_of_analysis Wild device before after journal is no_fault = absurd is
 status_of_analysis NeedChoice device before after journal is no_fault = absurd is
 
 -- the statuses of an image in a mode
-status_of_image : (mode : Mode) (answered : Status) (device : Device) (before after : Option (List ℕ)) (journal : List Event)
-    → AnswersImage mode device answered before after journal → (answered ≡ WriteFault → ⊥) → IsOfImage mode answered
-status_of_image Analyse answered device before after journal is no_fault = status_of_analysis answered device before after journal is no_fault
-status_of_image Disasm answered device before after journal is no_fault =
-    elim (told_alone is.2) [ inl done ↦ inl done | inr fault ↦ absurd (no_fault fault) ]
+status_of_run : (answered : Status) → (answered ≡ Done) ⊎ (answered ≡ Wild) ⊎ (answered ≡ NeedChoice) ⊎ (answered ≡ BadCert) ⊎ (answered ≡ TooLong) ⊎ (answered ≡ Memory)
+    ⊎ (answered ≡ WriteFault) ⊎ (answered ≡ ReadFault) → (answered ≡ ReadFault → ⊥) → (answered ≡ WriteFault → ⊥) → IsOfImage Run answered
+status_of_run answered (inl h) no_read no_write = inl h
+status_of_run answered (inr (inl h)) no_read no_write = inr (inl h)
+status_of_run answered (inr (inr (inl h))) no_read no_write = inr (inr (inl h))
+status_of_run answered (inr (inr (inr (inl h)))) no_read no_write = inr (inr (inr (inl h)))
+status_of_run answered (inr (inr (inr (inr (inl h))))) no_read no_write = inr (inr (inr (inr (inl h))))
+status_of_run answered (inr (inr (inr (inr (inr (inl h)))))) no_read no_write = inr (inr (inr (inr (inr h))))
+status_of_run answered (inr (inr (inr (inr (inr (inr (inl h))))))) no_read no_write = absurd (no_write h)
+status_of_run answered (inr (inr (inr (inr (inr (inr (inr h))))))) no_read no_write = absurd (no_read h)
+
+status_of_image : (mode : Mode) (answered : Status) (device : Device) (steps : ℕ) (second before after : Option (List ℕ)) (journal : List Event)
+    → AnswersImage mode device steps answered second before after journal → (answered ≡ ReadFault → ⊥) → (answered ≡ WriteFault → ⊥) → IsOfImage mode answered
+status_of_image Analyse answered device steps second before after journal is no_read no_write = status_of_analysis answered device before after journal is no_write
+status_of_image Disasm answered device steps second before after journal is no_read no_write =
+    elim (told_alone is.2) [ inl done ↦ inl done | inr fault ↦ absurd (no_write fault) ]
+status_of_image Run answered device steps second before after journal is no_read no_write =
+    status_of_run answered (run_statuses device steps answered second before after journal is) no_read no_write
 
 memory_of_image : (mode : Mode) (answered : Status) → answered ≡ Memory → IsOfImage mode answered
 memory_of_image Analyse answered memory = inr (inr memory)
 memory_of_image Disasm answered memory = inr memory
+memory_of_image Run answered memory = inr (inr (inr (inr (inr memory))))
+
+-- what stands behind a text that has ended
+abbrev EndedStay : Type 0
+EndedStay = (rules : Rules) (text more : List ℕ) → HasEnded rules text → HasEnded rules (text ++ more)
+
+abbrev ImagesStay : Type 0
+ImagesStay = (rules : Rules) (text more : List ℕ) (image : List (Option ℕ)) → HasEnded rules text → Denotes rules Second (texts.lines_of text) image
+    → Denotes rules Second (texts.lines_of (text ++ more)) image
+
+-- the first bytes of a text that is all image text
+all_front : (front second text : List ℕ) → text ≡ front ++ second → second ≡ [] → length front ≤ text_limit → (text ≡ front) × (front_of text ≡ front)
+all_front front second text joined none fits =
+    let same : text ≡ front = joined ∙ ap (λ t. front ++ t) none ∙ append-nil front in
+    (same, ap front_of same ∙ take_all text_limit front fits)
+
+-- the first bytes of a text give its image
+front_gives : ImagesStay → (rules : Rules) (text : List ℕ) (image : List (Option ℕ)) (second : List ℕ) → (is : AreTexts rules text image second)
+    → (second ≡ []) ⊎ HasEnded rules is.front → Denotes rules Second (texts.lines_of (front_of text)) image
+front_gives stay rules text image second is (inl none) =
+    let all = all_front is.front second text is.whole none is.fits in
+    subst (λ t. Denotes rules Second (texts.lines_of t) image) (sym all.1) is.denoted
+front_gives stay rules text image second is (inr ended) =
+    let more = take (text_limit - length is.front) second in
+    let same : front_of text ≡ is.front ++ more = ap front_of is.whole ∙ front_goes_on is.front second is.fits in
+    subst (λ t. Denotes rules Second (texts.lines_of t) image) (sym same) (stay rules is.front more image ended is.denoted)
 
 -- a text of an image isn't refused
-not_bad : HaveNotBoth → (rules : Rules) (text : List ℕ) (image : List (Option ℕ)) (line : ℕ) (fault : HexFault) → IsImageOf rules text image
-    → IsBad rules text line fault → ⊥
-not_bad both rules text image line fault is bad =
-    both rules Blank (texts.lines_of text) image line fault is.denoted
-    (subst (λ t. FirstFault rules Blank (texts.lines_of t) line fault) (take_all text_limit text is.fits) bad.first)
+not_bad : HaveNotBoth → ImagesStay → (rules : Rules) (tail : Tail) (text : List ℕ) (image : List (Option ℕ)) (second : List ℕ) (line : ℕ) (fault : HexFault)
+    → Gives rules tail text image second → IsBad rules tail text line fault → ⊥
+not_bad both stay rules Blank text image second line fault gives bad =
+    both rules Blank (texts.lines_of text) image line fault gives.0.denoted
+    (subst (λ t. FirstFault rules Blank (texts.lines_of t) line fault) (take_all text_limit text gives.0.fits) bad.first)
+not_bad both stay rules Second text image second line fault gives bad =
+    both rules Second (texts.lines_of (front_of text)) image line fault (front_gives stay rules text image second gives gives.ends) bad.first
 
-not_long : (rules : Rules) (text : List ℕ) (image : List (Option ℕ)) → IsImageOf rules text image → IsTooLong rules text → ⊥
-not_long rules text image is long = omega (arith, is.fits, long.longer)
+not_long_behind : EndedStay → (rules : Rules) (text : List ℕ) (image : List (Option ℕ)) (second : List ℕ) → (is : AreTexts rules text image second)
+    → (second ≡ []) ⊎ HasEnded rules is.front → IsTooLong rules Second text → ⊥
+not_long_behind stay rules text image second is (inl none) long =
+    let all = all_front is.front second text is.whole none is.fits in omega (arith, is.fits, long.longer, ap length all.0)
+not_long_behind stay rules text image second is (inr ended) long =
+    let more = take (text_limit - length is.front) second in
+    let same : front_of text ≡ is.front ++ more = ap front_of is.whole ∙ front_goes_on is.front second is.fits in
+    long.unended refl (subst (HasEnded rules) (sym same) (stay rules is.front more ended))
 
-pub complete_lem : HaveNotBoth → (reading : Reading) (answered : Status) (input before after : Option (List ℕ)) (journal : List Event) (text : List ℕ)
-    (image : List (Option ℕ)) → AnswersInput reading answered input before after journal → input ≡ Some text → IsImageOf (rules_of reading) text image
-    → (answered ≡ ReadFault → ⊥) → (answered ≡ WriteFault → ⊥) → IsOfImage reading.mode answered
-complete_lem both reading answered input before after journal text image (of_image other found answer) e is no_read no_write =
-    status_of_image reading.mode answered (device_of reading other) before after journal answer no_write
-complete_lem both reading answered input before after journal text image (of_bad line fault bad answer) e is no_read no_write =
-    absurd (not_bad both (rules_of reading) text image line fault is (subst (λ i. IfSome i (λ t. IsBad (rules_of reading) t line fault)) e bad))
-complete_lem both reading answered input before after journal text image (of_long long answer) e is no_read no_write =
-    absurd (not_long (rules_of reading) text image is (subst (λ i. IfSome i (IsTooLong (rules_of reading))) e long))
-complete_lem both reading answered input before after journal text image (unread why kept none) e is no_read no_write =
+not_long : EndedStay → (rules : Rules) (tail : Tail) (text : List ℕ) (image : List (Option ℕ)) (second : List ℕ) → Gives rules tail text image second
+    → IsTooLong rules tail text → ⊥
+not_long stay rules Blank text image second gives long = omega (arith, gives.0.fits, long.longer)
+not_long stay rules Second text image second gives long = not_long_behind stay rules text image second gives gives.ends long
+
+pub complete_lem : HaveNotBoth → EndedStay → ImagesStay → (reading : Reading) (answered : Status) (input before after : Option (List ℕ)) (journal : List Event) (text : List ℕ)
+    (image : List (Option ℕ)) (second : List ℕ) → AnswersInput reading answered input before after journal → input ≡ Some text
+    → Gives (rules_of reading) (tail_of reading.mode) text image second → (answered ≡ ReadFault → ⊥) → (answered ≡ WriteFault → ⊥) → IsOfImage reading.mode answered
+complete_lem both ended stay reading answered input before after journal text image second (of_image other behind found answer) e is no_read no_write =
+    status_of_image reading.mode answered (device_of reading other) reading.steps behind before after journal answer no_read no_write
+complete_lem both ended stay reading answered input before after journal text image second (of_bad line fault bad answer) e is no_read no_write =
+    absurd (not_bad both stay (rules_of reading) (tail_of reading.mode) text image second line fault is
+    (subst (λ i. IfSome i (λ t. IsBad (rules_of reading) (tail_of reading.mode) t line fault)) e bad))
+complete_lem both ended stay reading answered input before after journal text image second (of_long long answer) e is no_read no_write =
+    absurd (not_long ended (rules_of reading) (tail_of reading.mode) text image second is
+    (subst (λ i. IfSome i (IsTooLong (rules_of reading) (tail_of reading.mode))) e long))
+complete_lem both ended stay reading answered input before after journal text image second (unread why kept none) e is no_read no_write =
     elim why [ inl fault ↦ absurd (no_read fault) | inr memory ↦ memory_of_image reading.mode answered memory ]

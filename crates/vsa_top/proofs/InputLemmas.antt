@@ -27,7 +27,7 @@ FaultsStay = (rules : Rules) (tail : Tail) (text more : List ℕ) (line : ℕ) (
     → FaultsWithin rules tail text line fault → FaultsWithin rules tail (text ++ more) line fault
 
 -- the first bytes of a text begin with any front of it that is within the limit
-front_goes_on : (front more : List ℕ) → length front ≤ text_limit → front_of (front ++ more) ≡ front ++ take (text_limit - length front) more
+pub front_goes_on : (front more : List ℕ) → length front ≤ text_limit → front_of (front ++ more) ≡ front ++ take (text_limit - length front) more
 front_goes_on front more fits =
     let size : text_limit ≡ length front + (text_limit - length front) = omega (arith, fits) in
     ap (λ n. take n (front ++ more)) size ∙ take-append-add front more (text_limit - length front)
@@ -184,15 +184,18 @@ stopped : (rules : Rules) (tail : Tail) (text piece : List ℕ) (used : ℕ) (af
     → Denotes rules tail (lines_of (text ++ take used piece)) image → InputGives rules tail (begun_with (text ++ piece) after) (begun_with (drop used piece) after) image
 stopped rules tail text piece used None image second first ended fits denoted = tt
 stopped rules tail text piece used (Some left) image second first ended fits denoted =
-    subst (λ t. (behind : List ℕ) × (Some (drop used piece ++ left) ≡ Some behind) × Gives rules t ((text ++ piece) ++ left) image behind) (sym second)
-    (drop used piece ++ left, refl, record {
-      front = text ++ take used piece;
-      whole = used_front text piece left used;
-      first = first second;
-      ends = inr ended;
-      fits = fits;
-      denoted = subst (λ t. Denotes rules t (lines_of (text ++ take used piece)) image) second denoted;
-    })
+    subst (λ t. (behind : List ℕ) × (Some (drop used piece ++ left) ≡ Some behind) × Gives rules t ((text ++ piece) ++ left) image behind) (sym second) (
+      drop used piece ++ left,
+      refl,
+      record {
+        front = text ++ take used piece;
+        whole = used_front text piece left used;
+        first = first second;
+        ends = inr ended;
+        fits = fits;
+        denoted = subst (λ t. Denotes rules t (lines_of (text ++ take used piece)) image) second denoted;
+      },
+    )
 
 pub image_at_stop : (rules : Rules) (tail : Tail) (input left : Option (List ℕ)) (reader new : Reading) (room : ℕ) (buffer : List ℕ) (count used : ℕ) (after : Option (List ℕ))
     (begun : List ℕ) (image : List (Option ℕ)) → IsTaken rules tail input left reader room → Takes left count buffer after
@@ -277,7 +280,7 @@ pub ended_there : (old new : Reading) (tail : Tail) (used count : ℕ) (piece : 
 ended_there old new tail used count piece is within same ended = (
   same ∙ ended.0,
   subst (λ t. HasEnded old.rules t) (read_text old new used count piece is within)
-  (subst (λ r. HasEnded r new.text) (ap (λ (r : Reading). r.rules) is) ended.1),
+      (subst (λ r. HasEnded r new.text) (ap (λ (r : Reading). r.rules) is) ended.1),
 )
 
 -- all of the front was used, where no second text begins

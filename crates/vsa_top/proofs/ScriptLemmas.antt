@@ -1,14 +1,14 @@
 -- What was read of a script, and what it tells of the whole.
-use Rattle.std.proofs.Common.{◌≡◌, ℕ, ◌+◌, ◌-◌, ◌<◌, ◌≤◌, List, ◌++◌, Option, None, Some, length, take, length-append, [], refl, sym, ◌∙◌, ap, subst, append_assoc, inl, inr, arith}
-use Rattle.std.specs.Prelude.{IfSome, Result, Ok, Err}
+use Rattle.std.proofs.Common.{◌≡◌, ℕ, ◌+◌, ◌-◌, ◌<◌, ◌≤◌, List, ◌++◌, Option, None, Some, length, take, length-append, [], refl, sym, ◌∙◌, ap, subst, arith}
+use Rattle.std.specs.Prelude.{IfSome, Ok, Err}
 use Rattle.std.proofs.lemmas.List.{length-take, append-nil}
 use Rattle.script_text.specs.declared.fault.ScriptError.{ScriptError}
 use Rattle.script_text.specs.declared.fault.ScriptError.TheVariants as script_error
 use Rattle.script_text.specs.Script.{script_of}
-use Rattle.script_text.specs.Reading.{Reading, IsRefusedWithin, TellsFront, TellsWhole}
+use Rattle.script_text.specs.Reading.{Reading, IsRefusedWithin, TellsWhole}
 use Rattle.vsa_io.specs.Stream.{Takes, IsAtEnd}
 use Rattle.vsa_top.specs.Answer.{begun_with}
-use Rattle.vsa_top.specs.Scripts.{IsAt, IsScript, IsRefused, LacksScript, refusal_of, second_limit}
+use Rattle.vsa_top.specs.Scripts.{IsAt, IsScript, LacksScript, refusal_of, second_limit}
 use Rattle.vsa_top.specs.Scripts.IsAt.{going, refused}
 use Rattle.vsa_top.specs.declared.script.ScriptRefusal.{ScriptRefusal}
 use Rattle.vsa_top.specs.declared.script.ScriptRefusal.TheVariants.{Failed, Memory, Syntax, TooLong}

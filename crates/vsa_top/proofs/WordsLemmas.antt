@@ -1,16 +1,18 @@
 -- What the words ask: numbers of steps, options, and readings, of which there is at most one.
 use Rattle.std.proofs.Common.{◌≡◌, ℕ, ◌+◌, ◌-◌, ◌*◌, ◌<◌, ◌≤◌, Bool, true, false, List, [], ◌∷◌, Option, None, Some, refl, sym, ◌∙◌, ap, ap₂, subst, arith, All}
-use Rattle.std.proofs.lemmas.List.Elements.{All-cons, All-head, All-tail}
+use Rattle.std.proofs.lemmas.List.Elements.{All-cons, All-tail}
 use Rattle.std.specs.Prelude.{IfNone, IfSome, if◌then◌else◌, length, MatchOption, map, codes, string_bytes}
 use Rattle.std.specs.List.{IsFirstAndRest}
 use Rattle.std.specs.declared.string.String.{String}
 use Rattle.std.specs.declared.alloc.Global.{Global}
+use Rattle.ihex_read.specs.declared.rule_set.Rules.TheVariants.{Msp430}
+use Rattle.ihex_read.specs.ImageText.{IsRamRange}
 use Rattle.vsa_top.specs.declared.words.Mode.{Mode}
 use Rattle.vsa_top.specs.declared.words.Mode.TheVariants.{Analyse, Disasm, Run}
 use Rattle.vsa_top.specs.declared.words.Options.{Options}
 use Rattle.vsa_top.specs.declared.words.Ram.{Ram}
 use Rattle.vsa_top.specs.declared.words.Reading.{Reading}
-use Rattle.vsa_top.specs.Words.{Adds, IsDigit, IsNumberBehind, IsRange, IsSteps, Reads, Say, number_behind, mode_word, may_say, reading_by, reading_with, allowed_reading, with_range, with_number}
+use Rattle.vsa_top.specs.Words.{Adds, IsDigit, IsNumberBehind, IsRange, IsSteps, Reads, Say, number_behind, mode_word, may_say, reading_by, reading_with, with_range, with_number, or_else, rules_of, usual}
 use Rattle.vsa_top.specs.Words.Adds.{ranged, stepped}
 
 -- NUMBERS
@@ -258,3 +260,29 @@ reads_alone words word chip rest (Some mode) None found two is said same =
 reads_alone words word chip rest (Some mode) (Some options) found two is said same =
     rw same (alone_by words mode options (may_say mode options)
     (λ other reads. parts_alone mode options word chip rest other is said (parts_of words word chip rest other two reads)) refl)
+
+-- RAM stands where it may
+abbrev RangeOf : Option Ram → Type 0
+RangeOf None = Unit {0}
+RangeOf (Some ram) = IsRamRange (Msp430 ram.lo ram.hi)
+
+range_added : (option text : List ℕ) (behind options : Options) → RangeOf behind.ram → Adds option text behind options → RangeOf options.ram
+range_added option text behind _ held (ranged ram name none range) = range.allowed
+range_added option text behind _ held (stepped steps name none number) = held
+
+range_said : (words : List (List ℕ)) (options : Options) → Say words options → RangeOf options.ram
+range_said [] options said = subst (λ (o : Options). RangeOf o.ram) (sym said) tt
+range_said (option ∷ []) options said = elim said [ ]
+range_said (option ∷ text ∷ words) options said = range_added option text said.0 options (range_said words said.0 said.1) said.2
+
+range_or_usual : (held : Option Ram) → RangeOf held → IsRamRange (Msp430 (or_else held usual).lo (or_else held usual).hi)
+range_or_usual None held = (refl, refl, omega arith, omega arith)
+range_or_usual (Some ram) held = held
+
+pub reads_range : (words : List (String Global)) (reading : Reading) → Reads words reading → IsRamRange (rules_of reading)
+reads_range words reading reads =
+    subst (λ (r : Reading). IsRamRange (rules_of r)) (sym reads.is) (range_or_usual reads.options.ram (range_said reads.said reads.options reads.say))
+
+pub found_range : (words : List (String Global)) (found : Option Reading) → IfSome found (Reads words) → IfSome found (λ reading. IsRamRange (rules_of reading))
+found_range words None reads = tt
+found_range words (Some reading) reads = reads_range words reading reads

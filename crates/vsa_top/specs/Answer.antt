@@ -22,6 +22,8 @@ use Rattle.vsa_top.specs.Disassembly.{IsDisassembly}
 use Rattle.vsa_top.specs.Msp430Chip.{msp430}
 use Rattle.vsa_top.specs.Msp430Built.{instr_text}
 use Rattle.vsa_top.specs.Report.{report_of, are_closed}
+use Rattle.vsa_top.specs.Scripts.{IsRefused, IsScript, second_limit}
+use Rattle.vsa_top.specs.Trace.{run_of}
 use Rattle.vsa_top.specs.Turns.{AreTurns}
 use Rattle.vsa_top.specs.Words.{rules_of, device_of}
 use Rattle.vsa_top.specs.declared.input.InputError.{InputError}
@@ -105,6 +107,9 @@ usage_line = codes "USAGE\n"
 unfoldable pub bad_line : ℕ → HexFault → List ℕ
 bad_line line fault = codes "BAD " ++ decimal line ++ codes " " ++ fault_name fault ++ codes "\n"
 
+unfoldable pub no_line : ℕ → List ℕ
+no_line line = codes "NO " ++ decimal line ++ codes " Syntax\n"
+
 abbrev pub long_line : List ℕ
 long_line = codes "LONG\n"
 
@@ -151,18 +156,31 @@ abbrev pub AnswersDisassembly : List (Option ℕ) → Status → (before after :
 AnswersDisassembly image answered before after journal =
     (text : List ℕ) × IsDisassembly image text × AnswersText status.Done text answered before after journal
 
+-- what a device gets that runs along the second text: its run, or the first line that is refused, or that there is too much
+pub data AnswersRun (device : Device) (steps : ℕ) (answered : Status) (second before after : Option (List ℕ)) (journal : List Event) : Type 0 where
+  of_script : (script : List ℕ) → IfSome second (λ text. IsScript text script)
+      → AnswersText (run_of device script steps).0 (run_of device script steps).1 answered before after journal
+      → AnswersRun device steps answered second before after journal
+  of_refused : (line : ℕ) → IfSome second (λ text. IsRefused text line) → AnswersText status.BadCert (no_line line) answered before after journal
+      → AnswersRun device steps answered second before after journal
+  of_longer : IfSome second (λ text. second_limit < length text) → AnswersText status.TooLong long_line answered before after journal
+      → AnswersRun device steps answered second before after journal
+  unread_script : (answered ≡ status.ReadFault) ⊎ (answered ≡ status.Memory) → after ≡ before → journal ≡ []
+      → AnswersRun device steps answered second before after journal
+
 -- what a device gets in a mode
-abbrev pub AnswersImage : Mode → Device → Status → (before after : Option (List ℕ)) → List Event → Type 0
-AnswersImage Analyse device answered before after journal = AnswersAnalysis answered device before after journal
-AnswersImage Disasm device answered before after journal = AnswersDisassembly device.image answered before after journal
-AnswersImage Run device answered before after journal = ⊥
+abbrev pub AnswersImage : Mode → Device → (steps : ℕ) → Status → (second before after : Option (List ℕ)) → List Event → Type 0
+AnswersImage Analyse device steps answered second before after journal = AnswersAnalysis answered device before after journal
+AnswersImage Disasm device steps answered second before after journal = AnswersDisassembly device.image answered before after journal
+AnswersImage Run device steps answered second before after journal = AnswersRun device steps answered second before after journal
 
 -- The answer to words that are a reading, over the text that the input is, where it is told: that of the image which
--- it denotes, or its first faulty line, or that it is too long; or a fault of the source or want of memory, with
+-- it gives, or its first faulty line, or that it is too long; or a fault of the source or want of memory, with
 -- nothing written.
 pub data AnswersInput (reading : Reading) (answered : Status) (input before after : Option (List ℕ)) (journal : List Event) : Type 0 where
-  of_image : (image : List (Option ℕ)) → IfSome input (λ text. IsImageOf (rules_of reading) text image)
-      → AnswersImage reading.mode (device_of reading image) answered before after journal → AnswersInput reading answered input before after journal
+  of_image : (image : List (Option ℕ)) (second : Option (List ℕ)) → InputGives (rules_of reading) (tail_of reading.mode) input second image
+      → AnswersImage reading.mode (device_of reading image) reading.steps answered second before after journal
+      → AnswersInput reading answered input before after journal
   of_bad : (line : ℕ) (fault : HexFault) → IfSome input (λ text. IsBad (rules_of reading) (tail_of reading.mode) text line fault)
       → AnswersText status.BadImage (bad_line line fault) answered before after journal
       → AnswersInput reading answered input before after journal
@@ -175,8 +193,10 @@ pub data AnswersInput (reading : Reading) (answered : Status) (input before afte
 abbrev pub IsCutShort : Status → Type 0
 IsCutShort answered = (answered ≡ status.ReadFault) ⊎ (answered ≡ status.WriteFault) ⊎ (answered ≡ status.Memory)
 
--- a status that an image gets in a mode where nothing fails: that of its report or its disassembly, or want of memory
+-- a status that an image gets in a mode where nothing fails: that of its report, its disassembly, or its run or what is
+-- refused of its script; or want of memory
 abbrev pub IsOfImage : Mode → Status → Type 0
 IsOfImage Analyse answered = (answered ≡ status.Done) ⊎ (answered ≡ status.Open) ⊎ (answered ≡ status.Memory)
 IsOfImage Disasm answered = (answered ≡ status.Done) ⊎ (answered ≡ status.Memory)
-IsOfImage Run answered = ⊥
+IsOfImage Run answered = (answered ≡ status.Done) ⊎ (answered ≡ status.Wild) ⊎ (answered ≡ status.NeedChoice) ⊎ (answered ≡ status.BadCert)
+    ⊎ (answered ≡ status.TooLong) ⊎ (answered ≡ status.Memory)

@@ -4,7 +4,7 @@ ghost use Rattle.std.specs.Prelude.{◌≡◌, ℕ, Option, Some, List};
 ghost use Rattle.round_core.specs.declared.event.Event.{Event as AnEvent};
 ghost use Rattle.vsa_top.specs.declared.outcome.Status.TheVariants.{Done, Open, ReadFault, WriteFault};
 ghost use Rattle.vsa_top.specs.declared.outcome.Status.{Status as AStatus};
-ghost use Rattle.vsa_top.specs.Answer.{AnswersInput, IsImageOf, IsOfImage};
+ghost use Rattle.vsa_top.specs.Answer.{AnswersInput, Gives, IsOfImage, tail_of};
 ghost use Rattle.vsa_top.specs.Words.{rules_of};
 ghost use Rattle.vsa_top.specs.declared.words.Mode.TheVariants.{Analyse};
 ghost use Rattle.vsa_top.specs.declared.words.Reading.{Reading as AReading};
@@ -12,19 +12,20 @@ ghost use Rattle.vsa_top.specs.Headline.{CoversEveryRun, ShowsOpenSites, Reports
 
 use crate::msp430::Msp430;
 use closing_law::{closed_books_cover_runs, works_are_of_units};
-use ihex_read::{image_or_fault, images_have_bytes};
+use ihex_read::{ended_texts_stay, image_or_fault, images_have_bytes};
 
 /// A report that is told as closed covers every run, and one that is told as open shows its open sites. An image within
-/// the limit gets one of them, or its disassembly, where nothing fails and memory is there.
+/// the limit gets what its mode asks where nothing fails and memory is there.
 pub(crate) fn reports_hold()
     ensures closed { (reading : AReading) (input before after : Option (List ℕ)) (journal : List AnEvent)
         → reading.mode ≡ Analyse → AnswersInput reading Done input before after journal → ReportsOn reading input before after CoversEveryRun }
     ensures open { (reading : AReading) (input before after : Option (List ℕ)) (journal : List AnEvent)
         → AnswersInput reading Open input before after journal → ReportsOn reading input before after (λ device report. ShowsOpenSites device journal report) }
-    ensures complete { (reading : AReading) (answered : AStatus) (input before after : Option (List ℕ)) (journal : List AnEvent) (text : List ℕ) (image : List (Option ℕ))
-        → AnswersInput reading answered input before after journal → input ≡ Some text → IsImageOf (rules_of reading) text image
+    ensures complete { (reading : AReading) (answered : AStatus) (input before after : Option (List ℕ)) (journal : List AnEvent) (text : List ℕ) (image : List (Option ℕ)) (second : List ℕ)
+        → AnswersInput reading answered input before after journal → input ≡ Some text → Gives (rules_of reading) (tail_of reading.mode) text image second
         → ¬ (answered ≡ ReadFault) → ¬ (answered ≡ WriteFault) → IsOfImage reading.mode answered }
 {
+    ended_texts_stay();
     image_or_fault();
     images_have_bytes();
     closed_books_cover_runs::<Msp430>();

@@ -7,7 +7,9 @@ ghost use Rattle.ihex_read.specs.Reading.{HasEnded};
 ghost use Rattle.vsa_io.specs.Stream.{HasRisen};
 ghost use Rattle.vsa_top.specs.Answer.{InputGives, LacksImage, begun_with};
 
-use ihex_read::{HexError, HexFault, Image, MOST_BYTES, Reader, Rules, Tail, ended_texts_stay, whole_faults_stay};
+use ihex_read::{
+    HexError, HexFault, Image, MOST_BYTES, Reader, Rules, Tail, ended_texts_stay, whole_faults_stay,
+};
 use std::alloc::Global;
 use vsa_io::{Failed, Memory, Source};
 

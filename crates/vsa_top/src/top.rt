@@ -5,7 +5,8 @@ ghost use Rattle.vsa_io.specs.Stream.{HasRisen, AppendsPrefix, appended};
 ghost use Rattle.vsa_top.specs.Headline.{CoversEveryRun, ShowsOpenSites, ReportsOn};
 ghost use Rattle.ihex_read.specs.ImageText.{IsRamRange};
 ghost use Rattle.vsa_top.specs.declared.words.Reading.{Reading as AReading};
-ghost use Rattle.vsa_top.specs.Answer.{usage_line, bad_line as the_bad_line, AnswersText, AnswersAnalysis, AnswersDisassembly, AnswersImage, AnswersInput, IsCutShort, IsImageOf, IsOfImage};
+ghost use Rattle.vsa_top.specs.Answer.{usage_line, bad_line as the_bad_line, begun_with, no_line as the_no_line, tail_of, AnswersText, AnswersAnalysis, AnswersDisassembly, AnswersImage, AnswersInput, AnswersRun, Gives, IsCutShort, IsOfImage};
+ghost use Rattle.vsa_top.specs.Trace.{run_of};
 ghost use Rattle.vsa_top.specs.Words.{Reads, device_of, rules_of};
 
 use crate::disassembly::disassembly_of;
@@ -15,8 +16,10 @@ use crate::input::{InputError, image_in};
 use crate::msp430::Msp430;
 use crate::outcome::{Gate, Outcome, Status};
 use crate::report::report_of;
+use crate::script::{ScriptRefusal, script_in};
+use crate::trace::trace_of;
 use crate::words::{Mode, Reading, reading_of};
-use ihex_read::{HexFault, Image, Tail};
+use ihex_read::{HexFault, Image};
 use std::alloc::{AllocError, Global};
 use std::sync::Wait;
 use std::thread::Threads;
@@ -53,6 +56,7 @@ fn without_journal(alloc: Global, status: Status) -> Outcome
 fn answer_text<K: Sink>(alloc: Global, sink: &mut K, text: &[u8], status: Status) -> Outcome
     requires { status ≢ Status.WriteFault }
     ensures answer { AnswersText status text.now result.status (K.held sink.old) (K.held sink.new) result.journal.items }
+    ensures told { (result.status ≡ status) ⊎ (result.status ≡ Status.WriteFault) }
     ensures quiet { result.status ≡ status → K.faults sink.new ≡ K.faults sink.old }
     ensures cause { result.status ≡ Status.WriteFault → HasRisen (K.faults sink.old) (K.faults sink.new) }
 {
@@ -127,14 +131,88 @@ fn disassemble_image<K: Sink>(alloc: Global, image: &Image, sink: &mut K) -> Res
     Ok(answer_text(alloc, sink, lines.as_slice(), Status::Done))
 }
 
-/// Does with an image what the words ask.
-fn answer_image<K: Sink>(
+/// The line that tells a refused line of a script.
+#[tactic(auto, unfolding(crate::specs::Answer::no_line))]
+fn no_line(alloc: Global, line: u32) -> Result<Vec<u8>, AllocError>
+    ensures { IfOk result (λ text. text.items ≡ the_no_line line) }
+{
+    let number = line.to_string(alloc)?;
+    let mut text = Vec::new(alloc);
+    text.extend_from_slice(b"NO ")?;
+    text.extend_from_slice(number.as_str().as_bytes())?;
+    text.extend_from_slice(b" Syntax\n")?;
+    Ok(text)
+}
+
+/// Tells the first refused line of a script.
+fn answer_refused<K: Sink>(alloc: Global, sink: &mut K, line: u32) -> Result<Outcome, Memory>
+    ensures answer { IfOk result (λ outcome. AnswersText Status.BadCert (the_no_line line) outcome.status (K.held sink.old) (K.held sink.new) outcome.journal.items) }
+    ensures quiet { IfOk result (λ outcome. outcome.status ≢ Status.WriteFault → K.faults sink.new ≡ K.faults sink.old) }
+    ensures cause { IfOk result (λ outcome. outcome.status ≡ Status.WriteFault → HasRisen (K.faults sink.old) (K.faults sink.new)) }
+    ensures unwritten { OnErr result (K.held sink.new ≡ K.held sink.old) }
+{
+    let text = no_line(alloc, line)?;
+    Ok(answer_text(alloc, sink, text.as_slice(), Status::BadCert))
+}
+
+/// Runs a program along a script, and writes the trace.
+fn trace_image<K: Sink>(
+    alloc: Global,
+    chip: &Msp430,
+    script: Vec<u16>,
+    steps: u32,
+    sink: &mut K,
+) -> Result<Outcome, Memory>
+    requires { chip.now.lo ≤ chip.now.hi }
+    ensures answer { IfOk result (λ outcome. AnswersText (run_of chip.now script.items steps).0 (run_of chip.now script.items steps).1 outcome.status (K.held sink.old) (K.held sink.new) outcome.journal.items) }
+    ensures read { IfOk result (λ outcome. outcome.status ≢ Status.ReadFault) }
+    ensures quiet { IfOk result (λ outcome. outcome.status ≢ Status.WriteFault → K.faults sink.new ≡ K.faults sink.old) }
+    ensures cause { IfOk result (λ outcome. outcome.status ≡ Status.WriteFault → HasRisen (K.faults sink.old) (K.faults sink.new)) }
+    ensures unwritten { OnErr result (K.held sink.new ≡ K.held sink.old) }
+{
+    let trace = trace_of(alloc, chip, script, steps)?;
+    Ok(answer_text(alloc, sink, trace.text.as_slice(), trace.status))
+}
+
+/// Reads the script behind an image text, of which so much was read, and runs along it.
+fn run_image<S: Source, K: Sink>(
+    alloc: Global,
+    chip: &Msp430,
+    steps: u32,
+    begun: &[u8],
+    source: &mut S,
+    sink: &mut K,
+) -> Result<Outcome, Memory>
+    requires { chip.now.lo ≤ chip.now.hi }
+    ensures answer { IfOk result (λ outcome. AnswersRun chip.now steps outcome.status (begun_with begun.now (S.left source.old)) (K.held sink.old) (K.held sink.new) outcome.journal.items) }
+    ensures read_fault { IfOk result (λ outcome. outcome.status ≡ Status.ReadFault → HasRisen (S.faults source.old) (S.faults source.new)) }
+    ensures quiet_source { IfOk result (λ outcome. outcome.status ≢ Status.ReadFault → S.faults source.new ≡ S.faults source.old) }
+    ensures cause { IfOk result (λ outcome. outcome.status ≡ Status.WriteFault → HasRisen (K.faults sink.old) (K.faults sink.new)) }
+    ensures quiet { IfOk result (λ outcome. outcome.status ≢ Status.WriteFault → K.faults sink.new ≡ K.faults sink.old) }
+    ensures unwritten { OnErr result (K.held sink.new ≡ K.held sink.old) }
+{
+    match script_in(alloc, source, begun) {
+        Ok(script) => trace_image(alloc, chip, script, steps, sink),
+        Err(ScriptRefusal::Syntax { line }) => answer_refused(alloc, sink, line),
+        Err(ScriptRefusal::TooLong) => Ok(answer_text(alloc, sink, b"LONG\n", Status::TooLong)),
+        Err(ScriptRefusal::Failed) => Ok(without_journal(alloc, Status::ReadFault)),
+        Err(ScriptRefusal::Memory) => Err(Memory),
+    }
+}
+
+/// Does with an image, and with what was read behind its text, what the words ask.
+fn answer_image<S: Source, K: Sink>(
     alloc: Global,
     reading: Reading,
     image: Image,
+    begun: &[u8],
+    source: &mut S,
     sink: &mut K,
 ) -> Result<Outcome, Memory>
-    ensures answer { IfOk result (λ outcome. AnswersImage reading.mode (device_of reading image) outcome.status (K.held sink.old) (K.held sink.new) outcome.journal.items) }
+    requires { IsRamRange (rules_of reading) }
+    ensures answer { IfOk result (λ outcome. AnswersImage reading.mode (device_of reading image) reading.steps outcome.status (begun_with begun.now (S.left source.old)) (K.held sink.old) (K.held sink.new) outcome.journal.items) }
+    ensures read_fault { IfOk result (λ outcome. outcome.status ≡ Status.ReadFault → HasRisen (S.faults source.old) (S.faults source.new)) }
+    ensures quiet_source { IfOk result (λ outcome. outcome.status ≢ Status.ReadFault → S.faults source.new ≡ S.faults source.old) }
     ensures cause { IfOk result (λ outcome. outcome.status ≡ Status.WriteFault → HasRisen (K.faults sink.old) (K.faults sink.new)) }
     ensures quiet { IfOk result (λ outcome. outcome.status ≢ Status.WriteFault → K.faults sink.new ≡ K.faults sink.old) }
     ensures unwritten { OnErr result (K.held sink.new ≡ K.held sink.old) }
@@ -144,7 +222,11 @@ fn answer_image<K: Sink>(
             let chip = Msp430::new(alloc, image, reading.ram.lo, reading.ram.hi)?;
             analyse_image(alloc, &chip, sink)
         }
-        Mode::Disasm | Mode::Run => disassemble_image(alloc, &image, sink),
+        Mode::Disasm => disassemble_image(alloc, &image, sink),
+        Mode::Run => {
+            let chip = Msp430::new(alloc, image, reading.ram.lo, reading.ram.hi)?;
+            run_image(alloc, &chip, reading.steps, begun, source, sink)
+        }
     }
 }
 
@@ -162,8 +244,10 @@ fn answer_input<S: Source, K: Sink>(
     ensures quiet_source { ¬ IsCutShort result.status → S.faults source.new ≡ S.faults source.old }
     ensures quiet_sink { ¬ IsCutShort result.status → K.faults sink.new ≡ K.faults sink.old }
 {
-    let answered = match image_in(alloc, source, reading.rules(), Tail::Blank) {
-        Ok((image, _)) => answer_image(alloc, reading, image, sink),
+    let answered = match image_in(alloc, source, reading.rules(), reading.mode.tail()) {
+        Ok((image, begun)) => {
+            answer_image(alloc, reading, image, begun.as_slice(), source, sink)
+        }
         Err(InputError::Bad { line, fault }) => answer_bad(alloc, sink, line, fault),
         Err(InputError::TooLong) => Ok(answer_text(alloc, sink, b"LONG\n", Status::TooLong)),
         Err(InputError::Failed) => Ok(without_journal(alloc, Status::ReadFault)),
@@ -197,15 +281,16 @@ pub fn vsa<R: Threads + Wait + Sync, S: Source, K: Sink, G: Gate>(
     // Words that aren't a reading are refused, and no others.
     ensures usage { ((reading : AReading) → ¬ Reads words.now reading)
         → AnswersText Status.Usage usage_line result.status (K.held sink.old) (K.held sink.new) result.journal.items }
-    // The bytes are exactly the report of the book that the journal leads to, or exactly the disassembly of the image,
-    // or tell the first faulty line of the input, or that it is too long.
+    // The bytes are exactly the report of the book that the journal leads to, or exactly the disassembly of the image, or
+    // exactly the trace of the run along the script, or tell the first faulty line of the input, the first refused line of
+    // the script, or that one of them is too long.
     ensures answer { (reading : AReading) → Reads words.now reading
         → AnswersInput reading result.status (S.left source.old) (K.held sink.old) (K.held sink.new) result.journal.items }
 
-    // An input that denotes an image within the limit gets its report or its disassembly where no count of faults rose,
-    // or Memory.
-    ensures complete { (reading : AReading) (text : List ℕ) (image : List (Option ℕ)) → Reads words.now reading
-        → S.left source.old ≡ Some text → IsImageOf (rules_of reading) text image
+    // An input that gives an image within the limit gets its report, its disassembly, or its run or what is refused of its
+    // script, where no count of faults rose, or Memory.
+    ensures complete { (reading : AReading) (text : List ℕ) (image : List (Option ℕ)) (second : List ℕ) → Reads words.now reading
+        → S.left source.old ≡ Some text → Gives (rules_of reading) (tail_of reading.mode) text image second
         → ¬ HasRisen (S.faults source.old) (S.faults source.new) → ¬ HasRisen (K.faults sink.old) (K.faults sink.new)
         → IsOfImage reading.mode result.status }
 

@@ -1,6 +1,6 @@
 //! The trace of a run along a script.
 
-ghost use Rattle.std.specs.Prelude.{◌≡◌, ◌++◌, ◌<◌, ◌≤◌, IfOk, OnOk, codes};
+ghost use Rattle.std.specs.Prelude.{◌≡◌, ◌≢◌, ◌++◌, ◌≤◌, IfOk, OnOk, codes};
 ghost use Rattle.std.specs.Fmt.{decimal};
 ghost use Rattle.std.specs.List.{flat_map};
 ghost use Rattle.chip_law.specs.Line.{item_line_of};
@@ -77,15 +77,11 @@ fn push_need(text: &mut Vec<u8>, alloc: Global, step: u32) -> Result<(), AllocEr
 }
 
 /// The trace of so many steps along a script, from a reset that leaves 0 in all that is any.
-pub fn trace_of(
-    alloc: Global,
-    chip: &Msp430,
-    script: Vec<u16>,
-    steps: u32,
-) -> Result<Trace, Memory>
-    requires steps { steps < 4294967295 }
-    requires range { chip.now.lo ≤ chip.now.hi }
-    ensures { IfOk result (λ trace. (trace.status, trace.text.items) ≡ run_of chip.now script.items steps) }
+pub fn trace_of(alloc: Global, chip: &Msp430, script: Vec<u16>, steps: u32) -> Result<Trace, Memory>
+    requires { chip.now.lo ≤ chip.now.hi }
+    ensures unwritten { IfOk result (λ trace. trace.status ≢ Status.WriteFault) }
+    ensures unread { IfOk result (λ trace. trace.status ≢ Status.ReadFault) }
+    ensures run { IfOk result (λ trace. (trace.status, trace.text.items) ≡ run_of chip.now script.items steps) }
 {
     let device = chip.device();
     let mut machine = Machine::reset(alloc, &device.image, device.lo, device.hi)?;

@@ -4,13 +4,14 @@ ghost use Rattle.std.specs.Prelude.{◌≡◌, ◌<◌, ◌≤◌, ◌↔◌, �
 ghost use Rattle.hex.specs.Hex.{hex_digit_value};
 ghost use Rattle.ihex_read.specs.ImageText.{IsRamRange};
 ghost use Rattle.ihex_read.specs.declared.rule_set.Rules.TheVariants.{Msp430};
+ghost use Rattle.vsa_top.specs.Answer.{tail_of};
 ghost use Rattle.vsa_top.specs.declared.words.Mode.{Mode as AMode};
 ghost use Rattle.vsa_top.specs.declared.words.Options.{Options as AOptions};
 ghost use Rattle.vsa_top.specs.declared.words.Ram.{Ram as ARam};
 ghost use Rattle.vsa_top.specs.declared.words.Reading.{Reading as AReading};
 ghost use Rattle.vsa_top.specs.Words.{IsNumberBehind, IsRange, IsSteps, Reads, Say, may_say as the_mode_may_say, mode_word, number_of as the_number, reading_with as both, rules_of, with_number, with_range};
 
-use ihex_read::Rules;
+use ihex_read::{Rules, Tail};
 
 /// What is done with an image.
 #[derive(Clone, Copy, Debug, PartialEq, Eq)]
@@ -21,6 +22,18 @@ pub enum Mode {
     Disasm,
     /// It runs along a script, and the trace is written.
     Run,
+}
+
+impl Mode {
+    /// What is expected behind an image text.
+    pub fn tail(self) -> Tail
+        ensures { result ≡ tail_of self }
+    {
+        match self {
+            Mode::Analyse | Mode::Disasm => Tail::Blank,
+            Mode::Run => Tail::Second,
+        }
+    }
 }
 
 /// The first and the last address of the MSP430's RAM. They begin and end whole words, behind the peripherals.
@@ -242,6 +255,7 @@ fn reading_with(mode: Option<Mode>, options: Option<Options>) -> Option<Reading>
 /// run `--steps N`.
 pub fn reading_of(words: &[String]) -> Option<Reading>
     ensures reads { IfSome result (Reads words.now) }
+    ensures range { IfSome result (λ reading. IsRamRange (rules_of reading)) }
     ensures alone { IfSome result (λ reading. (other : AReading) → Reads words.now other → other ≡ reading) }
     ensures none { IfNone result ((reading : AReading) → ¬ Reads words.now reading) }
 {

@@ -8,13 +8,13 @@ ghost use Rattle.vsa_top.specs.Msp430Machine.{reset_address};
 ghost use Rattle.vsa_top.specs.Msp430Marks.{stops};
 
 use crate::msp430::action::{Action, action_of, next_address};
-use msp430_chip::{ChipState, Device};
 use crate::msp430::marks::marks_of;
 use crate::msp430::state::State;
 use arrayvec::ArrayString;
 use call_context::{Calls, Cause, Frame, InstrBytes, Item, Node, Sequence, Set, Unit};
 use chip_law::{Chip, ChipText, Work};
 use ihex_read::Image;
+use msp430_chip::{ChipState, Device};
 use msp430_decode::{Instr, decode, encode, from_bytes};
 use msp430_text::text;
 use std::alloc::Global;

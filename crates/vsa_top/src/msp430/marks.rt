@@ -4,8 +4,8 @@ ghost use Rattle.std.specs.Prelude.{◌≡◌, ◌++◌, ◌+◌, ◌<◌, ◌*�
 ghost use Rattle.msp430_decode.specs.Decoding.{decoded};
 ghost use Rattle.vsa_top.specs.Msp430Marks.{mark, marks_by, number_of as the_number, constant_of as the_constant, in_width, is_comparison, marks_with, marks_in, marks_found, marks_from, marks_of as the_marks};
 
-use msp430_chip::Device;
 use ihex_read::Image;
+use msp430_chip::Device;
 use msp430_decode::{Constant, Instr, Operation, Source, Width, decode};
 use std::alloc::{AllocError, Global};
 

@@ -1,10 +1,10 @@
 //! Marks, and states that are widened to them.
 
-use msp430_chip::Device;
 use crate::msp430::marks::marks_of;
 use crate::msp430::sets::even_words;
 use crate::msp430::state::State;
 use ihex_read::Image;
+use msp430_chip::Device;
 use std::alloc::{AllocError, Global};
 use std::test::Fail;
 use value_set::Vs16;

@@ -9,4 +9,4 @@ pub returns-clause-open : goal.returns-clause-open
 returns-clause-open c = open_lem c.works_are_of_units.ensures c.image_or_fault.ensures.one_image
 
 pub returns-clause-complete : goal.returns-clause-complete
-returns-clause-complete c = complete_lem c.image_or_fault.ensures.not_both
+returns-clause-complete c = complete_lem c.image_or_fault.ensures.not_both c.ended_texts_stay.ensures.ended c.ended_texts_stay.ensures.denoted

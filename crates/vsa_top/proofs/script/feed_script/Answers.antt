@@ -1,6 +1,5 @@
-use Rattle.std.proofs.Common.{◌≡◌, ℕ, Some, ◌++◌, take, sym, ◌∙◌, ap, subst}
+use Rattle.std.proofs.Common.{◌≡◌, Some, ◌++◌, take, subst}
 use Rattle.script_text.specs.declared.fault.ScriptError.{ScriptError}
-use Rattle.script_text.specs.declared.fault.ScriptError.TheVariants.{Syntax}
 use Rattle.script_text.specs.Reading.{Reading, TellsFront}
 use Rattle.vsa_top.proofs.ScriptLemmas.{taken_refused}
 use Rattle.vsa_top.proofs.script.feed_script.Goals as goal

@@ -35,14 +35,14 @@ returns-clause-answer g c = λ reading reads.
     (g.K.Sink.held c.answer_input.new.sink) c.answer_input.result.journal.items) (sym same) c.answer_input.ensures.answer
 
 pub returns-clause-complete : goal.returns-clause-complete
-returns-clause-complete g c = λ reading text image reads e is quiet_source quiet_sink.
+returns-clause-complete g c = λ reading text image second reads e is quiet_source quiet_sink.
     let input = g.S.Source.left c.args.source.now in
     let before = g.K.Sink.held c.args.sink.now in
     let after = g.K.Sink.held c.answer_input.new.sink in
     let same : reading ≡ c.in-Some.reading = c.in-Some.ensures.alone reading reads in
-    c.reports_hold.ensures.complete reading c.answer_input.result.status input before after c.answer_input.result.journal.items text image
+    c.reports_hold.ensures.complete reading c.answer_input.result.status input before after c.answer_input.result.journal.items text image second
     (subst (λ r. AnswersInput r c.answer_input.result.status input before after c.answer_input.result.journal.items) (sym same) c.answer_input.ensures.answer) e is
     (λ fault. quiet_source (c.answer_input.ensures.read_fault fault)) (λ fault. quiet_sink (c.answer_input.ensures.write_fault fault))
 
 pub returns-in_default-clause-complete : goal.returns-in_default-clause-complete
-returns-in_default-clause-complete g c = λ reading text image reads. absurd (c.in_default.ensures.none reading reads)
+returns-in_default-clause-complete g c = λ reading text image second reads. absurd (c.in_default.ensures.none reading reads)

@@ -1,4 +1,4 @@
-use Rattle.std.proofs.Common.{◌≡◌, ◌-◌, ◌+◌, Some, None, List, ℕ, ◌++◌, ap, subst, sym, ◌∙◌, arith}
+use Rattle.std.proofs.Common.{◌≡◌, ◌-◌, ◌+◌, Some, None, ◌++◌, ap, subst, ◌∙◌, arith}
 use Rattle.msp430_chip.specs.declared.device.Device.{Device}
 use Rattle.msp430_chip.specs.Outcome.Outcome.{Next, Wild as Leaves}
 use Rattle.msp430_chip.specs.Step.{step_of}
@@ -7,8 +7,8 @@ use Rattle.vsa_top.specs.Trace.{end_line, run_of}
 use Rattle.vsa_top.proofs.TraceLemmas.{same_device, met, went_wild, lacked, ended}
 use Rattle.vsa_top.proofs.trace.trace_of.Goals as goal
 
-pub returns-in-Wild : goal.returns-in-Wild
-returns-in-Wild c =
+pub returns-in-Wild-clause-run : goal.returns-in-Wild-clause-run
+returns-in-Wild-clause-run c =
     let chip = c.args.chip.now in
     let same = same_device chip c.device-device.result.now c.loop-done.machine.lo c.loop-done.machine.hi c.device-device.ensures c.loop-done.invariant.1 c.loop-done.invariant.2 in
     let s = c.loop-done.machine.state in
@@ -18,8 +18,8 @@ returns-in-Wild c =
     c.loop-done.text.items c.push_wild.new.text.items (run_of chip c.args.script.items c.args.steps) (omega (arith, c.loop-done-test.true))
     (subst (λ (d : Device). step_of d s choices ≡ Some (Leaves c.in-Wild.field-0, steps.0)) same steps.1) c.in_ok-push_wild-in-Wild.ensures c.loop-done.invariant.0
 
-pub returns-in-NeedChoice : goal.returns-in-NeedChoice
-returns-in-NeedChoice c =
+pub returns-in-NeedChoice-clause-run : goal.returns-in-NeedChoice-clause-run
+returns-in-NeedChoice-clause-run c =
     let chip = c.args.chip.now in
     let same = same_device chip c.device-device.result.now c.loop-done.machine.lo c.loop-done.machine.hi c.device-device.ensures c.loop-done.invariant.1 c.loop-done.invariant.2 in
     let s = c.loop-done.machine.state in
@@ -45,8 +45,8 @@ loop-done-preserved c =
       c.in-Met.ensures.hi ∙ c.loop-done.invariant.2,
     )
 
-pub returns : goal.returns
-returns c =
+pub returns-clause-run : goal.returns-clause-run
+returns-clause-run c =
     let chip = c.args.chip.now in
     let last : c.args.steps ≡ c.loop-done.done = omega (arith, c.loop-done-test.false, c.loop-done.auto.done-end) in
     ended chip (c.args.steps - c.loop-done.done) c.loop-done.done c.loop-done.machine.state (left_of c.loop-done.choices)
