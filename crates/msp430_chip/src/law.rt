@@ -23,7 +23,8 @@ pub fn one_front()
         (front ≡ other) × (outcome ≡ another) }
 {}
 
-/// A step of a device with an image keeps the form of states.
+/// A step keeps the form of states, where the device's image has 65536 places, each with a byte or with none. No step asks
+/// more of the addresses of RAM.
 pub fn steps_keep_form()
     ensures { (device : ADevice) (s t : AState) (choices : List ℕ) (items : List Single) → length device.image ≡ 65536 → All IsByte device.image →
         IsChipState device s → Step device s choices (Next items t) → IsChipState device t }
