@@ -1,4 +1,19 @@
 //! The emulator of the MSP430: it runs single states, and answers each question of a step from a list of choices.
+//!
+//! `specs/Step.antt` of `msp430_chip` says what a step of the chip is. A step of the machine first computes registers,
+//! stores and accesses ([`Choices`] answer its questions in the order of that definition), and writes at the end, so that a
+//! step that isn't done leaves all as it was.
+//!
+//! Proved:
+//!
+//! - [`Machine::reset`] is a state behind a reset, with 0 in all that a reset leaves open.
+//! - [`Machine::step`] answers [`Stepped::Met`] exactly where the chip has a next state by the next choices. The machine is
+//!   then in that state, those choices are used, and the items are those of the step, in their order. It answers
+//!   [`Stepped::Wild`] exactly where these choices lead out of the model, with the cause, and [`Stepped::NeedChoice`] exactly
+//!   where they end before a question. Machine and choices are then as before.
+//! - A machine keeps the form of states: sixteen words, PC and SP even, SR in nine bits, R3 empty, RAM in its size.
+//!
+//! A step takes no memory, and touches no more of RAM than it reads and writes.
 #![tactic(auto)]
 
 mod advance;
@@ -21,8 +36,6 @@ mod run;
 mod single;
 mod state;
 mod stepped;
-#[cfg(test)]
-mod tests;
 mod writing;
 
 pub use choices::Choices;
