@@ -46,3 +46,5 @@ pub use stepped::Stepped;
 
 #[cfg(test)]
 mod arithmetic_rows;
+#[cfg(test)]
+mod tests;
