@@ -17,4 +17,6 @@ pub use outcome::{Gate, NoGate, Outcome, Status};
 pub use top::vsa;
 
 #[cfg(test)]
+mod run_rows;
+#[cfg(test)]
 mod tests;

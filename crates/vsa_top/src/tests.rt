@@ -23,7 +23,7 @@ fn words_of(alloc: Global, line: &str) -> Result<Vec<String>, AllocError> {
 }
 
 /// A call answers this status and this text, in pieces of one byte too.
-fn answers<R: Abort + Threads + Wait + AllocGlobal + Sync>(
+pub(crate) fn answers<R: Abort + Threads + Wait + AllocGlobal + Sync>(
     rt: &R,
     line: &str,
     input: &str,
@@ -49,7 +49,7 @@ fn answers<R: Abort + Threads + Wait + AllocGlobal + Sync>(
     Ok(())
 }
 
-const EIGHT_BYTES: &str = ":06F0000031408002FF3FD9\n:02FFFE0000F011\n:00000001FF\n";
+pub(crate) const EIGHT_BYTES: &str = ":06F0000031408002FF3FD9\n:02FFFE0000F011\n:00000001FF\n";
 
 const REPORT: &str =
     "CLOSED\nE F000 F004\nE F004 F004\nI F000 31408002 MOV #0280h,SP\nI F004 FF3F JMP F004h\nS F000 0000/2/8000\nS F004 0280\nT 0280 1\n";
