@@ -6,6 +6,7 @@ pub mod LeastLemmas
 pub mod Msp430Laws
 pub mod Msp430MarksLemmas
 pub mod Msp430Sets
+pub mod Msp430Stepping
 pub mod Msp430Steps
 pub mod ReportLemmas
 pub mod ScriptLemmas

@@ -2,6 +2,7 @@
 use Rattle.std.proofs.Common.{◌≡◌, ◌≢◌, ℕ, ◌-◌, ◌<◌, true, Option, None, Some, Result, Ok, Err, List, [], ◌∷◌, length, replicate, refl, sym, ap, ◌∙◌, subst, inl, inr, arith, Contains}
 use Rattle.std.proofs.lemmas.Bool.{and_from, and_parts}
 use Rattle.std.proofs.lemmas.List.{get_or-replicate}
+use Rattle.std.proofs.lemmas.Option.{same_Some}
 use Rattle.std.proofs.lemmas.List.Elements.{All-get_or, All-nil, All-replicate}
 use Rattle.call_context.specs.declared.node.Frame.{Frame}
 use Rattle.call_context.specs.declared.node.Frame.TheVariants.{Base, Irq}
@@ -25,16 +26,21 @@ use Rattle.value_set.specs.Widening.{widen}
 use Rattle.vsa_top.specs.declared.msp430.action.Action.{Action}
 use Rattle.msp430_chip.specs.declared.device.Device.{Device}
 use Rattle.msp430_chip.specs.declared.state.ChipState.{ChipState}
+use Rattle.msp430_chip.specs.declared.state.Wild.{Wild as WildCause}
+use Rattle.msp430_chip.specs.Outcome.Outcome.{Next as Onward, Wild as Leaves}
+use Rattle.msp430_chip.specs.Outcome.{Outcome as ChipOutcome}
+use Rattle.msp430_chip.specs.State.{register_of, IsResetOf}
+use Rattle.msp430_chip.specs.Step.{step_of}
 use Rattle.vsa_top.specs.declared.msp430.state.State.{State}
 use Rattle.vsa_top.specs.Msp430Built.{IsAction, fetched, next_of}
-use Rattle.vsa_top.specs.Msp430Chip.{work_at, work_of, IsProgram, msp430}
+use Rattle.vsa_top.specs.Msp430Chip.{work_at, work_of, IsProgram, StepsTo, msp430}
 use Rattle.vsa_top.specs.Msp430Cover.{HasWord, AreWords, IsState, HasChipForm, HoldsOf, CoversState, StandsIn, IsEvenWord, touched_by}
-use Rattle.vsa_top.specs.Msp430Machine.{register_of, IsResetOf, done_by, ran, StepsTo}
 use Rattle.vsa_top.specs.Msp430Marks.{stops}
 use Rattle.vsa_top.specs.Msp430State.{all_words, even_words, even_or_all, unknown, all_within, all_joined, all_widened, state_within, state_joined, state_widened, state_behind}
 use Rattle.vsa_top.proofs.Msp430MarksLemmas.{AreMarks, stops_below}
 use Rattle.vsa_top.proofs.Msp430Sets.{SetLaws, ArePairs, whole_words, even_form, even_words_have, within_has, within_itself, within_further, within_even, even_or_all_form, even_or_all_includes, all_within_itself, all_within_further, all_within_has, all_within_whole, all_joined_held, all_joined_new, length-all_joined, all_joined_form, all_widened_held, all_widened_new, length-all_widened, all_widened_form}
-use Rattle.vsa_top.proofs.Msp430Steps.{AreInTable, IsFound, IsStart, fetched_found, reset_start, next_start, ran_holds, behind_form}
+use Rattle.vsa_top.proofs.Msp430Stepping.{AreInTable, done_by, ran, step_built}
+use Rattle.vsa_top.proofs.Msp430Steps.{IsFound, IsStart, fetched_found, reset_start, next_start, ran_holds, behind_form}
 
 -- NODES
 
@@ -83,11 +89,33 @@ reset_holds laws device s reset = let long = reset.state.registers in
 no_wild : (pc : ℕ) (calls : List ℕ) (frame : Frame) (a : State) (cause : Cause) → (work_at pc calls frame a (Err cause)).opens ≢ []
 no_wild pc calls frame a cause e = cc
 
-wild_opens : (device : Device) (node : Node) (a : State) (s : ChipState) (first : Option ChipState) → IsLocation node → CoversState device node a s first → StepsTo device s Wild → (work_of device.image (One node) a None).opens ≢ []
-wild_opens device (At pc calls frame) a s first location covers step =
-    let found : fetched device.image pc ≡ Err step.0 = subst (λ at. fetched device.image at ≡ Err step.0) covers.0 step.1 in
-    subst (λ r. (work_at pc calls frame a r).opens ≢ []) (sym found) (no_wild pc calls frame a step.0)
-wild_opens device (Exit pc frame) a s first location covers step = absurd location
+-- the step of a covered state where an instruction that is built stands
+step_covered : AreInTable → (device : Device) → IsProgram device → (a : State) (s : ChipState) (first : Option ChipState) → HoldsOf device a s first
+    → (found : Action × Instr) → fetched device.image (register_of s 0) ≡ Ok found → (choices : List ℕ)
+    → step_of device s choices ≡ Some (Onward (done_by s found) (ran s found), choices)
+step_covered table device program a s first holds found stands choices =
+    step_built table device program s holds.state.registers holds.status holds.not_late found stands choices
+
+one_outcome : (outcome other : ChipOutcome ChipState) (left rest : List ℕ)
+    → ◌≡◌ {A = Option (ChipOutcome ChipState × List ℕ)} (Some (outcome, left)) (Some (other, rest)) → outcome ≡ other
+one_outcome outcome other left rest e = ap (λ (p : ChipOutcome ChipState × List ℕ). p.0) (same_Some (outcome, left) (other, rest) e)
+
+not_both : (items : List Single) (t : ChipState) (cause : WildCause) → ◌≡◌ {A = ChipOutcome ChipState} (Leaves cause) (Onward items t) → ⊥
+not_both items t cause e = absurd (cc)
+
+wild_at : AreInTable → (device : Device) → IsProgram device → (pc : ℕ) (calls : List ℕ) (frame : Frame) (a : State) (s : ChipState) (first : Option ChipState) → HoldsOf device a s first
+    → (choices left : List ℕ) (cause : WildCause) → step_of device s choices ≡ Some (Leaves cause, left)
+    → (r : Result (Action × Instr) Cause) → fetched device.image (register_of s 0) ≡ r → (work_at pc calls frame a r).opens ≢ []
+wild_at table device program pc calls frame a s first holds choices left cause step (Err why) stands = no_wild pc calls frame a why
+wild_at table device program pc calls frame a s first holds choices left cause step (Ok found) stands =
+    absurd (not_both (done_by s found) (ran s found) cause (one_outcome (Leaves cause) (Onward (done_by s found) (ran s found)) left choices
+    (sym step ∙ step_covered table device program a s first holds found stands choices)))
+
+wild_opens : AreInTable → (device : Device) → IsProgram device → (node : Node) (a : State) (s : ChipState) (first : Option ChipState) → IsLocation node → CoversState device node a s first → StepsTo device s Wild → (work_of device.image (One node) a None).opens ≢ []
+wild_opens table device program (At pc calls frame) a s first location covers (choices, cause, left, step) =
+    subst (λ at. (work_at pc calls frame a (fetched device.image at)).opens ≢ []) covers.0
+    (wild_at table device program pc calls frame a s first covers.1 choices left cause step (fetched device.image (register_of s 0)) refl)
+wild_opens table device program (Exit pc frame) a s first location covers step = absurd location
 
 shown_items : (pc : ℕ) (calls : List ℕ) (frame : Frame) (a : State) (s : ChipState) (found : Action × Instr) → register_of s 0 ≡ pc → HasWord a.sp (register_of s 1)
     → (item : Single) → Contains (done_by s found) item → AreShowing (work_at pc calls frame a (Ok found)).items item
@@ -125,22 +153,33 @@ ran_covered laws device pc calls frame a s first found fits form covers =
     let after = ran_holds laws device a s first found form.state covers.1 fits start in
     (after.0 ∙ ap (λ p. next_of p found) covers.0, after.1, ran_stands device frame a (state_behind found.0 a) s found first covers.2)
 
-lands : SetLaws → AreInTable → (device : Device) → IsProgram device → (node : Node) (a : State) (s : ChipState) (first : Option ChipState) (done : List Single) (t : ChipState) → IsLocation node → HasChipForm node a → CoversState device node a s first
-    → StepsTo device s (Next done t) → Lands (msp430 device) node (work_of device.image (One node) a None) s first done t
+-- the items and the state of a step
+parts_of : (items others : List Single) (t u : ChipState) → ◌≡◌ {A = ChipOutcome ChipState} (Onward items t) (Onward others u) → (items ≡ others) × (t ≡ u)
+parts_of items others t u e = (cc, cc)
+
+lands_at : SetLaws → AreInTable → (device : Device) → IsProgram device → (pc : ℕ) (calls : List ℕ) (frame : Frame) (a : State) (s : ChipState) (first : Option ChipState) (done : List Single) (t : ChipState) → HasChipForm (At pc calls frame) a
+    → CoversState device (At pc calls frame) a s first → (choices left : List ℕ) → step_of device s choices ≡ Some (Onward done t, left)
+    → (r : Result (Action × Instr) Cause) → fetched device.image pc ≡ r → (work_at pc calls frame a r).opens ≡ [] → Lands (msp430 device) (At pc calls frame) (work_at pc calls frame a r) s first done t
 unfolding msp430
-lands laws table device program (Exit pc frame) a s first done t location form covers step = absurd location
-lands laws table device program (At pc calls frame) a s first done t location form covers (found, stands, does, goes) =
-    let node = At pc calls frame in
-    let here : fetched device.image pc ≡ Ok found = subst (λ at. fetched device.image at ≡ Ok found) covers.0 stands in
+lands_at laws table device program pc calls frame a s first done t form covers choices left step (Err cause) here no_open = absurd (no_wild pc calls frame a cause no_open)
+lands_at laws table device program pc calls frame a s first done t form covers choices left step (Ok found) here no_open =
+    let stands : fetched device.image (register_of s 0) ≡ Ok found = ap (fetched device.image) covers.0 ∙ here in
+    let is = parts_of done (done_by s found) t (ran s found) (one_outcome (Onward done t) (Onward (done_by s found) (ran s found)) left choices
+    (sym step ∙ step_covered table device program a s first covers.1 found stands choices)) in
     let fits : IsAction found.0 = subst IsFound here (fetched_found table device program pc) in
     let to = At (next_of pc found) calls frame in
     let behind = state_behind found.0 a in
     let work = work_at pc calls frame a (Ok found) in
-    let covered : CoversState device to behind t first = subst (λ u. CoversState device to behind u first) (sym goes) (ran_covered laws device pc calls frame a s first found fits form covers) in
+    let covered : CoversState device to behind t first = subst (λ u. CoversState device to behind u first) (sym is.1) (ran_covered laws device pc calls frame a s first found fits form covers) in
     let shown : (item : Single) → Contains done item → AreShowing work.items item =
-    λ item there. shown_items pc calls frame a s found covers.0 covers.1.sp item (subst (λ ds. Contains ds item) does there) in
-    subst (λ r. Lands (msp430 device) node (work_at pc calls frame a r) s first done t) (sym here)
-    (stays to behind (in_first (to, behind) []) tt refl covered shown)
+    λ item there. shown_items pc calls frame a s found covers.0 covers.1.sp item (subst (λ ds. Contains ds item) is.0 there) in
+    stays to behind (in_first (to, behind) []) tt refl covered shown
+
+lands : SetLaws → AreInTable → (device : Device) → IsProgram device → (node : Node) (a : State) (s : ChipState) (first : Option ChipState) (done : List Single) (t : ChipState) → IsLocation node → HasChipForm node a → CoversState device node a s first
+    → StepsTo device s (Next done t) → (work_of device.image (One node) a None).opens ≡ [] → Lands (msp430 device) node (work_of device.image (One node) a None) s first done t
+lands laws table device program (Exit pc frame) a s first done t location form covers step no_open = absurd location
+lands laws table device program (At pc calls frame) a s first done t location form covers (choices, left, step) no_open =
+    lands_at laws table device program pc calls frame a s first done t form covers choices left step (fetched device.image pc) refl no_open
 
 post_form : SetLaws → (pc : ℕ) (calls : List ℕ) (frame : Frame) (a : State) (r : Result (Action × Instr) Cause) → IsFound r → HasChipForm (At pc calls frame) a → (to : Node) (b : State)
     → Contains (work_at pc calls frame a r).posts (to, b) → HasChipForm to b
@@ -244,8 +283,8 @@ lawful laws table device program = let start = reset_start device program in rec
   first_frame = refl;
   first_form = record { pc_even = start; few = omega arith; sites = All-nil IsEvenWord; framed = tt; state = unknown_form };
   covers_reset = λ s reset. (reset.starts, reset_holds laws device s reset, refl);
-  wild_is_open = λ node a s first location form covers step. wild_opens device node a s first location covers step;
-  step_lands = λ node a s first done t location form covers step no_open. lands laws table device program node a s first done t location form covers step;
+  wild_is_open = λ node a s first location form covers step. wild_opens table device program node a s first location covers step;
+  step_lands = λ node a s first done t location form covers step no_open. lands laws table device program node a s first done t location form covers step no_open;
   posts_form = location_form laws table device program;
   return_resumes = λ node exit a x f first t location exits form exit_form covers left. absurd (no_exit exit x exits exit_form);
   exit_form = λ exit x exits form. absurd (no_exit exit x exits form);

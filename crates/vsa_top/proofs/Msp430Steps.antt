@@ -1,6 +1,6 @@
 -- One instruction of the MSP430: what stands in an image is in range, and the state behind it stands for what it leaves.
-use Rattle.std.proofs.Common.{◌≡◌, ◌≢◌, ℕ, ◌+◌, ◌-◌, ◌*◌, ◌/◌, ◌%◌, ◌<◌, ◌≤◌, ◌==◌, ◌&&◌, nat_lt, nat_le, if◌then◌else◌, true, false, Option, None, Some, Result, Ok, Err, List, length, get_or, set, refl, sym, ap, ◌∙◌, subst, inl, inr, arith, All}
-use Rattle.std.proofs.lemmas.Bool.{and_parts, or_cases, cond_both, ltb-true, leb-true, cases_lt, cases_eq}
+use Rattle.std.proofs.Common.{◌≡◌, ◌≢◌, ℕ, ◌+◌, ◌-◌, ◌*◌, ◌/◌, ◌%◌, ◌<◌, ◌==◌, ◌&&◌, nat_lt, if◌then◌else◌, true, false, Option, None, Some, Result, Ok, Err, List, length, get_or, set, refl, sym, ap, ◌∙◌, subst, inl, inr, arith, All}
+use Rattle.std.proofs.lemmas.Bool.{and_parts, cond_both, cases_lt, cases_eq}
 use Rattle.std.proofs.lemmas.List.{length-set, get_or-set_same, get_or-set_other, get_or_past}
 use Rattle.std.proofs.lemmas.List.Elements.{All-get_or, All-set}
 use Rattle.call_context.specs.declared.shown.Cause.{Cause}
@@ -15,28 +15,23 @@ use Rattle.msp430_decode.specs.declared.refusal.NoInstr.{NoInstr}
 use Rattle.msp430_decode.specs.Codes.{number}
 use Rattle.msp430_decode.specs.Decoding.{decoded}
 use Rattle.msp430_decode.specs.Operands.{IsSource}
-use Rattle.msp430_decode.specs.Standing.{AreThere, upward}
-use Rattle.msp430_decode.specs.Table.{IsInstr, bytes_of, length_of}
+use Rattle.msp430_decode.specs.Table.{IsInstr}
 use Rattle.value_set.specs.declared.form.Form.{Form}
 use Rattle.value_set.specs.Summing.{single}
 use Rattle.vsa_top.specs.declared.msp430.action.Action.{Action}
 use Rattle.vsa_top.specs.declared.msp430.action.Action.TheVariants.{Load, Copy, Go}
 use Rattle.msp430_chip.specs.declared.device.Device.{Device}
 use Rattle.msp430_chip.specs.declared.state.ChipState.{ChipState}
+use Rattle.msp430_chip.specs.State.{even, register_of, word_from, reset_address}
 use Rattle.vsa_top.specs.declared.msp430.state.State.{State}
 use Rattle.vsa_top.specs.Msp430Built.{is_general, is_destination, is_move, is_word, is_always, IsAction, moved, moved_to, action_of, with_action, found_by, fetched, next_of}
 use Rattle.vsa_top.specs.Msp430Chip.{IsProgram}
 use Rattle.vsa_top.specs.Msp430Cover.{HasWord, AreWords, IsEvenWord, IsState, HoldsOf}
-use Rattle.vsa_top.specs.Msp430Machine.{register_of, even_word_of, reset_address, written, effect_of, ran}
 use Rattle.vsa_top.specs.Msp430State.{all_words, even_parts, set_of, with_set, state_behind}
+use Rattle.vsa_top.proofs.Msp430Stepping.{AreInTable, IsGeneral, general_range, destination_range, written, effect_of, effect_pc, ran}
 use Rattle.vsa_top.proofs.Msp430Sets.{SetLaws, whole_words, even_parts_form, even_parts_has}
 
 -- WHAT STANDS IN AN IMAGE
-
--- what is decoded is in the table
-abbrev pub AreInTable : Type 0
-AreInTable = (image : List (Option ℕ)) (pc len : ℕ) (instr : Instr) → length image ≡ 65536 → All IsByte image
-    → decoded image pc ≡ Ok (instr, len) → IsInstr instr × (len ≡ length_of instr) × AreThere (upward image pc) 0 (bytes_of instr)
 
 abbrev IsSomeAction : Option Action → Type 0
 IsSomeAction None = Unit {0}
@@ -98,12 +93,12 @@ is_byte device program at = elim (cases_lt at (length device.image)) [
   | inr past ↦ subst IsByte (sym (get_or_past device.image at None past)) tt
 ]
 
-even_start : (low high : Option ℕ) → IsByte low → IsByte high → IsStart (even_word_of low high)
+even_start : (low high : Option ℕ) → IsByte low → IsByte high → IsStart (even (word_from low high))
 even_start None high l h = (omega arith, omega arith)
 even_start (Some low) None l h = (omega arith, omega arith)
 even_start (Some low) (Some high) l h = (omega arith, omega arith)
 
-pub reset_start : (device : Device) → IsProgram device → IsStart (reset_address device.image)
+pub reset_start : (device : Device) → IsProgram device → IsStart (reset_address device)
 reset_start device program = even_start (byte_at device.image 65534) (byte_at device.image 65535)
     (is_byte device program 65534) (is_byte device program 65535)
 
@@ -119,27 +114,13 @@ next_start pc (Go offset, i) h = let even = h.1 in
 
 -- REGISTERS
 
-record IsGeneral (register : ℕ) : Type 0 where
-  low : 3 < register
-  high : register < 16
-
-general_range : (register : ℕ) → is_general register ≡ true → IsGeneral register
-general_range register h = let parts = and_parts (nat_le 4 register) (nat_lt register 16) h in
-    let low : 4 ≤ register = leb-true 4 register parts.0 in
-    let high : register < 16 = ltb-true register 16 parts.1 in
-    record { low = omega arith; high = high }
-
-destination_range : (register : ℕ) → is_destination register ≡ true → (register == 1) ≡ false → IsGeneral register
-destination_range register h other = elim (or_cases (register == 1) (is_general register) h) [
-  | inl one ↦ absurd (cc)
-  | inr general ↦ general_range register general
-]
-
 -- a state holds of a list of sixteen registers
 record IsHeld (a : State) (registers : List ℕ) : Type 0 where
   count : length registers ≡ 16
   words : All (λ r. r < 65536) registers
+  even_pc : get_or registers 0 0 % 2 ≡ 0
   even_sp : get_or registers 1 0 % 2 ≡ 0
+  nothing : get_or registers 3 0 ≡ 0
   sp : HasWord a.sp (get_or registers 1 0)
   status : get_or registers 2 0 ≡ 0
   sets : (register : ℕ) → 3 < register → register < 16 → HasWord (get_or a.registers (register - 4) all_words) (get_or registers register 0)
@@ -148,7 +129,9 @@ held_of : (device : Device) (a : State) (s : ChipState) (first : Option ChipStat
 held_of device a s first h = record {
   count = h.state.registers;
   words = h.state.words;
+  even_pc = h.state.even_pc;
   even_sp = h.state.even_sp;
+  nothing = h.state.nothing;
   sp = h.sp;
   status = h.status;
   sets = λ register low high. (h.registers register low high).0;
@@ -158,30 +141,34 @@ held_of device a s first h = record {
 other_kept : (P : ℕ → Type 0) (registers : List ℕ) (register value at : ℕ) → at ≢ register → P (get_or registers at 0) → P (get_or (set registers register value) at 0)
 other_kept P registers register value at other h = subst P (sym (get_or-set_other registers register at value 0 other)) h
 
-held_pc : (a : State) (registers : List ℕ) (next : ℕ) → IsHeld a registers → next < 65536 → IsHeld a (set registers 0 next)
-held_pc a registers next h small = record {
+held_pc : (a : State) (registers : List ℕ) (next : ℕ) → IsHeld a registers → IsStart next → IsHeld a (set registers 0 next)
+held_pc a registers next h start = let long : 0 < length registers = omega (arith, h.count) in record {
   count = length-set registers 0 next ∙ h.count;
-  words = All-set (λ r. r < 65536) registers 0 next small h.words;
+  words = All-set (λ r. r < 65536) registers 0 next start.0 h.words;
+  even_pc = subst (λ r. r % 2 ≡ 0) (sym (get_or-set_same registers 0 next 0 long)) start.1;
   even_sp = other_kept (λ r. r % 2 ≡ 0) registers 0 next 1 (λ e. omega arith) h.even_sp;
+  nothing = other_kept (λ r. r ≡ 0) registers 0 next 3 (λ e. omega arith) h.nothing;
   sp = other_kept (HasWord a.sp) registers 0 next 1 (λ e. omega arith) h.sp;
   status = other_kept (λ r. r ≡ 0) registers 0 next 2 (λ e. omega arith) h.status;
   sets = λ register low high. other_kept (HasWord (get_or a.registers (register - 4) all_words)) registers 0 next register (λ e. omega arith) (h.sets register low high);
 }
 
 held_sp : SetLaws → (a : State) (registers : List ℕ) (value : ℕ) (values : Form) → IsHeld a registers → value < 65536 → AreWords values → HasWord values value
-    → IsHeld (record { sp = even_parts values; registers = a.registers }) (set registers 1 (value - value % 2))
+    → IsHeld (record { sp = even_parts values; registers = a.registers }) (set registers 1 (even value))
 held_sp laws a registers value values h small words has =
-    let even = value - value % 2 in
+    let sp = value - value % 2 in
     let long : 1 < length registers = omega (arith, h.count) in
-    let written : get_or (set registers 1 even) 1 0 ≡ even = get_or-set_same registers 1 even 0 long in
-    let is_even : even % 2 ≡ 0 = omega arith in
+    let stored : get_or (set registers 1 sp) 1 0 ≡ sp = get_or-set_same registers 1 sp 0 long in
+    let is_even : sp % 2 ≡ 0 = omega arith in
     record {
-      count = length-set registers 1 even ∙ h.count;
-      words = All-set (λ r. r < 65536) registers 1 even (omega arith) h.words;
-      even_sp = subst (λ r. r % 2 ≡ 0) (sym written) is_even;
-      sp = subst (HasWord (even_parts values)) (sym written) (even_parts_has laws values value words has);
-      status = other_kept (λ r. r ≡ 0) registers 1 even 2 (λ e. omega arith) h.status;
-      sets = λ register low high. other_kept (HasWord (get_or a.registers (register - 4) all_words)) registers 1 even register (λ e. omega arith) (h.sets register low high);
+      count = length-set registers 1 sp ∙ h.count;
+      words = All-set (λ r. r < 65536) registers 1 sp (omega arith) h.words;
+      even_pc = other_kept (λ r. r % 2 ≡ 0) registers 1 sp 0 (λ e. omega arith) h.even_pc;
+      even_sp = subst (λ r. r % 2 ≡ 0) (sym stored) is_even;
+      nothing = other_kept (λ r. r ≡ 0) registers 1 sp 3 (λ e. omega arith) h.nothing;
+      sp = subst (HasWord (even_parts values)) (sym stored) (even_parts_has laws values value words has);
+      status = other_kept (λ r. r ≡ 0) registers 1 sp 2 (λ e. omega arith) h.status;
+      sets = λ register low high. other_kept (HasWord (get_or a.registers (register - 4) all_words)) registers 1 sp register (λ e. omega arith) (h.sets register low high);
     }
 
 held_general : (a : State) (registers : List ℕ) (at value : ℕ) (values : Form) → length a.registers ≡ 12 → IsHeld a registers → IsGeneral at → value < 65536 → HasWord values value
@@ -194,7 +181,9 @@ held_general a registers at value values sets_long h general small has =
     record {
       count = length-set registers at value ∙ h.count;
       words = All-set (λ r. r < 65536) registers at value small h.words;
+      even_pc = other_kept (λ r. r % 2 ≡ 0) registers at value 0 (λ e. omega arith) h.even_pc;
       even_sp = other_kept (λ r. r % 2 ≡ 0) registers at value 1 (λ e. omega arith) h.even_sp;
+      nothing = other_kept (λ r. r ≡ 0) registers at value 3 (λ e. omega arith) h.nothing;
       sp = other_kept (HasWord a.sp) registers at value 1 (λ e. omega arith) h.sp;
       status = other_kept (λ r. r ≡ 0) registers at value 2 (λ e. omega arith) h.status;
       sets = λ register above below. elim (cases_eq register at) [
@@ -212,7 +201,7 @@ held_written : SetLaws → (a : State) (registers : List ℕ) (register value : 
 held_written laws a registers register value values sets_long h destination small words has =
     elim (register == 1) as (λ t. (register == 1) ≡ t → IsHeld
     (if t then record { sp = even_parts values; registers = a.registers } else record { sp = a.sp; registers = set a.registers (register - 4) values })
-    (if t then set registers 1 (value - value % 2) else set registers register value)) [
+    (if t then set registers 1 (even value) else set registers register value)) [
       | true ↦ λ e. held_sp laws a registers value values h small words has
       | false ↦ λ e. held_general a registers register value values sets_long h (destination_range register destination e) small has
     ] refl
@@ -223,34 +212,44 @@ set_words a register form = elim (cases_lt (register - 4) (length a.registers)) 
   | inr past ↦ subst AreWords (sym (get_or_past a.registers (register - 4) all_words past)) whole_words
 ]
 
-held_effect : SetLaws → (device : Device) (a : State) (s : ChipState) (first : Option ChipState) (action : Action) → IsState a → HoldsOf device a s first → IsAction action
-    → IsHeld (state_behind action a) (effect_of action s)
-held_effect laws device a s first (Load value register) form h fits =
+held_effect : SetLaws → (a : State) (registers : List ℕ) (action : Action) → IsState a → IsHeld a registers → IsAction action
+    → IsHeld (state_behind action a) (effect_of action registers)
+held_effect laws a registers (Load value register) form h fits =
     let one = laws.one value fits.0 in
-    held_written laws a s.registers register value (single value) form.count (held_of device a s first h) fits.1 fits.0 one.0 one.1
-held_effect laws device a s first (Copy origin register) form h fits =
+    let small : value < 65536 = fits.0 in
+    let whole : value % 65536 ≡ value = omega arith in
+    subst (λ v. IsHeld (with_set a register (single value)) (written registers register v)) (sym whole)
+    (held_written laws a registers register value (single value) form.count h fits.1 small one.0 one.1)
+held_effect laws a registers (Copy origin register) form h fits =
     let general = general_range origin fits.0 in
     let high : origin < 16 = general.high in
-    let long : origin < length s.registers = omega (arith, h.state.registers) in
-    held_written laws a s.registers register (register_of s origin) (set_of a origin) form.count (held_of device a s first h) fits.1
-    (All-get_or (λ r. r < 65536) s.registers origin 0 long h.state.words) (set_words a origin form) (h.registers origin general.low high).0
-held_effect laws device a s first (Go offset) form h fits = held_of device a s first h
+    let long : origin < length registers = omega (arith, h.count) in
+    let value = get_or registers origin 0 in
+    let small : value < 65536 = All-get_or (λ r. r < 65536) registers origin 0 long h.words in
+    let whole : value % 65536 ≡ value = omega arith in
+    subst (λ v. IsHeld (with_set a register (set_of a origin)) (written registers register v)) (sym whole)
+    (held_written laws a registers register value (set_of a origin) form.count h fits.1 small (set_words a origin form) (h.sets origin general.low high))
+held_effect laws a registers (Go offset) form h fits = h
 
 -- the state behind an instruction stands for what it leaves, at the next address
 pub ran_holds : SetLaws → (device : Device) (a : State) (s : ChipState) (first : Option ChipState) (found : Action × Instr) → IsState a → HoldsOf device a s first → IsAction found.0 → IsStart (register_of s 0)
     → (register_of (ran s found) 0 ≡ next_of (register_of s 0) found) × HoldsOf device (state_behind found.0 a) (ran s found) first
 ran_holds laws device a s first found form h fits start =
     let next = next_of (register_of s 0) found in
-    let effect : IsHeld (state_behind found.0 a) (effect_of found.0 s) = held_effect laws device a s first found.0 form h fits in
-    let behind : IsHeld (state_behind found.0 a) (set (effect_of found.0 s) 0 next) =
-    held_pc (state_behind found.0 a) (effect_of found.0 s) next effect (next_start (register_of s 0) found start).0 in
-    let long : 0 < length (effect_of found.0 s) = omega (arith, effect.count) in (
-      get_or-set_same (effect_of found.0 s) 0 next 0 long,
+    let registers = set s.registers 0 next in
+    let before : IsHeld a registers = held_pc a s.registers next (held_of device a s first h) (next_start (register_of s 0) found start) in
+    let behind : IsHeld (state_behind found.0 a) (effect_of found.0 registers) = held_effect laws a registers found.0 form before fits in
+    let long : 0 < length s.registers = omega (arith, h.state.registers) in
+    let low : 0 < 512 = omega arith in (
+      effect_pc found.0 registers fits ∙ get_or-set_same s.registers 0 next 0 long,
       record {
         state = record {
           registers = behind.count;
           words = behind.words;
+          even_pc = behind.even_pc;
           even_sp = behind.even_sp;
+          status = subst (λ r. r < 512) (sym behind.status) low;
+          nothing = behind.nothing;
           ram = h.state.ram;
           bytes = h.state.bytes;
         };

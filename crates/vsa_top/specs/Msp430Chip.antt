@@ -1,6 +1,6 @@
--- The MSP430 (SLAU049, MSP430x1xx Family User's Guide, chapter 3): what it does in single states, what an analysis makes
--- of it in sets, and what ties them.
-use Rattle.std.specs.Prelude.{◌≡◌, ℕ, Option, Result, Ok, Err, List, [], ◌∷◌, length, All}
+-- The MSP430 (SLAU049, MSP430x1xx Family User's Guide): what it does in single states, what an analysis makes of it in sets,
+-- and what ties them.
+use Rattle.std.specs.Prelude.{◌≡◌, ℕ, Option, Some, Result, Ok, Err, List, [], ◌∷◌, length, All}
 use Rattle.call_context.specs.declared.node.Frame.{Frame}
 use Rattle.call_context.specs.declared.node.Frame.TheVariants.{Base}
 use Rattle.call_context.specs.declared.node.Node.TheVariants.{At, Exit}
@@ -12,15 +12,20 @@ use Rattle.call_context.specs.declared.shown.Set.TheVariants.{W}
 use Rattle.ihex_read.specs.Image.{IsByte}
 use Rattle.chip_law.specs.declared.chip.Work.{Work}
 use Rattle.chip_law.specs.Meaning.{Meaning}
+use Rattle.chip_law.specs.Outcome.{Outcome}
+use Rattle.chip_law.specs.Outcome.Outcome.{Next, Wild}
 use Rattle.msp430_chip.specs.declared.device.Device.{Device}
+use Rattle.msp430_chip.specs.declared.state.ChipState.{ChipState}
+use Rattle.msp430_chip.specs.declared.state.Wild.{Wild as WildCause}
+use Rattle.msp430_chip.specs.Outcome.Outcome.{Next as Onward, Wild as Leaves}
+use Rattle.msp430_chip.specs.State.{register_of, reset_address, IsResetOf}
+use Rattle.msp430_chip.specs.Step.{step_of}
 use Rattle.msp430_decode.specs.declared.instr.Instr.{Instr}
 use Rattle.msp430_decode.specs.Table.{bytes_of}
 use Rattle.vsa_top.specs.declared.msp430.action.Action.{Action}
 use Rattle.vsa_top.specs.declared.msp430.state.State.{State}
-use Rattle.msp430_chip.specs.declared.state.ChipState.{ChipState}
 use Rattle.vsa_top.specs.Msp430Cover.{HasChipForm, CoversState}
 use Rattle.vsa_top.specs.Msp430Built.{fetched, next_of}
-use Rattle.vsa_top.specs.Msp430Machine.{register_of, reset_address, IsResetOf, StepsTo}
 use Rattle.vsa_top.specs.Msp430Marks.{stops}
 use Rattle.vsa_top.specs.Msp430State.{unknown, state_within, state_joined, state_widened, state_behind}
 
@@ -52,12 +57,18 @@ pub record IsProgram (device : Device) : Type 0 where
   pub size : length device.image ≡ 65536
   pub bytes : All IsByte device.image
 
+-- what a state may lead to: by some choices the chip's step has this outcome, whatever choices are left
+abbrev pub StepsTo : Device → ChipState → Outcome ChipState → Type 0
+StepsTo device s (Next items t) = (choices left : List ℕ) × (step_of device s choices ≡ Some (Onward items t, left))
+StepsTo device s Wild =
+    (choices : List ℕ) × (cause : WildCause) × (left : List ℕ) × (step_of device s choices ≡ Some (Leaves cause, left))
+
 unfoldable pub msp430 : Device → Meaning ChipState State
 msp430 device = record {
   pc = λ s. register_of s 0;
   IsReset = IsResetOf device;
   Step = StepsTo device;
-  first_node = At (reset_address device.image) [] Base;
+  first_node = At (reset_address device) [] Base;
   first_state = unknown;
   work = work_of device.image;
   within = state_within;

@@ -11,7 +11,7 @@ use Rattle.value_set.specs.Form.{Has, IsNormal}
 use Rattle.msp430_chip.specs.declared.device.Device.{Device}
 use Rattle.vsa_top.specs.declared.msp430.state.State.{State}
 use Rattle.msp430_chip.specs.declared.state.ChipState.{ChipState}
-use Rattle.vsa_top.specs.Msp430Machine.{register_of, IsChipState}
+use Rattle.msp430_chip.specs.State.{register_of, IsChipState}
 use Rattle.vsa_top.specs.Msp430State.{set_of}
 
 -- VALUES

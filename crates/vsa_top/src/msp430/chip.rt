@@ -1,10 +1,10 @@
 //! The chip.
 
 ghost use Rattle.std.specs.Prelude.{◌≡◌, [], IfOk};
+ghost use Rattle.msp430_chip.specs.State.{reset_address};
 ghost use Rattle.msp430_decode.specs.Table.{IsInstr};
 ghost use Rattle.vsa_top.specs.Msp430Built.{IsAction, with_action, action_of as the_action, fetched, instr_text as the_text};
 ghost use Rattle.vsa_top.specs.Msp430Chip.{msp430, nothing, work_at};
-ghost use Rattle.vsa_top.specs.Msp430Machine.{reset_address};
 ghost use Rattle.vsa_top.specs.Msp430Marks.{stops};
 
 use crate::msp430::action::{Action, action_of, next_address};
@@ -60,13 +60,16 @@ impl Msp430 {
 
     /// Where the program starts: the word at FFFEh without bit 0.
     fn reset(&self) -> u16
-        ensures { result ≡ reset_address self.now.image }
+        ensures { result ≡ reset_address self.now }
     {
         match (
             self.device.image.byte(0xFFFE),
             self.device.image.byte(0xFFFF),
         ) {
-            (Some(low), Some(high)) => (low - low % 2) as u16 + 256 * high as u16,
+            (Some(low), Some(high)) => {
+                let word = low as u16 + 256 * high as u16;
+                word - word % 2
+            }
             _ => 0,
         }
     }
