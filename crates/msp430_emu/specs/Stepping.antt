@@ -1,6 +1,8 @@
 -- What a step of the machine says of the chip.
-use Rattle.std.specs.Prelude.{◌≡◌, ℕ, Option, None, Some, List, ◌∷◌, false, map, replicate}
+use Rattle.std.specs.Prelude.{◌≡◌, ◌≤◌, ℕ, Option, None, Some, List, ◌∷◌, false, map, replicate}
 use Rattle.call_context.specs.Single.{Single}
+use Rattle.ihex_read.specs.declared.rule_set.Rules.{Rules}
+use Rattle.ihex_read.specs.declared.rule_set.Rules.TheVariants.{Msp430, Mcs51}
 use Rattle.msp430_chip.specs.declared.device.Device.{Device}
 use Rattle.msp430_chip.specs.declared.state.ChipState.{ChipState}
 use Rattle.msp430_chip.specs.Outcome.{Outcome}
@@ -28,6 +30,16 @@ IsStill NeedChoice = Unit {0}
 -- the device of an image and a range of RAM
 abbrev pub device_of : List (Option ℕ) → ℕ → ℕ → Device
 device_of image lo hi = record { image = image; lo = lo; hi = hi }
+
+-- the rules are those of an MSP430 with RAM
+abbrev pub IsMsp430 : Rules → Type 0
+IsMsp430 (Msp430 lo hi) = lo ≤ hi
+IsMsp430 Mcs51 = ⊥
+
+-- the device of an image under rules; those of another chip have none
+abbrev pub device_under : Rules → List (Option ℕ) → Device
+device_under (Msp430 lo hi) image = device_of image lo hi
+device_under Mcs51 image = device_of image 0 0
 
 -- the state behind a reset in which all that is any is 0
 abbrev pub first_state : Device → ChipState

@@ -3,7 +3,7 @@
 ghost use Rattle.std.specs.Prelude.{◌≡◌, ◌≤◌, IfOk};
 ghost use Rattle.msp430_chip.specs.State.{IsChipState, IsResetOf};
 ghost use Rattle.msp430_emu.specs.Choosing.{left_of};
-ghost use Rattle.msp430_emu.specs.Stepping.{IsStill, Steps, first_state, device_of};
+ghost use Rattle.msp430_emu.specs.Stepping.{IsMsp430, IsStill, Steps, device_of, device_under, first_state};
 
 use crate::advance::advance;
 use crate::choices::Choices;
@@ -11,20 +11,24 @@ use crate::interrupt::image_word;
 use crate::memory::{Layout, even};
 use crate::state::Machine;
 use crate::stepped::Stepped;
-use ihex_read::Image;
+use ihex_read::{Image, Rules};
 use msp430_chip::{ChipState, Ram};
 use std::alloc::Global;
 use vsa_io::Memory;
 
 impl Machine {
-    /// A machine with RAM from its lowest to its highest address, behind a reset. All that a reset leaves open is 0.
-    pub fn reset(alloc: Global, image: &Image, lo: u16, hi: u16) -> Result<Machine, Memory>
-        requires range { lo ≤ hi }
-        ensures reset { IfOk result (λ machine. IsResetOf (device_of image.now lo hi) machine.state) }
-        ensures zeros { IfOk result (λ machine. machine.state ≡ first_state (device_of image.now lo hi)) }
-        ensures lo { IfOk result (λ machine. machine.lo ≡ lo) }
-        ensures hi { IfOk result (λ machine. machine.hi ≡ hi) }
+    /// A machine under the rules of an MSP430, behind a reset. All that a reset leaves open is 0.
+    pub fn reset(alloc: Global, image: &Image, rules: Rules) -> Result<Machine, Memory>
+        requires { IsMsp430 rules }
+        ensures reset { IfOk result (λ machine. IsResetOf (device_under rules image.now) machine.state) }
+        ensures zeros { IfOk result (λ machine. machine.state ≡ first_state (device_under rules image.now)) }
+        ensures lo { IfOk result (λ machine. machine.lo ≡ (device_under rules image.now).lo) }
+        ensures hi { IfOk result (λ machine. machine.hi ≡ (device_under rules image.now).hi) }
     {
+        let (lo, hi) = match rules {
+            Rules::Msp430 { lo, hi } => (lo, hi),
+            Rules::Mcs51 => (0, 0),
+        };
         let mut registers = [0; 16];
         registers[0] = even(image_word(image, 0xFFFE));
         let ram = Ram::new(alloc, hi as usize + 1 - lo as usize)?;

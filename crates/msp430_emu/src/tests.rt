@@ -4,7 +4,7 @@ ghost use Rattle.std.specs.Prelude.{◌≡◌, ◌<◌, IfOk, IsSome, length};
 
 use crate::{Choices, Machine, NoInstr, Stepped, Wild};
 use call_context::{Item, Set};
-use ihex_read::Image;
+use ihex_read::{Image, Rules};
 use std::alloc::{AllocError, Global};
 use std::process::Abort;
 use std::test::Fail;
@@ -55,7 +55,7 @@ fn image_of(alloc: Global, words: &[u16], vectors: &[(u16, u16)]) -> Result<Imag
 fn machine_of(rt: &impl Abort, alloc: Global, image: &Image) -> Result<Machine, Fail> {
     assert!(rt; image.byte(0xFFFE).is_some());
     assert!(rt; image.byte(0xFFFF).is_some());
-    let machine = Machine::reset(alloc, image, LO, HI)?;
+    let machine = Machine::reset(alloc, image, Rules::Msp430 { lo: LO, hi: HI })?;
     Ok(machine)
 }
 

@@ -11,6 +11,7 @@ use crate::msp430::Msp430;
 use crate::outcome::Status;
 use call_context::Item;
 use chip_law::{hex_word, put_item};
+use ihex_read::Rules;
 use msp430_emu::{Choices, Machine, Stepped};
 use std::alloc::{AllocError, Global};
 use vsa_io::Memory;
@@ -84,7 +85,11 @@ pub fn trace_of(alloc: Global, chip: &Msp430, script: Vec<u16>, steps: u32) -> R
     ensures run { IfOk result (λ trace. (trace.status, trace.text.items) ≡ run_of chip.now script.items steps) }
 {
     let device = chip.device();
-    let mut machine = Machine::reset(alloc, &device.image, device.lo, device.hi)?;
+    let rules = Rules::Msp430 {
+        lo: device.lo,
+        hi: device.hi,
+    };
+    let mut machine = Machine::reset(alloc, &device.image, rules)?;
     let mut choices = Choices::new(script);
     let mut text = Vec::new(alloc);
     for done in 0..steps {
