@@ -246,24 +246,14 @@ run_statuses device steps answered second before after journal (unread_script wh
 
 no_open_run : (answered : Status) → (answered ≡ Done) ⊎ (answered ≡ Wild) ⊎ (answered ≡ NeedChoice) ⊎ (answered ≡ BadCert) ⊎ (answered ≡ TooLong) ⊎ (answered ≡ Memory)
     ⊎ (answered ≡ WriteFault) ⊎ (answered ≡ ReadFault) → answered ≡ Open → ⊥
-no_open_run Open (inl h) e = cc h
-no_open_run Open (inr (inl h)) e = cc h
-no_open_run Open (inr (inr (inl h))) e = cc h
-no_open_run Open (inr (inr (inr (inl h)))) e = cc h
-no_open_run Open (inr (inr (inr (inr (inl h))))) e = cc h
-no_open_run Open (inr (inr (inr (inr (inr (inl h)))))) e = cc h
-no_open_run Open (inr (inr (inr (inr (inr (inr (inl h))))))) e = cc h
-no_open_run Open (inr (inr (inr (inr (inr (inr (inr h))))))) e = cc h
-no_open_run Done h e = cc e
-no_open_run Usage h e = cc e
-no_open_run BadImage h e = cc e
-no_open_run BadCert h e = cc e
-no_open_run ReadFault h e = cc e
-no_open_run WriteFault h e = cc e
-no_open_run Memory h e = cc e
-no_open_run TooLong h e = cc e
-no_open_run Wild h e = cc e
-no_open_run NeedChoice h e = cc e
+no_open_run answered (inl h) e = cc (sym e ∙ h)
+no_open_run answered (inr (inl h)) e = cc (sym e ∙ h)
+no_open_run answered (inr (inr (inl h))) e = cc (sym e ∙ h)
+no_open_run answered (inr (inr (inr (inl h)))) e = cc (sym e ∙ h)
+no_open_run answered (inr (inr (inr (inr (inl h))))) e = cc (sym e ∙ h)
+no_open_run answered (inr (inr (inr (inr (inr (inl h)))))) e = cc (sym e ∙ h)
+no_open_run answered (inr (inr (inr (inr (inr (inr (inl h))))))) e = cc (sym e ∙ h)
+no_open_run answered (inr (inr (inr (inr (inr (inr (inr h))))))) e = cc (sym e ∙ h)
 
 -- an image that is told as open was analysed
 open_analysis : (mode : Mode) (rules : Rules) (image : List (Option ℕ)) (device : Device) (steps : ℕ) (input second before after : Option (List ℕ)) (journal : List Event)

@@ -1,8 +1,6 @@
 -- The numbers that widening stops at: the ends of RAM, and the constants that a program compares with.
 use Rattle.std.specs.Prelude.{ℕ, ◌+◌, ◌*◌, ◌%◌, nat_lt, if◌then◌else◌, Bool, true, false, Option, None, Some, Result, Ok, Err, List, [], ◌∷◌, ◌++◌}
 use Rattle.std.specs.List.{flat_map, range_with_len}
-use Rattle.msp430_decode.specs.declared.instr.Constant.{Constant}
-use Rattle.msp430_decode.specs.declared.instr.Constant.TheVariants.{Zero, One, Two, Four, Eight, MinusOne}
 use Rattle.msp430_decode.specs.declared.instr.Instr.{Instr}
 use Rattle.msp430_decode.specs.declared.instr.Instr.TheVariants.{Double, Single, Jump, ReturnFromInterrupt}
 use Rattle.msp430_decode.specs.declared.instr.Operation.{Operation}
@@ -14,6 +12,7 @@ use Rattle.msp430_decode.specs.declared.instr.Width.TheVariants.{Word, Byte}
 use Rattle.msp430_decode.specs.declared.refusal.NoInstr.{NoInstr}
 use Rattle.msp430_decode.specs.Decoding.{decoded}
 use Rattle.msp430_chip.specs.declared.device.Device.{Device}
+use Rattle.msp430_chip.specs.Operands.{constant_value}
 
 -- a number below 65536
 abbrev pub mark : ℕ → List ℕ
@@ -23,19 +22,10 @@ mark n = if nat_lt n 65536 then n ∷ [] else []
 abbrev pub marks_by : ℕ → List ℕ
 marks_by n = mark n ++ mark (n + 1)
 
--- the generated constants
-abbrev pub number_of : Constant → ℕ
-number_of Zero = 0
-number_of One = 1
-number_of Two = 2
-number_of Four = 4
-number_of Eight = 8
-number_of MinusOne = 65535
-
 -- the number that a source is, if it is one
 abbrev pub constant_of : Source → Option ℕ
 constant_of (source.Immediate value) = Some value
-constant_of (source.Constant constant) = Some (number_of constant)
+constant_of (source.Constant constant) = Some (constant_value constant)
 constant_of other = None
 
 -- a byte instruction takes the low byte

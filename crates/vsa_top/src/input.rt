@@ -10,7 +10,7 @@ ghost use Rattle.vsa_top.specs.Answer.{InputGives, LacksImage, begun_with};
 use ihex_read::{
     HexError, HexFault, Image, MOST_BYTES, Reader, Rules, Tail, ended_texts_stay, whole_faults_stay,
 };
-use std::alloc::Global;
+use std::alloc::{AllocError, Global};
 use vsa_io::{Failed, Memory, Source};
 
 /// Why an input gives no image.
@@ -42,6 +42,16 @@ impl From<Memory> for InputError {
     ghost from_gives = { λ _ e. e ≡ input_error.Memory };
 
     fn from(_error: Memory) -> InputError {
+        InputError::Memory
+    }
+}
+
+impl From<AllocError> for InputError {
+    ghost use Rattle.vsa_top.specs.declared.input.InputError.TheVariants as input_error;
+
+    ghost from_gives = { λ _ e. e ≡ input_error.Memory };
+
+    fn from(_error: AllocError) -> InputError {
         InputError::Memory
     }
 }
@@ -124,18 +134,9 @@ pub fn image_in<S: Source>(
         }
         let used = feed_piece(&mut reader, tail, room, &buffer[..count])?;
         if used < count {
-            let begun = copy_of(alloc, &buffer[used..count])?;
+            let begun = Vec::from_slice(alloc, &buffer[used..count])?;
             return Ok((reader.end()?, begun));
         }
         room -= used;
     }
-}
-
-/// A copy of bytes.
-fn copy_of(alloc: Global, bytes: &[u8]) -> Result<Vec<u8>, Memory>
-    ensures { IfOk result (λ copy. copy.items ≡ bytes.now) }
-{
-    let mut copy = Vec::new(alloc);
-    copy.extend_from_slice(bytes)?;
-    Ok(copy)
 }

@@ -1,4 +1,4 @@
-//! The top call: from words and an input to a report or a disassembly.
+//! The top call: from words and an input to a report, a disassembly or a trace.
 #![tactic(auto)]
 
 mod disassembly;

@@ -1,8 +1,9 @@
 //! The numbers that widening stops at.
 
 ghost use Rattle.std.specs.Prelude.{◌≡◌, ◌++◌, ◌+◌, ◌<◌, ◌*◌, IfOk, OnOk};
+ghost use Rattle.msp430_chip.specs.Operands.{constant_value};
 ghost use Rattle.msp430_decode.specs.Decoding.{decoded};
-ghost use Rattle.vsa_top.specs.Msp430Marks.{mark, marks_by, number_of as the_number, constant_of as the_constant, in_width, is_comparison, marks_with, marks_in, marks_found, marks_from, marks_of as the_marks};
+ghost use Rattle.vsa_top.specs.Msp430Marks.{mark, marks_by, constant_of as the_constant, in_width, is_comparison, marks_with, marks_in, marks_found, marks_from, marks_of as the_marks};
 
 use ihex_read::Image;
 use msp430_chip::Device;
@@ -24,7 +25,7 @@ fn push_mark(marks: &mut Vec<u16>, value: u32) -> Result<(), AllocError>
 
 /// The number of a generated constant.
 fn number_of(constant: Constant) -> u16
-    ensures { result ≡ the_number constant }
+    ensures { result ≡ constant_value constant }
 {
     match constant {
         Constant::Zero => 0,

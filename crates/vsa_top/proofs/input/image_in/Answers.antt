@@ -49,7 +49,7 @@ returns-then-used-count-clause-image g c =
     image_at_stop c.args.rules c.args.tail (g.S.Source.left c.args.source.now) (g.S.Source.left c.loop-reader.source) c.loop-reader.reader c.feed_piece.new.reader
     c.loop-reader.room buffer c.in_ok-count.count c.in_ok-used.used (g.S.Source.left c.read.new.self) c.in_ok-begun.begun.items c.in_ok-end-2.field-0
     c.loop-reader.invariant.0 c.in_ok-count.ensures.taken c.in_ok-used.ensures.text c.in_ok-used.ensures.within.0 c.in_ok-used.ensures.first
-    (c.in_ok-used.ensures.stops fewer) (c.in_ok-begun.ensures ∙ behind_used c.in_ok-used.used c.in_ok-count.count buffer (omega (arith, c.if-used-count.true)))
+    (c.in_ok-used.ensures.stops fewer) (c.in_ok-begun.ensures.items ∙ behind_used c.in_ok-used.used c.in_ok-count.count buffer (omega (arith, c.if-used-count.true)))
     c.in_ok-end-2.ensures.image
 
 pub loop-reader-preserved : goal.loop-reader-preserved
