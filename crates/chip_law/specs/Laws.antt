@@ -1,17 +1,27 @@
--- The laws of a chip: that its start stands for each reset state and its work for each step, and that its states are in
--- order. They speak of one node, its abstract state, one single state, and the first suspended state alone.
-use Rattle.std.specs.Prelude.{◌≡◌, ◌≢◌, ◌⊎◌, Bool, true, Option, None, Some, List, [], Contains}
+-- What ties an analysis to its chip: that its start stands for each reset state and its work for each step. The laws speak
+-- of one node, its abstract state, one single state, and the first suspended state alone. Nothing printed speaks of them.
+use Rattle.std.specs.Prelude.{◌≡◌, ◌⊎◌, ℕ, true, Option, None, Some, List, [], Contains}
 use Rattle.call_context.specs.declared.node.Frame.{Frame}
 use Rattle.call_context.specs.declared.node.Frame.TheVariants.{Base, Irq}
 use Rattle.call_context.specs.declared.node.Node.{Node}
 use Rattle.call_context.specs.declared.node.Node.TheVariants.{Exit}
+use Rattle.call_context.specs.declared.node.Unit.{Unit as WorkUnit}
 use Rattle.call_context.specs.declared.node.Unit.TheVariants.{One, Back}
+use Rattle.call_context.specs.declared.shown.Cause.{Cause}
+use Rattle.call_context.specs.declared.shown.Cause.TheVariants.{Fetch, Targets, Store, Unbuilt}
 use Rattle.call_context.specs.Nodes.{pc_of, frame_of, IsLocation}
 use Rattle.chip_law.specs.declared.chip.Work.{Work}
-use Rattle.chip_law.specs.Meaning.{Meaning}
+use Rattle.chip_law.specs.Analysis.{Analysis, AreFormed, KeepsForm, IsOrdered}
+use Rattle.chip_law.specs.Machine.{Machine}
 use Rattle.call_context.specs.Single.{Single, AreShowing}
 use Rattle.call_context.specs.Single.Single.{Edge}
+use Rattle.chip_law.specs.Outcome.{Leaving}
+use Rattle.chip_law.specs.Outcome.Leaving.{no_instruction, program_written}
 use Rattle.chip_law.specs.Outcome.Outcome.{Next, Wild}
+
+-- The abstract state of a node stands for a single state, where this one is the first that is suspended, if any is.
+abbrev pub Cover : Type 0 → Type 0 → Type 1
+Cover S A = Node → A → S → Option S → Type 0
 
 -- an interrupt's frame that was entered at one stack pointer
 abbrev pub HasEntry : Frame → Type 0
@@ -25,7 +35,25 @@ IsWaitedFor work Base = ⊥
 IsWaitedFor work (Irq vector (Some sp) level) = Contains work.waits (Irq vector (Some sp) level)
 IsWaitedFor work (Irq vector None level) = Unit {0}
 
-module _ {S A : Type 0} (m : Meaning S A) where
+-- the location whose work a unit is, or to which it returns
+abbrev pub location_of : WorkUnit → Node
+location_of (One node) = node
+location_of (Back node exit) = node
+
+-- The cause of an open tells why a step leads out of the model. Of an instruction that isn't built it may be either.
+abbrev pub Tells : Cause → Leaving → Type 0
+Tells Fetch no_instruction = Unit {0}
+Tells Fetch (program_written at) = ⊥
+Tells (Store values) no_instruction = ⊥
+Tells (Store values) (program_written at) = Unit {0}
+Tells (Targets values) why = ⊥
+Tells Unbuilt why = Unit {0}
+
+-- some open of the work tells it
+abbrev pub IsTold : {A : Type 0} → Work A → Leaving → Type 0
+IsTold work why = (open_site : ℕ × Cause) × Contains work.opens open_site × Tells open_site.1 why
+
+module _ {S A : Type 0} (machine : Machine S) (analysis : Analysis A) (covers : Cover S A) where
   abbrev pub ShowsAll : Work A → List Single → Type 0
   ShowsAll work items = (item : Single) → Contains items item → AreShowing work.items item
 
@@ -33,59 +61,48 @@ module _ {S A : Type 0} (m : Meaning S A) where
   pub data Lands (node : Node) (work : Work A) (s : S) (first : Option S) (items : List Single) (t : S) : Type 0 where
     -- at a location of the same frame
     stays : (to : Node) (state : A) → Contains work.posts (to, state) → IsLocation to → frame_of to ≡ frame_of node
-        → m.Covers to state t first → ShowsAll work items → Lands node work s first items t
+        → covers to state t first → ShowsAll work items → Lands node work s first items t
     -- in an interrupt's handler, with s suspended
     enters : (to : Node) (state : A) → Contains work.posts (to, state) → IsLocation to → IsWaitedFor work (frame_of to)
-        → m.Covers to state t (Some s) → ShowsAll work items → Lands node work s first items t
+        → covers to state t (Some s) → ShowsAll work items → Lands node work s first items t
     -- at the exit of the frame: the edge to where it goes on is shown by the return
     leaves : (state : A) → Contains work.posts (Exit (pc_of node) (frame_of node), state)
-        → m.Covers (Exit (pc_of node) (frame_of node)) state t first
-        → ((item : Single) → Contains items item → AreShowing work.items item ⊎ (item ≡ Edge (pc_of node) (m.pc t)))
+        → covers (Exit (pc_of node) (frame_of node)) state t first
+        → ((item : Single) → Contains items item → AreShowing work.items item ⊎ (item ≡ Edge (pc_of node) (machine.pc t)))
         → Lands node work s first items t
 
   -- what the return to a node from an exit gives, for the state t that the exit left
   pub record Resumes (node exit : Node) (work : Work A) (first : Option S) (t : S) : Type 0 where
     pub state : A
     pub posted : Contains work.posts (node, state)
-    pub covers : m.Covers node state t first
-    pub shows : AreShowing work.items (Edge (pc_of exit) (m.pc t))
+    pub covered : covers node state t first
+    pub shows : AreShowing work.items (Edge (pc_of exit) (machine.pc t))
 
   pub record IsLawful : Type 0 where
+    -- THE ANALYSIS BY ITSELF
+    pub keeps : KeepsForm analysis
+    pub ordered : IsOrdered analysis
+    pub exit_form : (exit : Node) (x : A) → ¬ IsLocation exit → analysis.HasForm exit x → HasEntry (frame_of exit)
+    -- an open is at the address of its unit's location, where it breaks a stated limit
+    pub opens_break : (unit : WorkUnit) (at : A) (exit : Option A) (pc : ℕ) (cause : Cause) → AreFormed analysis unit at exit
+        → Contains (analysis.work unit at exit).opens (pc, cause)
+        → (pc_of (location_of unit) ≡ pc) × analysis.Breaks pc cause
     -- THE START
-    pub first_is_location : IsLocation m.first_node
-    pub first_frame : frame_of m.first_node ≡ Base
-    pub first_form : m.HasForm m.first_node m.first_state
-    pub covers_reset : (s : S) → m.IsReset s → m.Covers m.first_node m.first_state s None
+    pub first_is_location : IsLocation analysis.first_node
+    pub first_frame : frame_of analysis.first_node ≡ Base
+    pub covers_reset : (s : S) → machine.IsReset s → covers analysis.first_node analysis.first_state s None
     -- THE WORK OF A LOCATION
-    pub wild_is_open : (node : Node) (a : A) (s : S) (first : Option S) → IsLocation node → m.HasForm node a
-        → m.Covers node a s first → m.Step s Wild → (m.work (One node) a None).opens ≢ []
+    pub wild_is_told : (node : Node) (a : A) (s : S) (first : Option S) (why : Leaving) → IsLocation node
+        → analysis.HasForm node a → covers node a s first → machine.Step s (Wild why)
+        → IsTold (analysis.work (One node) a None) why
     pub step_lands : (node : Node) (a : A) (s : S) (first : Option S) (items : List Single) (t : S) → IsLocation node
-        → m.HasForm node a → m.Covers node a s first → m.Step s (Next items t) → (m.work (One node) a None).opens ≡ []
-        → Lands node (m.work (One node) a None) s first items t
-    pub posts_form : (node : Node) (a : A) (to : Node) (b : A) → IsLocation node → m.HasForm node a
-        → Contains (m.work (One node) a None).posts (to, b) → m.HasForm to b
+        → analysis.HasForm node a → covers node a s first → machine.Step s (Next items t)
+        → (analysis.work (One node) a None).opens ≡ []
+        → Lands node (analysis.work (One node) a None) s first items t
     -- THE WORK OF A RETURN
     pub return_resumes : (node exit : Node) (a x : A) (f : S) (first : Option S) (t : S) → IsLocation node
-        → ¬ IsLocation exit → m.HasForm node a → m.HasForm exit x → m.Covers node a f first
-        → m.Covers exit x t (Some f) → Resumes node exit (m.work (Back node exit) a (Some x)) first t
-    pub exit_form : (exit : Node) (x : A) → ¬ IsLocation exit → m.HasForm exit x → HasEntry (frame_of exit)
-    pub returns_form : (node exit : Node) (a x : A) (to : Node) (b : A) → IsLocation node → ¬ IsLocation exit
-        → m.HasForm node a → m.HasForm exit x → Contains (m.work (Back node exit) a (Some x)).posts (to, b)
-        → m.HasForm to b
-    -- THE ORDER OF STATES
-    pub covers_more : (node : Node) (a b : A) (s : S) (first : Option S) → m.HasForm node a → m.HasForm node b
-        → m.within a b ≡ true → m.Covers node a s first → m.Covers node b s first
-    pub within_itself : (node : Node) (a : A) → m.HasForm node a → m.within a a ≡ true
-    pub within_further : (node : Node) (a b c : A) → m.HasForm node a → m.HasForm node b → m.HasForm node c
-        → m.within a b ≡ true → m.within b c ≡ true → m.within a c ≡ true
-    pub joins_held : (node : Node) (a b : A) → m.HasForm node a → m.HasForm node b → m.within a (m.join a b) ≡ true
-    pub joins_new : (node : Node) (a b : A) → m.HasForm node a → m.HasForm node b → m.within b (m.join a b) ≡ true
-    pub join_form : (node : Node) (a b : A) → m.HasForm node a → m.HasForm node b → m.HasForm node (m.join a b)
-    pub widens_held : (coarse : Bool) (node : Node) (a b : A) → m.HasForm node a → m.HasForm node b
-        → m.within a (m.widen coarse a b) ≡ true
-    pub widens_new : (coarse : Bool) (node : Node) (a b : A) → m.HasForm node a → m.HasForm node b
-        → m.within b (m.widen coarse a b) ≡ true
-    pub widen_form : (coarse : Bool) (node : Node) (a b : A) → m.HasForm node a → m.HasForm node b
-        → m.HasForm node (m.widen coarse a b)
-    pub within_top : (node : Node) (a : A) → m.HasForm node a → m.within a (m.top node) ≡ true
-    pub top_form : (node : Node) (a : A) → m.HasForm node a → m.HasForm node (m.top node)
+        → ¬ IsLocation exit → analysis.HasForm node a → analysis.HasForm exit x → covers node a f first
+        → covers exit x t (Some f) → Resumes node exit (analysis.work (Back node exit) a (Some x)) first t
+    -- A STATE WITHIN ANOTHER
+    pub covers_more : (node : Node) (a b : A) (s : S) (first : Option S) → analysis.HasForm node a
+        → analysis.HasForm node b → analysis.within a b ≡ true → covers node a s first → covers node b s first

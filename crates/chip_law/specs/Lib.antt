@@ -1,7 +1,8 @@
+pub mod Analysis
 pub mod Digits
 pub mod Laws
 pub mod Line
-pub mod Meaning
+pub mod Machine
 pub mod Outcome
 pub mod Runs
 pub mod Shown

@@ -1,10 +1,11 @@
 -- Runs of a chip from reset, and what is met on them.
 use Rattle.std.specs.Prelude.{ℕ, zero, suc, List, Contains}
-use Rattle.chip_law.specs.Meaning.{Meaning}
+use Rattle.chip_law.specs.Machine.{Machine}
 use Rattle.call_context.specs.Single.{Single}
+use Rattle.chip_law.specs.Outcome.{Leaving}
 use Rattle.chip_law.specs.Outcome.Outcome.{Next, Wild}
 
-module _ {S A : Type 0} (m : Meaning S A) where
+module _ {S : Type 0} (m : Machine S) where
   -- some run of n steps from a reset state ends in the state
   abbrev pub RunsTo : ℕ → S → Type 0
   RunsTo zero s = m.IsReset s
@@ -16,4 +17,4 @@ module _ {S A : Type 0} (m : Meaning S A) where
 
   -- some run leaves the model in the step behind its first n steps
   abbrev pub GoesWild : ℕ → Type 0
-  GoesWild n = (s : S) × RunsTo n s × m.Step s Wild
+  GoesWild n = (s : S) × (why : Leaving) × RunsTo n s × m.Step s (Wild why)

@@ -1,7 +1,8 @@
 //! The traits of a chip.
 
-ghost use Rattle.chip_law.specs.Laws.{IsLawful};
-ghost use Rattle.chip_law.specs.Meaning.{Meaning};
+ghost use Rattle.chip_law.specs.Analysis.{Analysis, AreAlike};
+ghost use Rattle.chip_law.specs.Laws.{Cover, IsLawful};
+ghost use Rattle.chip_law.specs.Machine.{Machine};
 ghost use Rattle.std.specs.Option.{option_copied};
 ghost use Rattle.std.specs.Prelude.{IfOk, ◌≡◌, ℕ, List};
 
@@ -25,29 +26,22 @@ pub struct Work<A> {
 
 /// A chip as an analysis sees it: over abstract states, each of which stands for many states of the chip.
 pub trait Chip {
-    /// The program and the options: plain data, which says all that the chip means.
+    /// The program and the options: plain data, which says all that the analysis makes.
     type Base: Drop;
 
-    /// One state of the chip itself.
-    type State;
-
     /// An abstract state.
-    type Abs: Drop;
+    type Abs: Drop + Send;
 
     /// The chip's program and options.
     ghost base: { Self → Self.Base };
 
-    /// What a program with options means.
-    ghost meaning: { Self.Base → Meaning Self.State Self.Abs };
-
-    /// The program and the options.
-    fn base(&self, alloc: Global) -> Result<Self::Base, Memory>
-        ensures { IfOk result (λ b. b ≡ base self.now) };
+    /// What an analysis makes of a program with options.
+    ghost analysis: { Self.Base → Analysis Self.Abs };
 
     /// The node and the abstract state that each run begins in.
     fn start(&self, alloc: Global) -> Result<(Node, Self::Abs), Memory>
-        ensures node { IfOk result (λ start. start.0 ≡ (meaning (base self.now)).first_node) }
-        ensures state { IfOk result (λ start. start.1 ≡ (meaning (base self.now)).first_state) };
+        ensures node { IfOk result (λ start. start.0 ≡ (analysis (base self.now)).first_node) }
+        ensures state { IfOk result (λ start. start.1 ≡ (analysis (base self.now)).first_state) };
 
     /// The work of a unit over its input states. A unit that returns from an interrupt has the state of its
     /// exit as a second input.
@@ -58,7 +52,7 @@ pub trait Chip {
         at: &Self::Abs,
         exit: Option<&Self::Abs>,
     ) -> Result<Work<Self::Abs>, Memory>
-        ensures { IfOk result (λ work. work ≡ (meaning (base self.now)).work unit.now at.now (option_copied exit.entry)) };
+        ensures { IfOk result (λ work. work ≡ (analysis (base self.now)).work unit.now at.now (option_copied exit.entry)) };
 
     /// An equal state.
     fn copy(&self, alloc: Global, a: &Self::Abs) -> Result<Self::Abs, Memory>
@@ -66,7 +60,7 @@ pub trait Chip {
 
     /// A state that stands for all that either stands for.
     fn join(&self, alloc: Global, held: &Self::Abs, new: &Self::Abs) -> Result<Self::Abs, Memory>
-        ensures { IfOk result (λ joined. joined ≡ (meaning (base self.now)).join held.now new.now) };
+        ensures { IfOk result (λ joined. joined ≡ (analysis (base self.now)).join held.now new.now) };
 
     /// Such a state that grows in few steps: to marks of the program, or where `coarse` to whole classes.
     fn widen(
@@ -76,25 +70,45 @@ pub trait Chip {
         new: &Self::Abs,
         coarse: bool,
     ) -> Result<Self::Abs, Memory>
-        ensures { IfOk result (λ widened. widened ≡ (meaning (base self.now)).widen coarse held.now new.now) };
+        ensures { IfOk result (λ widened. widened ≡ (analysis (base self.now)).widen coarse held.now new.now) };
 
     /// The state that stands for all that may stand at the node.
     fn top(&self, alloc: Global, node: &Node) -> Result<Self::Abs, Memory>
-        ensures { IfOk result (λ top. top ≡ (meaning (base self.now)).top node.now) };
+        ensures { IfOk result (λ top. top ≡ (analysis (base self.now)).top node.now) };
 
     /// Whether all that `new` stands for stands under `held`, found part by part.
     fn within(&self, new: &Self::Abs, held: &Self::Abs) -> bool
-        ensures { result ≡ (meaning (base self.now)).within new.now held.now };
+        ensures { result ≡ (analysis (base self.now)).within new.now held.now };
 }
 
 /// A chip whose laws are proved, for generic code to use.
 pub trait LawfulChip: Chip {
+    /// One state of the chip itself.
+    type State;
+
+    /// What the chip does with a program, in single states.
+    ghost machine: { Self.Base → Machine Self.State };
+
+    /// When an abstract state stands for a single one.
+    ghost covers: { Self.Base → Cover Self.State Self.Abs };
+
     /// The programs of which the laws hold.
     ghost program: { Self.Base → Type 0 };
 
+    /// Programs under the same rules and limits.
+    ghost alike: { Self.Base → Self.Base → Type 0 };
+
+    /// The chip's own program is one of those.
+    fn is_program(&self)
+        ensures { program (Self.base self.now) };
+
     /// The laws: the start stands for each reset state, the work of a unit for each step, and the states are in order.
     fn laws()
-        ensures { (b : Self.Base) → program b → IsLawful (Self.meaning b) };
+        ensures { (b : Self.Base) → program b → IsLawful (machine b) (Self.analysis b) (covers b) };
+
+    /// What programs under the same rules and limits have in common.
+    fn alike_laws()
+        ensures { (a b : Self.Base) → alike a b → AreAlike (Self.analysis a) (Self.analysis b) };
 }
 
 /// A chip whose instructions have a text.

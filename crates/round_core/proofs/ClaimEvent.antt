@@ -4,22 +4,23 @@ use Rattle.std.proofs.Common.{sym, ◌∙◌, ap, subst}
 use Rattle.std.proofs.Math.Path.{ap₂}
 use Rattle.call_context.specs.declared.node.Unit.{Unit as WorkUnit}
 use Rattle.call_context.specs.SameLaws.{same_unit-refl}
-use Rattle.chip_law.specs.Meaning.{Meaning}
+use Rattle.chip_law.specs.Analysis.{Analysis}
 use Rattle.round_core.specs.declared.event.Event.{Event}
 use Rattle.round_core.specs.declared.event.Event.TheVariants.{Claim, GiveBack}
 use Rattle.round_core.specs.declared.parts.Parts.{Parts}
 use Rattle.round_core.specs.declared.place.Place.{Place}
 use Rattle.round_core.specs.declared.versions.Versions.{Versions}
-use Rattle.round_core.specs.Machine.{BookState, Out, out_at, without, with_out, inputs_of, versions_of, replay, IsFirst}
+use Rattle.round_core.specs.Machine.{BookState, Out, out_at, without, with_out, inputs_of, versions_of, replay, IsFirst, IsLegal, IsLegalJournal}
 use Rattle.round_core.specs.Claims.{placed}
 use Rattle.round_core.specs.Kept.{Kept, with_event}
-use Rattle.round_core.specs.Shown.{Shows}
+use Rattle.round_core.specs.Shown.{Shows, IsBook, StaysShown}
 use Rattle.round_core.specs.Tickets.{IsTicketOf}
 use Rattle.round_core.proofs.Cases.{if_true}
 use Rattle.round_core.proofs.MachineLemmas.{replay-more, after-claim, after-give_back}
 use Rattle.round_core.proofs.OutLemmas.{out_at-last}
+use Rattle.round_core.proofs.ReplayLaws.{IsLegalJournal-push}
 
-module _ {S A : Type 0} (m : Meaning S A) where
+module _ {A : Type 0} (m : Analysis A) where
   abbrev behind : BookState A → List (Out A) → BookState A
   behind b os = record b { out = os }
 
@@ -58,27 +59,40 @@ module _ {S A : Type 0} (m : Meaning S A) where
   given_back journal p' seat u e s =
       subst (λ c. Shows c p') (sym (ap (λ j. replay m j) e ∙ replay-more m journal (GiveBack seat u) ∙ after-give_back m (replay m journal) seat u)) s
 
-module _ {S A B : Type 0} (meaning : B → Meaning S A) where
+-- parts that stand for the same books, with the same journal
+pub book-stays : {A : Type 0} (m : Analysis A) (p p' : Parts A) → StaysShown p p' → p'.turns.journal ≡ p.turns.journal → IsBook m p.turns.journal p
+    → IsBook m p'.turns.journal p'
+book-stays m p p' stays same book = record {
+  shows = subst (λ j. Shows (replay m j) p') (sym same) (stays (replay m p.turns.journal) book.shows);
+  legal = subst (IsLegalJournal m) (sym same) book.legal;
+}
+
+-- the journal behind one more legal event is legal
+pub legal-more : {A : Type 0} (m : Analysis A) (journal journal' : List Event) (event : Event) → journal' ≡ journal ++ event ∷ []
+    → IsLegalJournal m journal → IsLegal (replay m journal) event → IsLegalJournal m journal'
+legal-more m journal journal' event more legal next = subst (IsLegalJournal m) (sym more) (IsLegalJournal-push m journal event legal next)
+
+module _ {A B : Type 0} (analysis : B → Analysis A) where
   abbrev kept : B → List Event → Kept B
   kept base journal = record { base = base; journal = journal }
 
   -- what a claim answers where the fields show what is kept
   pub answer-is : (k : Kept B) (base : B) (journal journal' : List Event) (seat : ℕ) (u : WorkUnit) (t : Out A) → kept base journal ≡ k
-      → IsFirst (replay (meaning base) journal) u → t.unit ≡ u → t.seat ≡ seat → journal' ≡ journal ++ Claim seat u ∷ []
-      → out_at (replay (meaning base) journal').out t.unit ≡ Some t
-      → IsFirst (replay (meaning k.base) k.journal) t.unit × (t.seat ≡ seat) × (kept base journal' ≡ with_event k (Claim seat t.unit))
-      × (out_at (replay (meaning k.base) journal').out t.unit ≡ Some t)
+      → IsFirst (replay (analysis base) journal) u → t.unit ≡ u → t.seat ≡ seat → journal' ≡ journal ++ Claim seat u ∷ []
+      → out_at (replay (analysis base) journal').out t.unit ≡ Some t
+      → IsFirst (replay (analysis k.base) k.journal) t.unit × (t.seat ≡ seat) × (kept base journal' ≡ with_event k (Claim seat t.unit))
+      × (out_at (replay (analysis k.base) journal').out t.unit ≡ Some t)
   answer-is k base journal journal' seat u t e first own seated more out =
-      let P : Kept B → Type 0 = λ c. IsFirst (replay (meaning c.base) c.journal) t.unit × (t.seat ≡ seat) × (kept base journal' ≡ with_event c (Claim seat t.unit))
-      × (out_at (replay (meaning c.base) journal').out t.unit ≡ Some t) in
+      let P : Kept B → Type 0 = λ c. IsFirst (replay (analysis c.base) c.journal) t.unit × (t.seat ≡ seat) × (kept base journal' ≡ with_event c (Claim seat t.unit))
+      × (out_at (replay (analysis c.base) journal').out t.unit ≡ Some t) in
       subst P e (
-        subst (λ v. IsFirst (replay (meaning base) journal) v) (sym own) first,
+        subst (λ v. IsFirst (replay (analysis base) journal) v) (sym own) first,
         seated,
         ap (λ j. kept base j) (more ∙ ap (λ v. journal ++ Claim seat v ∷ []) (sym own)),
         out,
       )
 
   pub legal-out : (k : Kept B) (base : B) (journal : List Event) (t : Out A) → kept base journal ≡ k
-      → out_at (replay (meaning k.base) k.journal).out t.unit ≡ Some t → out_at (replay (meaning base) journal).out t.unit ≡ Some t
+      → out_at (replay (analysis k.base) k.journal).out t.unit ≡ Some t → out_at (replay (analysis base) journal).out t.unit ≡ Some t
   legal-out k base journal t e out =
-      let P : Kept B → Type 0 = λ c. out_at (replay (meaning c.base) c.journal).out t.unit ≡ Some t in subst P (sym e) out
+      let P : Kept B → Type 0 = λ c. out_at (replay (analysis c.base) c.journal).out t.unit ≡ Some t in subst P (sym e) out

@@ -2,12 +2,12 @@
 use Rattle.std.specs.Prelude.{◌≡◌, List, [], ◌∷◌, ◌++◌}
 use Rattle.std.proofs.Common.{refl, ℕ}
 use Rattle.call_context.specs.declared.node.Unit.{Unit as WorkUnit}
-use Rattle.chip_law.specs.Meaning.{Meaning}
+use Rattle.chip_law.specs.Analysis.{Analysis}
 use Rattle.round_core.specs.declared.event.Event.{Event}
 use Rattle.round_core.specs.declared.event.Event.TheVariants.{Claim, Post, GiveBack}
 use Rattle.round_core.specs.Machine.{BookState, opening, out_at, without, with_out, inputs_of, posted, after, replay_from, replay}
 
-module _ {S A : Type 0} (m : Meaning S A) where
+module _ {A : Type 0} (m : Analysis A) where
   pub replay_from-more : (b : BookState A) (es : List Event) (e : Event) → replay_from m b (es ++ e ∷ []) ≡ after m (replay_from m b es) e
   unfolding replay_from
   replay_from-more b [] e = refl

@@ -1,7 +1,7 @@
 -- The event of a post.
 use Rattle.std.specs.Prelude.{◌≡◌, ℕ, Some, List, [], ◌∷◌, ◌++◌, length}
 use Rattle.std.proofs.Common.{sym, ◌∙◌, ap, subst, inl, inr}
-use Rattle.chip_law.specs.Meaning.{Meaning}
+use Rattle.chip_law.specs.Analysis.{Analysis}
 use Rattle.chip_law.specs.declared.chip.Work.{Work}
 use Rattle.round_core.specs.declared.event.Event.{Event}
 use Rattle.round_core.specs.declared.event.Event.TheVariants.{Post}
@@ -40,7 +40,7 @@ module _ {A : Type 0} where
     exits = λ pc f i at. g.exits f i (s.exits pc f i at);
   }
 
-module _ {S A : Type 0} (m : Meaning S A) where
+module _ {A : Type 0} (m : Analysis A) where
   abbrev with_work : BookState A → Out A → Work A → BookState A
   with_work b o work = record {
     nodes = all_raised m b.nodes work.posts;

@@ -5,7 +5,7 @@ use Rattle.std.proofs.Common.{refl, sym, ◌∙◌, ap, subst, inl, inr, arith}
 use Rattle.call_context.specs.declared.node.Node.{Node}
 use Rattle.call_context.specs.Same.{same_node}
 use Rattle.call_context.specs.SameLaws.{same_node-eq, same_node-refl}
-use Rattle.chip_law.specs.Meaning.{Meaning}
+use Rattle.chip_law.specs.Analysis.{Analysis}
 use Rattle.round_core.specs.Machine.{Held, held_at, place_of, with_held, risen, raised, all_raised}
 use Rattle.round_core.specs.Raise.{with_all}
 use Rattle.round_core.specs.Shown.{AreDistinct}
@@ -198,7 +198,7 @@ module _ {A : Type 0} where
   with_all-append ns [] x = refl
   with_all-append ns (e ∷ es) x = with_all-append (with_held ns e) es x
 
-  module _ {S : Type 0} (m : Meaning S A) where
+  module _ (m : Analysis A) where
     risen-node : (h : Held A) (s : A) (b : Bool) → (if b then h else record { node = h.node; state = Rattle.round_core.specs.Machine.risen_state m h.node h.state s (h.rises + 1); rises = h.rises + 1 }).node ≡ h.node
     risen-node h s true = refl
     risen-node h s false = refl

@@ -1,12 +1,12 @@
 -- Three chips of the tests: one that counts at its only node, one that counts and never comes to rest, and one with a
 -- chain of nodes.
-use Rattle.std.specs.Prelude.{ℕ, ◌+◌, false, nat_le, nat_lt, if◌then◌else◌, List, [], ◌∷◌, max, min}
+use Rattle.std.specs.Prelude.{ℕ, ◌+◌, ◌≤◌, false, nat_le, nat_lt, if◌then◌else◌, List, [], ◌∷◌, max, min}
 use Rattle.call_context.specs.declared.node.Frame.TheVariants.{Base}
 use Rattle.call_context.specs.declared.node.Node.{Node}
 use Rattle.call_context.specs.declared.node.Node.TheVariants.{At, Exit}
 use Rattle.call_context.specs.declared.node.Unit.{Unit as WorkUnit}
 use Rattle.call_context.specs.declared.node.Unit.TheVariants.{One, Back}
-use Rattle.chip_law.specs.Meaning.{Meaning}
+use Rattle.chip_law.specs.Analysis.{Analysis}
 use Rattle.chip_law.specs.declared.chip.Work.{Work}
 
 abbrev pub node_at : ℕ → Node
@@ -17,11 +17,8 @@ abbrev pub posting : List (Node × ℕ) → Work ℕ
 posting posts = record { items = []; posts = posts; waits = []; opens = [] }
 
 -- numbers from 0 to the greatest, of which each is within each that is no less
-abbrev pub counts_by : (WorkUnit → ℕ → Work ℕ) → Meaning ℕ ℕ
+abbrev pub counts_by : (WorkUnit → ℕ → Work ℕ) → Analysis ℕ
 counts_by work = record {
-  pc = λ s. s;
-  IsReset = λ s. ⊥;
-  Step = λ s outcome. ⊥;
   first_node = node_at 0;
   first_state = 0;
   work = λ u at exit. work u at;
@@ -29,12 +26,12 @@ counts_by work = record {
   join = max;
   widen = λ coarse. max;
   top = λ node. 4294967295;
-  HasForm = λ node a. Unit {0};
-  Covers = λ node a s first. ⊥;
+  HasForm = λ node a. a ≤ 4294967295;
+  Breaks = λ pc cause. ⊥;
 }
 
 -- the same, where no number is within another: whatever is posted raises its node
-abbrev pub without_order : (WorkUnit → ℕ → Work ℕ) → Meaning ℕ ℕ
+abbrev pub without_order : (WorkUnit → ℕ → Work ℕ) → Analysis ℕ
 without_order work = record (counts_by work) { within = λ new held. false }
 
 -- the only node posts its number plus one to itself, where that is a number

@@ -1,5 +1,5 @@
 -- What a book has once, and how often a unit was claimed, posted and given back.
-use Rattle.std.specs.Prelude.{ℕ, ◌==◌, ◌&&◌, Bool, true, false, cond, Option, None, Some, List, count_by, ◌≡◌, [], ◌∷◌}
+use Rattle.std.specs.Prelude.{ℕ, ◌==◌, ◌&&◌, Bool, true, false, cond, Option, None, Some, List, count_by, ◌≡◌, ◌≢◌, [], ◌∷◌}
 use Rattle.call_context.specs.declared.node.Unit.{Unit as WorkUnit}
 use Rattle.call_context.specs.Same.{same_unit}
 use Rattle.round_core.specs.declared.event.Event.{Event}
@@ -59,3 +59,13 @@ give_backs_by seat unit journal = count_by (is_give_back (λ s. s == seat) unit)
 abbrev pub outs : {A : Type 0} → (ℕ → Bool) → Option (Out A) → ℕ
 outs seats None = 0
 outs seats (Some o) = cond (seats o.seat) 1 0
+
+-- no event of the list is that seat's
+abbrev pub seat_of : Event → ℕ
+seat_of (Claim seat unit) = seat
+seat_of (Post seat unit) = seat
+seat_of (GiveBack seat unit) = seat
+
+abbrev pub NoneOfSeat : ℕ → List Event → Type 0
+NoneOfSeat seat [] = Unit {0}
+NoneOfSeat seat (event ∷ events) = (seat_of event ≢ seat) × NoneOfSeat seat events

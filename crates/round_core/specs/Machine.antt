@@ -10,7 +10,7 @@ use Rattle.call_context.specs.declared.node.Node.TheVariants.{At, Exit}
 use Rattle.call_context.specs.declared.node.Unit.{Unit as WorkUnit}
 use Rattle.call_context.specs.declared.node.Unit.TheVariants.{One, Back}
 use Rattle.call_context.specs.Same.{same_frame, same_node, same_unit}
-use Rattle.chip_law.specs.Meaning.{Meaning}
+use Rattle.chip_law.specs.Analysis.{Analysis}
 use Rattle.chip_law.specs.declared.chip.Work.{Work}
 use Rattle.round_core.specs.declared.versions.Versions.{Versions}
 use Rattle.round_core.specs.declared.event.Event.{Event}
@@ -118,7 +118,7 @@ pub record IsFinished {A : Type 0} (b : BookState A) : Type 0 where
   pub none_out : b.out ≡ []
   pub none_claimable : NoneClaimable b
 
-module _ {S A : Type 0} (m : Meaning S A) where
+module _ {A : Type 0} (m : Analysis A) where
   -- the start node with one rise, and nothing else
   abbrev pub opening : BookState A
   opening = record { nodes = record { node = m.first_node; state = m.first_state; rises = 1 } ∷ []; done = []; out = [] }
@@ -181,7 +181,7 @@ with_out b seat unit (Some inputs) = b.out ++ record {
 } ∷ []
 
 -- the book behind the work of a unit that was out
-abbrev pub posted : {S A : Type 0} → Meaning S A → BookState A → Option (Out A) → BookState A
+abbrev pub posted : {A : Type 0} → Analysis A → BookState A → Option (Out A) → BookState A
 posted m b None = b
 posted m b (Some o) = let work = m.work o.unit o.at o.exit in record {
   nodes = all_raised m b.nodes work.posts;
@@ -190,7 +190,7 @@ posted m b (Some o) = let work = m.work o.unit o.at o.exit in record {
 }
 
 -- the book behind an event
-unfoldable pub after : {S A : Type 0} → Meaning S A → BookState A → Event → BookState A
+unfoldable pub after : {A : Type 0} → Analysis A → BookState A → Event → BookState A
 after m b (Claim seat unit) = record b { out = with_out b seat unit (inputs_of b.nodes unit) }
 after m b (Post seat unit) = posted m b (out_at b.out unit)
 after m b (GiveBack seat unit) = record b { out = without b.out unit }
@@ -206,19 +206,19 @@ IsLegal b (Post seat unit) = IsOutTo b seat unit
 IsLegal b (GiveBack seat unit) = IsOutTo b seat unit
 
 -- the book behind events, from another one and from the opening
-unfoldable pub replay_from : {S A : Type 0} → Meaning S A → BookState A → List Event → BookState A
+unfoldable pub replay_from : {A : Type 0} → Analysis A → BookState A → List Event → BookState A
 replay_from m b [] = b
 replay_from m b (event ∷ events) = replay_from m (after m b event) events
 
-abbrev pub replay : {S A : Type 0} → Meaning S A → List Event → BookState A
+abbrev pub replay : {A : Type 0} → Analysis A → List Event → BookState A
 replay m journal = replay_from m (opening m) journal
 
 -- each event is legal at its place
-unfoldable pub AllLegal : {S A : Type 0} → Meaning S A → BookState A → List Event → Type 0
+unfoldable pub AllLegal : {A : Type 0} → Analysis A → BookState A → List Event → Type 0
 AllLegal m b [] = Unit {0}
 AllLegal m b (event ∷ events) = IsLegal b event × AllLegal m (after m b event) events
 
-abbrev pub IsLegalJournal : {S A : Type 0} → Meaning S A → List Event → Type 0
+abbrev pub IsLegalJournal : {A : Type 0} → Analysis A → List Event → Type 0
 IsLegalJournal m journal = AllLegal m (opening m) journal
 
 -- no work of a unit of the book leaves a site open

@@ -6,7 +6,9 @@ use Rattle.call_context.specs.declared.node.Node.TheVariants.{Exit}
 use Rattle.call_context.specs.declared.node.Unit.{Unit as WorkUnit}
 use Rattle.round_core.specs.declared.place.Place.{Place}
 use Rattle.round_core.specs.declared.parts.Parts.{Parts}
-use Rattle.round_core.specs.Machine.{BookState, Held, Out, held_at, out_at, place_of, waits_for, IsClaimable}
+use Rattle.chip_law.specs.Analysis.{Analysis}
+use Rattle.round_core.specs.declared.event.Event.{Event}
+use Rattle.round_core.specs.Machine.{BookState, Held, Out, held_at, out_at, place_of, waits_for, IsClaimable, IsLegalJournal, replay}
 use Rattle.round_core.specs.Claims.{placed, claimable_at}
 use Rattle.round_core.specs.Agenda.{IsIn, places_in}
 use Rattle.round_core.specs.Turns.{place_out}
@@ -47,3 +49,8 @@ module _ {A : Type 0} where
   -- whatever book the first parts stand for, the second stand for it too
   abbrev pub StaysShown : Parts A → Parts A → Type 0
   StaysShown old new = (b : BookState A) → Shows b old → Shows b new
+
+-- the fields of a book stand for the replay of its journal, of which each event was legal
+pub record IsBook {A : Type 0} (a : Analysis A) (journal : List Event) (p : Parts A) : Type 0 where
+  pub shows : Shows (replay a journal) p
+  pub legal : IsLegalJournal a journal

@@ -2,7 +2,7 @@
 
 ghost use Rattle.std.specs.Prelude.{◌≡◌, ◌↔◌, [], IsTrue, IfOk};
 ghost use Rattle.round_core.specs.Kept.{nodes_of, works_of, is_live};
-ghost use Rattle.round_core.specs.Machine.{replay, IsFinished};
+ghost use Rattle.round_core.specs.Machine.{replay, IsFinished, IsLegalJournal};
 
 use crate::event::Event;
 use crate::parts::Parts;
@@ -10,27 +10,27 @@ use call_context::{Node, Unit};
 use chip_law::{Chip, Work};
 use std::alloc::Global;
 use std::marker::Model;
+use std::snapshot::Snapshot;
 use vsa_io::Memory;
 
 /// The nodes of an analysis with their states, the last works of its units, and what happened to them. Contracts see
 /// the chip's program with options, and the journal: all else is what its replay gives.
 #[derive(Drop)]
 pub struct Book<C: Chip> {
-    /// The chip's program with options.
-    pub(crate) base: C::Base,
+    /// Only clauses read it: a snapshot has no bytes, so that a book holds no program.
+    chip: Snapshot<C>,
     pub(crate) parts: Parts<C::Abs>,
 }
 
 impl<C: Chip> Model for Book<C> {
     ghost use Rattle.round_core.specs.Kept.{Kept};
-    ghost use Rattle.round_core.specs.Machine.{replay};
-    ghost use Rattle.round_core.specs.Shown.{Shows};
+    ghost use Rattle.round_core.specs.Shown.{IsBook};
 
     ghost Value = { Kept C.Base };
 
-    ghost view = { λ b. record { base = b.base; journal = b.parts.turns.journal } };
+    ghost view = { λ b. record { base = C.base b.chip.value; journal = b.parts.turns.journal } };
 
-    ghost invariant = { λ b. Shows (replay (C.meaning b.base) b.parts.turns.journal) b.parts };
+    ghost invariant = { λ b. IsBook (C.analysis (C.base b.chip.value)) b.parts.turns.journal b.parts };
 }
 
 impl<C: Chip> Book<C> {
@@ -38,37 +38,40 @@ impl<C: Chip> Book<C> {
     pub fn open(alloc: Global, chip: &C) -> Result<Self, Memory>
         ensures { IfOk result (λ book. book ≡ record { base = C.base chip.now; journal = [] }) }
     {
-        let base = chip.base(alloc)?;
         let (node, state) = chip.start(alloc)?;
         let parts = Parts::open(alloc, node, state)?;
-        Ok(Book { base, parts })
+        Ok(Book {
+            chip: Snapshot::of(chip),
+            parts,
+        })
     }
 
     /// The nodes with their states, in the order of their first post.
     pub fn nodes(&self) -> &[(Node, C::Abs)]
-        ensures { result.now ≡ nodes_of (replay (C.meaning self.now.base) self.now.journal) }
+        ensures { result.now ≡ nodes_of (replay (C.analysis self.now.base) self.now.journal) }
     {
         self.parts.nodes.as_slice()
     }
 
     /// The last work of each unit that was done, in the order in which the units were first done.
     pub fn works(&self) -> &[(Unit, Work<C::Abs>)]
-        ensures { result.now ≡ works_of (replay (C.meaning self.now.base) self.now.journal) }
+        ensures { result.now ≡ works_of (replay (C.analysis self.now.base) self.now.journal) }
     {
         self.parts.works.as_slice()
     }
 
-    /// All that happened, in order.
+    /// All that happened, in order: each event was legal at its place.
     pub fn journal(&self) -> &[Event]
-        ensures { result.now ≡ self.now.journal }
+        ensures events { result.now ≡ self.now.journal }
+        ensures legal { IsLegalJournal (C.analysis self.now.base) self.now.journal }
     {
         self.parts.turns.journal()
     }
 
     /// The nodes with their states, the last works, and the journal.
     pub fn into_parts(self) -> (Vec<(Node, C::Abs)>, Vec<(Unit, Work<C::Abs>)>, Vec<Event>)
-        ensures nodes { result.0.items ≡ nodes_of (replay (C.meaning self.base) self.journal) }
-        ensures works { result.1.items ≡ works_of (replay (C.meaning self.base) self.journal) }
+        ensures nodes { result.0.items ≡ nodes_of (replay (C.analysis self.base) self.journal) }
+        ensures works { result.1.items ≡ works_of (replay (C.analysis self.base) self.journal) }
         ensures journal { result.2.items ≡ self.journal }
     {
         self.parts.into_vecs()
@@ -77,14 +80,14 @@ impl<C: Chip> Book<C> {
     /// Whether a unit that was done is still one of the book: a return whose location no longer waits for the frame of
     /// the exit isn't.
     pub fn is_live(&self, unit: &Unit) -> bool
-        ensures { result ≡ is_live (replay (C.meaning self.now.base) self.now.journal).done unit.now }
+        ensures { result ≡ is_live (replay (C.analysis self.now.base) self.now.journal).done unit.now }
     {
         self.parts.works.is_live(unit)
     }
 
     /// Whether no unit is out and none can be claimed.
     pub fn finished(&self) -> bool
-        ensures { IsTrue result ↔ IsFinished (replay (C.meaning self.now.base) self.now.journal) }
+        ensures { IsTrue result ↔ IsFinished (replay (C.analysis self.now.base) self.now.journal) }
     {
         self.parts.is_finished()
     }

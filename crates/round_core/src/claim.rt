@@ -58,7 +58,7 @@ impl<C: Chip> Book<C> {
     /// Takes out the first unit that can be claimed. A refusal leaves the book as it was.
     pub fn claim(&mut self, chip: &C, seat: u32) -> Result<Claimed<C>, Memory>
         requires { C.base chip.now ≡ self.old.base }
-        ensures answer { IfOk result (λ claimed. AnswersClaim (C.meaning self.old.base) self.old self.new seat claimed) }
+        ensures answer { IfOk result (λ claimed. AnswersClaim (C.analysis self.old.base) self.old self.new seat claimed) }
         ensures refused { OnErr result (self.new ≡ self.old) }
     {
         let Some((place, unit)) = self.parts.take_first()? else {
@@ -76,7 +76,7 @@ impl<C: Chip> Book<C> {
 
     /// Puts a unit back without work.
     pub fn give_back(&mut self, ticket: Ticket<C>)
-        requires { IsOutOf (replay (C.meaning self.old.base) self.old.journal) ticket }
+        requires { IsOutOf (replay (C.analysis self.old.base) self.old.journal) ticket }
         ensures { self.new ≡ with_event self.old (Event.GiveBack ticket.seat ticket.unit) }
     {
         let (seat, unit, _) = ticket.into_parts();

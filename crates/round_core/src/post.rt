@@ -25,7 +25,7 @@ fn prepare<C: Chip>(
 ) -> Result<Nodes<C::Abs>, Memory>
     ensures shown { StaysShown parts.old parts.new }
     ensures journal { parts.new.turns.journal ≡ parts.old.turns.journal }
-    ensures raised { IfOk result (λ raised. with_all parts.old.nodes.rows raised.rows ≡ all_raised (C.meaning (C.base chip.now)) parts.old.nodes.rows done.now.work.posts) }
+    ensures raised { IfOk result (λ raised. with_all parts.old.nodes.rows raised.rows ≡ all_raised (C.analysis (C.base chip.now)) parts.old.nodes.rows done.now.work.posts) }
     ensures prepared { IfOk result (λ raised. IsPrepared parts.old parts.new done.now.ticket.unit done.now.work.waits raised.rows) }
 {
     let alloc = parts.nodes.allocator();
@@ -38,8 +38,8 @@ impl<C: Chip> Book<C> {
     /// Takes in the work of a unit that is out. A refusal leaves the book as it was, and hands the work back.
     pub fn post(&mut self, chip: &C, done: Done<C>) -> Result<(), (Memory, Done<C>)>
         requires chip { C.base chip.now ≡ self.old.base }
-        requires out { IsOutOf (replay (C.meaning self.old.base) self.old.journal) done.ticket }
-        requires work { done.work ≡ (C.meaning self.old.base).work done.ticket.unit done.ticket.at done.ticket.exit }
+        requires out { IsOutOf (replay (C.analysis self.old.base) self.old.journal) done.ticket }
+        requires work { done.work ≡ (C.analysis self.old.base).work done.ticket.unit done.ticket.at done.ticket.exit }
         ensures posted { OnOk result (self.new ≡ with_event self.old (Event.Post done.ticket.seat done.ticket.unit)) }
         ensures refused { OnErr result (self.new ≡ self.old) }
         ensures handed_back { IfErr result (λ refused. refused.1 ≡ done) }

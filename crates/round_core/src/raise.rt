@@ -27,7 +27,7 @@ fn state_after<C: Chip>(
     posted: &C::Abs,
     rises: u32,
 ) -> Result<C::Abs, Memory>
-    ensures { IfOk result (λ state. state ≡ risen_state (C.meaning (C.base chip.now)) node.now held.now posted.now rises) }
+    ensures { IfOk result (λ state. state ≡ risen_state (C.analysis (C.base chip.now)) node.now held.now posted.now rises) }
 {
     if rises <= JOINS {
         chip.join(alloc, held, posted)
@@ -60,7 +60,7 @@ fn risen_row<C: Chip>(
     rises: u32,
     posted: &C::Abs,
 ) -> Result<Option<(C::Abs, u32)>, Memory>
-    ensures { IfOk result (λ row. MatchOption row ((C.meaning (C.base chip.now)).within posted.now held.now ≡ true) (λ risen. ((C.meaning (C.base chip.now)).within posted.now held.now ≡ false) × (risen.1 ≡ rises + 1) × (risen.0 ≡ risen_state (C.meaning (C.base chip.now)) node.now held.now posted.now (rises + 1)))) }
+    ensures { IfOk result (λ row. MatchOption row ((C.analysis (C.base chip.now)).within posted.now held.now ≡ true) (λ risen. ((C.analysis (C.base chip.now)).within posted.now held.now ≡ false) × (risen.1 ≡ rises + 1) × (risen.0 ≡ risen_state (C.analysis (C.base chip.now)) node.now held.now posted.now (rises + 1)))) }
 {
     if chip.within(posted, held) {
         return Ok(None);
@@ -83,7 +83,7 @@ fn raise_one<C: Chip>(
 ) -> Result<(), Memory>
     requires { AreDistinct all.old.rows }
     ensures distinct { OnOk result (AreDistinct all.new.rows) }
-    ensures raised { OnOk result (with_all nodes.now.rows all.new.rows ≡ raised (C.meaning (C.base chip.now)) (with_all nodes.now.rows all.old.rows) (node.now, posted.now)) }
+    ensures raised { OnOk result (with_all nodes.now.rows all.new.rows ≡ raised (C.analysis (C.base chip.now)) (with_all nodes.now.rows all.old.rows) (node.now, posted.now)) }
 {
     match held_in(nodes, all, node) {
         Some((held, rises)) => match risen_row(alloc, chip, node, held, rises, posted)? {
@@ -105,7 +105,7 @@ pub fn all_raised<C: Chip>(
     posts: &[(Node, C::Abs)],
 ) -> Result<Nodes<C::Abs>, Memory>
     ensures distinct { IfOk result (λ all. AreDistinct all.rows) }
-    ensures raised { IfOk result (λ all. with_all nodes.now.rows all.rows ≡ all_raised (C.meaning (C.base chip.now)) nodes.now.rows posts.now) }
+    ensures raised { IfOk result (λ all. with_all nodes.now.rows all.rows ≡ all_raised (C.analysis (C.base chip.now)) nodes.now.rows posts.now) }
 {
     let mut all = Nodes::new(alloc);
     for (node, posted) in posts {

@@ -51,19 +51,13 @@ fn posting(alloc: Global, post: Option<(Node, u32)>) -> Result<Work<u32>, Memory
 impl Chip for Counter {
     type Base = ();
 
-    type State = u32;
-
     type Abs = u32;
 
     ghost use Rattle.round_core.specs.Counting.{counts_by, next_count};
 
     ghost base = { λ _. tt };
 
-    ghost meaning = { λ _. counts_by next_count };
-
-    fn base(&self, _alloc: Global) -> Result<(), Memory> {
-        Ok(())
-    }
+    ghost analysis = { λ _. counts_by next_count };
 
     fn start(&self, _alloc: Global) -> Result<(Node, u32), Memory> {
         Ok((node_at(0), 0))
@@ -114,19 +108,13 @@ struct Restless;
 impl Chip for Restless {
     type Base = ();
 
-    type State = u32;
-
     type Abs = u32;
 
     ghost use Rattle.round_core.specs.Counting.{next_count, without_order};
 
     ghost base = { λ _. tt };
 
-    ghost meaning = { λ _. without_order next_count };
-
-    fn base(&self, _alloc: Global) -> Result<(), Memory> {
-        Ok(())
-    }
+    ghost analysis = { λ _. without_order next_count };
 
     fn start(&self, _alloc: Global) -> Result<(Node, u32), Memory> {
         Ok((node_at(0), 0))
@@ -172,19 +160,13 @@ struct Chain {
 impl Chip for Chain {
     type Base = u16;
 
-    type State = u32;
-
     type Abs = u32;
 
     ghost use Rattle.round_core.specs.Counting.{counts_by, next_node};
 
     ghost base = { λ chain. chain.last };
 
-    ghost meaning = { λ last. counts_by (next_node last) };
-
-    fn base(&self, _alloc: Global) -> Result<u16, Memory> {
-        Ok(self.last)
-    }
+    ghost analysis = { λ last. counts_by (next_node last) };
 
     fn start(&self, _alloc: Global) -> Result<(Node, u32), Memory> {
         Ok((node_at(0), 0))

@@ -1,16 +1,13 @@
 use Rattle.round_core.specs.Machine.{replay}
-use Rattle.round_core.specs.ReplayLaws.{IsSteady-replay}
-use Rattle.round_core.specs.TableLaws.{table-unit, book-unit}
+use Rattle.round_core.proofs.ReplayLaws.{IsSteady-replay}
+use Rattle.round_core.proofs.TableLaws.{table-unit, book-unit}
 use Rattle.round_core.proofs.laws.finished_book_is_its_table.Goals as goal
 
 pub returns-clause-units : goal.returns-clause-units
-returns-clause-units g c = λ base journal unit l f u.
-    let m = g.C.Chip.meaning base in book-unit m (replay m journal) f (IsSteady-replay m journal l) unit u
+returns-clause-units g c = λ base journal unit l f u. let a = g.C.Chip.analysis base in book-unit a (replay a journal) f (IsSteady-replay a journal l) unit u
 
 pub returns-clause-known : goal.returns-clause-known
-returns-clause-known g c = λ base journal unit at exit l f o.
-    let m = g.C.Chip.meaning base in (table-unit m (replay m journal) f (IsSteady-replay m journal l) unit at exit o).0
+returns-clause-known g c = λ base journal unit at exit l f o. let a = g.C.Chip.analysis base in (table-unit a (replay a journal) f (IsSteady-replay a journal l) unit at exit o).0
 
 pub returns-clause-works : goal.returns-clause-works
-returns-clause-works g c = λ base journal unit at exit l f o.
-    let m = g.C.Chip.meaning base in (table-unit m (replay m journal) f (IsSteady-replay m journal l) unit at exit o).1
+returns-clause-works g c = λ base journal unit at exit l f o. let a = g.C.Chip.analysis base in (table-unit a (replay a journal) f (IsSteady-replay a journal l) unit at exit o).1

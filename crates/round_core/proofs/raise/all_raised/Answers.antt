@@ -6,7 +6,7 @@ use Rattle.round_core.proofs.raise.all_raised.Goals as goal
 
 pub loop-node-preserved : goal.loop-node-preserved
 loop-node-preserved g c =
-    let m = g.C.Chip.meaning (g.C.Chip.base c.args.chip.now) in
+    let m = g.C.Chip.analysis (g.C.Chip.base c.args.chip.now) in
     let ns = c.args.nodes.now.rows in
     let posts = c.args.posts.now in
     let i = c.loop-node.node-index in

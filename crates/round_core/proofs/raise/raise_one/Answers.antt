@@ -13,7 +13,7 @@ returns-in-Some-2-clause-distinct g c =
 
 pub returns-in-Some-2-clause-raised : goal.returns-in-Some-2-clause-raised
 returns-in-Some-2-clause-raised g c =
-    let m = g.C.Chip.meaning (g.C.Chip.base c.args.chip.now) in
+    let m = g.C.Chip.analysis (g.C.Chip.base c.args.chip.now) in
     let ns = c.args.nodes.now.rows in
     let es = c.args.all.now.rows in
     let n = c.args.node.now in
@@ -31,7 +31,7 @@ returns-in-Some-2-clause-raised g c =
 
 pub returns-in-None-2-clause-raised : goal.returns-in-None-2-clause-raised
 returns-in-None-2-clause-raised g c =
-    let m = g.C.Chip.meaning (g.C.Chip.base c.args.chip.now) in
+    let m = g.C.Chip.analysis (g.C.Chip.base c.args.chip.now) in
     let n = c.args.node.now in
     let s = c.args.posted.now in
     let held = c.in-Some.held.now in
@@ -45,7 +45,7 @@ returns-in_ok-state-in-None-clause-distinct g c =
 
 pub returns-in_ok-state-in-None-clause-raised : goal.returns-in_ok-state-in-None-clause-raised
 returns-in_ok-state-in-None-clause-raised g c =
-    let m = g.C.Chip.meaning (g.C.Chip.base c.args.chip.now) in
+    let m = g.C.Chip.analysis (g.C.Chip.base c.args.chip.now) in
     let ns = c.args.nodes.now.rows in
     let es = c.args.all.now.rows in
     let n = c.args.node.now in

@@ -1,14 +1,21 @@
-use Rattle.std.proofs.Common.{◌∙◌, ap}
+use Rattle.std.proofs.Common.{◌∙◌, ap, sym}
+use Rattle.round_core.specs.declared.event.Event.TheVariants.{GiveBack}
 use Rattle.round_core.specs.Machine.{replay, out_at}
-use Rattle.round_core.proofs.ClaimEvent.{given_back, legal-out}
+use Rattle.round_core.proofs.ClaimEvent.{given_back, legal-out, legal-more}
 use Rattle.round_core.proofs.book.Book.give_back.Goals as goal
 
 pub invariant_of-self : goal.invariant_of-self
 invariant_of-self g c =
-    let m = g.C.Chip.meaning c.self.inside.base in
+    let m = g.C.Chip.analysis (g.C.Chip.base c.self.inside.chip.value) in
     let journal = c.self.inside.parts.turns.journal in
     let b = replay m journal in
-    let out = legal-out (λ base. g.C.Chip.meaning base) c.args.self.now c.self.inside.base journal c.args.ticket c.self.view_is c.requires in
+    let out = legal-out (λ base. g.C.Chip.analysis base) c.args.self.now (g.C.Chip.base c.self.inside.chip.value) journal c.args.ticket c.self.view_is c.requires in
     let own = c.into_parts-seat.ensures.1 in
-    given_back m journal c.give_back.new.self c.into_parts-seat.result.0 c.into_parts-seat.result.1 c.give_back.ensures.journal
-    (c.give_back.ensures.home b c.args.ticket c.self.invariant (ap (λ u. out_at b.out u) own ∙ out))
+    let unit = c.into_parts-seat.result.1 in
+    let found = ap (λ u. out_at b.out u) own ∙ out in
+    record {
+      shows = given_back m journal c.give_back.new.self c.into_parts-seat.result.0 unit c.give_back.ensures.journal
+          (c.give_back.ensures.home b c.args.ticket c.self.invariant.shows found);
+      legal = legal-more m journal c.give_back.new.self.turns.journal (GiveBack c.into_parts-seat.result.0 unit) c.give_back.ensures.journal
+          c.self.invariant.legal (c.args.ticket, found, sym c.into_parts-seat.ensures.0);
+    }

@@ -1,17 +1,17 @@
 use Rattle.std.proofs.Common.{◌≡◌, ◌∙◌, ◌++◌, ◌∷◌, [], ap, sym, subst, refl}
 use Rattle.std.proofs.Math.Path.{ap₂}
 use Rattle.round_core.specs.declared.event.Event.TheVariants.{Post}
-use Rattle.round_core.specs.Machine.{replay, all_raised, with_done}
+use Rattle.round_core.specs.Machine.{replay, all_raised, with_done, IsLegalJournal}
 use Rattle.round_core.specs.Raise.{with_all}
 use Rattle.round_core.specs.Shown.{Shows}
 use Rattle.round_core.specs.Turns.{TakesHome}
-use Rattle.round_core.proofs.ClaimEvent.{legal-out}
+use Rattle.round_core.proofs.ClaimEvent.{legal-out, book-stays, legal-more}
 use Rattle.round_core.proofs.PostEvent.{posted-shown}
 use Rattle.round_core.proofs.book.Book.post.Goals as goal
 
 pub invariant_of-self : goal.invariant_of-self
 invariant_of-self g c =
-    let m = g.C.Chip.meaning c.self.inside.base in
+    let m = g.C.Chip.analysis (g.C.Chip.base c.self.inside.chip.value) in
     let p = c.self.inside.parts in
     let q = c.prepare.new.parts in
     let p' = c.post.new.self in
@@ -20,21 +20,25 @@ invariant_of-self g c =
     let raised = c.in-Ok.raised.rows in
     let seat = c.into_parts-seat.result.0 in
     let parts = c.into_parts-seat.ensures in
-    let same_base : c.self.inside.base ≡ c.args.self.now.base = ap (λ k. k.base) c.self.view_is in
-    let out = legal-out (λ base. g.C.Chip.meaning base) c.args.self.now c.self.inside.base p.turns.journal t c.self.view_is c.requires.out in
+    let same_base : (g.C.Chip.base c.self.inside.chip.value) ≡ c.args.self.now.base = ap (λ k. k.base) c.self.view_is in
+    let out = legal-out (λ base. g.C.Chip.analysis base) c.args.self.now (g.C.Chip.base c.self.inside.chip.value) p.turns.journal t c.self.view_is c.requires.out in
     let own : work ≡ m.work t.unit t.at t.exit =
-    c.requires.work ∙ ap (λ base. (g.C.Chip.meaning base).work t.unit t.at t.exit) (sym same_base) in
+    c.requires.work ∙ ap (λ base. (g.C.Chip.analysis base).work t.unit t.at t.exit) (sym same_base) in
     let rise : with_all p.nodes.rows raised ≡ all_raised m p.nodes.rows work.posts =
-    c.in-Ok.ensures.raised ∙ ap (λ base. all_raised (g.C.Chip.meaning base) p.nodes.rows work.posts) (c.requires.chip ∙ sym same_base) in
-    posted-shown m p.turns.journal p q p' seat t work raised c.self.invariant refl out own c.in-Ok.ensures.prepared rise
-    c.post.ensures.nodes
-    (c.post.ensures.works ∙ ap₂ (λ u v. with_done q.works.rows (record { unit = u; work = work; versions = v })) parts.1 parts.2)
-    (c.post.ensures.journal ∙ ap (λ u. q.turns.journal ++ Post seat u ∷ []) parts.1)
-    (subst (λ u. TakesHome q.turns.out u p'.turns.out) parts.1 c.post.ensures.out)
-    c.post.ensures.returned c.post.ensures.agenda
+    c.in-Ok.ensures.raised ∙ ap (λ base. all_raised (g.C.Chip.analysis base) p.nodes.rows work.posts) (c.requires.chip ∙ sym same_base) in
+    let more = c.post.ensures.journal ∙ ap (λ u. q.turns.journal ++ Post seat u ∷ []) parts.1 in
+    record {
+      shows = posted-shown m p.turns.journal p q p' seat t work raised c.self.invariant.shows refl out own c.in-Ok.ensures.prepared rise
+          c.post.ensures.nodes
+          (c.post.ensures.works ∙ ap₂ (λ u v. with_done q.works.rows (record { unit = u; work = work; versions = v })) parts.1 parts.2)
+          more
+          (subst (λ u. TakesHome q.turns.out u p'.turns.out) parts.1 c.post.ensures.out)
+          c.post.ensures.returned c.post.ensures.agenda;
+      legal = legal-more m p.turns.journal p'.turns.journal (Post seat t.unit) (more ∙ ap (λ j. j ++ Post seat t.unit ∷ []) c.prepare.ensures.journal)
+          c.self.invariant.legal (t, out, sym parts.0);
+    }
 
 pub invariant_of-self-in-Err : goal.invariant_of-self-in-Err
 invariant_of-self-in-Err g c =
-    let m = g.C.Chip.meaning c.self.inside.base in
-    let journal = c.self.inside.parts.turns.journal in
-    subst (λ j. Shows (replay m j) c.prepare.new.parts) (sym c.prepare.ensures.journal) (c.prepare.ensures.shown (replay m journal) c.self.invariant)
+    let m = g.C.Chip.analysis (g.C.Chip.base c.self.inside.chip.value) in
+    book-stays m c.self.inside.parts c.prepare.new.parts c.prepare.ensures.shown c.prepare.ensures.journal c.self.invariant

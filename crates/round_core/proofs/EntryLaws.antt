@@ -1,5 +1,6 @@
 -- The entries of units that were done and of those that are out, and the inputs of units, under events.
-use Rattle.std.specs.Prelude.{◌≡◌, ℕ, ◌<◌, ◌≤◌, true, false, Option, None, Some, List, [], ◌∷◌, ◌++◌}
+use Rattle.std.specs.Prelude.{◌≡◌, ℕ, ◌<◌, ◌≤◌, true, false, Option, None, Some, List, [], ◌∷◌, ◌++◌, Contains}
+use Rattle.call_context.specs.Members.{in_none, in_cons, in_first, in_rest}
 use Rattle.std.specs.List.{AllByRecursion}
 use Rattle.std.specs.Option.{option_map, option_and_then}
 use Rattle.std.proofs.Common.{refl, sym, ◌∙◌, ap, ap₂, subst, inl, inr, arith}
@@ -11,7 +12,7 @@ use Rattle.call_context.specs.declared.node.Unit.TheVariants.{One, Back}
 use Rattle.call_context.specs.Same.{same_unit}
 use Rattle.call_context.specs.SameLaws.{same_unit-refl, same_unit-eq}
 use Rattle.round_core.specs.declared.versions.Versions.{Versions}
-use Rattle.round_core.specs.HeldLaws.{AllStay, held_at-later, version_of-later, state-later, option_map-some}
+use Rattle.round_core.proofs.HeldLaws.{AllStay, held_at-later, version_of-later, state-later, option_map-some}
 use Rattle.round_core.specs.Counts.{AreOutOnce}
 use Rattle.round_core.specs.Machine.{Held, Done, Out, held_at, done_at, out_at, with_done, without, versions_of, inputs_of, HasRisen}
 
@@ -66,6 +67,15 @@ out_at-all P (k ∷ os) unit o a e =
           (subst P s a.0, ap (λ x. x.unit) (sym s) ∙ sym (same_unit-eq unit k.unit t))
       | inr f ↦ out_at-all P os unit o a.1 (sym (out_at-there k os unit f) ∙ e)
     ]
+
+-- what holds of each element holds of one that the list has, and what holds of each that it has holds of all
+pub each_of : {X : Type 0} (P : X → Type 0) (xs : List X) (x : X) → AllByRecursion P xs → Contains xs x → P x
+each_of P [] x all h = absurd (in_none x h)
+each_of P (first ∷ xs) x all h = elim (in_cons first xs x h) [ inl same ↦ subst P same all.0 | inr rest ↦ each_of P xs x all.1 rest ]
+
+pub all_of : {X : Type 0} (P : X → Type 0) (xs : List X) → ((x : X) → Contains xs x → P x) → AllByRecursion P xs
+all_of P [] each = tt
+all_of P (x ∷ xs) each = (each x (in_first x xs), all_of P xs (λ y h. each y (in_rest x xs y h)))
 
 pub all-any : {X : Type 0} (xs : List X) → AllByRecursion (λ x. Unit {0}) xs
 all-any [] = tt
@@ -173,6 +183,16 @@ out_at-push_other (k ∷ os) o unit ne =
     elim (cases_Bool (same_unit unit k.unit)) [
       | inl t ↦ out_at-here k (os ++ o ∷ []) unit t ∙ sym (out_at-here k os unit t)
       | inr f ↦ out_at-there k (os ++ o ∷ []) unit f ∙ out_at-push_other os o unit ne ∙ sym (out_at-there k os unit f)
+    ]
+
+-- what is out stays so under one more
+pub out_at-push_found : {A : Type 0} (os : List (Out A)) (new : Out A) (unit : WorkUnit) (o : Out A) → out_at os unit ≡ Some o
+    → out_at (os ++ new ∷ []) unit ≡ Some o
+out_at-push_found [] new unit o e = absurd (cc)
+out_at-push_found (k ∷ os) new unit o e =
+    elim (cases_Bool (same_unit unit k.unit)) [
+      | inl t ↦ out_at-here k (os ++ new ∷ []) unit t ∙ sym (out_at-here k os unit t) ∙ e
+      | inr f ↦ out_at-there k (os ++ new ∷ []) unit f ∙ out_at-push_found os new unit o (sym (out_at-there k os unit f) ∙ e)
     ]
 
 pub AreOutOnce-push : {A : Type 0} (os : List (Out A)) (o : Out A) → AreOutOnce os → out_at os o.unit ≡ None → AreOutOnce (os ++ o ∷ [])

@@ -8,15 +8,14 @@ use Rattle.call_context.specs.declared.node.Node.{Node}
 use Rattle.call_context.specs.declared.node.Unit.{Unit as WorkUnit}
 use Rattle.call_context.specs.Same.{same_unit}
 use Rattle.call_context.specs.SameLaws.{same_unit-refl, same_unit-eq}
-use Rattle.chip_law.specs.Meaning.{Meaning}
 use Rattle.round_core.specs.declared.versions.Versions.{Versions}
 use Rattle.round_core.specs.declared.event.Event.{Event}
 use Rattle.round_core.specs.declared.event.Event.TheVariants.{Claim, Post, GiveBack}
-use Rattle.round_core.specs.Form.{KeepsForm, TopIsGreatest}
-use Rattle.round_core.specs.RiseLaws.{AreInBounds}
-use Rattle.round_core.specs.EntryLaws.{AreUpTo, done_at-all, out_at-all, all-any, done_at-with_done, done_at-with_done_other, out_at-without, out_at-without_other, out_at-push, out_at-push_other}
-use Rattle.round_core.specs.ReplayLaws.{IsSteady, IsSteady-after, IsSteady-replay, IsSteady-opening, IsWellOut, IsWellDone, taken, after-claim, after-post, after-give_back, inputs_of-unit, versions_of-least, AreRisen, AreRisen-after}
-use Rattle.round_core.specs.FormLaws.{IsInForm-replay, versions_of-most}
+use Rattle.chip_law.specs.Analysis.{Analysis, KeepsForm, TopIsGreatest}
+use Rattle.round_core.proofs.RiseLaws.{AreInBounds}
+use Rattle.round_core.proofs.EntryLaws.{AreUpTo, done_at-all, out_at-all, all-any, done_at-with_done, done_at-with_done_other, out_at-without, out_at-without_other, out_at-push, out_at-push_other}
+use Rattle.round_core.proofs.ReplayLaws.{IsSteady, IsSteady-after, IsSteady-replay, IsSteady-opening, IsWellOut, IsWellDone, taken, after-claim, after-post, after-give_back, inputs_of-unit, versions_of-least, AreRisen, AreRisen-after}
+use Rattle.round_core.proofs.FormLaws.{IsInForm-replay, versions_of-most}
 use Rattle.round_core.specs.Counts.{is_claim, is_post, is_give_back, anyone, outs}
 use Rattle.round_core.specs.Machine.{BookState, Done, Out, done_at, out_at, versions_of, opening, with_done, without, after, replay_from, replay, IsUnit, IsClaimable, IsFirst, IsLegal, AllLegal, IsLegalJournal, HasRisen}
 
@@ -27,11 +26,11 @@ unit_of (Post seat unit) = unit
 unit_of (GiveBack seat unit) = unit
 
 -- the last work of a unit that a post leaves
-abbrev pub done_by : {S A : Type 0} → Meaning S A → Out A → Done A
+abbrev pub done_by : {A : Type 0} → Analysis A → Out A → Done A
 done_by m o = record { unit = o.unit; work = m.work o.unit o.at o.exit; versions = o.versions }
 
 -- a claim leaves its unit out
-pub after-claim_out : {S A : Type 0} (m : Meaning S A) (b : BookState A) (seat : ℕ) (unit : WorkUnit) → IsFirst b unit
+pub after-claim_out : {A : Type 0} (m : Analysis A) (b : BookState A) (seat : ℕ) (unit : WorkUnit) → IsFirst b unit
     → (o : Out A) × (out_at (after m b (Claim seat unit)).out unit ≡ Some o) × (o.seat ≡ seat) × (o.versions ≡ versions_of b.nodes unit)
     × (done_at (after m b (Claim seat unit)).done unit ≡ done_at b.done unit)
 after-claim_out m b seat unit f =
@@ -45,7 +44,7 @@ after-claim_out m b seat unit f =
     )
 
 -- a post leaves its unit at home, with the work of what was out
-pub after-post_done : {S A : Type 0} (m : Meaning S A) (b : BookState A) (seat : ℕ) (unit : WorkUnit) (o : Out A) → IsSteady m b → out_at b.out unit ≡ Some o
+pub after-post_done : {A : Type 0} (m : Analysis A) (b : BookState A) (seat : ℕ) (unit : WorkUnit) (o : Out A) → IsSteady m b → out_at b.out unit ≡ Some o
     → (out_at (after m b (Post seat unit)).out unit ≡ None) × (done_at (after m b (Post seat unit)).done unit ≡ Some (done_by m o))
 after-post_done m b seat unit o s e =
     let n : o.unit ≡ unit = (out_at-all (λ x. Unit {0}) b.out unit o (all-any b.out) e).1 in
@@ -54,14 +53,14 @@ after-post_done m b seat unit o s e =
       ap (λ x. done_at x.done unit) p ∙ ap (λ u. done_at (with_done b.done (done_by m o)) u) (sym n) ∙ done_at-with_done b.done (done_by m o),
     )
 
-pub after-give_back_home : {S A : Type 0} (m : Meaning S A) (b : BookState A) (seat : ℕ) (unit : WorkUnit) → IsSteady m b
+pub after-give_back_home : {A : Type 0} (m : Analysis A) (b : BookState A) (seat : ℕ) (unit : WorkUnit) → IsSteady m b
     → (out_at (after m b (GiveBack seat unit)).out unit ≡ None) × (done_at (after m b (GiveBack seat unit)).done unit ≡ done_at b.done unit)
 after-give_back_home m b seat unit s =
     let e = after-give_back m b seat unit in
     (ap (λ x. out_at x.out unit) e ∙ out_at-without b.out unit s.once, ap (λ x. done_at x.done unit) e)
 
 -- an event leaves the other units as they were
-pub after-other : {S A : Type 0} (m : Meaning S A) (b : BookState A) (event : Event) (unit : WorkUnit) → IsLegal b event → same_unit unit (unit_of event) ≡ false
+pub after-other : {A : Type 0} (m : Analysis A) (b : BookState A) (event : Event) (unit : WorkUnit) → IsLegal b event → same_unit unit (unit_of event) ≡ false
     → (out_at (after m b event).out unit ≡ out_at b.out unit) × (done_at (after m b event).done unit ≡ done_at b.done unit)
 after-other m b (Claim seat u) unit l ne =
     let i = inputs_of-unit b u l.claimable.known in
@@ -83,11 +82,11 @@ abbrev one : Bool → ℕ
 one b = cond b 1 0
 
 -- what an event adds to each count
-abbrev Turn : {S A : Type 0} → Meaning S A → (ℕ → Bool) → WorkUnit → BookState A → Event → Type 0
+abbrev Turn : {A : Type 0} → Analysis A → (ℕ → Bool) → WorkUnit → BookState A → Event → Type 0
 Turn m seats unit b event = one (is_claim seats unit event) + outs seats (out_at b.out unit)
     ≡ one (is_post seats unit event) + one (is_give_back seats unit event) + outs seats (out_at (after m b event).out unit)
 
-turn-other : {S A : Type 0} (m : Meaning S A) (seats : ℕ → Bool) (unit : WorkUnit) (b : BookState A) (event : Event) → IsLegal b event
+turn-other : {A : Type 0} (m : Analysis A) (seats : ℕ → Bool) (unit : WorkUnit) (b : BookState A) (event : Event) → IsLegal b event
     → same_unit unit (unit_of event) ≡ false → Turn m seats unit b event
 turn-other m seats unit b (Claim seat u) l ne =
     let a : one (same_unit unit u && seats seat) ≡ 0 = ap (λ x. one (x && seats seat)) ne in
@@ -99,7 +98,7 @@ turn-other m seats unit b (GiveBack seat u) l ne =
     let a : one (same_unit unit u && seats seat) ≡ 0 = ap (λ x. one (x && seats seat)) ne in
     let e = ap (outs seats) (after-other m b (GiveBack seat u) unit l ne).0 in omega (arith, a, e)
 
-turn-own : {S A : Type 0} (m : Meaning S A) (seats : ℕ → Bool) (b : BookState A) (event : Event) → IsLegal b event → IsSteady m b
+turn-own : {A : Type 0} (m : Analysis A) (seats : ℕ → Bool) (b : BookState A) (event : Event) → IsLegal b event → IsSteady m b
     → Turn m seats (unit_of event) b event
 turn-own m seats b (Claim seat u) l s =
     let r = after-claim_out m b seat u l in
@@ -120,7 +119,7 @@ turn-own m seats b (GiveBack seat u) l s =
     let home : outs seats (out_at (after m b (GiveBack seat u)).out u) ≡ 0 = ap (outs seats) r.0 in
     omega (arith, a, home, out)
 
-turn-step : {S A : Type 0} (m : Meaning S A) (seats : ℕ → Bool) (unit : WorkUnit) (b : BookState A) (event : Event) → IsLegal b event → IsSteady m b
+turn-step : {A : Type 0} (m : Analysis A) (seats : ℕ → Bool) (unit : WorkUnit) (b : BookState A) (event : Event) → IsLegal b event → IsSteady m b
     → Turn m seats unit b event
 turn-step m seats unit b event l s =
     elim (cases_Bool (same_unit unit (unit_of event))) [
@@ -129,7 +128,7 @@ turn-step m seats unit b event l s =
     ]
 
 -- Each claim is answered by a post or a give-back, but for a unit that is out.
-pub turns-replay_from : {S A : Type 0} (m : Meaning S A) (seats : ℕ → Bool) (unit : WorkUnit) (b : BookState A) (es : List Event) → AllLegal m b es → IsSteady m b
+pub turns-replay_from : {A : Type 0} (m : Analysis A) (seats : ℕ → Bool) (unit : WorkUnit) (b : BookState A) (es : List Event) → AllLegal m b es → IsSteady m b
     → count_by (is_claim seats unit) es + outs seats (out_at b.out unit)
     ≡ count_by (is_post seats unit) es + count_by (is_give_back seats unit) es + outs seats (out_at (replay_from m b es).out unit)
 unfolding replay_from AllLegal
@@ -142,7 +141,7 @@ turns-replay_from m seats unit b (e ∷ es) l s =
     let g = sum_by-cons (λ x. cond (is_give_back seats unit x) 1 0) e es in
     omega (arith, rest, step, c, p, g)
 
-pub turns-replay : {S A : Type 0} (m : Meaning S A) (seats : ℕ → Bool) (unit : WorkUnit) (journal : List Event) → IsLegalJournal m journal
+pub turns-replay : {A : Type 0} (m : Analysis A) (seats : ℕ → Bool) (unit : WorkUnit) (journal : List Event) → IsLegalJournal m journal
     → count_by (is_claim seats unit) journal
     ≡ count_by (is_post seats unit) journal + count_by (is_give_back seats unit) journal + outs seats (out_at (replay m journal).out unit)
 turns-replay m seats unit journal l = let t = turns-replay_from m seats unit (opening m) journal l (IsSteady-opening m) in omega (arith, t)
@@ -157,7 +156,7 @@ abbrev pub IsAhead : {A : Type 0} → WorkUnit → BookState A → Type 0
 IsAhead unit b = (o : Out _) → out_at b.out unit ≡ Some o → level (done_at b.done unit) < o.versions.at + o.versions.exit
 
 -- what an event does to the level of a unit
-abbrev Climb : {S A : Type 0} → Meaning S A → WorkUnit → BookState A → Event → Type 0
+abbrev Climb : {A : Type 0} → Analysis A → WorkUnit → BookState A → Event → Type 0
 Climb m unit b event = IsAhead unit (after m b event)
     × (one (is_post anyone unit event) + level (done_at b.done unit) ≤ level (done_at (after m b event).done unit))
 
@@ -172,7 +171,7 @@ due-by : {A : Type 0} (now : Versions) (was : Option (Done A)) → 1 ≤ now.at 
 due-by now None least due known = omega arith
 due-by now (Some d) least due known = risen-sum d.versions now (known d refl) due
 
-climb-other : {S A : Type 0} (m : Meaning S A) (unit : WorkUnit) (b : BookState A) (event : Event) → IsLegal b event
+climb-other : {A : Type 0} (m : Analysis A) (unit : WorkUnit) (b : BookState A) (event : Event) → IsLegal b event
     → same_unit unit (unit_of event) ≡ false → one (is_post anyone unit event) ≡ 0 → IsAhead unit b → Climb m unit b event
 climb-other m unit b event l ne none a =
     let r = after-other m b event unit l ne in
@@ -184,7 +183,7 @@ none-other unit (Claim seat u) ne = refl
 none-other unit (Post seat u) ne = ap (λ x. one (x && true)) ne
 none-other unit (GiveBack seat u) ne = refl
 
-climb-own : {S A : Type 0} (m : Meaning S A) (b : BookState A) (event : Event) → IsLegal b event → IsSteady m b → AreRisen b.nodes
+climb-own : {A : Type 0} (m : Analysis A) (b : BookState A) (event : Event) → IsLegal b event → IsSteady m b → AreRisen b.nodes
     → IsAhead (unit_of event) b → Climb m (unit_of event) b event
 climb-own m b (Claim seat u) l s n a =
     let r = after-claim_out m b seat u l in
@@ -209,7 +208,7 @@ climb-own m b (GiveBack seat u) l s n a =
     let lv = ap level r.1 in
     (λ o e. absurd (let no : None ≡ Some o = sym r.0 ∙ e in cc), omega (arith, lv))
 
-climb-step : {S A : Type 0} (m : Meaning S A) (unit : WorkUnit) (b : BookState A) (event : Event) → IsLegal b event → IsSteady m b
+climb-step : {A : Type 0} (m : Analysis A) (unit : WorkUnit) (b : BookState A) (event : Event) → IsLegal b event → IsSteady m b
     → AreRisen b.nodes → IsAhead unit b → Climb m unit b event
 climb-step m unit b event l s n a =
     elim (cases_Bool (same_unit unit (unit_of event))) [
@@ -219,7 +218,7 @@ climb-step m unit b event l s n a =
     ]
 
 -- each post of a unit is of inputs that rose further
-pub climbs-replay_from : {S A : Type 0} (m : Meaning S A) (unit : WorkUnit) (b : BookState A) (es : List Event) → AllLegal m b es → IsSteady m b
+pub climbs-replay_from : {A : Type 0} (m : Analysis A) (unit : WorkUnit) (b : BookState A) (es : List Event) → AllLegal m b es → IsSteady m b
     → AreRisen b.nodes → IsAhead unit b
     → IsAhead unit (replay_from m b es)
     × (count_by (is_post anyone unit) es + level (done_at b.done unit) ≤ level (done_at (replay_from m b es).done unit))
@@ -231,7 +230,7 @@ climbs-replay_from m unit b (e ∷ es) l s n a =
     let p = sum_by-cons (λ x. cond (is_post anyone unit x) 1 0) e es in
     (rest.0, omega (arith, rest.1, step.1, p))
 
-pub climbs-replay : {S A : Type 0} (m : Meaning S A) (unit : WorkUnit) (journal : List Event) → IsLegalJournal m journal
+pub climbs-replay : {A : Type 0} (m : Analysis A) (unit : WorkUnit) (journal : List Event) → IsLegalJournal m journal
     → IsAhead unit (replay m journal) × (count_by (is_post anyone unit) journal ≤ level (done_at (replay m journal).done unit))
 climbs-replay m unit journal l =
     let c = climbs-replay_from m unit (opening m) journal l (IsSteady-opening m) (omega arith, tt) (λ o e. absurd (cc)) in
@@ -249,37 +248,37 @@ ahead-by now out None u h known = tt
 ahead-by now out (Some d) u h known = ahead-risen d.versions now (known d refl) (omega (arith, u.at, u.exit, h))
 
 -- by whether the unit was done
-level-by : {S A : Type 0} (m : Meaning S A) (Form : Node → A → Type 0) (b : BookState A) (unit : WorkUnit) → IsSteady m b → AreInBounds m Form b.nodes
+level-by : {A : Type 0} (m : Analysis A) (b : BookState A) (unit : WorkUnit) → IsSteady m b → AreInBounds m b.nodes
     → (was : Option (Done A)) → done_at b.done unit ≡ was → level was ≤ 128
-level-by m Form b unit s n None e = omega arith
-level-by m Form b unit s n (Some d) e =
+level-by m b unit s n None e = omega arith
+level-by m b unit s n (Some d) e =
     let w = done_at-all (IsWellDone m b.nodes) b.done unit d s.done e in
-    let v = versions_of-most m Form b.nodes d.unit n in
+    let v = versions_of-most m b.nodes d.unit n in
     omega (arith, (w.0).known.at, (w.0).known.exit, v.0, v.1)
 
 -- by whether the unit is out
-out-by : {S A : Type 0} (m : Meaning S A) (Form : Node → A → Type 0) (b : BookState A) (unit : WorkUnit) → IsSteady m b → AreInBounds m Form b.nodes → IsAhead unit b
+out-by : {A : Type 0} (m : Analysis A) (b : BookState A) (unit : WorkUnit) → IsSteady m b → AreInBounds m b.nodes → IsAhead unit b
     → (was : Option (Out A)) → out_at b.out unit ≡ was → level (done_at b.done unit) + outs anyone was ≤ 128
-out-by m Form b unit s n a None e = let l = level-by m Form b unit s n (done_at b.done unit) refl in omega (arith, l)
-out-by m Form b unit s n a (Some o) e =
+out-by m b unit s n a None e = let l = level-by m b unit s n (done_at b.done unit) refl in omega (arith, l)
+out-by m b unit s n a (Some o) e =
     let w = out_at-all (IsWellOut b.nodes) b.out unit o s.out e in
-    let v = versions_of-most m Form b.nodes o.unit n in
+    let v = versions_of-most m b.nodes o.unit n in
     let h = a o e in
     omega (arith, (w.0).known.at, (w.0).known.exit, v.0, v.1, h)
 
 -- A unit is claimed at most 128 times more often than it is given back: each claim but the first is of an input that rose.
-pub claims-most : {S A : Type 0} (m : Meaning S A) (Form : Node → A → Type 0) → KeepsForm m Form → TopIsGreatest m Form
+pub claims-most : {A : Type 0} (m : Analysis A) → KeepsForm m → TopIsGreatest m
     → (unit : WorkUnit) (journal : List Event) → IsLegalJournal m journal
     → count_by (is_claim anyone unit) journal ≤ 128 + count_by (is_give_back anyone unit) journal
-claims-most m Form keeps top unit journal l =
+claims-most m keeps top unit journal l =
     let b = replay m journal in
     let t = turns-replay m anyone unit journal l in
     let c = climbs-replay m unit journal l in
-    let o = out-by m Form b unit (IsSteady-replay m journal l) (IsInForm-replay m Form keeps top journal l).nodes c.0 (out_at b.out unit) refl in
+    let o = out-by m b unit (IsSteady-replay m journal l) (IsInForm-replay m keeps top journal l).nodes c.0 (out_at b.out unit) refl in
     omega (arith, t, c.1, o)
 
 -- Where a unit that is out is given back, it can be claimed anew if it still is a unit.
-pub given_back-claimable : {S A : Type 0} (m : Meaning S A) (b : BookState A) (seat : ℕ) (unit : WorkUnit) (o : Out A) → IsSteady m b → IsAhead unit b
+pub given_back-claimable : {A : Type 0} (m : Analysis A) (b : BookState A) (seat : ℕ) (unit : WorkUnit) (o : Out A) → IsSteady m b → IsAhead unit b
     → out_at b.out unit ≡ Some o → IsUnit (after m b (GiveBack seat unit)) unit → IsClaimable (after m b (GiveBack seat unit)) unit
 given_back-claimable m b seat unit o s a e u =
     let r = after-give_back_home m b seat unit s in
@@ -297,7 +296,7 @@ given_back-claimable m b seat unit o s a e u =
     }
 
 -- An input that rose since the claim leaves a unit claimable behind its post, if it still is a unit.
-pub posted-claimable : {S A : Type 0} (m : Meaning S A) (b : BookState A) (seat : ℕ) (unit : WorkUnit) (o : Out A) → IsSteady m b
+pub posted-claimable : {A : Type 0} (m : Analysis A) (b : BookState A) (seat : ℕ) (unit : WorkUnit) (o : Out A) → IsSteady m b
     → out_at b.out unit ≡ Some o → IsUnit (after m b (Post seat unit)) unit
     → HasRisen o.versions (versions_of (after m b (Post seat unit)).nodes unit) → IsClaimable (after m b (Post seat unit)) unit
 posted-claimable m b seat unit o s e u h =

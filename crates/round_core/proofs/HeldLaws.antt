@@ -8,7 +8,7 @@ use Rattle.std.proofs.lemmas.Bool.{cases_Bool, cond-true, cond-false, false_from
 use Rattle.call_context.specs.declared.node.Node.{Node}
 use Rattle.call_context.specs.Same.{same_node}
 use Rattle.call_context.specs.SameLaws.{same_node-refl, same_node-eq}
-use Rattle.chip_law.specs.Meaning.{Meaning}
+use Rattle.chip_law.specs.Analysis.{Analysis}
 use Rattle.round_core.specs.Counts.{AreApart}
 use Rattle.round_core.specs.Machine.{Held, held_at, place_of, version_of, risen_state, risen, raised, all_raised}
 
@@ -57,7 +57,7 @@ AllStay-trans (h ∷ hs) [] ks s t = absurd s
 AllStay-trans (h ∷ hs) (l ∷ ls) [] s t = absurd t
 
 -- a node that rises stays
-pub Stays-risen : {S A : Type 0} (m : Meaning S A) (h : Held A) (posted : A) → Stays h (risen m h posted)
+pub Stays-risen : {A : Type 0} (m : Analysis A) (h : Held A) (posted : A) → Stays h (risen m h posted)
 Stays-risen m h posted =
     elim (m.within posted h.state) as (λ v. Stays h (if v then h else record { node = h.node; state = risen_state m h.node h.state posted (h.rises + 1); rises = h.rises + 1 })) [
       | true ↦ Stays-refl h
@@ -65,7 +65,7 @@ Stays-risen m h posted =
     ]
 
 -- a post leaves each node in its place
-pub AllStay-raised : {S A : Type 0} (m : Meaning S A) (hs : List (Held A)) (post : Node × A) → AllStay hs (raised m hs post)
+pub AllStay-raised : {A : Type 0} (m : Analysis A) (hs : List (Held A)) (post : Node × A) → AllStay hs (raised m hs post)
 AllStay-raised m [] post = tt
 AllStay-raised m (h ∷ hs) post =
     elim (same_node post.0 h.node) as (λ v. AllStay (h ∷ hs) (if v then risen m h post.1 ∷ hs else h ∷ raised m hs post)) [
@@ -73,7 +73,7 @@ AllStay-raised m (h ∷ hs) post =
       | false ↦ (Stays-refl h, AllStay-raised m hs post)
     ]
 
-pub AllStay-all_raised : {S A : Type 0} (m : Meaning S A) (hs : List (Held A)) (posts : List (Node × A)) → AllStay hs (all_raised m hs posts)
+pub AllStay-all_raised : {A : Type 0} (m : Analysis A) (hs : List (Held A)) (posts : List (Node × A)) → AllStay hs (all_raised m hs posts)
 AllStay-all_raised m hs [] = AllStay-refl hs
 AllStay-all_raised m hs (post ∷ posts) =
     AllStay-trans hs (raised m hs post) (all_raised m (raised m hs post) posts) (AllStay-raised m hs post) (AllStay-all_raised m (raised m hs post) posts)
@@ -196,16 +196,16 @@ state-later hs ls node h s e v =
     let b = version_of-held ls node r.0 r.1 in
     (r.0, r.1, r.2.state (sym b ∙ v ∙ a))
 
-pub raised-here : {S A : Type 0} (m : Meaning S A) (h : Held A) (hs : List (Held A)) (post : Node × A) → same_node post.0 h.node ≡ true
+pub raised-here : {A : Type 0} (m : Analysis A) (h : Held A) (hs : List (Held A)) (post : Node × A) → same_node post.0 h.node ≡ true
     → raised m (h ∷ hs) post ≡ risen m h post.1 ∷ hs
 raised-here m h hs post e = cond-true _ _ _ e
 
-pub raised-there : {S A : Type 0} (m : Meaning S A) (h : Held A) (hs : List (Held A)) (post : Node × A) → same_node post.0 h.node ≡ false
+pub raised-there : {A : Type 0} (m : Analysis A) (h : Held A) (hs : List (Held A)) (post : Node × A) → same_node post.0 h.node ≡ false
     → raised m (h ∷ hs) post ≡ h ∷ raised m hs post
 raised-there m h hs post e = cond-false _ _ _ e
 
 -- a post changes the entry of its own node alone
-pub held_at-raised_other : {S A : Type 0} (m : Meaning S A) (hs : List (Held A)) (post : Node × A) (node : Node) → same_node node post.0 ≡ false
+pub held_at-raised_other : {A : Type 0} (m : Analysis A) (hs : List (Held A)) (post : Node × A) (node : Node) → same_node node post.0 ≡ false
     → held_at (raised m hs post) node ≡ held_at hs node
 held_at-raised_other m [] post node ne = held_at-there (record { node = post.0; state = post.1; rises = 1 }) [] node ne
 held_at-raised_other m (h ∷ hs) post node ne =
@@ -221,11 +221,11 @@ held_at-raised_other m (h ∷ hs) post node ne =
     ]
 
 -- the entry that a post leaves at its node
-abbrev pub entry_after : {S A : Type 0} → Meaning S A → Option (Held A) → Node × A → Held A
+abbrev pub entry_after : {A : Type 0} → Analysis A → Option (Held A) → Node × A → Held A
 entry_after m None post = record { node = post.0; state = post.1; rises = 1 }
 entry_after m (Some h) post = risen m h post.1
 
-pub held_at-raised : {S A : Type 0} (m : Meaning S A) (hs : List (Held A)) (post : Node × A)
+pub held_at-raised : {A : Type 0} (m : Analysis A) (hs : List (Held A)) (post : Node × A)
     → held_at (raised m hs post) post.0 ≡ Some (entry_after m (held_at hs post.0) post)
 held_at-raised m [] post = held_at-here (record { node = post.0; state = post.1; rises = 1 }) [] post.0 (same_node-refl post.0)
 held_at-raised m (h ∷ hs) post =
@@ -238,7 +238,7 @@ held_at-raised m (h ∷ hs) post =
     ]
 
 -- a post makes no second entry of a node
-pub AreApart-raised : {S A : Type 0} (m : Meaning S A) (hs : List (Held A)) (post : Node × A) → AreApart hs → AreApart (raised m hs post)
+pub AreApart-raised : {A : Type 0} (m : Analysis A) (hs : List (Held A)) (post : Node × A) → AreApart hs → AreApart (raised m hs post)
 AreApart-raised m [] post a = (refl, tt)
 AreApart-raised m (h ∷ hs) post a =
     elim (cases_Bool (same_node post.0 h.node)) [
@@ -247,7 +247,7 @@ AreApart-raised m (h ∷ hs) post a =
           (held_at-raised_other m hs post h.node (same_node-turned post.0 h.node f) ∙ a.0, AreApart-raised m hs post a.1)
     ]
 
-pub AreApart-all_raised : {S A : Type 0} (m : Meaning S A) (hs : List (Held A)) (posts : List (Node × A)) → AreApart hs → AreApart (all_raised m hs posts)
+pub AreApart-all_raised : {A : Type 0} (m : Analysis A) (hs : List (Held A)) (posts : List (Node × A)) → AreApart hs → AreApart (all_raised m hs posts)
 AreApart-all_raised m hs [] a = a
 AreApart-all_raised m hs (post ∷ posts) a = AreApart-all_raised m (raised m hs post) posts (AreApart-raised m hs post a)
 
@@ -282,7 +282,7 @@ slice_get-place (k ∷ hs) node p e =
     ]
 
 -- a post of a new node puts it behind the others
-pub raised-new : {S A : Type 0} (m : Meaning S A) (hs : List (Held A)) (post : Node × A) → held_at hs post.0 ≡ None
+pub raised-new : {A : Type 0} (m : Analysis A) (hs : List (Held A)) (post : Node × A) → held_at hs post.0 ≡ None
     → raised m hs post ≡ hs ++ entry_after m None post ∷ []
 raised-new m [] post e = refl
 raised-new m (h ∷ hs) post e =
@@ -292,7 +292,7 @@ raised-new m (h ∷ hs) post e =
     ]
 
 -- a post of a node that is there changes the entry at its place
-pub raised-at : {S A : Type 0} (m : Meaning S A) (hs : List (Held A)) (post : Node × A) (p : ℕ) (h : Held A) → place_of hs post.0 ≡ Some p
+pub raised-at : {A : Type 0} (m : Analysis A) (hs : List (Held A)) (post : Node × A) (p : ℕ) (h : Held A) → place_of hs post.0 ≡ Some p
     → held_at hs post.0 ≡ Some h → raised m hs post ≡ slice_set hs p (risen m h post.1)
 raised-at m [] post p h e d = absurd (cc)
 raised-at m (k ∷ hs) post p h e d =

@@ -9,72 +9,72 @@ use Rattle.call_context.specs.declared.node.Node.TheVariants.{At, Exit}
 use Rattle.call_context.specs.declared.node.Unit.{Unit as WorkUnit}
 use Rattle.call_context.specs.declared.node.Unit.TheVariants.{One, Back}
 use Rattle.call_context.specs.Same.{same_node}
-use Rattle.chip_law.specs.Meaning.{Meaning}
+use Rattle.chip_law.specs.Analysis.{Analysis}
 use Rattle.round_core.specs.declared.event.Event.{Event}
 use Rattle.round_core.specs.declared.event.Event.TheVariants.{Claim, Post, GiveBack}
-use Rattle.round_core.specs.HeldLaws.{AllStay, AllStay-refl, AllStay-trans, AllStay-all_raised, AreApart-all_raised, place_of-held, place_of-one, Stays-risen, raised-here, raised-there, held_at-all, version_of-held}
-use Rattle.round_core.specs.EntryLaws.{AreOutOnce-push, AreOutOnce-without, AreUpTo, AreUpTo-refl, AreUpTo-trans, versions-between, versions_of-later, inputs_of-found, inputs_of-later, inputs_of-same, out_at-all, all-map, all-push, all-with_done, all-without}
+use Rattle.round_core.proofs.HeldLaws.{AllStay, AllStay-refl, AllStay-trans, AllStay-all_raised, AreApart-all_raised, place_of-held, place_of-one, Stays-risen, raised-here, raised-there, held_at-all, version_of-held}
+use Rattle.round_core.proofs.EntryLaws.{AreOutOnce-push, AreOutOnce-without, AreUpTo, AreUpTo-refl, AreUpTo-trans, versions-between, versions_of-later, inputs_of-found, inputs_of-later, inputs_of-same, out_at-all, all-map, all-push, all-with_done, all-without}
 use Rattle.round_core.specs.Counts.{AreApart, AreOutOnce}
 use Rattle.round_core.specs.Machine.{BookState, Held, Done, Out, out_at, held_at, place_of, version_of, versions_of, inputs_of, opening, posted, risen, raised, all_raised, with_out, without, after, replay_from, replay, IsUnit, IsFirst, IsBelow, ComesBefore, IsLegal, AllLegal, IsLegalJournal, IsFinished}
 
 -- the replay of a journal in two parts
-pub replay_from-append : {S A : Type 0} (m : Meaning S A) (b : BookState A) (es fs : List Event)
+pub replay_from-append : {A : Type 0} (m : Analysis A) (b : BookState A) (es fs : List Event)
     → replay_from m b (es ++ fs) ≡ replay_from m (replay_from m b es) fs
 unfolding replay_from
 replay_from-append m b [] fs = refl
 replay_from-append m b (e ∷ es) fs = replay_from-append m (after m b e) es fs
 
 -- one more event
-pub replay_from-push : {S A : Type 0} (m : Meaning S A) (b : BookState A) (es : List Event) (event : Event)
+pub replay_from-push : {A : Type 0} (m : Analysis A) (b : BookState A) (es : List Event) (event : Event)
     → replay_from m b (es ++ event ∷ []) ≡ after m (replay_from m b es) event
 unfolding replay_from
 replay_from-push m b [] event = refl
 replay_from-push m b (e ∷ es) event = replay_from-push m (after m b e) es event
 
 -- the replay of no event, and of one more
-pub replay-none : {S A : Type 0} (m : Meaning S A) → replay m [] ≡ opening m
+pub replay-none : {A : Type 0} (m : Analysis A) → replay m [] ≡ opening m
 unfolding replay_from
 replay-none m = refl
 
-pub replay-push : {S A : Type 0} (m : Meaning S A) (journal : List Event) (event : Event) → replay m (journal ++ event ∷ []) ≡ after m (replay m journal) event
+pub replay-push : {A : Type 0} (m : Analysis A) (journal : List Event) (event : Event) → replay m (journal ++ event ∷ []) ≡ after m (replay m journal) event
 replay-push m journal event = replay_from-push m (opening m) journal event
 
-pub replay-append : {S A : Type 0} (m : Meaning S A) (journal more : List Event) → replay m (journal ++ more) ≡ replay_from m (replay m journal) more
+pub replay-append : {A : Type 0} (m : Analysis A) (journal more : List Event) → replay m (journal ++ more) ≡ replay_from m (replay m journal) more
 replay-append m journal more = replay_from-append m (opening m) journal more
 
 -- a journal is legal in two parts, each behind what stands before it
-pub AllLegal-append : {S A : Type 0} (m : Meaning S A) (b : BookState A) (es fs : List Event) → AllLegal m b es → AllLegal m (replay_from m b es) fs
+pub AllLegal-append : {A : Type 0} (m : Analysis A) (b : BookState A) (es fs : List Event) → AllLegal m b es → AllLegal m (replay_from m b es) fs
     → AllLegal m b (es ++ fs)
 unfolding replay_from AllLegal
 AllLegal-append m b [] fs l k = k
 AllLegal-append m b (e ∷ es) fs l k = (l.0, AllLegal-append m (after m b e) es fs l.1 k)
 
-pub AllLegal-front : {S A : Type 0} (m : Meaning S A) (b : BookState A) (es fs : List Event) → AllLegal m b (es ++ fs) → AllLegal m b es
+pub AllLegal-front : {A : Type 0} (m : Analysis A) (b : BookState A) (es fs : List Event) → AllLegal m b (es ++ fs) → AllLegal m b es
 unfolding AllLegal
 AllLegal-front m b [] fs l = tt
 AllLegal-front m b (e ∷ es) fs l = (l.0, AllLegal-front m (after m b e) es fs l.1)
 
-pub AllLegal-rest : {S A : Type 0} (m : Meaning S A) (b : BookState A) (es fs : List Event) → AllLegal m b (es ++ fs) → AllLegal m (replay_from m b es) fs
+pub AllLegal-rest : {A : Type 0} (m : Analysis A) (b : BookState A) (es fs : List Event) → AllLegal m b (es ++ fs) → AllLegal m (replay_from m b es) fs
 unfolding replay_from AllLegal
 AllLegal-rest m b [] fs l = l
 AllLegal-rest m b (e ∷ es) fs l = AllLegal-rest m (after m b e) es fs l.1
 
 -- no event is a legal journal, and one more legal event keeps it legal
-pub IsLegalJournal-none : {S A : Type 0} (m : Meaning S A) → IsLegalJournal m []
+pub IsLegalJournal-none : {A : Type 0} (m : Analysis A) → IsLegalJournal m []
 unfolding AllLegal
 IsLegalJournal-none m = tt
 
-pub IsLegalJournal-push : {S A : Type 0} (m : Meaning S A) (journal : List Event) (event : Event) → IsLegalJournal m journal
+pub IsLegalJournal-push : {A : Type 0} (m : Analysis A) (journal : List Event) (event : Event) → IsLegalJournal m journal
     → IsLegal (replay m journal) event → IsLegalJournal m (journal ++ event ∷ [])
 IsLegalJournal-push m journal event l e = AllLegal-append m (opening m) journal (event ∷ []) l (unfold AllLegal in (e, tt))
 
-pub IsLegalJournal-last : {S A : Type 0} (m : Meaning S A) (journal : List Event) (event : Event) → IsLegalJournal m (journal ++ event ∷ [])
+pub IsLegalJournal-last : {A : Type 0} (m : Analysis A) (journal : List Event) (event : Event) → IsLegalJournal m (journal ++ event ∷ [])
     → IsLegal (replay m journal) event
 unfolding AllLegal
 IsLegalJournal-last m journal event l = (AllLegal-rest m (opening m) journal (event ∷ []) l).0
 
 -- what each legal event keeps holds of the replay of a legal journal
-pub replay_from-keeps : {S A : Type 0} (m : Meaning S A) (P : BookState A → Type 0) → ((b : BookState A) (event : Event) → IsLegal b event → P b → P (after m b event))
+pub replay_from-keeps : {A : Type 0} (m : Analysis A) (P : BookState A → Type 0) → ((b : BookState A) (event : Event) → IsLegal b event → P b → P (after m b event))
     → (b : BookState A) (es : List Event) → AllLegal m b es → P b → P (replay_from m b es)
 unfolding replay_from AllLegal
 replay_from-keeps m P step b [] l p = p
@@ -85,33 +85,33 @@ abbrev pub taken : {A : Type 0} → BookState A → ℕ → WorkUnit → A × Op
 taken b seat unit inputs = record { seat = seat; unit = unit; at = inputs.0; exit = inputs.1; versions = versions_of b.nodes unit }
 
 -- what each event leaves
-pub after-claim : {S A : Type 0} (m : Meaning S A) (b : BookState A) (seat : ℕ) (unit : WorkUnit) (inputs : A × Option A) → inputs_of b.nodes unit ≡ Some inputs
+pub after-claim : {A : Type 0} (m : Analysis A) (b : BookState A) (seat : ℕ) (unit : WorkUnit) (inputs : A × Option A) → inputs_of b.nodes unit ≡ Some inputs
     → after m b (Claim seat unit) ≡ record b { out = b.out ++ taken b seat unit inputs ∷ [] }
 unfolding after
 after-claim m b seat unit inputs e = ap (λ i. record b { out = with_out b seat unit i }) e
 
-pub after-post : {S A : Type 0} (m : Meaning S A) (b : BookState A) (seat : ℕ) (unit : WorkUnit) (o : Out A) → out_at b.out unit ≡ Some o
+pub after-post : {A : Type 0} (m : Analysis A) (b : BookState A) (seat : ℕ) (unit : WorkUnit) (o : Out A) → out_at b.out unit ≡ Some o
     → after m b (Post seat unit) ≡ posted m b (Some o)
 unfolding after
 after-post m b seat unit o e = ap (λ x. posted m b x) e
 
-pub after-give_back : {S A : Type 0} (m : Meaning S A) (b : BookState A) (seat : ℕ) (unit : WorkUnit)
+pub after-give_back : {A : Type 0} (m : Analysis A) (b : BookState A) (seat : ℕ) (unit : WorkUnit)
     → after m b (GiveBack seat unit) ≡ record b { out = without b.out unit }
 unfolding after
 after-give_back m b seat unit = refl
 
-AllStay-posted : {S A : Type 0} (m : Meaning S A) (b : BookState A) (o : Option (Out A)) → AllStay b.nodes (posted m b o).nodes
+AllStay-posted : {A : Type 0} (m : Analysis A) (b : BookState A) (o : Option (Out A)) → AllStay b.nodes (posted m b o).nodes
 AllStay-posted m b None = AllStay-refl b.nodes
 AllStay-posted m b (Some o) = AllStay-all_raised m b.nodes (m.work o.unit o.at o.exit).posts
 
 -- over any event each node stays in its place
-pub AllStay-after : {S A : Type 0} (m : Meaning S A) (b : BookState A) (event : Event) → AllStay b.nodes (after m b event).nodes
+pub AllStay-after : {A : Type 0} (m : Analysis A) (b : BookState A) (event : Event) → AllStay b.nodes (after m b event).nodes
 unfolding after
 AllStay-after m b (Claim seat unit) = AllStay-refl b.nodes
 AllStay-after m b (Post seat unit) = AllStay-posted m b (out_at b.out unit)
 AllStay-after m b (GiveBack seat unit) = AllStay-refl b.nodes
 
-pub AllStay-replay : {S A : Type 0} (m : Meaning S A) (b : BookState A) (es : List Event) → AllStay b.nodes (replay_from m b es).nodes
+pub AllStay-replay : {A : Type 0} (m : Analysis A) (b : BookState A) (es : List Event) → AllStay b.nodes (replay_from m b es).nodes
 unfolding replay_from
 AllStay-replay m b [] = AllStay-refl b.nodes
 AllStay-replay m b (e ∷ es) =
@@ -133,13 +133,13 @@ pub record IsWellOut {A : Type 0} (nodes : List (Held A)) (o : Out A) : Type 0 w
   pub copied : versions_of nodes o.unit ≡ o.versions → inputs_of nodes o.unit ≡ Some (o.at, o.exit)
 
 -- the last work of a unit is that of its inputs, until one rises
-pub record IsWellDone {S A : Type 0} (m : Meaning S A) (nodes : List (Held A)) (d : Done A) : Type 0 where
+pub record IsWellDone {A : Type 0} (m : Analysis A) (nodes : List (Held A)) (d : Done A) : Type 0 where
   pub known : AreUpTo d.versions (versions_of nodes d.unit)
   pub worked : versions_of nodes d.unit ≡ d.versions
       → (inputs : A × Option A) × (inputs_of nodes d.unit ≡ Some inputs) × (d.work ≡ m.work d.unit inputs.0 inputs.1)
 
 -- What holds behind every legal journal, whatever the chip means.
-pub record IsSteady {S A : Type 0} (m : Meaning S A) (b : BookState A) : Type 0 where
+pub record IsSteady {A : Type 0} (m : Analysis A) (b : BookState A) : Type 0 where
   pub apart : AreApart b.nodes
   pub once : AreOutOnce b.out
   pub out : AllByRecursion (IsWellOut b.nodes) b.out
@@ -154,7 +154,7 @@ IsWellOut-later hs ls o s w = record {
       inputs_of-same hs ls o.unit (o.at, o.exit) s (w.copied same) (e ∙ sym same);
 }
 
-pub IsWellDone-later : {S A : Type 0} (m : Meaning S A) (hs ls : List (Held A)) (d : Done A) → AllStay hs ls → IsWellDone m hs d → IsWellDone m ls d
+pub IsWellDone-later : {A : Type 0} (m : Analysis A) (hs ls : List (Held A)) (d : Done A) → AllStay hs ls → IsWellDone m hs d → IsWellDone m ls d
 IsWellDone-later m hs ls d s w = record {
   known = AreUpTo-trans d.versions (versions_of hs d.unit) (versions_of ls d.unit) w.known (versions_of-later hs ls d.unit s);
   worked = λ e. let same : versions_of hs d.unit ≡ d.versions =
@@ -164,10 +164,10 @@ IsWellDone-later m hs ls d s w = record {
 }
 
 -- the opening has it
-pub IsSteady-opening : {S A : Type 0} (m : Meaning S A) → IsSteady m (opening m)
+pub IsSteady-opening : {A : Type 0} (m : Analysis A) → IsSteady m (opening m)
 IsSteady-opening m = record { apart = (refl, tt); once = tt; out = tt; done = tt }
 
-IsSteady-posted : {S A : Type 0} (m : Meaning S A) (b : BookState A) (o : Out A) → IsWellOut b.nodes o → IsSteady m b → IsSteady m (posted m b (Some o))
+IsSteady-posted : {A : Type 0} (m : Analysis A) (b : BookState A) (o : Out A) → IsWellOut b.nodes o → IsSteady m b → IsSteady m (posted m b (Some o))
 IsSteady-posted m b o w s =
     let work = m.work o.unit o.at o.exit in
     let ls : List (Held _) = all_raised m b.nodes work.posts in
@@ -183,7 +183,7 @@ IsSteady-posted m b o w s =
     }
 
 -- a legal event keeps it
-pub IsSteady-after : {S A : Type 0} (m : Meaning S A) (b : BookState A) (event : Event) → IsLegal b event → IsSteady m b → IsSteady m (after m b event)
+pub IsSteady-after : {A : Type 0} (m : Analysis A) (b : BookState A) (event : Event) → IsLegal b event → IsSteady m b → IsSteady m (after m b event)
 IsSteady-after m b (Claim seat unit) l s =
     let i = inputs_of-unit b unit l.claimable.known in
     subst (IsSteady m) (sym (after-claim m b seat unit i.0 i.1)) (record {
@@ -204,7 +204,7 @@ IsSteady-after m b (GiveBack seat unit) l s =
       done = s.done;
     })
 
-pub IsSteady-replay : {S A : Type 0} (m : Meaning S A) (journal : List Event) → IsLegalJournal m journal → IsSteady m (replay m journal)
+pub IsSteady-replay : {A : Type 0} (m : Analysis A) (journal : List Event) → IsLegalJournal m journal → IsSteady m (replay m journal)
 IsSteady-replay m journal l = replay_from-keeps m (IsSteady m) (IsSteady-after m) (opening m) journal l (IsSteady-opening m)
 
 -- a finished book has no further event
@@ -274,7 +274,7 @@ first-one b u v f g =
 abbrev pub AreRisen : {A : Type 0} → List (Held A) → Type 0
 AreRisen hs = AllByRecursion (λ h. 1 ≤ h.rises) hs
 
-AreRisen-raised : {S A : Type 0} (m : Meaning S A) (hs : List (Held A)) (post : Node × A) → AreRisen hs → AreRisen (raised m hs post)
+AreRisen-raised : {A : Type 0} (m : Analysis A) (hs : List (Held A)) (post : Node × A) → AreRisen hs → AreRisen (raised m hs post)
 AreRisen-raised m [] post a = (omega arith, tt)
 AreRisen-raised m (h ∷ hs) post a =
     elim (cases_Bool (same_node post.0 h.node)) [
@@ -283,21 +283,21 @@ AreRisen-raised m (h ∷ hs) post a =
       | inr f ↦ subst AreRisen (sym (raised-there m h hs post f)) (a.0, AreRisen-raised m hs post a.1)
     ]
 
-AreRisen-all_raised : {S A : Type 0} (m : Meaning S A) (hs : List (Held A)) (posts : List (Node × A)) → AreRisen hs → AreRisen (all_raised m hs posts)
+AreRisen-all_raised : {A : Type 0} (m : Analysis A) (hs : List (Held A)) (posts : List (Node × A)) → AreRisen hs → AreRisen (all_raised m hs posts)
 AreRisen-all_raised m hs [] a = a
 AreRisen-all_raised m hs (post ∷ posts) a = AreRisen-all_raised m (raised m hs post) posts (AreRisen-raised m hs post a)
 
-AreRisen-posted : {S A : Type 0} (m : Meaning S A) (b : BookState A) (o : Option (Out A)) → AreRisen b.nodes → AreRisen (posted m b o).nodes
+AreRisen-posted : {A : Type 0} (m : Analysis A) (b : BookState A) (o : Option (Out A)) → AreRisen b.nodes → AreRisen (posted m b o).nodes
 AreRisen-posted m b None a = a
 AreRisen-posted m b (Some o) a = AreRisen-all_raised m b.nodes (m.work o.unit o.at o.exit).posts a
 
-pub AreRisen-after : {S A : Type 0} (m : Meaning S A) (b : BookState A) (event : Event) → AreRisen b.nodes → AreRisen (after m b event).nodes
+pub AreRisen-after : {A : Type 0} (m : Analysis A) (b : BookState A) (event : Event) → AreRisen b.nodes → AreRisen (after m b event).nodes
 unfolding after
 AreRisen-after m b (Claim seat unit) a = a
 AreRisen-after m b (Post seat unit) a = AreRisen-posted m b (out_at b.out unit) a
 AreRisen-after m b (GiveBack seat unit) a = a
 
-pub AreRisen-replay : {S A : Type 0} (m : Meaning S A) (journal : List Event) → IsLegalJournal m journal → AreRisen (replay m journal).nodes
+pub AreRisen-replay : {A : Type 0} (m : Analysis A) (journal : List Event) → IsLegalJournal m journal → AreRisen (replay m journal).nodes
 AreRisen-replay m journal l =
     replay_from-keeps m (λ b. AreRisen b.nodes) (λ b event e a. AreRisen-after m b event a) (opening m) journal l (omega arith, tt)
 

@@ -1,0 +1,12 @@
+use Rattle.round_core.proofs.ReplayLaws.{AllLegal-front, IsLegalJournal-none, IsLegalJournal-push}
+use Rattle.round_core.specs.Machine.{opening}
+use Rattle.round_core.proofs.laws.journals_grow.Goals as goal
+
+pub returns-clause-none : goal.returns-clause-none
+returns-clause-none g c = λ base. let a = g.C.Chip.analysis base in IsLegalJournal-none a
+
+pub returns-clause-more : goal.returns-clause-more
+returns-clause-more g c = λ base journal event l e. let a = g.C.Chip.analysis base in IsLegalJournal-push a journal event l e
+
+pub returns-clause-front : goal.returns-clause-front
+returns-clause-front g c = λ base journal more l. let a = g.C.Chip.analysis base in AllLegal-front a (opening a) journal more l
