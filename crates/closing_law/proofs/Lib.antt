@@ -1,3 +1,2 @@
 pub mod Books
 pub mod Closing
-pub mod Works

@@ -1,2 +1,2 @@
 pub mod Covered
-pub mod Worked
+pub mod Standing
