@@ -78,8 +78,30 @@ impl InstrBytes {
     }
 }
 
+impl PartialEq for InstrBytes {
+    ghost use Rattle.std.proofs.Common.{rules};
+    ghost use Rattle.std.specs.Cmp.Lexicographic.{pointwise};
+    ghost use Rattle.std.specs.Cmp.Rules.{comparing};
+    ghost use Rattle.std.proofs.Math.Dec.{eqb};
+
+    ghost eq = { pointwise eqb };
+
+    ghost laws = { Prim.search (comparing, rules) };
+
+    fn eq(&self, other: &InstrBytes) -> bool {
+        self.as_slice() == other.as_slice()
+    }
+}
+
+impl Eq for InstrBytes {
+    ghost use Rattle.std.proofs.Common.{rules};
+    ghost use Rattle.std.specs.Cmp.Rules.{comparing};
+
+    ghost laws = { Prim.search (comparing, rules) };
+}
+
 /// What a step of the program does.
-#[derive(Drop)]
+#[derive(Drop, PartialEq, Eq)]
 pub enum Item {
     /// An instruction runs.
     Instr {

@@ -6,8 +6,9 @@ use crate::calls::{pop_call, push_call};
 use crate::few::Few;
 use crate::node::Calls;
 use crate::sequence::Sequence;
-use crate::shown::{InstrBytes, Item};
+use crate::shown::{InstrBytes, Item, Set};
 use std::test::Fail;
+use value_set::Vs16;
 
 #[test]
 fn short_lists(rt: HostRuntime) {
@@ -35,6 +36,34 @@ fn instruction_bytes(rt: HostRuntime) {
     );
     let default = Item::default();
     assert!(rt; matches!(&default, Item::Edge { from: 0, to: 0 }));
+}
+
+#[test]
+fn items_are_compared(rt: HostRuntime) {
+    let edge = Item::Edge {
+        from: 0xF004,
+        to: 0xF004,
+    };
+    assert!(rt;
+        edge == Item::Edge {
+            from: 0xF004,
+            to: 0xF004
+        }
+    );
+    assert!(rt;
+        edge != Item::Edge {
+            from: 0xF004,
+            to: 0xF008
+        }
+    );
+    assert!(rt;
+        edge != Item::Stack {
+            pc: 0xF004,
+            at: Set::W(Vs16::one(0xF004))
+        }
+    );
+    assert!(rt; InstrBytes::from_slice(&[0xFF, 0x3F]) == InstrBytes::from_slice(&[0xFF, 0x3F]));
+    assert!(rt; InstrBytes::from_slice(&[0xFF, 0x3F]) != InstrBytes::from_slice(&[0xFF]));
 }
 
 /// The string of these sites.

@@ -4,6 +4,7 @@ pub mod PlacingLemmas
 pub mod WrittenLemmas
 pub mod MadeLemmas
 pub mod TextLemmas
+pub mod KeptLemmas
 pub mod LawLemmas
 pub mod ByteLemmas
 pub mod PieceLemmas

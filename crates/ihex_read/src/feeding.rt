@@ -5,6 +5,7 @@ ghost use Rattle.ihex_read.specs.declared.fault.HexFault.{HexFault};
 ghost use Rattle.ihex_read.specs.declared.fault.HexError.{HexError};
 ghost use Rattle.ihex_read.specs.declared.rule_set.Tail.TheVariants.{Second};
 ghost use Rattle.ihex_read.specs.ImageText.{Denotes, IsRamRange};
+ghost use Rattle.ihex_read.specs.Kept.{IsReadUnder};
 ghost use Rattle.ihex_read.specs.Lines.{lines_of};
 ghost use Rattle.ihex_read.specs.Reading.{feeds_of, HasEnded, FaultsWithin, TellsFront, TellsWhole};
 
@@ -107,6 +108,7 @@ impl Reader {
     pub fn end(self) -> Result<Image, HexError>
         ensures again { (error : HexError) → self.error ≡ Some error → result ≡ Err error }
         ensures image { IfOk result (Denotes self.rules self.tail (lines_of self.text)) }
+        ensures kept { IfOk result (IsReadUnder self.rules) }
         ensures bad { self.error ≡ None → IfErr result (TellsWhole self.rules self.tail (lines_of self.text)) }
     {
         if let Some(error) = self.error {

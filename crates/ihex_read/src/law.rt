@@ -7,6 +7,7 @@ ghost use Rattle.ihex_read.specs.declared.rule_set.Tail.{Tail};
 ghost use Rattle.ihex_read.specs.declared.rule_set.Tail.TheVariants.{Second};
 ghost use Rattle.ihex_read.specs.Image.{IsByte};
 ghost use Rattle.ihex_read.specs.ImageText.{Denotes, FirstFault};
+ghost use Rattle.ihex_read.specs.Kept.{IsReadUnder};
 ghost use Rattle.ihex_read.specs.Lines.{lines_of};
 ghost use Rattle.ihex_read.specs.Reading.{FaultsWithin, HasEnded};
 
@@ -27,6 +28,12 @@ pub fn image_or_fault()
 pub fn images_have_bytes()
     ensures { (rules : Rules) (tail : Tail) (lines : List (List ℕ)) (image : List (Option ℕ)) →
         Denotes rules tail lines image → (length image ≡ 65536) × All IsByte image }
+{}
+
+/// An image that lines denote keeps the rules under which they are read.
+pub fn images_keep_rules()
+    ensures { (rules : Rules) (tail : Tail) (lines : List (List ℕ)) (image : List (Option ℕ)) →
+        Denotes rules tail lines image → IsReadUnder rules image }
 {}
 
 /// A first faulty line that is whole stays the first one, with its fault, however the text goes on.

@@ -31,7 +31,9 @@ mod stage;
 pub use address_map::Image;
 pub use fault::{HexError, HexFault};
 pub use feeding::{MOST_BYTES, Reader};
-pub use law::{ended_texts_stay, image_or_fault, images_have_bytes, whole_faults_stay};
+pub use law::{
+    ended_texts_stay, image_or_fault, images_have_bytes, images_keep_rules, whole_faults_stay,
+};
 pub use rule_set::{Rules, Tail};
 
 #[cfg(test)]

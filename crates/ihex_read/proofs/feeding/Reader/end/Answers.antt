@@ -1,7 +1,8 @@
 use Rattle.std.proofs.Common.{◌≡◌, ◌<◌, length, sym, ◌∙◌, arith}
 use Rattle.std.proofs.lemmas.Bool.Decides.{nat_tests}
 use Rattle.std.proofs.lemmas.List.{length-map}
-use Rattle.ihex_read.specs.Lines.{without_return}
+use Rattle.ihex_read.specs.Lines.{without_return, lines_of}
+use Rattle.ihex_read.proofs.KeptLemmas.{answer_kept}
 use Rattle.ihex_read.proofs.ReaderLemmas.{count_lines, read_small, end_feed, end_line, end_goes_on, end_bad, end_count}
 use Rattle.ihex_read.proofs.feeding.Reader.end.Goals as goal
 
@@ -68,3 +69,10 @@ returns-clause-bad c = λ none.
     let count = count_lines (λ line. line.value.items) c.self.inside.lines.items _ _ c.len-count.ensures c.self.inside.lines.ok.0 in
     rw (← c.self.view_is, end_line _ _ _ _ _ _ _ c.self.invariant some, ← c.in_default-accept.ensures.rules)
     (c.finish-2.ensures.no_end c.self.inside.tail _ stands (end_count _ c.self.inside.line.items _ count))
+
+pub returns-then-is_empty-clause-kept : goal.returns-then-is_empty-clause-kept
+returns-then-is_empty-clause-kept c =
+    answer_kept c.args.self.rules c.args.self.tail (lines_of c.args.self.text) _ (returns-then-is_empty-clause-image c)
+
+pub returns-clause-kept : goal.returns-clause-kept
+returns-clause-kept c = answer_kept c.args.self.rules c.args.self.tail (lines_of c.args.self.text) _ (returns-clause-image c)
