@@ -9,6 +9,5 @@ pub mod Moves
 pub mod Choosing
 pub mod Halves
 mod Examples
-pub mod Makes
-pub mod Gathers
 pub mod Formulas
+pub mod Evens

@@ -42,6 +42,23 @@ in_flat_map f v w [] h k = absurd h
 in_flat_map f v w (x ∷ xs) (inl e) k = in_front w (f x) (flat_map f xs) (subst (λ (n : ℕ). IsIn w (f n)) (sym e) k)
 in_flat_map f v w (x ∷ xs) (inr h) k = in_behind w (f x) (flat_map f xs) (in_flat_map f v w xs h k)
 
+in_either : (v : ℕ) (xs ys : List ℕ) → IsIn v (xs ++ ys) → IsIn v xs ⊎ IsIn v ys
+in_either v [] ys h = inr h
+in_either v (x ∷ xs) ys (inl e) = inl (inl e)
+in_either v (x ∷ xs) ys (inr h) = elim (in_either v xs ys h) [ inl a ↦ inl (inr a) | inr b ↦ inr b ]
+
+pub in_mapped : (f : ℕ → ℕ) (v : ℕ) (xs : List ℕ) → IsIn v (map f xs) → (x : ℕ) × IsIn x xs × (f x ≡ v)
+in_mapped f v [] h = absurd h
+in_mapped f v (x ∷ xs) (inl e) = (x, inl refl, e)
+in_mapped f v (x ∷ xs) (inr h) = let rest = in_mapped f v xs h in (rest.0, inr rest.1, rest.2)
+
+pub in_flat : (f : ℕ → List ℕ) (v : ℕ) (xs : List ℕ) → IsIn v (flat_map f xs) → (x : ℕ) × IsIn x xs × IsIn v (f x)
+in_flat f v [] h = absurd h
+in_flat f v (y ∷ ys) h = elim (in_either v (f y) (flat_map f ys) h) [
+  | inl here ↦ (y, inl refl, here)
+  | inr later ↦ let rest = in_flat f v ys later in (rest.0, inr rest.1, rest.2)
+]
+
 both_true : (a b : Bool) → (a && b) ≡ true → (a ≡ true) × (b ≡ true)
 both_true true b h = (refl, h)
 both_true false b h = absurd (cc h)

@@ -2,3 +2,4 @@ pub mod Numbers
 pub mod Bits
 pub mod Sets
 pub mod Staying
+pub mod SetLaws

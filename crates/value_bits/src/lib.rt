@@ -27,7 +27,7 @@ pub mod w16;
 pub mod w8;
 mod words;
 
-pub use laws::{bits_hold, decimals_hold, halves_hold, logic_holds, moves_hold};
+pub use laws::{bits_hold, decimals_hold, evens_stay, halves_hold, logic_holds, moves_hold};
 pub use tri::{Top, Tri};
 
 #[cfg(test)]

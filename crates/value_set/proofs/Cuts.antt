@@ -23,7 +23,7 @@ filtered_in test v [] i h = absurd i
 filtered_in test v (x ∷ xs) (inl e) h = let t : test x ≡ true = ap test e ∙ h in rw t (inl e)
 filtered_in test v (x ∷ xs) (inr i) h = elim (cases_Bool (test x)) [ inl t ↦ rw t (inr (filtered_in test v xs i h)) | inr f ↦ rw f (filtered_in test v xs i h) ]
 
-in_filtered : (test : ℕ → Bool) (v : ℕ) (xs : List ℕ) → IsIn v (filter test xs) → IsIn v xs × (test v ≡ true)
+pub in_filtered : (test : ℕ → Bool) (v : ℕ) (xs : List ℕ) → IsIn v (filter test xs) → IsIn v xs × (test v ≡ true)
 in_filtered test v [] i = absurd i
 in_filtered test v (x ∷ xs) i = elim (cases_Bool (test x)) [
   | inl t ↦ elim (rw t at i) [ inl e ↦ (inl e, ap test (sym e) ∙ t) | inr r ↦ let rest = in_filtered test v xs r in (inr rest.0, rest.1) ]
@@ -41,7 +41,7 @@ filtered_length : (test : ℕ → Bool) (xs : List ℕ) → length (filter test 
 filtered_length test [] = omega arith
 filtered_length test (x ∷ xs) = let rest = filtered_length test xs in elim (cases_Bool (test x)) [ inl t ↦ rw t (omega (arith, rest)) | inr f ↦ rw f (omega (arith, rest)) ]
 
-list_there : (ys : List ℕ) (P : Form → Type 0) → (1 ≤ length ys → P (Values ys)) → IfThere P (list_or_none ys)
+pub list_there : (ys : List ℕ) (P : Form → Type 0) → (1 ≤ length ys → P (Values ys)) → IfThere P (list_or_none ys)
 list_there [] P h = tt
 list_there (y ∷ ys) P h = h (omega arith)
 
@@ -133,7 +133,7 @@ none_joined m (Some a) behind h k = cc h
 -- ---- runs
 
 -- the base, seen from the low end
-base_seen : (m low : ℕ) (p : Progression) → low < m → p.base < m → (low + above m low p.base) % m ≡ p.base
+pub base_seen : (m low : ℕ) (p : Progression) → low < m → p.base < m → (low + above m low p.base) % m ≡ p.base
 base_seen m low p h k = above_back m low p.base h k
 
 number_seen : (m low i : ℕ) (p : Progression) → low < m → p.base < m → above m low ((p.base + i * p.stride) % m) ≡ (above m low p.base + i * p.stride) % m
@@ -146,31 +146,31 @@ fewer_fit m stride count fewer pos strides once less some =
     record { positive = pos; some = some; once = omega (arith, step, once); strides = λ more. strides }
 
 -- a count is not above the count that it is taken from
-count_less : (end base stride count : ℕ) → 0 < stride → count_below end base stride count ≤ count
+pub count_less : (end base stride count : ℕ) → 0 < stride → count_below end base stride count ≤ count
 count_less end base stride count pos = elim (cases_lt count (count_below end base stride count)) [
   | inl above_it ↦ absurd (let t = count_tells end base stride count count pos above_it in omega (arith, t.0))
   | inr fine ↦ fine
 ]
 
-abbrev Low : (m : ℕ) (p : Progression) (low : ℕ) → Type 0
+abbrev pub Low : (m : ℕ) (p : Progression) (low : ℕ) → Type 0
 Low m p low = IsNormalRun m p.base p.stride p.count × (low < m)
 
 front_holds : (m low i : ℕ) (p : Progression) → 0 < p.stride → i < front_count m p low → (i < p.count) × (above m low p.base + i * p.stride < m)
 front_holds m low i p pos h = count_tells m (above m low p.base) p.stride p.count i pos h
 
-behind_starts : (m low : ℕ) (p : Progression) → 0 < p.stride → front_count m p low < p.count → m ≤ above m low p.base + front_count m p low * p.stride
+pub behind_starts : (m low : ℕ) (p : Progression) → 0 < p.stride → front_count m p low < p.count → m ≤ above m low p.base + front_count m p low * p.stride
 behind_starts m low p pos h = elim (cases_lt (above m low p.base + front_count m p low * p.stride) m) [
   | inl under ↦ absurd (let again = counted m (above m low p.base) p.stride p.count (front_count m p low) pos h under in omega (arith, again))
   | inr over ↦ over
 ]
 
-front_part : (m : ℕ) (p : Progression) (low len : ℕ) → Option Form
+unfoldable pub front_part : (m : ℕ) (p : Progression) (low len : ℕ) → Option Form
 front_part m p low len = part m p.base p.stride (count_below len (above m low p.base) p.stride (front_count m p low))
 
-behind_part : (m : ℕ) (p : Progression) (low len : ℕ) → Option Form
+unfoldable pub behind_part : (m : ℕ) (p : Progression) (low len : ℕ) → Option Form
 behind_part m p low len = part m ((low + behind_base m p low) % m) p.stride (count_below len (behind_base m p low) p.stride (p.count - front_count m p low))
 
-cut_run-is : (m : ℕ) (p : Progression) (low len : ℕ) → cut_run m p low len ≡ join_parts m (front_part m p low len) (behind_part m p low len)
+pub cut_run-is : (m : ℕ) (p : Progression) (low len : ℕ) → cut_run m p low len ≡ join_parts m (front_part m p low len) (behind_part m p low len)
 unfolding cut_run front_part behind_part
 cut_run-is m p low len = refl
 
@@ -187,11 +187,11 @@ behind_fits m p low len (n, h) some =
     let few = count_less len (behind_base m p low) p.stride (p.count - front_count m p low) n.strides in
     fewer_fit m p.stride p.count _ (omega (arith, h)) n.strides n.once (omega (arith, few)) some
 
-front_normal : (m : ℕ) (p : Progression) (low len : ℕ) → Low m p low → IfThere (λ set. IsNormal m set) (front_part m p low len)
+pub front_normal : (m : ℕ) (p : Progression) (low len : ℕ) → Low m p low → IfThere (λ set. IsNormal m set) (front_part m p low len)
 unfolding front_part
 front_normal m p low len l = part_normal m p.base p.stride (count_below len (above m low p.base) p.stride (front_count m p low)) (front_fits m p low len l)
 
-behind_normal : (m : ℕ) (p : Progression) (low len : ℕ) → Low m p low → IfThere (λ set. IsNormal m set) (behind_part m p low len)
+pub behind_normal : (m : ℕ) (p : Progression) (low len : ℕ) → Low m p low → IfThere (λ set. IsNormal m set) (behind_part m p low len)
 unfolding behind_part
 behind_normal m p low len l = part_normal m ((low + behind_base m p low) % m) p.stride (count_below len (behind_base m p low) p.stride (p.count - front_count m p low)) (behind_fits m p low len l)
 

@@ -187,7 +187,7 @@ in_right : (v : ℕ) (xs ys : List ℕ) → IsIn v ys → IsIn v (xs ++ ys)
 in_right v [] ys h = h
 in_right v (x ∷ xs) ys h = inr (in_right v xs ys h)
 
-in_one_of : (v : ℕ) (xs ys : List ℕ) → IsIn v (xs ++ ys) → IsIn v xs ⊎ IsIn v ys
+pub in_one_of : (v : ℕ) (xs ys : List ℕ) → IsIn v (xs ++ ys) → IsIn v xs ⊎ IsIn v ys
 in_one_of v [] ys h = inr h
 in_one_of v (x ∷ xs) ys (inl e) = inl (inl e)
 in_one_of v (x ∷ xs) ys (inr h) = elim (in_one_of v xs ys h) [ inl a ↦ inl (inr a) | inr b ↦ inr b ]
@@ -210,7 +210,7 @@ pub apart-run : (m : ℕ) (p : Progression) (second : Form) → join_apart m (Ru
 unfolding join_apart
 apart-run m p second = refl
 
-apart_cases : (m : ℕ) (first second : Form) (P : Form → Type 0) → ((xs ys : List ℕ) → first ≡ Values xs → second ≡ Values ys → length (ascending (xs ++ ys)) ≤ 16 → P (Values (ascending (xs ++ ys))))
+pub apart_cases : (m : ℕ) (first second : Form) (P : Form → Type 0) → ((xs ys : List ℕ) → first ≡ Values xs → second ≡ Values ys → length (ascending (xs ++ ys)) ≤ 16 → P (Values (ascending (xs ++ ys))))
     → P (join_spans m (span m first) (span m second)) → P (join_apart m first second)
 apart_cases m (Values xs) (Values ys) P few spans = elim (few_cases xs ys) [
   | inl short ↦ rw (apart-lists m xs ys, short.1) (few xs ys refl refl short.0)
@@ -243,7 +243,7 @@ apart_normal m first second n k = apart_cases m first second (λ set. IsNormal m
     (ascending_some (xs ++ ys) (omega (arith, n'.0, length-append xs ys)), short, Ascends-put_all m [] (xs ++ ys) (lists_below m xs ys n'.2 k'.2) tt))
     (join_spans_normal m (span m first) (span m second) (positive m first n))
 
-join_cases : (m : ℕ) (first second : Form) (P : Form → Type 0) → (Includes m first second → P first) → (Includes m second first → P second)
+pub join_cases : (m : ℕ) (first second : Form) (P : Form → Type 0) → (Includes m first second → P first) → (Includes m second first → P second)
     → P (join_apart m first second) → P (join m first second)
 join_cases m first second P one other neither = elim (cases_Bool (is_within m second first)) [
   | inl agreed ↦ rw (join-first m first second agreed) (one (includes_from_test m second first agreed))

@@ -14,3 +14,5 @@ pub mod Equal
 pub mod Collects
 pub mod Singles
 pub mod Promises
+pub mod Remainders
+pub mod Formulas

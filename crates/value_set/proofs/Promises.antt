@@ -79,9 +79,12 @@ cut_is_none m set low len v n h is has = elim (cases_lt (above m low v) len) [
   | inr outside ↦ outside
 ]
 
+pub cut_is_empty : (m : ℕ) (set : Form) (low len : ℕ) → IsNormal m set → low < m → ((v : ℕ) → Has m set v → len ≤ above m low v) → cut m set low len ≡ None
+cut_is_empty m set low len n h nobody = none_cut m set low len n h (λ v has inside. let out = nobody v has in omega (arith, out, inside))
+
 pub cut_not_none : (m : ℕ) (set part : Form) (low len : ℕ) → IsNormal m set → low < m → Some part ≡ cut m set low len → ((v : ℕ) → Has m set v → len ≤ above m low v) → ⊥
 cut_not_none m set part low len n h is nobody =
-    let none = none_cut m set low len n h (λ v has inside. let out = nobody v has in omega (arith, out, inside)) in cc (is, none)
+    let none = cut_is_empty m set low len n h nobody in cc (is, none)
 
 pub not_false : (n : ℕ) → (true ≡ false) ↔ (n ≡ 0) → 1 ≤ n
 not_false n h = elim (cases_lt 0 n) [ inl some ↦ some | inr none ↦ absurd (true≢false (h.1 (omega arith))) ]

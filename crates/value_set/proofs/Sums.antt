@@ -39,12 +39,12 @@ in_append v [] ys h = inr h
 in_append v (x ∷ xs) ys (inl e) = inl (inl e)
 in_append v (x ∷ xs) ys (inr h) = elim (in_append v xs ys h) [ inl a ↦ inl (inr a) | inr b ↦ inr b ]
 
-mapped_in : (f : ℕ → ℕ) (v : ℕ) (xs : List ℕ) → IsIn v xs → IsIn (f v) (map f xs)
+pub mapped_in : (f : ℕ → ℕ) (v : ℕ) (xs : List ℕ) → IsIn v xs → IsIn (f v) (map f xs)
 mapped_in f v [] h = absurd h
 mapped_in f v (x ∷ xs) (inl e) = inl (ap f e)
 mapped_in f v (x ∷ xs) (inr h) = inr (mapped_in f v xs h)
 
-in_mapped : (f : ℕ → ℕ) (v : ℕ) (xs : List ℕ) → IsIn v (map f xs) → (x : ℕ) × IsIn x xs × (f x ≡ v)
+pub in_mapped : (f : ℕ → ℕ) (v : ℕ) (xs : List ℕ) → IsIn v (map f xs) → (x : ℕ) × IsIn x xs × (f x ≡ v)
 in_mapped f v [] h = absurd h
 in_mapped f v (x ∷ xs) (inl e) = (x, inl refl, e)
 in_mapped f v (x ∷ xs) (inr h) = let rest = in_mapped f v xs h in (rest.0, inr rest.1, rest.2)
@@ -54,7 +54,7 @@ flat_in f x v [] h i = absurd h
 flat_in f x v (y ∷ ys) (inl e) i = in_append_left v (f y) (flat_map f ys) (subst (λ (z : ℕ). IsIn v (f z)) (sym e) i)
 flat_in f x v (y ∷ ys) (inr h) i = in_append_right v (f y) (flat_map f ys) (flat_in f x v ys h i)
 
-in_flat : (f : ℕ → List ℕ) (v : ℕ) (xs : List ℕ) → IsIn v (flat_map f xs) → (x : ℕ) × IsIn x xs × IsIn v (f x)
+pub in_flat : (f : ℕ → List ℕ) (v : ℕ) (xs : List ℕ) → IsIn v (flat_map f xs) → (x : ℕ) × IsIn x xs × IsIn v (f x)
 in_flat f v [] h = absurd h
 in_flat f v (y ∷ ys) h = elim (in_append v (f y) (flat_map f ys) h) [
   | inl here ↦ (y, inl refl, here)
@@ -73,7 +73,7 @@ results_are f v xs ys zs h =
     let c = in_mapped (λ z. f a.0 b.0 z) v zs b.2 in
     (a.0, b.0, c.0, a.1, b.1, c.1, c.2)
 
-first_in : (xs : List ℕ) → 1 ≤ length xs → (v : ℕ) × IsIn v xs
+pub first_in : (xs : List ℕ) → 1 ≤ length xs → (v : ℕ) × IsIn v xs
 first_in [] h = absurd (omega arith)
 first_in (x ∷ xs) h = (x, inl refl)
 
@@ -81,17 +81,20 @@ pub some_members : (m : ℕ) (set : Form) → IsNormal m set → 1 ≤ length (m
 some_members m (Values xs) n = n.0
 some_members m (Run p) n = omega (arith, length-steps m p.base p.stride p.count, n.long)
 
-some_from_in : (v : ℕ) (xs : List ℕ) → IsIn v xs → 1 ≤ length xs
+pub some_from_in : (v : ℕ) (xs : List ℕ) → IsIn v xs → 1 ≤ length xs
 some_from_in v [] h = absurd h
 some_from_in v (x ∷ xs) h = omega arith
 
+pub results_some : (answer : ℕ → ℕ → ℕ → ℕ) (xs ys zs : List ℕ) → 1 ≤ length xs → 1 ≤ length ys → 1 ≤ length zs → 1 ≤ length (results answer xs ys zs)
+results_some answer xs ys zs n k l =
+    let x = first_in xs n in
+    let y = first_in ys k in
+    let z = first_in zs l in
+    some_from_in _ _ (results_have answer x.0 y.0 z.0 xs ys zs x.1 y.1 z.1)
+
 pub some_results : (m : ℕ) (answer : ℕ → ℕ → ℕ → ℕ) (a b c : Form) → IsNormal m a → IsNormal m b → IsNormal m c
     → 1 ≤ length (results answer (members m a) (members m b) (members m c))
-some_results m answer a b c n k l =
-    let x = first_in (members m a) (some_members m a n) in
-    let y = first_in (members m b) (some_members m b k) in
-    let z = first_in (members m c) (some_members m c l) in
-    some_from_in _ _ (results_have answer x.0 y.0 z.0 (members m a) (members m b) (members m c) x.1 y.1 z.1)
+some_results m answer a b c n k l = results_some answer (members m a) (members m b) (members m c) (some_members m a n) (some_members m b k) (some_members m c l)
 
 pub results_below : (m : ℕ) (answer : ℕ → ℕ → ℕ → ℕ) (a b c : Form) (v : ℕ) → IsNormal m a → IsNormal m b → IsNormal m c → StaysBelow m answer
     → IsIn v (results answer (members m a) (members m b) (members m c)) → v < m
@@ -240,10 +243,10 @@ pub twice-round : (m : ℕ) (p : Progression) → m ≤ 2 * reach p → twice m 
 unfolding twice
 twice-round m p h = rw (le-ltb (2 * reach p) m h) refl
 
-doubled_below : (m v : ℕ) (xs : List ℕ) → 0 < m → IsIn v (map (λ v. (v + v) % m) xs) → v < m
+pub doubled_below : (m v : ℕ) (xs : List ℕ) → 0 < m → IsIn v (map (λ v. (v + v) % m) xs) → v < m
 doubled_below m v xs pos h = let found = in_mapped (λ v. (v + v) % m) v xs h in let low = mod-lt (found.0 + found.0) {m = m} pos in omega (arith, low, found.2)
 
-doubled_some : (f : ℕ → ℕ) (xs : List ℕ) → 1 ≤ length xs → 1 ≤ length (map f xs)
+pub doubled_some : (f : ℕ → ℕ) (xs : List ℕ) → 1 ≤ length xs → 1 ≤ length (map f xs)
 doubled_some f [] h = h
 doubled_some f (x ∷ xs) h = omega arith
 

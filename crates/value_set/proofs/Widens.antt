@@ -105,7 +105,7 @@ up_mark m last stride top (Some mark) high h =
     let fact = up_fact last stride mark (high mark refl).0 in
     (omega (arith, e, fact.0), omega (arith, e, fact.1, (high mark refl).1))
 
-first_cases : (run held : Progression) (marks : List ℕ) (first : ℕ) → first_widened run held marks ≡ Some first → (first ≤ run.base) × (run.stride ∣ run.base - first)
+pub first_cases : (run held : Progression) (marks : List ℕ) (first : ℕ) → first_widened run held marks ≡ Some first → (first ≤ run.base) × (run.stride ∣ run.base - first)
 unfolding first_widened
 first_cases run held marks first h = elim (cases_eq run.base held.base) [
   | inl same ↦ let e : Some run.base ≡ Some first = rw (eq-eqb run.base held.base same) at h in
@@ -185,7 +185,7 @@ pub widen-beyond : (m : ℕ) (held new : Form) (marks : List ℕ) → is_within 
 unfolding widen
 widen-beyond m held new marks h = rw h refl
 
-widen_cases : (m : ℕ) (held new : Form) (marks : List ℕ) (P : Form → Type 0) → (Includes m held new → P held) → P (widen_span m (span m (join m held new)) (span m held) marks)
+pub widen_cases : (m : ℕ) (held new : Form) (marks : List ℕ) (P : Form → Type 0) → (Includes m held new → P held) → P (widen_span m (span m (join m held new)) (span m held) marks)
     → P (widen m held new marks)
 widen_cases m held new marks P kept wider = elim (cases_Bool (is_within m new held)) [
   | inl inside ↦ rw (widen-within m held new marks inside) (kept (includes_from_test m new held inside))

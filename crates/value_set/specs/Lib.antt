@@ -4,6 +4,7 @@ pub mod Form
 pub mod Gcd
 pub mod Joining
 pub mod Operations
+pub mod Remainders
 pub mod Widening
 pub mod Cutting
 pub mod Summing
