@@ -1,3 +1,4 @@
+pub mod Anywhere
 pub mod Bytes
 pub mod Each
 mod Examples

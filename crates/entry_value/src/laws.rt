@@ -45,7 +45,7 @@ pub fn writes_keep_form()
         → IsNormal 65536 word.set → (size ≡ 1 → (n : ℕ) → Has 65536 word.set n → n < 256) → AreCells map.lo map.hi from (the_cells.write_one map at size word).cells }
     ensures one_lo { (at size : ℕ) (map : CellMap) (word : AWord) → (the_cells.write_one map at size word).lo ≡ map.lo }
     ensures one_hi { (at size : ℕ) (map : CellMap) (word : AWord) → (the_cells.write_one map at size word).hi ≡ map.hi }
-    ensures any { (from size : ℕ) (map : CellMap) (at : AForm) (word : AWord) → AreCells map.lo map.hi from map.cells
+    ensures any { (from size : ℕ) (map : CellMap) (at : AForm) (word : AWord) → map.hi < 65536 → from ≤ map.lo → AreCells map.lo map.hi from map.cells → (size ≡ 1) ⊎ (size ≡ 2)
         → IsNormal 65536 word.set → (size ≡ 1 → (n : ℕ) → Has 65536 word.set n → n < 256) → AreCells map.lo map.hi from (the_cells.write_any map at size word).cells }
     ensures any_lo { (size : ℕ) (map : CellMap) (at : AForm) (word : AWord) → (the_cells.write_any map at size word).lo ≡ map.lo }
     ensures any_hi { (size : ℕ) (map : CellMap) (at : AForm) (word : AWord) → (the_cells.write_any map at size word).hi ≡ map.hi }
