@@ -4,6 +4,7 @@ pub mod Each
 mod Examples
 pub mod LowSets
 pub mod Masks
+pub mod Ordering
 pub mod Premises
 pub mod Reading
 pub mod Scattering

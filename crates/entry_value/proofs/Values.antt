@@ -18,7 +18,7 @@ use Rattle.entry_value.proofs.Premises.{InclusionIsTested, Joins, Widens, Sets}
 
 -- ---- relations
 
-same_entry : (a b : Entry) → is_same_entry a b ≡ true → a ≡ b
+pub same_entry : (a b : Entry) → is_same_entry a b ≡ true → a ≡ b
 same_entry a b h =
     let outer = and_parts ((a.place == b.place) && (a.and == b.and)) (a.or == b.or) h in
     let inner = and_parts (a.place == b.place) (a.and == b.and) outer.0 in
@@ -98,7 +98,7 @@ widened_normal : Sets → (held new : Form) (marks : List ℕ) → IsNormal 6553
 widened_normal sets held new marks n k =
     sets.widens.normal 256 (low_set held) (low_set new) (filter (λ mark. nat_lt mark 256) marks) (sets.halves.low_normal held n) (sets.halves.low_normal new k) (all_low marks)
 
-byte_held : Sets → (held new : Word) (marks : List ℕ) (v : ℕ) → IsNormal 65536 held.set → IsNormal 65536 new.set → v < 256 → Has 65536 held.set v
+pub byte_held : Sets → (held new : Word) (marks : List ℕ) (v : ℕ) → IsNormal 65536 held.set → IsNormal 65536 new.set → v < 256 → Has 65536 held.set v
     → Has 65536 (byte_widened held new marks).set v
 byte_held sets held new marks v n k small h = elim (cases_Bool (is_within 65536 new.set held.set)) [
   | inl within ↦ rw within h
@@ -107,7 +107,7 @@ byte_held sets held new marks v n k small h = elim (cases_Bool (is_within 65536 
       v (low_has sets held.set v n small h)))
 ]
 
-byte_new : Sets → (held new : Word) (marks : List ℕ) (v : ℕ) → IsNormal 65536 held.set → IsNormal 65536 new.set → v < 256 → Has 65536 new.set v
+pub byte_new : Sets → (held new : Word) (marks : List ℕ) (v : ℕ) → IsNormal 65536 held.set → IsNormal 65536 new.set → v < 256 → Has 65536 new.set v
     → Has 65536 (byte_widened held new marks).set v
 byte_new sets held new marks v n k small h = elim (cases_Bool (is_within 65536 new.set held.set)) [
   | inl within ↦ rw within ((sets.tested 65536 new.set held.set).0 within v h)

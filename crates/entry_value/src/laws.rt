@@ -1,13 +1,14 @@
 //! What cells hold, over their definitions and for every list of cells. Proofs of representations of cells call these.
 
-ghost use Rattle.std.specs.Prelude.{◌≡◌, ◌≤◌, ◌<◌, ℕ, ◌⊎◌, All, true, Option, List};
+ghost use Rattle.std.specs.Prelude.{◌≡◌, ◌≤◌, ◌<◌, ℕ, ◌⊎◌, All, true, Option, None, List};
 ghost use Rattle.value_set.specs.declared.form.Form.{Form as AForm};
-ghost use Rattle.value_set.specs.Form.{Has, IsNormal};
+ghost use Rattle.value_set.specs.Form.{Has, IsNormal, make};
 ghost use Rattle.entry_value.specs.declared.cells.Cell.{Cell as ACell};
 ghost use Rattle.entry_value.specs.declared.word.Word.{Word as AWord};
-ghost use Rattle.entry_value.specs.Words.{Suspended, HoldsOfWord};
+ghost use Rattle.entry_value.specs.declared.byte.Byte.{Byte as AByte};
+ghost use Rattle.entry_value.specs.Words.{Suspended, HoldsOfWord, word_join, word_widen, word_within, byte_join, byte_widen, byte_within};
 ghost use Rattle.entry_value.specs.Cells as the_cells;
-ghost use Rattle.entry_value.specs.Cells.{CellMap, AreCells, StandsUnder, number_at, written};
+ghost use Rattle.entry_value.specs.Cells.{CellMap, AreCells, StandsUnder, number_at, written, are_within};
 
 use value_bits::halves_hold;
 use value_set::{
@@ -85,6 +86,66 @@ pub fn unions_cover()
         → All (λ mark. mark < 65536) marks → StandsUnder first held ram → StandsUnder first (the_cells.widen_cells held new marks) ram }
     ensures added { (first : Option Suspended) (ram : ℕ → ℕ) (lo hi from low high start : ℕ) (held new : List ACell) (marks : List ℕ) → AreCells lo hi from held → AreCells low high start new
         → All (λ mark. mark < 65536) marks → StandsUnder first new ram → StandsUnder first (the_cells.widen_cells held new marks) ram }
+{
+    halves_hold();
+    single_and_whole_sets();
+    inclusion_is_tested();
+    joins_include_both();
+    widenings_include_both();
+}
+
+/// The order of words. Each is within itself, a word within another is within all that this is within, and words are
+/// within their join, within the first one widened by the second, and within the word of which nothing is known.
+pub fn words_are_ordered()
+    ensures itself { (a : AWord) → word_within a a ≡ true }
+    ensures along { (a b c : AWord) → word_within a b ≡ true → word_within b c ≡ true → word_within a c ≡ true }
+    ensures join_first { (a b : AWord) → IsNormal 65536 a.set → IsNormal 65536 b.set → word_within a (word_join a b) ≡ true }
+    ensures join_second { (a b : AWord) → IsNormal 65536 a.set → IsNormal 65536 b.set → word_within b (word_join a b) ≡ true }
+    ensures widen_held { (held new : AWord) (marks : List ℕ) → IsNormal 65536 held.set → IsNormal 65536 new.set → All (λ mark. mark < 65536) marks
+        → word_within held (word_widen held new marks) ≡ true }
+    ensures widen_new { (held new : AWord) (marks : List ℕ) → IsNormal 65536 held.set → IsNormal 65536 new.set → All (λ mark. mark < 65536) marks
+        → word_within new (word_widen held new marks) ≡ true }
+    ensures whole { (a : AWord) → IsNormal 65536 a.set → word_within a (the_cells.unknown 2) ≡ true }
+{
+    members_are_below();
+    single_and_whole_sets();
+    inclusion_is_tested();
+    joins_include_both();
+    widenings_include_both();
+}
+
+/// The order of bytes, as that of words.
+pub fn bytes_are_ordered()
+    ensures itself { (a : AByte) → byte_within a a ≡ true }
+    ensures along { (a b c : AByte) → byte_within a b ≡ true → byte_within b c ≡ true → byte_within a c ≡ true }
+    ensures join_first { (a b : AByte) → IsNormal 256 a.set → IsNormal 256 b.set → byte_within a (byte_join a b) ≡ true }
+    ensures join_second { (a b : AByte) → IsNormal 256 a.set → IsNormal 256 b.set → byte_within b (byte_join a b) ≡ true }
+    ensures widen_held { (held new : AByte) (marks : List ℕ) → IsNormal 256 held.set → IsNormal 256 new.set → All (λ mark. mark < 256) marks
+        → byte_within held (byte_widen held new marks) ≡ true }
+    ensures widen_new { (held new : AByte) (marks : List ℕ) → IsNormal 256 held.set → IsNormal 256 new.set → All (λ mark. mark < 256) marks
+        → byte_within new (byte_widen held new marks) ≡ true }
+    ensures whole { (a : AByte) → IsNormal 256 a.set → byte_within a (record { set = make 256 0 1 256; entry = None }) ≡ true }
+{
+    members_are_below();
+    single_and_whole_sets();
+    inclusion_is_tested();
+    joins_include_both();
+    widenings_include_both();
+}
+
+/// The order of cells. Each list is within itself, a list within another is within all that this is within, and two lists
+/// are within their join and within the first one widened by the second.
+pub fn cells_are_ordered()
+    ensures itself { (lo hi from : ℕ) (cells : List ACell) → AreCells lo hi from cells → are_within cells cells ≡ true }
+    ensures along { (a b c : List ACell) → are_within a b ≡ true → are_within b c ≡ true → are_within a c ≡ true }
+    ensures join_held { (lo hi from low high start : ℕ) (held new : List ACell) → AreCells lo hi from held → AreCells low high start new
+        → are_within held (the_cells.join_cells held new) ≡ true }
+    ensures join_new { (lo hi from low high start : ℕ) (held new : List ACell) → AreCells lo hi from held → AreCells low high start new
+        → are_within new (the_cells.join_cells held new) ≡ true }
+    ensures widen_held { (lo hi from low high start : ℕ) (held new : List ACell) (marks : List ℕ) → AreCells lo hi from held → AreCells low high start new
+        → All (λ mark. mark < 65536) marks → are_within held (the_cells.widen_cells held new marks) ≡ true }
+    ensures widen_new { (lo hi from low high start : ℕ) (held new : List ACell) (marks : List ℕ) → AreCells lo hi from held → AreCells low high start new
+        → All (λ mark. mark < 65536) marks → are_within new (the_cells.widen_cells held new marks) ≡ true }
 {
     halves_hold();
     single_and_whole_sets();

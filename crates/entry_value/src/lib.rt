@@ -16,7 +16,8 @@ mod word;
 pub use byte::Byte;
 pub use cells::{Cell, Cells};
 pub use laws::{
-    inclusion_covers, reads_hold, unions_cover, unions_keep_form, writes_cover, writes_keep_form,
+    bytes_are_ordered, cells_are_ordered, inclusion_covers, reads_hold, unions_cover,
+    unions_keep_form, words_are_ordered, writes_cover, writes_keep_form,
 };
 pub use word::{Entry, Word, common};
 
