@@ -2,6 +2,7 @@ pub mod Anywhere
 pub mod Bytes
 pub mod Each
 mod Examples
+pub mod Holding
 pub mod LowSets
 pub mod Masks
 pub mod Ordering

@@ -23,23 +23,23 @@ same_itself : (a : Entry) → is_same_entry a a ≡ true
 same_itself a = and_from ((a.place == a.place) && (a.and == a.and)) (a.or == a.or)
     (and_from (a.place == a.place) (a.and == a.and) (eq-eqb a.place a.place refl) (eq-eqb a.and a.and refl)) (eq-eqb a.or a.or refl)
 
-entry_itself : (a : Option Entry) → is_entry_within a a ≡ true
+pub entry_itself : (a : Option Entry) → is_entry_within a a ≡ true
 entry_itself None = refl
 entry_itself (Some a) = same_itself a
 
-entry_along : (a b c : Option Entry) → is_entry_within a b ≡ true → is_entry_within b c ≡ true → is_entry_within a c ≡ true
+pub entry_along : (a b c : Option Entry) → is_entry_within a b ≡ true → is_entry_within b c ≡ true → is_entry_within a c ≡ true
 entry_along a b None h k = refl
 entry_along None None (Some c) h k = k
 entry_along None (Some b) (Some c) h k = h
 entry_along (Some a) None (Some c) h k = absurd cc
 entry_along (Some a) (Some b) (Some c) h k = subst (λ (e : Entry). is_same_entry a e ≡ true) (same_entry b c k) h
 
-common_of_first : (a b : Option Entry) → is_entry_within a (common_entry a b) ≡ true
+pub common_of_first : (a b : Option Entry) → is_entry_within a (common_entry a b) ≡ true
 common_of_first None b = refl
 common_of_first (Some a) None = refl
 common_of_first (Some a) (Some b) = elim (cases_Bool (is_same_entry a b)) [ inl same ↦ rw same (same_itself a) | inr other ↦ rw other refl ]
 
-common_of_second : (a b : Option Entry) → is_entry_within b (common_entry a b) ≡ true
+pub common_of_second : (a b : Option Entry) → is_entry_within b (common_entry a b) ≡ true
 common_of_second None b = refl
 common_of_second (Some a) None = refl
 common_of_second (Some a) (Some b) = elim (cases_Bool (is_same_entry a b)) [

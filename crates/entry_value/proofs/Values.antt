@@ -26,12 +26,12 @@ same_entry a b h =
     ∙ ap (λ (n : ℕ). let e : Entry = record { place = b.place; and = n; or = a.or } in e) (eqb-true a.and b.and inner.1)
     ∙ ap (λ (n : ℕ). let e : Entry = record { place = b.place; and = b.and; or = n } in e) (eqb-true a.or b.or outer.1)
 
-common_first : (first : Option Suspended) (a b : Option Entry) (v : ℕ) → IsFromEntry first a v → IsFromEntry first (common_entry a b) v
+pub common_first : (first : Option Suspended) (a b : Option Entry) (v : ℕ) → IsFromEntry first a v → IsFromEntry first (common_entry a b) v
 common_first first None b v h = tt
 common_first first (Some a) None v h = tt
 common_first first (Some a) (Some b) v h = elim (cases_Bool (is_same_entry a b)) [ inl same ↦ rw same h | inr other ↦ rw other tt ]
 
-common_second : (first : Option Suspended) (a b : Option Entry) (v : ℕ) → IsFromEntry first b v → IsFromEntry first (common_entry a b) v
+pub common_second : (first : Option Suspended) (a b : Option Entry) (v : ℕ) → IsFromEntry first b v → IsFromEntry first (common_entry a b) v
 common_second first None b v h = tt
 common_second first (Some a) None v h = tt
 common_second first (Some a) (Some b) v h = elim (cases_Bool (is_same_entry a b)) [
@@ -39,7 +39,7 @@ common_second first (Some a) (Some b) v h = elim (cases_Bool (is_same_entry a b)
   | inr other ↦ rw other tt
 ]
 
-entry_within : (first : Option Suspended) (a b : Option Entry) (v : ℕ) → is_entry_within a b ≡ true → IsFromEntry first a v → IsFromEntry first b v
+pub entry_within : (first : Option Suspended) (a b : Option Entry) (v : ℕ) → is_entry_within a b ≡ true → IsFromEntry first a v → IsFromEntry first b v
 entry_within first a None v within h = tt
 entry_within first None (Some b) v within h = absurd (cc)
 entry_within first (Some a) (Some b) v within h = subst (λ (entry : Entry). IsFromEntry first (Some entry) v) (same_entry a b within) h

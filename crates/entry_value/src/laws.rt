@@ -1,16 +1,17 @@
 //! What cells hold, over their definitions and for every list of cells. Proofs of representations of cells call these.
 
-ghost use Rattle.std.specs.Prelude.{◌≡◌, ◌≤◌, ◌<◌, ℕ, ◌⊎◌, All, true, Option, None, List};
+ghost use Rattle.std.specs.Prelude.{◌≡◌, ◌≤◌, ◌<◌, ℕ, ◌⊎◌, All, true, Option, None, List, option_map, bit_and, bit_or};
 ghost use Rattle.value_set.specs.declared.form.Form.{Form as AForm};
 ghost use Rattle.value_set.specs.Form.{Has, IsNormal, make};
 ghost use Rattle.entry_value.specs.declared.cells.Cell.{Cell as ACell};
+ghost use Rattle.entry_value.specs.declared.word.Entry.{Entry as AEntry};
 ghost use Rattle.entry_value.specs.declared.word.Word.{Word as AWord};
 ghost use Rattle.entry_value.specs.declared.byte.Byte.{Byte as AByte};
-ghost use Rattle.entry_value.specs.Words.{Suspended, HoldsOfWord, word_join, word_widen, word_within, byte_join, byte_widen, byte_within};
+ghost use Rattle.entry_value.specs.Words.{Suspended, IsFromEntry, HoldsOfWord, HoldsOfByte, common_entry, is_entry_within, entry_and, entry_or, word_join, word_widen, word_within, word_and, word_or, byte_join, byte_widen, byte_within, byte_and, byte_or};
 ghost use Rattle.entry_value.specs.Cells as the_cells;
 ghost use Rattle.entry_value.specs.Cells.{CellMap, AreCells, StandsUnder, number_at, written, are_within};
 
-use value_bits::halves_hold;
+use value_bits::{halves_hold, logic_holds};
 use value_set::{
     inclusion_is_tested, joins_include_both, members_are_below, single_and_whole_sets,
     widenings_include_both,
@@ -92,6 +93,68 @@ pub fn unions_cover()
     inclusion_is_tested();
     joins_include_both();
     widenings_include_both();
+}
+
+/// Relations: what came from a place behind an AND and an OR came from it by the masked relation, and what either relation
+/// says their common one says. A relation says what another one does that it is within, and this is an order.
+pub fn relations_hold()
+    ensures and { (first : Option Suspended) (entry : Option AEntry) (v m : ℕ) → IsFromEntry first entry v → IsFromEntry first (option_map (entry_and m) entry) (bit_and v m) }
+    ensures or { (first : Option Suspended) (entry : Option AEntry) (v m : ℕ) → IsFromEntry first entry v → IsFromEntry first (option_map (entry_or m) entry) (bit_or v m) }
+    ensures common_first { (first : Option Suspended) (a b : Option AEntry) (v : ℕ) → IsFromEntry first a v → IsFromEntry first (common_entry a b) v }
+    ensures common_second { (first : Option Suspended) (a b : Option AEntry) (v : ℕ) → IsFromEntry first b v → IsFromEntry first (common_entry a b) v }
+    ensures within { (first : Option Suspended) (v : ℕ) (a b : Option AEntry) → is_entry_within a b ≡ true → IsFromEntry first a v → IsFromEntry first b v }
+    ensures itself { (a : Option AEntry) → is_entry_within a a ≡ true }
+    ensures along { (a b c : Option AEntry) → is_entry_within a b ≡ true → is_entry_within b c ≡ true → is_entry_within a c ≡ true }
+    ensures within_first { (a b : Option AEntry) → is_entry_within a (common_entry a b) ≡ true }
+    ensures within_second { (a b : Option AEntry) → is_entry_within b (common_entry a b) ≡ true }
+{}
+
+/// What holds of a number under a suspended state: words hold of it behind joins, widenings and greater sets, and of the
+/// number behind a mask where they have passed that mask. Their sets are in normal form.
+pub fn words_hold()
+    ensures join_normal { (a b : AWord) → IsNormal 65536 a.set → IsNormal 65536 b.set → IsNormal 65536 (word_join a b).set }
+    ensures join_first { (first : Option Suspended) (v : ℕ) (a b : AWord) → IsNormal 65536 a.set → IsNormal 65536 b.set → HoldsOfWord first a v → HoldsOfWord first (word_join a b) v }
+    ensures join_second { (first : Option Suspended) (v : ℕ) (a b : AWord) → IsNormal 65536 a.set → IsNormal 65536 b.set → HoldsOfWord first b v → HoldsOfWord first (word_join a b) v }
+    ensures widen_normal { (held new : AWord) (marks : List ℕ) → IsNormal 65536 held.set → IsNormal 65536 new.set → All (λ mark. mark < 65536) marks → IsNormal 65536 (word_widen held new marks).set }
+    ensures widen_held { (first : Option Suspended) (v : ℕ) (held new : AWord) (marks : List ℕ) → IsNormal 65536 held.set → IsNormal 65536 new.set → All (λ mark. mark < 65536) marks
+        → HoldsOfWord first held v → HoldsOfWord first (word_widen held new marks) v }
+    ensures widen_new { (first : Option Suspended) (v : ℕ) (held new : AWord) (marks : List ℕ) → IsNormal 65536 held.set → IsNormal 65536 new.set → All (λ mark. mark < 65536) marks
+        → HoldsOfWord first new v → HoldsOfWord first (word_widen held new marks) v }
+    ensures within { (first : Option Suspended) (v : ℕ) (a b : AWord) → word_within a b ≡ true → HoldsOfWord first a v → HoldsOfWord first b v }
+    ensures and_normal { (m : ℕ) (word : AWord) → m < 65536 → IsNormal 65536 word.set → IsNormal 65536 (word_and m word).set }
+    ensures and { (first : Option Suspended) (m v : ℕ) (word : AWord) → m < 65536 → IsNormal 65536 word.set → HoldsOfWord first word v → HoldsOfWord first (word_and m word) (bit_and v m) }
+    ensures or_normal { (m : ℕ) (word : AWord) → m < 65536 → IsNormal 65536 word.set → IsNormal 65536 (word_or m word).set }
+    ensures or { (first : Option Suspended) (m v : ℕ) (word : AWord) → m < 65536 → IsNormal 65536 word.set → HoldsOfWord first word v → HoldsOfWord first (word_or m word) (bit_or v m) }
+{
+    single_and_whole_sets();
+    inclusion_is_tested();
+    joins_include_both();
+    widenings_include_both();
+    logic_holds();
+}
+
+/// What holds of a number under a suspended state: bytes hold of it behind joins, widenings and greater sets, and of the
+/// number behind a mask where they have passed that mask. Their sets are in normal form.
+pub fn bytes_hold()
+    ensures join_normal { (a b : AByte) → IsNormal 256 a.set → IsNormal 256 b.set → IsNormal 256 (byte_join a b).set }
+    ensures join_first { (first : Option Suspended) (v : ℕ) (a b : AByte) → IsNormal 256 a.set → IsNormal 256 b.set → HoldsOfByte first a v → HoldsOfByte first (byte_join a b) v }
+    ensures join_second { (first : Option Suspended) (v : ℕ) (a b : AByte) → IsNormal 256 a.set → IsNormal 256 b.set → HoldsOfByte first b v → HoldsOfByte first (byte_join a b) v }
+    ensures widen_normal { (held new : AByte) (marks : List ℕ) → IsNormal 256 held.set → IsNormal 256 new.set → All (λ mark. mark < 256) marks → IsNormal 256 (byte_widen held new marks).set }
+    ensures widen_held { (first : Option Suspended) (v : ℕ) (held new : AByte) (marks : List ℕ) → IsNormal 256 held.set → IsNormal 256 new.set → All (λ mark. mark < 256) marks
+        → HoldsOfByte first held v → HoldsOfByte first (byte_widen held new marks) v }
+    ensures widen_new { (first : Option Suspended) (v : ℕ) (held new : AByte) (marks : List ℕ) → IsNormal 256 held.set → IsNormal 256 new.set → All (λ mark. mark < 256) marks
+        → HoldsOfByte first new v → HoldsOfByte first (byte_widen held new marks) v }
+    ensures within { (first : Option Suspended) (v : ℕ) (a b : AByte) → byte_within a b ≡ true → HoldsOfByte first a v → HoldsOfByte first b v }
+    ensures and_normal { (m : ℕ) (byte : AByte) → m < 256 → IsNormal 256 byte.set → IsNormal 256 (byte_and m byte).set }
+    ensures and { (first : Option Suspended) (m v : ℕ) (byte : AByte) → m < 256 → IsNormal 256 byte.set → HoldsOfByte first byte v → HoldsOfByte first (byte_and m byte) (bit_and v m) }
+    ensures or_normal { (m : ℕ) (byte : AByte) → m < 256 → IsNormal 256 byte.set → IsNormal 256 (byte_or m byte).set }
+    ensures or { (first : Option Suspended) (m v : ℕ) (byte : AByte) → m < 256 → IsNormal 256 byte.set → HoldsOfByte first byte v → HoldsOfByte first (byte_or m byte) (bit_or v m) }
+{
+    single_and_whole_sets();
+    inclusion_is_tested();
+    joins_include_both();
+    widenings_include_both();
+    logic_holds();
 }
 
 /// The order of words. Each is within itself, a word within another is within all that this is within, and words are
