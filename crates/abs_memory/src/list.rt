@@ -13,7 +13,7 @@ use value_set::Vs16;
 use vsa_io::Memory;
 
 /// The cells of a RAM in ascending order of their places. A read and a write at one address find them by binary search;
-/// the other calls go over them once. A write at some addresses needs no memory.
+/// the other calls go over them once. A write at several addresses needs no memory.
 #[derive(Drop)]
 pub struct CellList {
     lo: u16,
@@ -64,10 +64,13 @@ impl Cells for CellList {
     }
 
     fn write_any(&mut self, at: &Vs16, size: u8, value: Word) -> Result<(), Memory> {
+        if at.count() == 1 {
+            return self.write_one(at.nth(0), size, value);
+        }
         writes_cover();
         writes_keep_form();
         let _normal = (at.form(), value.set.form());
-        writing::write_any(&mut self.cells, at, size, &value);
+        writing::write_several(&mut self.cells, at, size, &value);
         Ok(())
     }
 

@@ -152,6 +152,26 @@ fn rows_of_writes_at_some(rt: HostRuntime) -> Result<(), Fail> {
     writes_at_some::<CellList>(&rt, rt.alloc())
 }
 
+/// A write at one address alone takes the place of what stood there, and makes a cell where there was none.
+fn writes_at_one<C: Cells>(rt: &impl Abort, alloc: Global) -> Result<(), Fail> {
+    let mut cells: C = word_and_byte(alloc)?;
+    cells.write_any(&Vs16::one(0x200), 2, number(0x0005))?;
+    assert_eq!(rt; cells.read(0x200, 2), number(0x0005));
+    cells.write_any(&Vs16::one(0x202), 2, number(0x0607))?;
+    assert_eq!(rt; cells.read(0x202, 2), number(0x0607));
+    assert_eq!(rt; cells.read(0x203, 1), number(0x06));
+    cells.write_any(&Vs16::one(0x205), 1, byte(0x08))?;
+    assert_eq!(rt; cells.next(0x203), Some((0x205, 1, number(0x08))));
+    cells.write_any(&Vs16::one(0x20F), 2, number(0x0009))?;
+    assert_eq!(rt; cells.next(0x206), None);
+    Ok(())
+}
+
+#[test]
+fn rows_of_writes_at_one(rt: HostRuntime) -> Result<(), Fail> {
+    writes_at_one::<CellList>(&rt, rt.alloc())
+}
+
 /// Cells that both have are joined, and each is within the join.
 fn joins<C: Cells>(rt: &impl Abort, alloc: Global) -> Result<(), Fail> {
     let one: C = word_and_byte(alloc)?;

@@ -126,8 +126,8 @@ fn cell_behind(at: &Vs16, size: u8, word: &Word, cell: Cell) -> Option<Cell>
     })
 }
 
-/// Writes a value at one of some addresses, in one pass over the cells.
-pub(crate) fn write_any(cells: &mut Vec<Cell>, at: &Vs16, size: u8, word: &Word)
+/// Writes a value at one of several addresses, in one pass over the cells.
+pub(crate) fn write_several(cells: &mut Vec<Cell>, at: &Vs16, size: u8, word: &Word)
     requires { EachEndsBelow 65536 cells.old.items }
     ensures { cells.new.items ≡ the_cells.kept (the_cells.cell_behind at.now size word.now) cells.old.items }
 {

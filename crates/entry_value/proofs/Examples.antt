@@ -7,7 +7,7 @@ use Rattle.value_set.specs.Widening.{widen, widen_span, first_widened, last_wide
 use Rattle.value_set.specs.Joining.{is_within, join, join_apart}
 use Rattle.value_bits.specs.Sets.{low_set, high_set, pair_set}
 use Rattle.entry_value.specs.declared.cells.Cell.{Cell}
-use Rattle.entry_value.specs.Cells.{CellMap, unknown, read, write_one, write_any, join_cells, widen_cells, are_within}
+use Rattle.entry_value.specs.Cells.{CellMap, unknown, read, write_one, write_several, write_any, join_cells, widen_cells, are_within}
 
 -- a cell of some numbers, without a relation
 abbrev at : (place size : ℕ) → List ℕ → Cell
@@ -52,19 +52,29 @@ beyond_the_end = refl
 -- one of two bytes, beside a word whose high byte is the second one
 some_met : (write_any (ram (at 0x0200 1 (0x01 ∷ []) ∷ at 0x0201 2 (0x1234 ∷ []) ∷ at 0x0203 1 (0x07 ∷ []) ∷ [])) (Values (0x0200 ∷ 0x0202 ∷ [])) 1 (at 0 1 (0x05 ∷ [])).word).cells
     ≡ at 0x0200 1 (0x01 ∷ 0x05 ∷ []) ∷ at 0x0203 1 (0x07 ∷ []) ∷ []
-unfolding write_any is_within make steps join join_apart put
+unfolding write_any write_several is_within make steps join join_apart put
 some_met = refl
 
 -- both bytes of a word's cell may be the first one written: the cell goes
 two_places : (write_any (ram (at 0x0200 2 (0x1234 ∷ []) ∷ [])) (Values (0x0200 ∷ 0x0201 ∷ [])) 2 (at 0 2 (0x1234 ∷ [])).word).cells ≡ []
-unfolding write_any
+unfolding write_any write_several
 two_places = refl
 
 -- a word at the last address has the byte at 0
-around : (write_any (record { lo = 0; hi = 0xFFFF; cells = at 0 1 (0x01 ∷ []) ∷ at 1 1 (0x02 ∷ []) ∷ [] }) (Values (0xFFFF ∷ [])) 2 (at 0 2 (0x1234 ∷ [])).word).cells
+around : (write_any (record { lo = 0; hi = 0xFFFF; cells = at 0 1 (0x01 ∷ []) ∷ at 1 1 (0x02 ∷ []) ∷ [] }) (Values (0x8000 ∷ 0xFFFF ∷ [])) 2 (at 0 2 (0x1234 ∷ [])).word).cells
     ≡ at 1 1 (0x02 ∷ []) ∷ []
-unfolding write_any
+unfolding write_any write_several
 around = refl
+
+-- one address alone: the value takes the place of what stood there, and has a cell where there was none
+only_place : (write_any (ram (at 0x0200 1 (0x01 ∷ []) ∷ [])) (Values (0x0200 ∷ [])) 1 (at 0 1 (0x05 ∷ [])).word).cells ≡ at 0x0200 1 (0x05 ∷ []) ∷ []
+unfolding write_any write_one is_within make steps
+only_place = refl
+
+only_new_place : (write_any (ram (at 0x0200 1 (0x01 ∷ []) ∷ [])) (Values (0x0202 ∷ [])) 2 (at 0 2 (0x1234 ∷ [])).word).cells
+    ≡ at 0x0200 1 (0x01 ∷ []) ∷ at 0x0202 2 (0x1234 ∷ []) ∷ []
+unfolding write_any write_one is_within make steps
+only_new_place = refl
 
 -- cells that both have, with both values
 joined : join_cells (at 0x0200 1 (0x01 ∷ []) ∷ at 0x0201 1 (0x02 ∷ []) ∷ []) (at 0x0201 1 (0x03 ∷ []) ∷ at 0x0202 2 (0x1234 ∷ []) ∷ []) ≡ at 0x0201 1 (0x02 ∷ 0x03 ∷ []) ∷ []

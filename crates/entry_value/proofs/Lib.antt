@@ -1,8 +1,11 @@
+pub mod Anywhere
 pub mod Bytes
 pub mod Each
 mod Examples
+pub mod Holding
 pub mod LowSets
 pub mod Masks
+pub mod Ordering
 pub mod Premises
 pub mod Reading
 pub mod Scattering

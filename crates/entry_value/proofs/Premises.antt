@@ -1,5 +1,5 @@
 -- What the proofs over cells take of sets, from the laws of sets.
-use Rattle.std.proofs.Common.{◌≡◌, ℕ, ◌<◌, true, List, All}
+use Rattle.std.proofs.Common.{◌≡◌, ℕ, ◌^◌, ◌<◌, true, List, All}
 use Rattle.value_set.specs.declared.form.Form.{Form}
 use Rattle.std.specs.Prelude.{◌↔◌}
 use Rattle.value_set.specs.Form.{Has, Includes, IsNormal, make}
@@ -7,7 +7,9 @@ use Rattle.value_set.specs.Joining.{is_within, join}
 use Rattle.value_set.specs.Summing.{single}
 use Rattle.value_set.specs.Widening.{widen}
 use Rattle.value_bits.specs.Numbers.{low_byte, high_byte, word_of}
-use Rattle.value_bits.specs.Sets.{low_set, high_set, pair_set}
+use Rattle.value_bits.specs.declared.tri.Logic.{Logic}
+use Rattle.value_bits.specs.Bits.{logic_of}
+use Rattle.value_bits.specs.Sets.{logic_set, low_set, high_set, pair_set}
 
 -- of the low and the high bytes of words, and of words of bytes
 pub record Halves : Type 0 where
@@ -45,3 +47,9 @@ pub record Sets : Type 0 where
   pub singles : Singles
   pub tested : InclusionIsTested
   pub widens : Widens
+
+-- of AND and OR
+pub record Logics : Type 0 where
+  pub normal : (width : ℕ) (logic : Logic) (a b : Form) → IsNormal (2 ^ width) a → IsNormal (2 ^ width) b → IsNormal (2 ^ width) (logic_set width logic a b)
+  pub holds : (width x y : ℕ) (logic : Logic) (a b : Form) → IsNormal (2 ^ width) a → IsNormal (2 ^ width) b → Has (2 ^ width) a x → Has (2 ^ width) b y
+      → Has (2 ^ width) (logic_set width logic a b) (logic_of logic x y)

@@ -12,7 +12,7 @@ use Rattle.value_bits.specs.Sets.{low_set, high_set, pair_set}
 use Rattle.entry_value.specs.declared.word.Word.{Word}
 use Rattle.entry_value.specs.declared.cells.Cell.{Cell}
 use Rattle.entry_value.specs.Words.{Suspended, HoldsOfWord}
-use Rattle.entry_value.specs.Cells.{StandsUnder, IsCell, AreCells, number_at, cell_at, has_byte, byte_at, word_of_byte, word_of_bytes, put_together, word_or, read}
+use Rattle.entry_value.specs.Cells.{StandsUnder, IsCell, AreCells, number_at, cell_at, has_byte, byte_at, word_of_byte, word_of_bytes, put_together, found_or, read}
 use Rattle.entry_value.proofs.Bytes.{IsSize, AreBytes, low_part, high_part, within_turn}
 use Rattle.entry_value.proofs.Each.{Each, OfSome, each_from, each_cell, found_at}
 use Rattle.entry_value.proofs.Premises.{Halves, Singles}
@@ -127,7 +127,7 @@ together halves singles first ram bytes at size below (inr two) cells h =
     )
 
 or_else : (first : Option Suspended) (v : ℕ) (found : Option Word) (otherwise : Word) → OfSome (λ word. HoldsOfWord first word v) found → HoldsOfWord first otherwise v
-    → HoldsOfWord first (word_or found otherwise) v
+    → HoldsOfWord first (found_or found otherwise) v
 or_else first v None otherwise h k = k
 or_else first v (Some word) otherwise h k = h
 

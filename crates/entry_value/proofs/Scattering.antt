@@ -10,7 +10,7 @@ use Rattle.value_set.specs.Joining.{is_in}
 use Rattle.entry_value.specs.declared.word.Word.{Word}
 use Rattle.entry_value.specs.declared.cells.Cell.{Cell}
 use Rattle.entry_value.specs.Words.{Suspended, HoldsOfWord, word_join}
-use Rattle.entry_value.specs.Cells.{CellMap, StandsUnder, IsCell, AreCells, number_at, written, meets_beside, is_nothing, cell_behind, kept, write_any}
+use Rattle.entry_value.specs.Cells.{CellMap, StandsUnder, IsCell, AreCells, number_at, written, meets_beside, is_nothing, cell_behind, kept, write_several}
 use Rattle.entry_value.proofs.Bytes.{IsSize, AreBytes, within_turn, written_bytes, written_itself}
 use Rattle.entry_value.proofs.Each.{OfSome, each_from, each_in, each_both, each_kept, each_cell}
 use Rattle.entry_value.proofs.Premises.{MembersAreBelow, Joins}
@@ -109,11 +109,11 @@ behind_stands joins first ram bytes lo hi size address v at word below low its s
     (λ apart same says. subst (λ (s : ℕ). HoldsOfWord first (word_join cell.word word) (number_at (written ram address size v) cell.place s)) same
     (joined_stands joins first ram bytes lo hi size address v at word cell below old.1 low its small h normal holds old.0 apart same))
 
-pub any_covers : MembersAreBelow → Joins → (first : Option Suspended) (ram : ℕ → ℕ) (from size address v : ℕ) (map : CellMap) (at : Form) (word : Word) → map.hi < 65536 → AreCells map.lo map.hi from map.cells
+pub several_covers : MembersAreBelow → Joins → (first : Option Suspended) (ram : ℕ → ℕ) (from size address v : ℕ) (map : CellMap) (at : Form) (word : Word) → map.hi < 65536 → AreCells map.lo map.hi from map.cells
     → IsNormal 65536 at → IsSize size → IsNormal 65536 word.set → (size ≡ 1 → (n : ℕ) → Has 65536 word.set n → n < 256)
-    → StandsUnder first map.cells ram → Has 65536 at address → HoldsOfWord first word v → StandsUnder first (write_any map at size word).cells (written ram address size v)
-unfolding write_any
-any_covers members_below joins first ram from size address v map at word below are addresses is normal byte stands h holds =
+    → StandsUnder first map.cells ram → Has 65536 at address → HoldsOfWord first word v → StandsUnder first (write_several map at size word).cells (written ram address size v)
+unfolding write_several
+several_covers members_below joins first ram from size address v map at word below are addresses is normal byte stands h holds =
     let low = members_below 65536 address at addresses h in
     let old = each_both (StandsAt first ram) (IsCell map.lo map.hi) map.cells (each_from (StandsAt first ram) map.cells stands.1) (each_cell map.lo map.hi from map.cells are) in (
       written_bytes ram address size v stands.0 (members_below 65536 v word.set normal holds.0),
@@ -142,15 +142,15 @@ behind_form joins stay lo hi size at word normal byte cell is = of_behind (IsAli
       sym same,
     ))
 
-pub any_form : Joins → JoinsStayLow → (from size : ℕ) (map : CellMap) (at : Form) (word : Word) → AreCells map.lo map.hi from map.cells → IsNormal 65536 word.set
-    → (size ≡ 1 → (n : ℕ) → Has 65536 word.set n → n < 256) → AreCells map.lo map.hi from (write_any map at size word).cells
-unfolding write_any
-any_form joins stay from size map at word are normal byte = kept_form map.lo map.hi from (cell_behind at size word) map.cells (behind_form joins stay map.lo map.hi size at word normal byte) are
+pub several_form : Joins → JoinsStayLow → (from size : ℕ) (map : CellMap) (at : Form) (word : Word) → AreCells map.lo map.hi from map.cells → IsNormal 65536 word.set
+    → (size ≡ 1 → (n : ℕ) → Has 65536 word.set n → n < 256) → AreCells map.lo map.hi from (write_several map at size word).cells
+unfolding write_several
+several_form joins stay from size map at word are normal byte = kept_form map.lo map.hi from (cell_behind at size word) map.cells (behind_form joins stay map.lo map.hi size at word normal byte) are
 
-pub any_lo : (size : ℕ) (map : CellMap) (at : Form) (word : Word) → (write_any map at size word).lo ≡ map.lo
-unfolding write_any
-any_lo size map at word = refl
+pub several_lo : (size : ℕ) (map : CellMap) (at : Form) (word : Word) → (write_several map at size word).lo ≡ map.lo
+unfolding write_several
+several_lo size map at word = refl
 
-pub any_hi : (size : ℕ) (map : CellMap) (at : Form) (word : Word) → (write_any map at size word).hi ≡ map.hi
-unfolding write_any
-any_hi size map at word = refl
+pub several_hi : (size : ℕ) (map : CellMap) (at : Form) (word : Word) → (write_several map at size word).hi ≡ map.hi
+unfolding write_several
+several_hi size map at word = refl

@@ -19,13 +19,13 @@ use Rattle.entry_value.proofs.Writing.{StandsAt, lowered}
 pub of_telling : (P : Cell → Type 0) (cell : Cell) → (is_nothing cell.size cell.word ≡ false → P cell) → OfSome P (telling cell)
 of_telling P cell h = elim (cases_Bool (is_nothing cell.size cell.word)) [ inl nothing ↦ rw nothing tt | inr says ↦ rw says (h says) ]
 
-of_both : (P : Cell → Type 0) (f : Word → Word → Word) (cell : Cell) (found : Option Word)
+pub of_both : (P : Cell → Type 0) (f : Word → Word → Word) (cell : Cell) (found : Option Word)
     → OfSome (λ word. let c : Cell = record { place = cell.place; size = cell.size; word = f cell.word word } in is_nothing cell.size (f cell.word word) ≡ false → P c) found
     → OfSome P (both_of f cell found)
 of_both P f cell None h = tt
 of_both P f cell (Some word) h = of_telling P (record { place = cell.place; size = cell.size; word = f cell.word word }) h
 
-of_some_then : {A : Type 0} (P Q : A → Type 0) (found : Option A) → ((x : A) → P x → Q x) → OfSome P found → OfSome Q found
+pub of_some_then : {A : Type 0} (P Q : A → Type 0) (found : Option A) → ((x : A) → P x → Q x) → OfSome P found → OfSome Q found
 of_some_then P Q None f h = tt
 of_some_then P Q (Some x) f h = f x h
 
@@ -131,7 +131,7 @@ join_form joins stays lo hi from low high start held new are others = kept_form 
 -- ---- widened cells
 
 -- a fact of what is made by the widening of the cell's size
-of_size : (P : Cell → Type 0) (marks : List ℕ) (new : List Cell) (cell : Cell)
+pub of_size : (P : Cell → Type 0) (marks : List ℕ) (new : List Cell) (cell : Cell)
     → (cell.size ≡ 1 → OfSome P (with_both (λ h n. byte_widened h n marks) new cell)) → ((cell.size ≡ 1 → ⊥) → OfSome P (with_both (λ h n. word_widen h n marks) new cell))
     → OfSome P (cell_widened marks new cell)
 of_size P marks new cell byte word = elim (cases_Bool (cell.size == 1)) [

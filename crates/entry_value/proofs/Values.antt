@@ -18,7 +18,7 @@ use Rattle.entry_value.proofs.Premises.{InclusionIsTested, Joins, Widens, Sets}
 
 -- ---- relations
 
-same_entry : (a b : Entry) → is_same_entry a b ≡ true → a ≡ b
+pub same_entry : (a b : Entry) → is_same_entry a b ≡ true → a ≡ b
 same_entry a b h =
     let outer = and_parts ((a.place == b.place) && (a.and == b.and)) (a.or == b.or) h in
     let inner = and_parts (a.place == b.place) (a.and == b.and) outer.0 in
@@ -26,12 +26,12 @@ same_entry a b h =
     ∙ ap (λ (n : ℕ). let e : Entry = record { place = b.place; and = n; or = a.or } in e) (eqb-true a.and b.and inner.1)
     ∙ ap (λ (n : ℕ). let e : Entry = record { place = b.place; and = b.and; or = n } in e) (eqb-true a.or b.or outer.1)
 
-common_first : (first : Option Suspended) (a b : Option Entry) (v : ℕ) → IsFromEntry first a v → IsFromEntry first (common_entry a b) v
+pub common_first : (first : Option Suspended) (a b : Option Entry) (v : ℕ) → IsFromEntry first a v → IsFromEntry first (common_entry a b) v
 common_first first None b v h = tt
 common_first first (Some a) None v h = tt
 common_first first (Some a) (Some b) v h = elim (cases_Bool (is_same_entry a b)) [ inl same ↦ rw same h | inr other ↦ rw other tt ]
 
-common_second : (first : Option Suspended) (a b : Option Entry) (v : ℕ) → IsFromEntry first b v → IsFromEntry first (common_entry a b) v
+pub common_second : (first : Option Suspended) (a b : Option Entry) (v : ℕ) → IsFromEntry first b v → IsFromEntry first (common_entry a b) v
 common_second first None b v h = tt
 common_second first (Some a) None v h = tt
 common_second first (Some a) (Some b) v h = elim (cases_Bool (is_same_entry a b)) [
@@ -39,7 +39,7 @@ common_second first (Some a) (Some b) v h = elim (cases_Bool (is_same_entry a b)
   | inr other ↦ rw other tt
 ]
 
-entry_within : (first : Option Suspended) (a b : Option Entry) (v : ℕ) → is_entry_within a b ≡ true → IsFromEntry first a v → IsFromEntry first b v
+pub entry_within : (first : Option Suspended) (a b : Option Entry) (v : ℕ) → is_entry_within a b ≡ true → IsFromEntry first a v → IsFromEntry first b v
 entry_within first a None v within h = tt
 entry_within first None (Some b) v within h = absurd (cc)
 entry_within first (Some a) (Some b) v within h = subst (λ (entry : Entry). IsFromEntry first (Some entry) v) (same_entry a b within) h
@@ -98,7 +98,7 @@ widened_normal : Sets → (held new : Form) (marks : List ℕ) → IsNormal 6553
 widened_normal sets held new marks n k =
     sets.widens.normal 256 (low_set held) (low_set new) (filter (λ mark. nat_lt mark 256) marks) (sets.halves.low_normal held n) (sets.halves.low_normal new k) (all_low marks)
 
-byte_held : Sets → (held new : Word) (marks : List ℕ) (v : ℕ) → IsNormal 65536 held.set → IsNormal 65536 new.set → v < 256 → Has 65536 held.set v
+pub byte_held : Sets → (held new : Word) (marks : List ℕ) (v : ℕ) → IsNormal 65536 held.set → IsNormal 65536 new.set → v < 256 → Has 65536 held.set v
     → Has 65536 (byte_widened held new marks).set v
 byte_held sets held new marks v n k small h = elim (cases_Bool (is_within 65536 new.set held.set)) [
   | inl within ↦ rw within h
@@ -107,7 +107,7 @@ byte_held sets held new marks v n k small h = elim (cases_Bool (is_within 65536 
       v (low_has sets held.set v n small h)))
 ]
 
-byte_new : Sets → (held new : Word) (marks : List ℕ) (v : ℕ) → IsNormal 65536 held.set → IsNormal 65536 new.set → v < 256 → Has 65536 new.set v
+pub byte_new : Sets → (held new : Word) (marks : List ℕ) (v : ℕ) → IsNormal 65536 held.set → IsNormal 65536 new.set → v < 256 → Has 65536 new.set v
     → Has 65536 (byte_widened held new marks).set v
 byte_new sets held new marks v n k small h = elim (cases_Bool (is_within 65536 new.set held.set)) [
   | inl within ↦ rw within ((sets.tested 65536 new.set held.set).0 within v h)

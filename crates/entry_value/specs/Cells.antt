@@ -1,11 +1,11 @@
 -- What is known of a RAM: cells of one or two bytes, in ascending order of their places. Of a byte without a cell nothing
 -- is known.
-use Rattle.std.specs.Prelude.{◌≡◌, ℕ, ◌+◌, ◌-◌, ◌*◌, ◌/◌, ◌%◌, ◌<◌, ◌≤◌, ◌==◌, ◌&&◌, ◌||◌, nat_lt, nat_le, not, if◌then◌else◌, Bool, true, false, ◌⊎◌, Option, None, Some, List, [], ◌∷◌, Contains}
+use Rattle.std.specs.Prelude.{◌≡◌, ℕ, ◌+◌, ◌-◌, ◌*◌, ◌/◌, ◌%◌, ◌<◌, ◌≤◌, ◌==◌, ◌&&◌, ◌||◌, nat_lt, nat_le, not, if◌then◌else◌, Bool, true, false, ◌⊎◌, Option, None, Some, List, [], ◌∷◌, Contains, slice_index}
 use Rattle.std.specs.List.{filter}
 use Rattle.std.specs.Option.{is_none}
-use Rattle.value_set.specs.Form.{Has, IsNormal, make}
+use Rattle.value_set.specs.Form.{Has, IsNormal, make, members}
 use Rattle.value_set.specs.Joining.{is_in, is_within}
-use Rattle.value_set.specs.Summing.{single}
+use Rattle.value_set.specs.Summing.{single, count_of}
 use Rattle.value_set.specs.Widening.{widen}
 use Rattle.value_set.specs.declared.form.Form.{Form}
 use Rattle.value_bits.specs.Sets.{low_set, high_set, pair_set}
@@ -92,13 +92,13 @@ put_together cells at size = record {
   entry = None;
 }
 
-abbrev pub word_or : Option Word → Word → Word
-word_or None otherwise = otherwise
-word_or (Some word) otherwise = word
+abbrev pub found_or : Option Word → Word → Word
+found_or None otherwise = otherwise
+found_or (Some word) otherwise = word
 
 -- the cell of that size, else what is put together
 unfoldable pub read : List Cell → (at size : ℕ) → Word
-read cells at size = word_or (cell_at cells at size) (put_together cells at size)
+read cells at size = found_or (cell_at cells at size) (put_together cells at size)
 
 -- WRITING
 
@@ -157,8 +157,14 @@ kept f [] = []
 kept f (cell ∷ cells) = with_some (f cell) (kept f cells)
 
 -- a value written at one of several addresses
+unfoldable pub write_several : CellMap → Form → (size : ℕ) → Word → CellMap
+write_several map at size word = record { lo = map.lo; hi = map.hi; cells = kept (cell_behind at size word) map.cells }
+
+-- A value written at one of the addresses of a set. Where that has one address alone, the value stands there.
 unfoldable pub write_any : CellMap → Form → (size : ℕ) → Word → CellMap
-write_any map at size word = record { lo = map.lo; hi = map.hi; cells = kept (cell_behind at size word) map.cells }
+write_any map at size word =
+    if count_of 65536 at == 1 then write_one map (slice_index (members 65536 at) 0) size word
+    else write_several map at size word
 
 -- JOINING
 

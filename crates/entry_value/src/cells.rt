@@ -49,9 +49,9 @@ pub trait Cells: Drop {
         ensures covers { OnOk result ((first : Option Suspended) (ram : ℕ → ℕ) (v : ℕ) → StandsUnder first (map self.old).cells ram
             → HoldsOfWord first value v → StandsUnder first (map self.new).cells (written ram at size v)) };
 
-    /// Writes a value at one of some addresses: a cell at one of them with this size holds of what it held of and of the
-    /// value, where no other of them has a byte of it, and else each cell that they have a byte of goes. A refusal leaves
-    /// the cells as they were.
+    /// Writes a value at one of some addresses. At one address alone this is `write_one`. At several, a cell at one of them
+    /// with this size holds of what it held of and of the value, where no other of them has a byte of it, and else each cell
+    /// that they have a byte of goes. A refusal leaves the cells as they were.
     fn write_any(&mut self, at: &Vs16, size: u8, value: Word) -> Result<(), Memory>
         requires size { (size ≡ 1) ⊎ (size ≡ 2) }
         requires byte { size ≡ 1 → (v : ℕ) → Has 65536 value.set v → v < 256 }

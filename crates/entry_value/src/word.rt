@@ -1,6 +1,6 @@
 //! Words and their relations.
 
-ghost use Rattle.std.specs.Prelude.{◌≡◌, true, ℕ, Option, option_map, bit_and, bit_or};
+ghost use Rattle.std.specs.Prelude.{◌≡◌, true, ℕ, Option, Some, option_map, bit_and, bit_or};
 ghost use Rattle.entry_value.specs.Words as words;
 ghost use Rattle.entry_value.specs.Words.{Suspended, IsFromEntry, HoldsOfWord};
 
@@ -44,7 +44,8 @@ pub(crate) fn is_entry_within(a: &Option<Entry>, b: &Option<Entry>) -> bool
 impl Entry {
     /// The relation behind an AND with a mask.
     pub fn mask_and(&self, m: u16) -> Entry
-        ensures { result ≡ words.entry_and m self.now }
+        ensures value { result ≡ words.entry_and m self.now }
+        ensures holds { (first : Option Suspended) (v : ℕ) → IsFromEntry first (Some self.now) v → IsFromEntry first (Some result) (bit_and v m) }
     {
         Entry {
             place: self.place,
@@ -55,7 +56,8 @@ impl Entry {
 
     /// The relation behind an OR with a mask.
     pub fn mask_or(&self, m: u16) -> Entry
-        ensures { result ≡ words.entry_or m self.now }
+        ensures value { result ≡ words.entry_or m self.now }
+        ensures holds { (first : Option Suspended) (v : ℕ) → IsFromEntry first (Some self.now) v → IsFromEntry first (Some result) (bit_or v m) }
     {
         Entry {
             place: self.place,

@@ -1,5 +1,5 @@
+use Rattle.entry_value.proofs.Anywhere.{any_covers}
 use Rattle.entry_value.proofs.Premises.{Joins}
-use Rattle.entry_value.proofs.Scattering.{any_covers}
 use Rattle.entry_value.proofs.Writing.{one_covers}
 use Rattle.entry_value.proofs.laws.writes_cover.Goals as goal
 

@@ -1,6 +1,6 @@
+use Rattle.entry_value.proofs.Anywhere.{any_form, any_lo, any_hi}
 use Rattle.entry_value.proofs.LowSets.{joins_stay_low}
 use Rattle.entry_value.proofs.Premises.{Joins}
-use Rattle.entry_value.proofs.Scattering.{any_form, any_lo, any_hi}
 use Rattle.entry_value.proofs.Writing.{one_form, one_lo, one_hi}
 use Rattle.entry_value.proofs.laws.writes_keep_form.Goals as goal
 

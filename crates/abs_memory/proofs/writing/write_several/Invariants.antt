@@ -1,7 +1,7 @@
 use Rattle.std.proofs.Common.{◌≡◌, ◌≤◌, ◌++◌, length, take, drop}
 use Rattle.entry_value.specs.Cells.{kept, cell_behind}
 use Rattle.abs_memory.specs.Finding.{EachEndsBelow}
-use Rattle.abs_memory.proofs.writing.write_any.Given as goal
+use Rattle.abs_memory.proofs.writing.write_several.Given as goal
 
 abbrev pub invariant-loop-index : goal.invariant-loop-index
 invariant-loop-index l =

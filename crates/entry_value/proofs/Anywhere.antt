@@ -1,0 +1,56 @@
+-- A write at one of the addresses of a set: where the set has one address alone, a write at that.
+use Rattle.std.proofs.Common.{◌≡◌, ℕ, ◌<◌, ◌≤◌, Option, List, [], ◌∷◌, length, sym, subst, inl, inr, arith}
+use Prim.Native.Nat.{zero, suc}
+use Rattle.std.specs.Prelude.{◌==◌, slice_index}
+use Rattle.std.specs.List.{Contains}
+use Rattle.std.proofs.lemmas.Bool.{cases_Bool, eqb-true}
+use Rattle.value_set.specs.declared.form.Form.{Form}
+use Rattle.value_set.specs.Form.{Has, IsNormal, members}
+use Rattle.value_set.specs.Summing.{count_of}
+use Rattle.entry_value.specs.declared.word.Word.{Word}
+use Rattle.entry_value.specs.Words.{Suspended, HoldsOfWord}
+use Rattle.entry_value.specs.Cells.{CellMap, StandsUnder, AreCells, written, write_one, write_any}
+use Rattle.entry_value.proofs.Bytes.{IsSize}
+use Rattle.entry_value.proofs.Premises.{MembersAreBelow, Joins}
+use Rattle.entry_value.proofs.Scattering.{several_covers, several_form, several_lo, several_hi}
+use Rattle.entry_value.proofs.Values.{JoinsStayLow}
+use Rattle.entry_value.proofs.Writing.{one_covers, one_form, one_lo, one_hi}
+
+only_member : (xs : List ℕ) (x : ℕ) → length xs ≡ 1 → Contains xs x → slice_index xs 0 ≡ x
+only_member [] x one h = absurd (omega (arith, h.1))
+only_member (y ∷ xs) x one (zero, below, is) = is
+only_member (y ∷ xs) x one (suc k, below, is) = absurd (omega (arith, below))
+
+pub any_covers : MembersAreBelow → Joins → (first : Option Suspended) (ram : ℕ → ℕ) (from size address v : ℕ) (map : CellMap) (at : Form) (word : Word) → map.hi < 65536 → AreCells map.lo map.hi from map.cells
+    → IsNormal 65536 at → IsSize size → IsNormal 65536 word.set → (size ≡ 1 → (n : ℕ) → Has 65536 word.set n → n < 256)
+    → StandsUnder first map.cells ram → Has 65536 at address → HoldsOfWord first word v → StandsUnder first (write_any map at size word).cells (written ram address size v)
+unfolding write_any
+any_covers members_below joins first ram from size address v map at word below are addresses is normal byte stands h holds = elim (cases_Bool (count_of 65536 at == 1)) [
+  | inl one ↦ rw one (
+      subst (λ (a : ℕ). StandsUnder first (write_one map a size word).cells (written ram address size v))
+      (sym (only_member (members 65536 at) address (eqb-true (count_of 65536 at) 1 one) h))
+      (one_covers members_below first ram from address size v map word below are (members_below 65536 address at addresses h) is normal byte stands holds))
+  | inr several ↦ rw several (several_covers members_below joins first ram from size address v map at word below are addresses is normal byte stands h holds)
+]
+
+pub any_form : Joins → JoinsStayLow → (from size : ℕ) (map : CellMap) (at : Form) (word : Word) → map.hi < 65536 → from ≤ map.lo → AreCells map.lo map.hi from map.cells → IsSize size
+    → IsNormal 65536 word.set → (size ≡ 1 → (n : ℕ) → Has 65536 word.set n → n < 256) → AreCells map.lo map.hi from (write_any map at size word).cells
+unfolding write_any
+any_form joins stay from size map at word below first are is normal byte = elim (cases_Bool (count_of 65536 at == 1)) [
+  | inl one ↦ rw one (one_form from (slice_index (members 65536 at) 0) size map word below first are is normal byte)
+  | inr several ↦ rw several (several_form joins stay from size map at word are normal byte)
+]
+
+pub any_lo : (size : ℕ) (map : CellMap) (at : Form) (word : Word) → (write_any map at size word).lo ≡ map.lo
+unfolding write_any
+any_lo size map at word = elim (cases_Bool (count_of 65536 at == 1)) [
+  | inl one ↦ rw one (one_lo (slice_index (members 65536 at) 0) size map word)
+  | inr several ↦ rw several (several_lo size map at word)
+]
+
+pub any_hi : (size : ℕ) (map : CellMap) (at : Form) (word : Word) → (write_any map at size word).hi ≡ map.hi
+unfolding write_any
+any_hi size map at word = elim (cases_Bool (count_of 65536 at == 1)) [
+  | inl one ↦ rw one (one_hi (slice_index (members 65536 at) 0) size map word)
+  | inr several ↦ rw several (several_hi size map at word)
+]

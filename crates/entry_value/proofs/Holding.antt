@@ -1,0 +1,95 @@
+-- What holds of a number under a suspended state, behind joins, widenings and masks.
+use Rattle.std.proofs.Common.{◌≡◌, ℕ, ◌^◌, ◌<◌, true, Option, List, All, bit_and, bit_or}
+use Rattle.std.specs.Prelude.{◌&&◌}
+use Rattle.std.proofs.lemmas.Bool.{and_parts}
+use Rattle.value_set.specs.declared.form.Form.{Form}
+use Rattle.value_set.specs.Form.{Has, IsNormal}
+use Rattle.value_set.specs.Joining.{is_within, join}
+use Rattle.value_set.specs.Summing.{single}
+use Rattle.value_set.specs.Widening.{widen}
+use Rattle.value_bits.specs.declared.tri.Logic.{Logic}
+use Rattle.value_bits.specs.declared.tri.Logic.TheVariants.{And, Or}
+use Rattle.value_bits.specs.Bits.{logic_of}
+use Rattle.value_bits.specs.Sets.{logic_set}
+use Rattle.entry_value.specs.declared.word.Word.{Word}
+use Rattle.entry_value.specs.declared.byte.Byte.{Byte}
+use Rattle.entry_value.specs.Words.{Suspended, HoldsOfWord, HoldsOfByte, is_entry_within, word_join, word_widen, word_within, word_and, word_or, byte_join, byte_widen, byte_within, byte_and, byte_or}
+use Rattle.entry_value.proofs.Masks.{from_entry_and, from_entry_or}
+use Rattle.entry_value.proofs.Premises.{InclusionIsTested, Singles, Joins, Widens, Logics}
+use Rattle.entry_value.proofs.Values.{common_first, common_second, entry_within}
+
+-- ---- words
+
+pub word_join_first : Joins → (first : Option Suspended) (v : ℕ) (a b : Word) → IsNormal 65536 a.set → IsNormal 65536 b.set → HoldsOfWord first a v → HoldsOfWord first (word_join a b) v
+word_join_first joins first v a b n k h = (joins.first 65536 a.set b.set n k v h.0, common_first first a.entry b.entry v h.1)
+
+pub word_join_second : Joins → (first : Option Suspended) (v : ℕ) (a b : Word) → IsNormal 65536 a.set → IsNormal 65536 b.set → HoldsOfWord first b v → HoldsOfWord first (word_join a b) v
+word_join_second joins first v a b n k h = (joins.second 65536 a.set b.set n k v h.0, common_second first a.entry b.entry v h.1)
+
+pub word_widen_held : Widens → (first : Option Suspended) (v : ℕ) (held new : Word) (marks : List ℕ) → IsNormal 65536 held.set → IsNormal 65536 new.set → All (λ mark. mark < 65536) marks
+    → HoldsOfWord first held v → HoldsOfWord first (word_widen held new marks) v
+word_widen_held widens first v a b marks n k below h = (widens.held 65536 a.set b.set marks n k below v h.0, common_first first a.entry b.entry v h.1)
+
+pub word_widen_new : Widens → (first : Option Suspended) (v : ℕ) (held new : Word) (marks : List ℕ) → IsNormal 65536 held.set → IsNormal 65536 new.set → All (λ mark. mark < 65536) marks
+    → HoldsOfWord first new v → HoldsOfWord first (word_widen held new marks) v
+word_widen_new widens first v a b marks n k below h = (widens.new 65536 a.set b.set marks n k below v h.0, common_second first a.entry b.entry v h.1)
+
+-- ---- bytes
+
+pub byte_join_first : Joins → (first : Option Suspended) (v : ℕ) (a b : Byte) → IsNormal 256 a.set → IsNormal 256 b.set → HoldsOfByte first a v → HoldsOfByte first (byte_join a b) v
+byte_join_first joins first v a b n k h = (joins.first 256 a.set b.set n k v h.0, common_first first a.entry b.entry v h.1)
+
+pub byte_join_second : Joins → (first : Option Suspended) (v : ℕ) (a b : Byte) → IsNormal 256 a.set → IsNormal 256 b.set → HoldsOfByte first b v → HoldsOfByte first (byte_join a b) v
+byte_join_second joins first v a b n k h = (joins.second 256 a.set b.set n k v h.0, common_second first a.entry b.entry v h.1)
+
+pub byte_widen_held : Widens → (first : Option Suspended) (v : ℕ) (held new : Byte) (marks : List ℕ) → IsNormal 256 held.set → IsNormal 256 new.set → All (λ mark. mark < 256) marks
+    → HoldsOfByte first held v → HoldsOfByte first (byte_widen held new marks) v
+byte_widen_held widens first v a b marks n k below h = (widens.held 256 a.set b.set marks n k below v h.0, common_first first a.entry b.entry v h.1)
+
+pub byte_widen_new : Widens → (first : Option Suspended) (v : ℕ) (held new : Byte) (marks : List ℕ) → IsNormal 256 held.set → IsNormal 256 new.set → All (λ mark. mark < 256) marks
+    → HoldsOfByte first new v → HoldsOfByte first (byte_widen held new marks) v
+byte_widen_new widens first v a b marks n k below h = (widens.new 256 a.set b.set marks n k below v h.0, common_second first a.entry b.entry v h.1)
+
+pub byte_within_holds : InclusionIsTested → (first : Option Suspended) (v : ℕ) (a b : Byte) → byte_within a b ≡ true → HoldsOfByte first a v → HoldsOfByte first b v
+byte_within_holds tested first v a b within h =
+    let parts = and_parts (is_within 256 a.set b.set) (is_entry_within a.entry b.entry) within in
+    ((tested 256 a.set b.set).0 parts.0 v h.0, entry_within first a.entry b.entry v parts.1 h.1)
+
+-- ---- masks
+
+masked_normal : Logics → Singles → (width m : ℕ) (logic : Logic) (set : Form) → m < 2 ^ width → IsNormal (2 ^ width) set → IsNormal (2 ^ width) (logic_set width logic set (single m))
+masked_normal logics singles width m logic set below n = logics.normal width logic set (single m) n (singles.single (2 ^ width) m below).0
+
+masked_has : Logics → Singles → (width m v : ℕ) (logic : Logic) (set : Form) → m < 2 ^ width → IsNormal (2 ^ width) set → Has (2 ^ width) set v
+    → Has (2 ^ width) (logic_set width logic set (single m)) (logic_of logic v m)
+masked_has logics singles width m v logic set below n h =
+    let mask = singles.single (2 ^ width) m below in
+    logics.holds width v m logic set (single m) n mask.0 h mask.1
+
+pub word_and_normal : Logics → Singles → (m : ℕ) (word : Word) → m < 65536 → IsNormal 65536 word.set → IsNormal 65536 (word_and m word).set
+word_and_normal logics singles m word below n = masked_normal logics singles 16 m And word.set below n
+
+pub word_and_holds : Logics → Singles → (first : Option Suspended) (m v : ℕ) (word : Word) → m < 65536 → IsNormal 65536 word.set → HoldsOfWord first word v
+    → HoldsOfWord first (word_and m word) (bit_and v m)
+word_and_holds logics singles first m v word below n h = (masked_has logics singles 16 m v And word.set below n h.0, from_entry_and first word.entry v m h.1)
+
+pub word_or_normal : Logics → Singles → (m : ℕ) (word : Word) → m < 65536 → IsNormal 65536 word.set → IsNormal 65536 (word_or m word).set
+word_or_normal logics singles m word below n = masked_normal logics singles 16 m Or word.set below n
+
+pub word_or_holds : Logics → Singles → (first : Option Suspended) (m v : ℕ) (word : Word) → m < 65536 → IsNormal 65536 word.set → HoldsOfWord first word v
+    → HoldsOfWord first (word_or m word) (bit_or v m)
+word_or_holds logics singles first m v word below n h = (masked_has logics singles 16 m v Or word.set below n h.0, from_entry_or first word.entry v m h.1)
+
+pub byte_and_normal : Logics → Singles → (m : ℕ) (byte : Byte) → m < 256 → IsNormal 256 byte.set → IsNormal 256 (byte_and m byte).set
+byte_and_normal logics singles m byte below n = masked_normal logics singles 8 m And byte.set below n
+
+pub byte_and_holds : Logics → Singles → (first : Option Suspended) (m v : ℕ) (byte : Byte) → m < 256 → IsNormal 256 byte.set → HoldsOfByte first byte v
+    → HoldsOfByte first (byte_and m byte) (bit_and v m)
+byte_and_holds logics singles first m v byte below n h = (masked_has logics singles 8 m v And byte.set below n h.0, from_entry_and first byte.entry v m h.1)
+
+pub byte_or_normal : Logics → Singles → (m : ℕ) (byte : Byte) → m < 256 → IsNormal 256 byte.set → IsNormal 256 (byte_or m byte).set
+byte_or_normal logics singles m byte below n = masked_normal logics singles 8 m Or byte.set below n
+
+pub byte_or_holds : Logics → Singles → (first : Option Suspended) (m v : ℕ) (byte : Byte) → m < 256 → IsNormal 256 byte.set → HoldsOfByte first byte v
+    → HoldsOfByte first (byte_or m byte) (bit_or v m)
+byte_or_holds logics singles first m v byte below n h = (masked_has logics singles 8 m v Or byte.set below n h.0, from_entry_or first byte.entry v m h.1)

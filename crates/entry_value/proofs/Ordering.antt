@@ -1,0 +1,291 @@
+-- The order of words, bytes and cells: within itself, along two steps, and within joins and widenings.
+use Rattle.std.proofs.Common.{◌≡◌, ℕ, ◌+◌, ◌<◌, ◌≤◌, true, false, Option, None, Some, List, [], ◌∷◌, All, refl, sym, ◌∙◌, ap, subst, inl, inr, arith}
+use Rattle.std.specs.Prelude.{◌==◌, ◌&&◌}
+use Rattle.std.proofs.lemmas.Bool.{cases_Bool, and_from, and_parts, eq-eqb, ne_eqb}
+use Rattle.value_set.specs.declared.form.Form.{Form}
+use Rattle.value_set.specs.Form.{Has, Includes, IsNormal, make}
+use Rattle.value_set.specs.Joining.{is_within, join}
+use Rattle.value_set.specs.Widening.{widen}
+use Rattle.entry_value.specs.declared.word.Entry.{Entry}
+use Rattle.entry_value.specs.declared.word.Word.{Word}
+use Rattle.entry_value.specs.declared.byte.Byte.{Byte}
+use Rattle.entry_value.specs.declared.cells.Cell.{Cell}
+use Rattle.entry_value.specs.Words.{is_same_entry, common_entry, is_entry_within, word_join, word_widen, word_within, byte_join, byte_widen, byte_within}
+use Rattle.entry_value.specs.Cells.{IsCell, AreCells, is_nothing, unknown, cell_at, both_of, with_both, kept, join_cells, byte_widened, cell_widened, widen_cells, is_found_within, are_within}
+use Rattle.entry_value.proofs.Each.{Each, OfSome, each_both, each_then, each_kept, each_cell, found_at}
+use Rattle.entry_value.proofs.Premises.{MembersAreBelow, InclusionIsTested, Singles, Joins, Widens, Sets}
+use Rattle.entry_value.proofs.Uniting.{of_telling, of_both, of_some_then, of_size}
+use Rattle.entry_value.proofs.Values.{same_entry, byte_held, byte_new}
+
+-- ---- relations
+
+same_itself : (a : Entry) → is_same_entry a a ≡ true
+same_itself a = and_from ((a.place == a.place) && (a.and == a.and)) (a.or == a.or)
+    (and_from (a.place == a.place) (a.and == a.and) (eq-eqb a.place a.place refl) (eq-eqb a.and a.and refl)) (eq-eqb a.or a.or refl)
+
+pub entry_itself : (a : Option Entry) → is_entry_within a a ≡ true
+entry_itself None = refl
+entry_itself (Some a) = same_itself a
+
+pub entry_along : (a b c : Option Entry) → is_entry_within a b ≡ true → is_entry_within b c ≡ true → is_entry_within a c ≡ true
+entry_along a b None h k = refl
+entry_along None None (Some c) h k = k
+entry_along None (Some b) (Some c) h k = h
+entry_along (Some a) None (Some c) h k = absurd cc
+entry_along (Some a) (Some b) (Some c) h k = subst (λ (e : Entry). is_same_entry a e ≡ true) (same_entry b c k) h
+
+pub common_of_first : (a b : Option Entry) → is_entry_within a (common_entry a b) ≡ true
+common_of_first None b = refl
+common_of_first (Some a) None = refl
+common_of_first (Some a) (Some b) = elim (cases_Bool (is_same_entry a b)) [ inl same ↦ rw same (same_itself a) | inr other ↦ rw other refl ]
+
+pub common_of_second : (a b : Option Entry) → is_entry_within b (common_entry a b) ≡ true
+common_of_second None b = refl
+common_of_second (Some a) None = refl
+common_of_second (Some a) (Some b) = elim (cases_Bool (is_same_entry a b)) [
+  | inl same ↦ rw same (subst (λ (e : Entry). is_same_entry b e ≡ true) (sym (same_entry a b same)) (same_itself b))
+  | inr other ↦ rw other refl
+]
+
+-- ---- sets with relations
+
+both_within : InclusionIsTested → (m : ℕ) (a b : Form) (e f : Option Entry) → Includes m b a → is_entry_within e f ≡ true → (is_within m a b && is_entry_within e f) ≡ true
+both_within tested m a b e f sets entries = and_from (is_within m a b) (is_entry_within e f) ((tested m a b).1 sets) entries
+
+within_along : InclusionIsTested → (m : ℕ) (a b c : Form) (e f g : Option Entry) → (is_within m a b && is_entry_within e f) ≡ true → (is_within m b c && is_entry_within f g) ≡ true
+    → (is_within m a c && is_entry_within e g) ≡ true
+within_along tested m a b c e f g h k =
+    let one = and_parts (is_within m a b) (is_entry_within e f) h in
+    let other = and_parts (is_within m b c) (is_entry_within f g) k in
+    both_within tested m a c e g (λ v has. (tested m b c).0 other.0 v ((tested m a b).0 one.0 v has)) (entry_along e f g one.1 other.1)
+
+-- ---- words
+
+pub word_itself : InclusionIsTested → (a : Word) → word_within a a ≡ true
+word_itself tested a = both_within tested 65536 a.set a.set a.entry a.entry (λ v h. h) (entry_itself a.entry)
+
+pub word_along : InclusionIsTested → (a b c : Word) → word_within a b ≡ true → word_within b c ≡ true → word_within a c ≡ true
+word_along tested a b c h k = within_along tested 65536 a.set b.set c.set a.entry b.entry c.entry h k
+
+pub word_joined_first : InclusionIsTested → Joins → (a b : Word) → IsNormal 65536 a.set → IsNormal 65536 b.set → word_within a (word_join a b) ≡ true
+word_joined_first tested joins a b n k =
+    both_within tested 65536 a.set (join 65536 a.set b.set) a.entry (common_entry a.entry b.entry) (joins.first 65536 a.set b.set n k) (common_of_first a.entry b.entry)
+
+pub word_joined_second : InclusionIsTested → Joins → (a b : Word) → IsNormal 65536 a.set → IsNormal 65536 b.set → word_within b (word_join a b) ≡ true
+word_joined_second tested joins a b n k =
+    both_within tested 65536 b.set (join 65536 a.set b.set) b.entry (common_entry a.entry b.entry) (joins.second 65536 a.set b.set n k) (common_of_second a.entry b.entry)
+
+pub word_widened_held : InclusionIsTested → Widens → (held new : Word) (marks : List ℕ) → IsNormal 65536 held.set → IsNormal 65536 new.set → All (λ mark. mark < 65536) marks
+    → word_within held (word_widen held new marks) ≡ true
+word_widened_held tested widens a b marks n k below =
+    both_within tested 65536 a.set (widen 65536 a.set b.set marks) a.entry (common_entry a.entry b.entry) (widens.held 65536 a.set b.set marks n k below) (common_of_first a.entry b.entry)
+
+pub word_widened_new : InclusionIsTested → Widens → (held new : Word) (marks : List ℕ) → IsNormal 65536 held.set → IsNormal 65536 new.set → All (λ mark. mark < 65536) marks
+    → word_within new (word_widen held new marks) ≡ true
+word_widened_new tested widens a b marks n k below =
+    both_within tested 65536 b.set (widen 65536 a.set b.set marks) b.entry (common_entry a.entry b.entry) (widens.new 65536 a.set b.set marks n k below) (common_of_second a.entry b.entry)
+
+pub word_whole : InclusionIsTested → MembersAreBelow → Singles → (a : Word) → IsNormal 65536 a.set → word_within a (unknown 2) ≡ true
+word_whole tested below singles a n =
+    both_within tested 65536 a.set (make 65536 0 1 65536) a.entry None (λ v h. singles.whole 65536 v (below 65536 v a.set n h)) refl
+
+-- ---- bytes
+
+pub byte_itself : InclusionIsTested → (a : Byte) → byte_within a a ≡ true
+byte_itself tested a = both_within tested 256 a.set a.set a.entry a.entry (λ v h. h) (entry_itself a.entry)
+
+pub byte_along : InclusionIsTested → (a b c : Byte) → byte_within a b ≡ true → byte_within b c ≡ true → byte_within a c ≡ true
+byte_along tested a b c h k = within_along tested 256 a.set b.set c.set a.entry b.entry c.entry h k
+
+pub byte_joined_first : InclusionIsTested → Joins → (a b : Byte) → IsNormal 256 a.set → IsNormal 256 b.set → byte_within a (byte_join a b) ≡ true
+byte_joined_first tested joins a b n k =
+    both_within tested 256 a.set (join 256 a.set b.set) a.entry (common_entry a.entry b.entry) (joins.first 256 a.set b.set n k) (common_of_first a.entry b.entry)
+
+pub byte_joined_second : InclusionIsTested → Joins → (a b : Byte) → IsNormal 256 a.set → IsNormal 256 b.set → byte_within b (byte_join a b) ≡ true
+byte_joined_second tested joins a b n k =
+    both_within tested 256 b.set (join 256 a.set b.set) b.entry (common_entry a.entry b.entry) (joins.second 256 a.set b.set n k) (common_of_second a.entry b.entry)
+
+pub byte_widened_held : InclusionIsTested → Widens → (held new : Byte) (marks : List ℕ) → IsNormal 256 held.set → IsNormal 256 new.set → All (λ mark. mark < 256) marks
+    → byte_within held (byte_widen held new marks) ≡ true
+byte_widened_held tested widens a b marks n k below =
+    both_within tested 256 a.set (widen 256 a.set b.set marks) a.entry (common_entry a.entry b.entry) (widens.held 256 a.set b.set marks n k below) (common_of_first a.entry b.entry)
+
+pub byte_widened_new : InclusionIsTested → Widens → (held new : Byte) (marks : List ℕ) → IsNormal 256 held.set → IsNormal 256 new.set → All (λ mark. mark < 256) marks
+    → byte_within new (byte_widen held new marks) ≡ true
+byte_widened_new tested widens a b marks n k below =
+    both_within tested 256 b.set (widen 256 a.set b.set marks) b.entry (common_entry a.entry b.entry) (widens.new 256 a.set b.set marks n k below) (common_of_second a.entry b.entry)
+
+pub byte_whole : InclusionIsTested → MembersAreBelow → Singles → (a : Byte) → IsNormal 256 a.set
+    → let whole : Byte = record { set = make 256 0 1 256; entry = None } in byte_within a whole ≡ true
+byte_whole tested below singles a n =
+    both_within tested 256 a.set (make 256 0 1 256) a.entry None (λ v h. singles.whole 256 v (below 256 v a.set n h)) refl
+
+-- ---- cells that are found
+
+each_behind : (lo hi from low : ℕ) (cells : List Cell) → low ≤ from → AreCells lo hi from cells → Each (λ cell. low ≤ cell.place) cells
+each_behind lo hi from low [] h are = tt
+each_behind lo hi from low (cell ∷ cells) h are = (omega (arith, are.1), each_behind lo hi (cell.place + cell.size) low cells (omega (arith, are.1)) are.2)
+
+some_byte : (lo hi : ℕ) (cell : Cell) → IsCell lo hi cell → 0 < cell.size
+some_byte lo hi cell is = elim is.size [ inl one ↦ omega arith | inr two ↦ omega arith ]
+
+its_own : (cell : Cell) (cells : List Cell) → cell_at (cell ∷ cells) cell.place cell.size ≡ Some cell.word
+its_own cell cells = rw (eq-eqb cell.place cell.place refl, eq-eqb cell.size cell.size refl) refl
+
+differs : (place size other : ℕ) → 0 < size → place + size ≤ other → place ≡ other → ⊥
+differs place size other some h e = omega arith
+
+anothers : (cell other : Cell) (cells : List Cell) → 0 < cell.size → cell.place + cell.size ≤ other.place → cell_at cells other.place other.size ≡ Some other.word
+    → cell_at (cell ∷ cells) other.place other.size ≡ Some other.word
+anothers cell other cells some behind found = rw (ne_eqb cell.place other.place (differs cell.place cell.size other.place some behind)) found
+
+abbrev IsFoundIn : List Cell → Cell → Type 0
+IsFoundIn cells cell = cell_at cells cell.place cell.size ≡ Some cell.word
+
+-- each cell of a form is found at its place
+each_found : (lo hi from : ℕ) (cells : List Cell) → AreCells lo hi from cells → Each (IsFoundIn cells) cells
+each_found lo hi from [] are = tt
+each_found lo hi from (cell ∷ cells) are = (
+  its_own cell cells,
+  each_then (λ other. (cell.place + cell.size ≤ other.place) × IsFoundIn cells other) (IsFoundIn (cell ∷ cells)) cells
+      (λ other h. anothers cell other cells (some_byte lo hi cell are.0) h.0 h.1)
+      (each_both (λ other. cell.place + cell.size ≤ other.place) (IsFoundIn cells) cells
+      (each_behind lo hi (cell.place + cell.size) (cell.place + cell.size) cells (omega arith) are.2)
+      (each_found lo hi (cell.place + cell.size) cells are.2)),
+)
+
+abbrev IsWithin : List Cell → Cell → Type 0
+IsWithin new cell = is_found_within (cell_at new cell.place cell.size) cell.word ≡ true
+
+within_from : (new held : List Cell) → Each (IsWithin new) held → are_within new held ≡ true
+within_from new [] h = refl
+within_from new (cell ∷ cells) h = and_from (is_found_within (cell_at new cell.place cell.size) cell.word) (are_within new cells) h.0 (within_from new cells h.1)
+
+each_of_within : (new held : List Cell) → are_within new held ≡ true → Each (IsWithin new) held
+each_of_within new [] h = tt
+each_of_within new (cell ∷ cells) h =
+    let parts = and_parts (is_found_within (cell_at new cell.place cell.size) cell.word) (are_within new cells) h in
+    (parts.0, each_of_within new cells parts.1)
+
+-- ---- cells within others
+
+found_within : (found : Option Word) (word other : Word) → found ≡ Some word → word_within word other ≡ true → is_found_within found other ≡ true
+found_within found word other e h = rw e h
+
+pub cells_itself : InclusionIsTested → (lo hi from : ℕ) (cells : List Cell) → AreCells lo hi from cells → are_within cells cells ≡ true
+cells_itself tested lo hi from cells are = within_from cells cells
+    (each_then (IsFoundIn cells) (IsWithin cells) cells (λ cell found. found_within (cell_at cells cell.place cell.size) cell.word cell.word found (word_itself tested cell.word)) (each_found lo hi from cells are))
+
+some_along : InclusionIsTested → (found : Option Word) (middle last : Word) → is_found_within found middle ≡ true → word_within middle last ≡ true → is_found_within found last ≡ true
+some_along tested None middle last h k = h
+some_along tested (Some word) middle last h k = word_along tested word middle last h k
+
+found_along : InclusionIsTested → (first second : Option Word) (last : Word) → OfSome (λ word. is_found_within first word ≡ true) second → is_found_within second last ≡ true
+    → is_found_within first last ≡ true
+found_along tested first None last h k = absurd cc
+found_along tested first (Some middle) last h k = some_along tested first middle last h k
+
+pub cells_along : InclusionIsTested → (a b c : List Cell) → are_within a b ≡ true → are_within b c ≡ true → are_within a c ≡ true
+cells_along tested a b c h k = within_from a c
+    (each_then (IsWithin b) (IsWithin a) c
+    (λ cell within. found_along tested (cell_at a cell.place cell.size) (cell_at b cell.place cell.size) cell.word
+    (found_at (λ place size word. is_found_within (cell_at a place size) word ≡ true) b cell.place cell.size (each_of_within a b h)) within)
+    (each_of_within b c k))
+
+-- ---- cells that both have
+
+abbrev IsLow : Word → Type 0
+IsLow word = (n : ℕ) → Has 65536 word.set n → n < 256
+
+-- two words of a size and a form are within what is made of them
+record Above (size : ℕ) (f : Word → Word → Word) : Type 0 where
+  one : (a b : Word) → IsNormal 65536 a.set → IsNormal 65536 b.set → (size ≡ 1 → IsLow a) → word_within a (f a b) ≡ true
+  other : (a b : Word) → IsNormal 65536 a.set → IsNormal 65536 b.set → (size ≡ 1 → IsLow b) → word_within b (f a b) ≡ true
+
+join_above : InclusionIsTested → Joins → (size : ℕ) → Above size word_join
+join_above tested joins size = record {
+  one = λ a b n k low. word_joined_first tested joins a b n k;
+  other = λ a b n k low. word_joined_second tested joins a b n k;
+}
+
+widen_above : InclusionIsTested → Widens → (size : ℕ) (marks : List ℕ) → All (λ mark. mark < 65536) marks → Above size (λ held new. word_widen held new marks)
+widen_above tested widens size marks below = record {
+  one = λ a b n k low. word_widened_held tested widens a b marks n k below;
+  other = λ a b n k low. word_widened_new tested widens a b marks n k below;
+}
+
+byte_above : Sets → (size : ℕ) (marks : List ℕ) → size ≡ 1 → Above size (λ held new. byte_widened held new marks)
+byte_above sets size marks one = record {
+  one = λ a b n k low. both_within sets.tested 65536 a.set (byte_widened a b marks).set a.entry (common_entry a.entry b.entry)
+      (λ v h. byte_held sets a b marks v n k (low one v h) h) (common_of_first a.entry b.entry);
+  other = λ a b n k low. both_within sets.tested 65536 b.set (byte_widened a b marks).set b.entry (common_entry a.entry b.entry)
+      (λ v h. byte_new sets a b marks v n k (low one v h) h) (common_of_second a.entry b.entry);
+}
+
+-- what is known of a word that is found
+abbrev IsFormed : (size : ℕ) → Word → Type 0
+IsFormed size word = IsNormal 65536 word.set × (size ≡ 1 → IsLow word)
+
+formed_found : (lo hi from : ℕ) (cells : List Cell) → AreCells lo hi from cells → (place size : ℕ) → OfSome (IsFormed size) (cell_at cells place size)
+formed_found lo hi from cells are place size = found_at (λ p s word. IsFormed s word) cells place size
+    (each_then (IsCell lo hi) (λ cell. IsFormed cell.size cell.word) cells (λ cell is. (is.normal, is.byte)) (each_cell lo hi from cells are))
+
+held_within : (f : Word → Word → Word) (lo hi low high start : ℕ) (held new : List Cell) → AreCells low high start new → (cell : Cell) → Above cell.size f
+    → IsCell lo hi cell × IsFoundIn held cell → OfSome (IsWithin held) (with_both f new cell)
+held_within f lo hi low high start held new are cell above h = of_both (IsWithin held) f cell (cell_at new cell.place cell.size)
+    (of_some_then (IsFormed cell.size) (λ word. let c : Cell = record { place = cell.place; size = cell.size; word = f cell.word word } in is_nothing cell.size (f cell.word word) ≡ false → IsWithin held c)
+    (cell_at new cell.place cell.size)
+    (λ word formed says. found_within (cell_at held cell.place cell.size) cell.word (f cell.word word) h.1 (above.one cell.word word h.0.normal formed.0 h.0.byte))
+    (formed_found low high start new are cell.place cell.size))
+
+new_is_within : (f : Word → Word → Word) (new : List Cell) (cell : Cell) (found : Option Word) → cell_at new cell.place cell.size ≡ found
+    → OfSome (λ word. word_within word (f cell.word word) ≡ true) found → OfSome (IsWithin new) (both_of f cell found)
+new_is_within f new cell None e h = tt
+new_is_within f new cell (Some word) e h = of_telling (IsWithin new) (record { place = cell.place; size = cell.size; word = f cell.word word })
+    (λ says. found_within (cell_at new cell.place cell.size) word (f cell.word word) e h)
+
+new_within : (f : Word → Word → Word) (lo hi low high start : ℕ) (new : List Cell) → AreCells low high start new → (cell : Cell) → Above cell.size f
+    → IsCell lo hi cell → OfSome (IsWithin new) (with_both f new cell)
+new_within f lo hi low high start new are cell above is = new_is_within f new cell (cell_at new cell.place cell.size) refl
+    (of_some_then (IsFormed cell.size) (λ word. word_within word (f cell.word word) ≡ true) (cell_at new cell.place cell.size)
+    (λ word formed. above.other cell.word word is.normal formed.0 formed.1)
+    (formed_found low high start new are cell.place cell.size))
+
+each_cell_found : (lo hi from : ℕ) (cells : List Cell) → AreCells lo hi from cells → Each (λ cell. IsCell lo hi cell × IsFoundIn cells cell) cells
+each_cell_found lo hi from cells are = each_both (IsCell lo hi) (IsFoundIn cells) cells (each_cell lo hi from cells are) (each_found lo hi from cells are)
+
+pub cells_joined_held : InclusionIsTested → Joins → (lo hi from low high start : ℕ) (held new : List Cell) → AreCells lo hi from held → AreCells low high start new
+    → are_within held (join_cells held new) ≡ true
+unfolding join_cells
+cells_joined_held tested joins lo hi from low high start held new are others = within_from held (kept (with_both word_join new) held)
+    (each_kept (λ cell. IsCell lo hi cell × IsFoundIn held cell) (IsWithin held) (with_both word_join new) held
+    (λ cell h. held_within word_join lo hi low high start held new others cell (join_above tested joins cell.size) h)
+    (each_cell_found lo hi from held are))
+
+pub cells_joined_new : InclusionIsTested → Joins → (lo hi from low high start : ℕ) (held new : List Cell) → AreCells lo hi from held → AreCells low high start new
+    → are_within new (join_cells held new) ≡ true
+unfolding join_cells
+cells_joined_new tested joins lo hi from low high start held new are others = within_from new (kept (with_both word_join new) held)
+    (each_kept (IsCell lo hi) (IsWithin new) (with_both word_join new) held
+    (λ cell is. new_within word_join lo hi low high start new others cell (join_above tested joins cell.size) is)
+    (each_cell lo hi from held are))
+
+pub cells_widened_held : Sets → (lo hi from low high start : ℕ) (held new : List Cell) (marks : List ℕ) → AreCells lo hi from held → AreCells low high start new
+    → All (λ mark. mark < 65536) marks → are_within held (widen_cells held new marks) ≡ true
+unfolding widen_cells
+cells_widened_held sets lo hi from low high start held new marks are others below = within_from held (kept (cell_widened marks new) held)
+    (each_kept (λ cell. IsCell lo hi cell × IsFoundIn held cell) (IsWithin held) (cell_widened marks new) held
+    (λ cell h. of_size (IsWithin held) marks new cell
+    (λ one. held_within (λ a b. byte_widened a b marks) lo hi low high start held new others cell (byte_above sets cell.size marks one) h)
+    (λ wide. held_within (λ a b. word_widen a b marks) lo hi low high start held new others cell (widen_above sets.tested sets.widens cell.size marks below) h))
+    (each_cell_found lo hi from held are))
+
+pub cells_widened_new : Sets → (lo hi from low high start : ℕ) (held new : List Cell) (marks : List ℕ) → AreCells lo hi from held → AreCells low high start new
+    → All (λ mark. mark < 65536) marks → are_within new (widen_cells held new marks) ≡ true
+unfolding widen_cells
+cells_widened_new sets lo hi from low high start held new marks are others below = within_from new (kept (cell_widened marks new) held)
+    (each_kept (IsCell lo hi) (IsWithin new) (cell_widened marks new) held
+    (λ cell is. of_size (IsWithin new) marks new cell
+    (λ one. new_within (λ a b. byte_widened a b marks) lo hi low high start new others cell (byte_above sets cell.size marks one) is)
+    (λ wide. new_within (λ a b. word_widen a b marks) lo hi low high start new others cell (widen_above sets.tested sets.widens cell.size marks below) is))
+    (each_cell lo hi from held are))
