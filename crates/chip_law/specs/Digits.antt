@@ -10,10 +10,11 @@ abbrev pub hex : ℕ → ℕ → List ℕ
 hex zero n = []
 hex (suc digits) n = hex digits (n / 16) ++ hex_digit (n % 16) ∷ []
 
--- how many digits a number has, at most 5
-abbrev pub digits_of : ℕ → ℕ
-digits_of n = if nat_lt n 16 then 1 else if nat_lt n 256 then 2 else if nat_lt n 4096 then 3 else if nat_lt n 65536 then 4 else 5
+-- the digits of a number that is below the first one, without leading zeros
+abbrev pub digits_below : (bound n : ℕ) → List ℕ
+digits_below zero n = []
+digits_below (suc bound) n = (if nat_lt n 16 then [] else digits_below bound (n / 16)) ++ hex_digit (n % 16) ∷ []
 
--- a number of at most 5 digits without leading zeros
-abbrev pub short_hex : ℕ → List ℕ
-short_hex n = hex (digits_of n) n
+-- a number without leading zeros, with as many digits as it has
+unfoldable pub short_hex : ℕ → List ℕ
+short_hex n = digits_below (suc n) n

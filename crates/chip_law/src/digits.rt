@@ -1,7 +1,7 @@
 //! Hexadecimal digits.
 
-ghost use Rattle.std.specs.Prelude.{◌≡◌, ◌<◌, ◌≤◌, ◌++◌, OnOk};
-ghost use Rattle.chip_law.specs.Digits.{hex, hex_digit, digits_of, short_hex};
+ghost use Rattle.std.specs.Prelude.{◌≡◌, ◌<◌, ◌++◌, OnOk};
+ghost use Rattle.chip_law.specs.Digits.{hex, hex_digit, short_hex};
 
 use std::alloc::AllocError;
 
@@ -36,36 +36,13 @@ pub fn hex_word(value: u16) -> [u8; 4]
     ]
 }
 
-/// The last five digits of a number.
-fn five_digits(value: u32) -> [u8; 5]
-    ensures { result ≡ hex 5 value }
-{
-    [
-        digit((value / 16 / 16 / 16 / 16 % 16) as u8),
-        digit((value / 16 / 16 / 16 % 16) as u8),
-        digit((value / 16 / 16 % 16) as u8),
-        digit((value / 16 % 16) as u8),
-        digit((value % 16) as u8),
-    ]
-}
-
-/// How many digits a number has, at most 5.
-fn digit_count(value: u32) -> usize
-    ensures count { result ≡ digits_of value }
-    ensures most { result ≤ 5 }
-{
-    match value {
-        0..=0xF => 1,
-        0x10..=0xFF => 2,
-        0x100..=0xFFF => 3,
-        0x1000..=0xFFFF => 4,
-        _ => 5,
-    }
-}
-
-/// Adds a number of at most five digits without leading zeros.
+/// Adds a number without leading zeros.
 pub fn push_short_hex(line: &mut Vec<u8>, value: u32) -> Result<(), AllocError>
     ensures { OnOk result (line.new.items ≡ line.old.items ++ short_hex value) }
 {
-    line.extend_from_slice(&five_digits(value)[5 - digit_count(value)..])
+    if value >= 16 {
+        push_short_hex(line, value / 16)?;
+    }
+    line.push(digit((value % 16) as u8))?;
+    Ok(())
 }

@@ -1,47 +1,36 @@
--- What an image gets, put together from the book, its report and what the sink took.
-use Rattle.std.proofs.Common.{◌≡◌, ℕ, Bool, true, false, Option, List, sym, ap, subst, ◌∙◌, inl, inr}
-use Rattle.std.specs.Prelude.{◌⊎◌, if◌then◌else◌, IfOk, Result, Ok, Err}
+-- What a program gets that is analysed, put together from the book, its report and what the sink took.
+use Rattle.std.proofs.Common.{◌≡◌, ℕ, Bool, true, Option, List, sym, ap, subst, ◌∙◌, inl, inr}
+use Rattle.std.specs.Prelude.{◌⊎◌, ◌&&◌, IfOk, Result, Ok, Err}
+use Rattle.chip_law.specs.Analysis.{Analysis}
 use Rattle.round_core.specs.declared.event.Event.{Event}
-use Rattle.round_core.specs.Kept.{Kept}
+use Rattle.round_core.specs.Kept.{live_works}
+use Rattle.round_core.specs.Machine.{IsFinished, replay}
 use Rattle.vsa_io.specs.Stream.{appended, AppendsPrefix}
-use Rattle.msp430_chip.specs.declared.device.Device.{Device}
 use Rattle.vsa_top.specs.declared.outcome.Status.{Status}
-use Rattle.vsa_top.specs.declared.outcome.Status.TheVariants.{Done, Open, WriteFault}
-use Rattle.vsa_top.specs.Answer.{IsAnalysis, AnswersAnalysis, works_behind, report_behind}
-use Rattle.vsa_top.specs.Report.{are_closed}
+use Rattle.vsa_top.specs.declared.outcome.Status.TheVariants.{WriteFault}
+use Rattle.vsa_top.specs.Answer.{Analysed, IsAnalysis, WritesReport, report_behind, status_of_analysis, works_behind}
+use Rattle.vsa_top.specs.Answer.WritesReport.{whole_report, cut_report}
+use Rattle.vsa_top.specs.Report.{IsReportOf, are_closed, report_of}
 
-at_once : (device : Device) (journal : List Event) (before after : Option (List ℕ)) (closed : Bool) (answered : Status)
-    → IsAnalysis device journal → closed ≡ are_closed (works_behind device journal)
-    → (answered ≡ (if closed then Done else Open)) ⊎ (answered ≡ WriteFault)
-    → (answered ≡ (if closed then Done else Open) → after ≡ appended before (report_behind device journal))
-    → AppendsPrefix before (report_behind device journal) after
-    → AnswersAnalysis answered device before after journal
-at_once device journal before after true answered is told (inl same) written prefix =
-    subst (λ s. AnswersAnalysis s device before after journal) (sym same) (is, sym told, written same)
-at_once device journal before after false answered is told (inl same) written prefix =
-    subst (λ s. AnswersAnalysis s device before after journal) (sym same) (is, sym told, written same)
-at_once device journal before after closed answered is told (inr fault) written prefix =
-    subst (λ s. AnswersAnalysis s device before after journal) (sym fault) (is, prefix)
+written : (told answered : Status) (report : List ℕ) (before after : Option (List ℕ)) → (answered ≡ told) ⊎ (answered ≡ WriteFault)
+    → (answered ≡ told → after ≡ appended before report) → AppendsPrefix before report after → WritesReport told report answered before after
+written told answered report before after (inl same) whole prefix = whole_report same (whole same)
+written told answered report before after (inr fault) whole prefix = cut_report fault prefix
 
--- by the base of the book, its text, its status and its journal
-pub image_answer : (device : Device) (book : Kept Device) (journal : List Event) (text : List ℕ) (before after : Option (List ℕ))
-    (closed : Bool) (status answered : Status)
-    → book.base ≡ device → IsAnalysis book.base book.journal
-    → text ≡ report_behind book.base book.journal
-    → closed ≡ are_closed (works_behind book.base book.journal)
-    → status ≡ (if closed then Done else Open)
-    → (answered ≡ status) ⊎ (answered ≡ WriteFault)
-    → (answered ≡ status → after ≡ appended before text)
-    → AppendsPrefix before text after
-    → journal ≡ book.journal
-    → AnswersAnalysis answered device before after journal
-image_answer device book journal text before after closed status answered base is text_is told status_is end written prefix journal_is =
-    let whole : AnswersAnalysis answered book.base before after book.journal = at_once book.base book.journal before after closed answered is told
-    (elim end [ inl same ↦ inl (same ∙ status_is) | inr fault ↦ inr fault ])
-    (λ same. written (same ∙ sym status_is) ∙ ap (appended before) text_is)
-    (subst (λ t. AppendsPrefix before t after) text_is prefix) in
-    subst (λ i. AnswersAnalysis answered i before after journal) base
-    (subst (λ j. AnswersAnalysis answered book.base before after j) (sym journal_is) whole)
+-- by the text of the report, its status and its journal
+pub analysed : {A : Type 0} (text : ℕ → List ℕ → List ℕ) (m : Analysis A) (journal : List Event) (report : List ℕ) (closed : Bool) (told answered : Status)
+    (before after : Option (List ℕ)) → IsAnalysis m journal → IsReportOf text (replay m journal) report closed → told ≡ status_of_analysis closed
+    → (answered ≡ told) ⊎ (answered ≡ WriteFault) → (answered ≡ told → after ≡ appended before report) → AppendsPrefix before report after
+    → Analysed text m answered before after journal
+analysed text m journal report closed told answered before after is reported told_is end whole prefix =
+    let finished : reported.finished ≡ true = reported.is_finished.1 is.finished in
+    let bytes : report ≡ report_behind text m journal = reported.bytes ∙ ap (λ f. report_of text f (works_behind m journal)) finished in
+    let closes : closed ≡ are_closed (works_behind m journal) = reported.says ∙ ap (λ f. f && are_closed (works_behind m journal)) finished in
+    record {
+      is_analysis = is;
+      writes = subst (λ t. WritesReport t (report_behind text m journal) answered before after) (told_is ∙ ap status_of_analysis closes)
+          (subst (λ r. WritesReport told r answered before after) bytes (written told answered report before after end whole prefix));
+    }
 
 -- what holds of each outcome
 pub if_ok : {A E : Type 0} (r : Result A E) (P Q : A → Type 0) → ((a : A) → P a → Q a) → IfOk r P → IfOk r Q

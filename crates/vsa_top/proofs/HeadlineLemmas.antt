@@ -4,30 +4,25 @@ use Rattle.std.specs.Prelude.{◌⊎◌, All, Contains, IfSome, length, map, ◌
 use Rattle.std.specs.List.{flat_map}
 use Rattle.std.proofs.lemmas.List.Elements.{Contains-append_right}
 use Rattle.std.proofs.lemmas.Option.{same_Some}
-use Rattle.std.specs.Option.{option_map}
-use Rattle.call_context.specs.Nodes.{pc_of}
 use Rattle.call_context.specs.Members.{in_none, in_cons, in_first, in_rest}
-use Rattle.call_context.specs.declared.node.Frame.{Frame}
-use Rattle.call_context.specs.declared.node.Node.{Node}
-use Rattle.call_context.specs.declared.node.Node.TheVariants.{At, Exit}
-use Rattle.call_context.specs.declared.node.Unit.{Unit as WorkUnit}
-use Rattle.call_context.specs.declared.node.Unit.TheVariants.{One, Back}
 use Rattle.call_context.specs.declared.shown.Cause.{Cause}
 use Rattle.chip_law.specs.declared.chip.Work.{Work}
 use Rattle.chip_law.specs.Line.{item_line_of, open_line_of}
 use Rattle.chip_law.specs.Shown.{HasLine}
-use Rattle.closing_law.specs.Covered.{NoneIsOpen, AreCovering}
-use Rattle.closing_law.specs.Worked.{IsOfUnit}
+use Rattle.closing_law.specs.Covered.{NoneIsOpen, AreCovering, IsBroken}
 use Rattle.ihex_read.specs.declared.rule_set.Tail.{Tail}
 use Rattle.ihex_read.specs.declared.rule_set.Tail.TheVariants.{Blank, Second}
 use Rattle.ihex_read.specs.declared.rule_set.Rules.{Rules}
-use Rattle.ihex_read.specs.Image.{IsByte}
 use Rattle.ihex_read.specs.declared.fault.HexFault.{HexFault}
 use Rattle.ihex_read.specs.ImageText.{Denotes, FirstFault}
 use Rattle.ihex_read.specs.Reading.{HasEnded}
 use Rattle.std.proofs.lemmas.List.{append-nil, take_all}
 use Rattle.ihex_read.specs.Lines as texts
-use Rattle.round_core.specs.Machine.{Held, held_at, inputs_of, replay, IsLegalJournal, IsFinished}
+use Rattle.chip_law.specs.Analysis.{Analysis}
+use Rattle.chip_law.specs.Machine.{Machine}
+use Rattle.ihex_read.specs.Kept.{IsReadUnder}
+use Rattle.vsa_io.specs.Stream.{appended}
+use Rattle.round_core.specs.Machine.{replay, IsLegalJournal, IsFinished}
 use Rattle.round_core.specs.declared.event.Event.{Event}
 use Rattle.msp430_chip.specs.declared.device.Device.{Device}
 use Rattle.msp430_chip.specs.declared.state.ChipState.{ChipState}
@@ -35,18 +30,18 @@ use Rattle.msp430_chip.specs.Outcome.{Outcome}
 use Rattle.msp430_chip.specs.Outcome.Outcome.{Next, Wild as Leaves}
 use Rattle.msp430_chip.specs.Step.{step_of}
 use Rattle.msp430_emu.specs.Stepping.{first_state}
-use Rattle.msp430_decode.specs.declared.instr.Instr.{Instr}
-use Rattle.vsa_top.specs.declared.msp430.action.Action.{Action}
 use Rattle.vsa_top.specs.declared.msp430.state.State.{State}
 use Rattle.vsa_top.specs.declared.outcome.Status.{Status}
 use Rattle.vsa_top.specs.declared.outcome.Status.TheVariants.{Done, Open, Usage, BadImage, BadCert, ReadFault, WriteFault, Memory, TooLong, Wild, NeedChoice}
-use Rattle.vsa_top.specs.Answer.{text_limit, front_of, tail_of, AreTexts, AnswersRun, Gives, InputGives, IsBad, IsTooLong, IsOfImage, IsImageOf, IsAnalysis, AnswersInput, AnswersImage, AnswersAnalysis, AnswersText, works_behind, report_behind}
+use Rattle.vsa_top.specs.Answer.{text_limit, front_of, tail_of, AreTexts, AnswersRun, Gives, InputGives, IsBad, IsTooLong, IsOfImage, IsImageOf, IsAnalysis, Analysed, WritesReport, status_of_analysis, AnswersInput, AnswersImage, AnswersText, works_behind, report_behind}
 use Rattle.vsa_top.specs.Answer.AnswersInput.{of_image, of_bad, of_long, unread}
 use Rattle.vsa_top.specs.Answer.AnswersRun.{of_script, of_refused, of_longer, unread_script}
 use Rattle.vsa_top.specs.Answer.AnswersText.{whole, cut}
+use Rattle.vsa_top.specs.Answer.WritesReport.{whole_report, cut_report}
 use Rattle.vsa_top.specs.Headline.{Says, CoversEveryRun, ShowsOpenSites, ReportsOn}
-use Rattle.vsa_top.specs.Msp430Chip.{msp430, work_of, work_at, IsProgram}
-use Rattle.vsa_top.specs.Msp430Built.{fetched, instr_text}
+use Rattle.vsa_top.specs.Msp430Chip.{msp430_analysis, IsProgram}
+use Rattle.vsa_top.specs.Msp430Machine.{msp430_machine}
+use Rattle.vsa_top.specs.Msp430Built.{instr_text}
 use Rattle.vsa_top.specs.Trace.{Ended, ended_by, run_from}
 use Rattle.vsa_top.specs.Report.{are_closed, is_empty, lines_of, with_lines, least_of, head_line, summary_of, report_text, report_of}
 use Rattle.vsa_top.specs.declared.words.Mode.{Mode}
@@ -88,71 +83,83 @@ some_open {A = A} (first ∷ works) h =
       | site ∷ sites ↦ λ e. (first, site, in_first first works, subst (λ (l : List (ℕ × Cause)). Contains l site) (sym e) (in_first site sites))
     ] refl
 
--- an open of a unit's work stands where no instruction is fetched
-open_at : (pc : ℕ) (calls : List ℕ) (frame : Frame) (a : State) (found : Result (Action × Instr) Cause) (at : ℕ) (cause : Cause)
-    → Contains (work_at pc calls frame a found).opens (at, cause) → (at ≡ pc) × (found ≡ Err cause)
-open_at pc calls frame a (Err why) at cause h = elim (in_cons (pc, why) [] (at, cause) h) [
-  | inl same ↦ (ap (λ o. o.0) (sym same), ap (λ (o : ℕ × Cause). Err o.1) same)
-  | inr none ↦ absurd (in_none (at, cause) none)
-]
-open_at pc calls frame a (Ok found) at cause h = absurd (in_none (at, cause) h)
-
--- the node of such a work is among these, and at its address no instruction is fetched
-abbrev IsSite : Device → List (Held State) → ℕ → Cause → Type 0
-IsSite device nodes pc cause =
-    ((node : Node) × (held : Held State) × (held_at nodes node ≡ Some held) × (pc_of node ≡ pc)) × (fetched device.image pc ≡ Err cause)
-
-found_at : (found : Option (Held State)) (inputs : State × Option State) → option_map (λ (h : Held State). (h.state, None)) found ≡ Some inputs
-    → (held : Held State) × (found ≡ Some held)
-found_at None inputs e = absurd (cc)
-found_at (Some held) inputs e = (held, refl)
-
-unit_open : (device : Device) (nodes : List (Held State)) (unit : WorkUnit) (a : State) (exit : Option State) (inputs : State × Option State)
-    (at : ℕ) (cause : Cause) → inputs_of nodes unit ≡ Some inputs → Contains (work_of device.image unit a exit).opens (at, cause) → IsSite device nodes at cause
-unit_open device nodes (One (At pc calls frame)) a exit inputs at cause e h =
-    let site = open_at pc calls frame a (fetched device.image pc) at cause h in
-    let found = found_at (held_at nodes (At pc calls frame)) inputs e in
-    ((At pc calls frame, found.0, found.1, sym site.0), ap (fetched device.image) site.0 ∙ site.1)
-unit_open device nodes (One (Exit pc frame)) a exit inputs at cause e h = absurd (in_none (at, cause) h)
-unit_open device nodes (Back node other) a exit inputs at cause e h = absurd (in_none (at, cause) h)
-
-is_site : (device : Device) (nodes : List (Held State)) (work : Work State) (at : ℕ) (cause : Cause) → IsOfUnit (msp430 device) nodes work
-    → Contains work.opens (at, cause) → IsSite device nodes at cause
-unfolding msp430
-is_site device nodes work at cause is h =
-    unit_open device nodes is.unit is.at is.exit is.held.0 at cause is.held.1 (subst (λ (w : Work State). Contains w.opens (at, cause)) is.is_work h)
-
 -- the head of a report
-says_head : (closed : Bool) (works : List (Work State)) → are_closed works ≡ closed → Says (head_line closed) (report_of instr_text works)
-says_head closed works e =
-    let lines = with_lines [] (flat_map (lines_of instr_text) works) in
-    let least = least_of _ (flat_map (λ (w : Work State). w.items) works) in
+says_head : {A : Type 0} (text : ℕ → List ℕ → List ℕ) (closed : Bool) (works : List (Work A)) → are_closed works ≡ closed
+    → Says (head_line closed) (report_of text true works)
+says_head {A = A} text closed works e =
+    let lines = with_lines [] (flat_map (lines_of text) works) in
+    let least = least_of _ (flat_map (λ (w : Work A). w.items) works) in
     let body = flat_map (λ line. line ++ 10 ∷ []) lines in
     (body ++ summary_of least lines, ap (λ c. report_text c lines least) e ∙ append_assoc (head_line closed) body (summary_of least lines))
 
 -- the report has the line of each open
-report_has_open : (works : List (Work State)) (work : Work State) (site : ℕ × Cause) → Contains works work → Contains work.opens site
-    → HasLine (report_of instr_text works) (open_line_of site.0 site.1)
-report_has_open works work site w o =
-    report_has (are_closed works) (with_lines [] (flat_map (lines_of instr_text) works)) (least_of _ (flat_map (λ w. w.items) works)) (open_line_of site.0 site.1)
-    (in_with_lines_new (flat_map (lines_of instr_text) works) [] (open_line_of site.0 site.1)
-    (in_flat_map (lines_of instr_text) works work (open_line_of site.0 site.1) w
-    (Contains-append_right (map (item_line_of instr_text) work.items) (map (λ o. open_line_of o.0 o.1) work.opens) (open_line_of site.0 site.1)
+report_has_open : {A : Type 0} (text : ℕ → List ℕ → List ℕ) (works : List (Work A)) (work : Work A) (site : ℕ × Cause) → Contains works work
+    → Contains work.opens site → HasLine (report_of text true works) (open_line_of site.0 site.1)
+report_has_open text works work site w o =
+    report_has (are_closed works) (with_lines [] (flat_map (lines_of text) works)) (least_of _ (flat_map (λ w. w.items) works)) (open_line_of site.0 site.1)
+    (in_with_lines_new (flat_map (lines_of text) works) [] (open_line_of site.0 site.1)
+    (in_flat_map (lines_of text) works work (open_line_of site.0 site.1) w
+    (Contains-append_right (map (item_line_of text) work.items) (map (λ o. open_line_of o.0 o.1) work.opens) (open_line_of site.0 site.1)
     (in_map (λ (o : ℕ × Cause). open_line_of o.0 o.1) work.opens site o))))
 
--- what is known of books and of texts
+-- a finished book without opens covers every run, and each open of a book breaks a limit
+abbrev pub ClosedCovers : {S A : Type 0} → Machine S → Analysis A → List Event → Type 0
+ClosedCovers machine m journal = IsLegalJournal m journal → IsFinished (replay m journal) → NoneIsOpen (works_behind m journal)
+    → AreCovering machine (works_behind m journal)
+
+abbrev pub OpensBreak : {A : Type 0} → Analysis A → List Event → Type 0
+OpensBreak m journal = (work : Work _) (pc : ℕ) (cause : Cause) → IsLegalJournal m journal → Contains (works_behind m journal) work
+    → Contains work.opens (pc, cause) → IsBroken m (replay m journal).nodes pc cause
+
+covers_every : {S A : Type 0} (machine : Machine S) (text : ℕ → List ℕ → List ℕ) (m : Analysis A) (journal : List Event) → ClosedCovers machine m journal
+    → IsAnalysis m journal → are_closed (works_behind m journal) ≡ true → CoversEveryRun machine text (report_behind text m journal)
+covers_every machine text m journal cover analysis closed =
+    let covering = cover analysis.legal analysis.finished (none_open (works_behind m journal) closed) in
+    record {
+      says = says_head text true (works_behind m journal) closed;
+      shows = λ n item met. let found = covering.shows n item met in record {
+        item = found.2.0;
+        has = found.2.2;
+        line = report_has_item text (works_behind m journal) found.0 found.2.0 found.1 found.2.1;
+      };
+      stays = covering.stays;
+    }
+
+open_sites : {A : Type 0} (text : ℕ → List ℕ → List ℕ) (m : Analysis A) (journal : List Event) → OpensBreak m journal → IsAnalysis m journal
+    → are_closed (works_behind m journal) ≡ false → ShowsOpenSites m journal (report_behind text m journal)
+open_sites text m journal breaks analysis left = record {
+  says = says_head text false (works_behind m journal) left;
+  some = some_open (works_behind m journal) left;
+  each = λ work pc cause is_work is_open. record {
+    line = report_has_open text (works_behind m journal) work (pc, cause) is_work is_open;
+    site = breaks work pc cause analysis.legal is_work is_open;
+  };
+}
+
+-- Done is the status of a closed report, and Open that of another
+told_closed : (closed : Bool) (report : List ℕ) (before after : Option (List ℕ)) → WritesReport (status_of_analysis closed) report Done before after
+    → (closed ≡ true) × (after ≡ appended before report)
+told_closed true report before after (whole_report same is) = (refl, is)
+told_closed false report before after (whole_report same is) = absurd (cc)
+told_closed closed report before after (cut_report same is) = absurd (cc)
+
+told_open : (closed : Bool) (report : List ℕ) (before after : Option (List ℕ)) → WritesReport (status_of_analysis closed) report Open before after
+    → (closed ≡ false) × (after ≡ appended before report)
+told_open true report before after (whole_report same is) = absurd (cc)
+told_open false report before after (whole_report same is) = (refl, is)
+told_open closed report before after (cut_report same is) = absurd (cc)
+
+-- what is known of the MSP430's books, and of texts
 abbrev CoverRuns : Type 0
-CoverRuns = (device : Device) (journal : List Event) → IsProgram device → IsLegalJournal (msp430 device) journal
-    → IsFinished (replay (msp430 device) journal) → NoneIsOpen (works_behind device journal)
-    → AreCovering (msp430 device) (works_behind device journal)
+CoverRuns = (device : Device) (journal : List Event) → IsProgram device → ClosedCovers (msp430_machine device) (msp430_analysis device) journal
 
-abbrev HaveBytes : Type 0
-HaveBytes = (rules : Rules) (tail : Tail) (lines : List (List ℕ)) (image : List (Option ℕ))
-    → Denotes rules tail lines image → (length image ≡ 65536) × All IsByte image
+abbrev BreakLimits : Type 0
+BreakLimits = (device : Device) (journal : List Event) (work : Work State) (pc : ℕ) (cause : Cause) → IsProgram device
+    → IsLegalJournal (msp430_analysis device) journal → Contains (works_behind (msp430_analysis device) journal) work → Contains work.opens (pc, cause)
+    → IsBroken (msp430_analysis device) (replay (msp430_analysis device) journal).nodes pc cause
 
-abbrev AreOfUnits : Type 0
-AreOfUnits = (device : Device) (journal : List Event) (work : Work State) → IsLegalJournal (msp430 device) journal
-    → Contains (works_behind device journal) work → IsOfUnit (msp430 device) (replay (msp430 device) journal).nodes work
+abbrev HaveRules : Type 0
+HaveRules = (rules : Rules) (tail : Tail) (lines : List (List ℕ)) (image : List (Option ℕ)) → Denotes rules tail lines image → IsReadUnder rules image
 
 abbrev HaveOneImage : Type 0
 HaveOneImage = (rules : Rules) (tail : Tail) (lines : List (List ℕ)) (image other : List (Option ℕ))
@@ -171,37 +178,6 @@ told_alone : {told answered : Status} {line : List ℕ} {before after : Option (
     → (answered ≡ told) ⊎ (answered ≡ WriteFault)
 told_alone (whole same is none) = inl same
 told_alone (cut same is none) = inr same
-
-covers_every : CoverRuns → HaveBytes → (reading : Reading) (text : List ℕ) (image : List (Option ℕ)) (journal : List Event)
-    → Denotes (rules_of reading) Blank (texts.lines_of text) image
-    → IsAnalysis (device_of reading image) journal → are_closed (works_behind (device_of reading image) journal) ≡ true
-    → CoversEveryRun (device_of reading image) (report_behind (device_of reading image) journal)
-covers_every cover bytes reading text image journal denoted analysis closed =
-    let held = bytes (rules_of reading) Blank (texts.lines_of text) image denoted in
-    let covering = cover (device_of reading image) journal (record { size = held.0; bytes = held.1 }) analysis.legal analysis.finished
-    (none_open (works_behind (device_of reading image) journal) closed) in
-    record {
-      says = says_head true (works_behind (device_of reading image) journal) closed;
-      shows = λ n item met. let found = covering.shows n item met in record {
-        item = found.2.0;
-        has = found.2.2;
-        line = report_has_item instr_text (works_behind (device_of reading image) journal) found.0 found.2.0 found.1 found.2.1;
-      };
-      stays = covering.stays;
-    }
-
-open_sites : AreOfUnits → (device : Device) (journal : List Event) → IsAnalysis device journal
-    → are_closed (works_behind device journal) ≡ false → ShowsOpenSites device journal (report_behind device journal)
-open_sites of_units device journal analysis left = record {
-  says = says_head false (works_behind device journal) left;
-  some = some_open (works_behind device journal) left;
-  each = λ work pc cause is_work is_open.
-      let site = is_site device (replay (msp430 device) journal).nodes work pc cause (of_units device journal work analysis.legal is_work) is_open in record {
-        line = report_has_open (works_behind device journal) work (pc, cause) is_work is_open;
-        node = site.0;
-        limit = site.1;
-      };
-}
 
 -- the image that a text without a second one gives
 gives_image : (rules : Rules) (input second : Option (List ℕ)) (image : List (Option ℕ)) → InputGives rules Blank input second image
@@ -258,40 +234,55 @@ no_open_run answered (inr (inr (inr (inr (inr (inr (inr h))))))) e = cc (sym e �
 -- an image that is told as open was analysed
 open_analysis : (mode : Mode) (rules : Rules) (image : List (Option ℕ)) (device : Device) (steps : ℕ) (input second before after : Option (List ℕ)) (journal : List Event)
     → InputGives rules (tail_of mode) input second image → AnswersImage mode device steps Open second before after journal
-    → IfSome input (λ t. IsImageOf rules t image) × AnswersAnalysis Open device before after journal
+    → IfSome input (λ t. IsImageOf rules t image) × Analysed instr_text (msp430_analysis device) Open before after journal
 open_analysis Analyse rules image device steps input second before after journal gives answer = (gives_image rules input second image gives, answer)
 open_analysis Disasm rules image device steps input second before after journal gives answer =
     elim (told_alone answer.2) [ inl a ↦ absurd (cc) | inr b ↦ absurd (cc) ]
 open_analysis Run rules image device steps input second before after journal gives answer =
     absurd (no_open_run Open (run_statuses device steps Open second before after journal answer) refl)
 
-pub closed_lem : CoverRuns → HaveBytes → HaveOneImage → (reading : Reading) (input before after : Option (List ℕ)) (journal : List Event)
-    → reading.mode ≡ Analyse → AnswersInput reading Done input before after journal → ReportsOn reading input before after CoversEveryRun
-closed_lem cover bytes one reading input before after journal mode (of_image other second gives answer) text image e denoted =
+pub closed_lem : CoverRuns → HaveRules → HaveOneImage → (reading : Reading) (input before after : Option (List ℕ)) (journal : List Event)
+    → reading.mode ≡ Analyse → AnswersInput reading Done input before after journal →
+    ReportsOn reading input before after (λ device report. CoversEveryRun (msp430_machine device) instr_text report)
+closed_lem cover rules one reading input before after journal mode (of_image other second gives answer) text image e denoted =
     let found = gives_image (rules_of reading) input second other (subst (λ m. InputGives (rules_of reading) (tail_of m) input second other) mode gives) in
     let same = same_image one (rules_of reading) input text image other e denoted found in
     let analysed = subst (λ m. AnswersImage m (device_of reading other) reading.steps Done second before after journal) mode answer in
-    let is = subst (λ i. AnswersAnalysis Done (device_of reading i) before after journal) same analysed in
-    (report_behind (device_of reading image) journal, is.2, covers_every cover bytes reading text image journal denoted is.0 is.1)
-closed_lem cover bytes one reading input before after journal mode (of_bad line fault bad answer) text image e denoted =
+    let device = device_of reading image in
+    let m = msp430_analysis device in
+    let is = subst (λ i. Analysed instr_text (msp430_analysis (device_of reading i)) Done before after journal) same analysed in
+    let told = told_closed (are_closed (works_behind m journal)) (report_behind instr_text m journal) before after is.writes in
+    let program : IsProgram device = rules (rules_of reading) Blank (texts.lines_of text) image denoted in (
+      report_behind instr_text m journal,
+      told.1,
+      covers_every (msp430_machine device) instr_text m journal (cover device journal program) is.is_analysis told.0,
+    )
+closed_lem cover rules one reading input before after journal mode (of_bad line fault bad answer) text image e denoted =
     elim (told_alone answer) [ inl a ↦ absurd (cc) | inr b ↦ absurd (cc) ]
-closed_lem cover bytes one reading input before after journal mode (of_long long answer) text image e denoted =
+closed_lem cover rules one reading input before after journal mode (of_long long answer) text image e denoted =
     elim (told_alone answer) [ inl a ↦ absurd (cc) | inr b ↦ absurd (cc) ]
-closed_lem cover bytes one reading input before after journal mode (unread why kept none) text image e denoted =
+closed_lem cover rules one reading input before after journal mode (unread why kept none) text image e denoted =
     elim why [ inl a ↦ absurd (cc) | inr b ↦ absurd (cc) ]
 
-pub open_lem : AreOfUnits → HaveOneImage → (reading : Reading) (input before after : Option (List ℕ)) (journal : List Event)
-    → AnswersInput reading Open input before after journal → ReportsOn reading input before after (λ device report. ShowsOpenSites device journal report)
-open_lem of_units one reading input before after journal (of_image other second gives answer) text image e denoted =
+pub open_lem : BreakLimits → HaveRules → HaveOneImage → (reading : Reading) (input before after : Option (List ℕ)) (journal : List Event)
+    → AnswersInput reading Open input before after journal → ReportsOn reading input before after (λ device report. ShowsOpenSites (msp430_analysis device) journal report)
+open_lem breaks rules one reading input before after journal (of_image other second gives answer) text image e denoted =
     let analysed = open_analysis reading.mode (rules_of reading) other (device_of reading other) reading.steps input second before after journal gives answer in
     let same = same_image one (rules_of reading) input text image other e denoted analysed.0 in
-    let is = subst (λ i. AnswersAnalysis Open (device_of reading i) before after journal) same analysed.1 in
-    (report_behind (device_of reading image) journal, is.2, open_sites of_units (device_of reading image) journal is.0 is.1)
-open_lem of_units one reading input before after journal (of_bad line fault bad answer) text image e denoted =
+    let device = device_of reading image in
+    let m = msp430_analysis device in
+    let is = subst (λ i. Analysed instr_text (msp430_analysis (device_of reading i)) Open before after journal) same analysed.1 in
+    let told = told_open (are_closed (works_behind m journal)) (report_behind instr_text m journal) before after is.writes in
+    let program : IsProgram device = rules (rules_of reading) Blank (texts.lines_of text) image denoted in (
+      report_behind instr_text m journal,
+      told.1,
+      open_sites instr_text m journal (λ work pc cause legal. breaks device journal work pc cause program legal) is.is_analysis told.0,
+    )
+open_lem breaks rules one reading input before after journal (of_bad line fault bad answer) text image e denoted =
     elim (told_alone answer) [ inl a ↦ absurd (cc) | inr b ↦ absurd (cc) ]
-open_lem of_units one reading input before after journal (of_long long answer) text image e denoted =
+open_lem breaks rules one reading input before after journal (of_long long answer) text image e denoted =
     elim (told_alone answer) [ inl a ↦ absurd (cc) | inr b ↦ absurd (cc) ]
-open_lem of_units one reading input before after journal (unread why kept none) text image e denoted =
+open_lem breaks rules one reading input before after journal (unread why kept none) text image e denoted =
     elim why [ inl a ↦ absurd (cc) | inr b ↦ absurd (cc) ]
 
 abbrev HaveNotBoth : Type 0
@@ -299,19 +290,11 @@ HaveNotBoth = (rules : Rules) (tail : Tail) (lines : List (List ℕ)) (image : L
     → Denotes rules tail lines image → FirstFault rules tail lines line fault → ⊥
 
 -- the statuses of an analysis
-status_of_analysis : (answered : Status) (device : Device) (before after : Option (List ℕ)) (journal : List Event)
-    → AnswersAnalysis answered device before after journal → (answered ≡ WriteFault → ⊥) → IsOfImage Analyse answered
-status_of_analysis Done device before after journal is no_fault = inl refl
-status_of_analysis Open device before after journal is no_fault = inr (inl refl)
-status_of_analysis WriteFault device before after journal is no_fault = absurd (no_fault refl)
-status_of_analysis Usage device before after journal is no_fault = absurd is
-status_of_analysis BadImage device before after journal is no_fault = absurd is
-status_of_analysis BadCert device before after journal is no_fault = absurd is
-status_of_analysis ReadFault device before after journal is no_fault = absurd is
-status_of_analysis Memory device before after journal is no_fault = absurd is
-status_of_analysis TooLong device before after journal is no_fault = absurd is
-status_of_analysis Wild device before after journal is no_fault = absurd is
-status_of_analysis NeedChoice device before after journal is no_fault = absurd is
+analysis_statuses : (closed : Bool) (answered : Status) (report : List ℕ) (before after : Option (List ℕ))
+    → WritesReport (status_of_analysis closed) report answered before after → (answered ≡ WriteFault → ⊥) → IsOfImage Analyse answered
+analysis_statuses true answered report before after (whole_report same is) no_fault = inl same
+analysis_statuses false answered report before after (whole_report same is) no_fault = inr (inl same)
+analysis_statuses closed answered report before after (cut_report same is) no_fault = absurd (no_fault same)
 
 -- the statuses of an image in a mode
 status_of_run : (answered : Status) → (answered ≡ Done) ⊎ (answered ≡ Wild) ⊎ (answered ≡ NeedChoice) ⊎ (answered ≡ BadCert) ⊎ (answered ≡ TooLong) ⊎ (answered ≡ Memory)
@@ -327,7 +310,9 @@ status_of_run answered (inr (inr (inr (inr (inr (inr (inr h))))))) no_read no_wr
 
 status_of_image : (mode : Mode) (answered : Status) (device : Device) (steps : ℕ) (second before after : Option (List ℕ)) (journal : List Event)
     → AnswersImage mode device steps answered second before after journal → (answered ≡ ReadFault → ⊥) → (answered ≡ WriteFault → ⊥) → IsOfImage mode answered
-status_of_image Analyse answered device steps second before after journal is no_read no_write = status_of_analysis answered device before after journal is no_write
+status_of_image Analyse answered device steps second before after journal is no_read no_write =
+    let m = msp430_analysis device in
+    analysis_statuses (are_closed (works_behind m journal)) answered (report_behind instr_text m journal) before after is.writes no_write
 status_of_image Disasm answered device steps second before after journal is no_read no_write =
     elim (told_alone is.2) [ inl done ↦ inl done | inr fault ↦ absurd (no_write fault) ]
 status_of_image Run answered device steps second before after journal is no_read no_write =

@@ -1,6 +1,6 @@
 -- The laws of the MSP430: no interrupt is allowed by what is built, so each step stays in its frame, and no exit is met.
-use Rattle.std.proofs.Common.{◌≡◌, ◌≢◌, ℕ, ◌-◌, ◌<◌, true, Option, None, Some, Result, Ok, Err, List, [], ◌∷◌, length, replicate, refl, sym, ap, ◌∙◌, subst, inl, inr, arith, Contains}
-use Rattle.std.proofs.lemmas.Bool.{and_from, and_parts}
+use Rattle.std.proofs.Common.{◌≡◌, ◌≢◌, ℕ, ◌-◌, ◌%◌, ◌<◌, ◌==◌, true, false, Option, None, Some, Result, Ok, Err, List, [], ◌∷◌, length, replicate, refl, sym, ap, ◌∙◌, subst, inl, inr, arith, All, Contains}
+use Rattle.std.proofs.lemmas.Bool.{and_from, and_parts, cond-true}
 use Rattle.std.proofs.lemmas.List.{get_or-replicate}
 use Rattle.std.proofs.lemmas.Option.{same_Some}
 use Rattle.std.proofs.lemmas.List.Elements.{All-get_or, All-nil, All-replicate}
@@ -8,18 +8,28 @@ use Rattle.call_context.specs.declared.node.Frame.{Frame}
 use Rattle.call_context.specs.declared.node.Frame.TheVariants.{Base, Irq}
 use Rattle.call_context.specs.declared.node.Node.{Node}
 use Rattle.call_context.specs.declared.node.Node.TheVariants.{At, Exit}
-use Rattle.call_context.specs.declared.node.Unit.TheVariants.{One}
+use Rattle.call_context.specs.declared.node.Unit.{Unit as WorkUnit}
+use Rattle.call_context.specs.declared.node.Unit.TheVariants.{One, Back}
 use Rattle.call_context.specs.declared.shown.Cause.{Cause}
+use Rattle.call_context.specs.declared.shown.Cause.TheVariants.{Fetch, Targets, Store, Unbuilt}
 use Rattle.call_context.specs.declared.shown.Item.TheVariants as items
 use Rattle.call_context.specs.declared.shown.Set.TheVariants.{W}
-use Rattle.call_context.specs.Nodes.{IsLocation}
+use Rattle.call_context.specs.Nodes.{pc_of, IsLocation}
 use Rattle.call_context.specs.Members.{in_none, in_cons, in_first, in_rest}
-use Rattle.chip_law.specs.Laws.{IsLawful, Lands}
+use Rattle.chip_law.specs.Analysis.{AreFormed}
+use Rattle.chip_law.specs.Laws.{IsLawful, IsTold, location_of, Lands, Tells}
 use Rattle.chip_law.specs.Laws.Lands.{stays}
 use Rattle.call_context.specs.Single.{Single, AreShowing}
 use Rattle.call_context.specs.Single.Single.{Instr as Ran, Edge as Went, Stack as Stood}
+use Rattle.chip_law.specs.Outcome.{Leaving}
+use Rattle.chip_law.specs.Outcome.Leaving.{no_instruction}
 use Rattle.chip_law.specs.Outcome.Outcome.{Next, Wild}
 use Rattle.msp430_decode.specs.declared.instr.Instr.{Instr}
+use Rattle.msp430_decode.specs.declared.refusal.NoInstr.{NoInstr}
+use Rattle.msp430_decode.specs.Decoding.{decoded}
+use Rattle.msp430_decode.specs.Standing.{Stands, Decodes}
+use Rattle.msp430_chip.specs.declared.state.Wild.TheVariants as wild_cause
+use Rattle.ihex_read.specs.Image.{IsByte}
 use Rattle.msp430_decode.specs.Table.{bytes_of}
 use Rattle.value_set.specs.Joining.{is_within, join}
 use Rattle.value_set.specs.Widening.{widen}
@@ -32,14 +42,15 @@ use Rattle.msp430_chip.specs.Outcome.{Outcome as ChipOutcome}
 use Rattle.msp430_chip.specs.State.{register_of, IsResetOf}
 use Rattle.msp430_chip.specs.Step.{step_of}
 use Rattle.vsa_top.specs.declared.msp430.state.State.{State}
-use Rattle.vsa_top.specs.Msp430Built.{IsAction, fetched, next_of}
-use Rattle.vsa_top.specs.Msp430Chip.{work_at, work_of, IsProgram, StepsTo, msp430}
+use Rattle.vsa_top.specs.Msp430Built.{IsAction, action_of, with_action, found_by, fetched, next_of}
+use Rattle.vsa_top.specs.Msp430Chip.{work_at, work_of, IsProgram, BreaksLimit, msp430_analysis}
+use Rattle.vsa_top.specs.Msp430Machine.{StepsTo, leaving_of, msp430_machine}
 use Rattle.vsa_top.specs.Msp430Cover.{HasWord, AreWords, IsState, HasChipForm, HoldsOf, CoversState, StandsIn, IsEvenWord, touched_by}
 use Rattle.vsa_top.specs.Msp430Marks.{stops}
-use Rattle.vsa_top.specs.Msp430State.{all_words, even_words, even_or_all, unknown, all_within, all_joined, all_widened, state_within, state_joined, state_widened, state_behind}
+use Rattle.vsa_top.specs.Msp430State.{all_words, even_words, unknown, all_within, all_joined, all_widened, state_within, state_joined, state_widened, state_behind}
 use Rattle.vsa_top.proofs.Msp430MarksLemmas.{AreMarks, stops_below}
-use Rattle.vsa_top.proofs.Msp430Sets.{SetLaws, ArePairs, whole_words, even_form, even_words_have, within_has, within_itself, within_further, within_even, even_or_all_form, even_or_all_includes, all_within_itself, all_within_further, all_within_has, all_within_whole, all_joined_held, all_joined_new, length-all_joined, all_joined_form, all_widened_held, all_widened_new, length-all_widened, all_widened_form}
-use Rattle.vsa_top.proofs.Msp430Stepping.{AreInTable, done_by, ran, step_built}
+use Rattle.vsa_top.proofs.Msp430Sets.{SetLaws, ArePairs, whole_words, even_form, even_words_have, within_has, within_itself, within_further, within_even, joined_form, widened_form, all_within_itself, all_within_further, all_within_has, all_within_whole, all_joined_held, all_joined_new, length-all_joined, all_joined_form, all_widened_held, all_widened_new, length-all_widened, all_widened_form}
+use Rattle.vsa_top.proofs.Msp430Stepping.{AreInTable, done_by, ran, step_built, step_refused}
 use Rattle.vsa_top.proofs.Msp430Steps.{IsFound, IsStart, fetched_found, reset_start, next_start, ran_holds, behind_form}
 
 -- NODES
@@ -86,8 +97,31 @@ reset_holds laws device s reset = let long = reset.state.registers in
 
 -- THE WORK OF A LOCATION
 
+same_Err : {A : Type 0} {one other : Cause} → ◌≡◌ {A = Result A Cause} (Err one) (Err other) → one ≡ other
+same_Err e = cc
+
 no_wild : (pc : ℕ) (calls : List ℕ) (frame : Frame) (a : State) (cause : Cause) → (work_at pc calls frame a (Err cause)).opens ≢ []
 no_wild pc calls frame a cause e = cc
+
+-- why nothing is fetched at an even address: the decoder refuses, or its instruction isn't built
+data Refused (image : List (Option ℕ)) (pc : ℕ) (cause : Cause) : Type 0 where
+  nothing_stands : (refusal : NoInstr) → decoded image pc ≡ Err refusal → cause ≡ Fetch → Refused image pc cause
+  not_built : (instr : Instr) (len : ℕ) → decoded image pc ≡ Ok (instr, len) → action_of instr ≡ None → cause ≡ Unbuilt → Refused image pc cause
+
+by_action : (image : List (Option ℕ)) (pc : ℕ) (cause : Cause) (instr : Instr) (len : ℕ) → decoded image pc ≡ Ok (instr, len) → (action : Option Action)
+    → action_of instr ≡ action → with_action instr action ≡ Err cause → Refused image pc cause
+by_action image pc cause instr len stands None none e = not_built instr len stands none (sym (same_Err e))
+by_action image pc cause instr len stands (Some action) some e = absurd (cc)
+
+by_answer : (image : List (Option ℕ)) (pc : ℕ) (cause : Cause) (answer : Result (Instr × ℕ) NoInstr) → decoded image pc ≡ answer → found_by answer ≡ Err cause
+    → Refused image pc cause
+by_answer image pc cause (Err refusal) is e = nothing_stands refusal is (sym (same_Err e))
+by_answer image pc cause (Ok (instr, len)) is e = by_action image pc cause instr len is (action_of instr) refl e
+
+refused_at : (image : List (Option ℕ)) (pc : ℕ) (cause : Cause) → pc % 2 ≡ 0 → fetched image pc ≡ Err cause → Refused image pc cause
+unfolding fetched
+refused_at image pc cause even e =
+    by_answer image pc cause (decoded image pc) refl (sym (cond-true _ _ _ (ap (λ n. n == 0) even)) ∙ e)
 
 -- the step of a covered state where an instruction that is built stands
 step_covered : AreInTable → (device : Device) → IsProgram device → (a : State) (s : ChipState) (first : Option ChipState) → HoldsOf device a s first
@@ -100,22 +134,76 @@ one_outcome : (outcome other : ChipOutcome ChipState) (left rest : List ℕ)
     → ◌≡◌ {A = Option (ChipOutcome ChipState × List ℕ)} (Some (outcome, left)) (Some (other, rest)) → outcome ≡ other
 one_outcome outcome other left rest e = ap (λ (p : ChipOutcome ChipState × List ℕ). p.0) (same_Some (outcome, left) (other, rest) e)
 
+same_wild : {one other : WildCause} → ◌≡◌ {A = ChipOutcome ChipState} (Leaves one) (Leaves other) → one ≡ other
+same_wild e = cc
+
 not_both : (items : List Single) (t : ChipState) (cause : WildCause) → ◌≡◌ {A = ChipOutcome ChipState} (Leaves cause) (Onward items t) → ⊥
 not_both items t cause e = absurd (cc)
 
+-- the step where nothing stands tells that
+told_by : (device : Device) (pc : ℕ) (calls : List ℕ) (frame : Frame) (a : State) (s : ChipState) (choices left : List ℕ) (wild : WildCause) (cause : Cause) (why : Leaving)
+    → step_of device s choices ≡ Some (Leaves wild, left) → leaving_of wild ≡ why → register_of s 2 ≡ 0 → s.late ≡ false
+    → Refused device.image (register_of s 0) cause → IsTold (work_at pc calls frame a (Err cause)) why
+told_by device pc calls frame a s choices left wild cause why step is status not_late (nothing_stands refusal refuses fetch) =
+    let same : Leaves wild ≡ Leaves (wild_cause.NoInstr refusal) = one_outcome (Leaves wild) (Leaves (wild_cause.NoInstr refusal)) left choices
+    (sym step ∙ step_refused device s choices status not_late refusal refuses) in
+    let none : no_instruction ≡ why = ap leaving_of (sym (same_wild same)) ∙ is in
+    ((pc, cause), in_first (pc, cause) [], subst (λ c. Tells c why) (sym fetch) (subst (Tells Fetch) none tt))
+told_by device pc calls frame a s choices left wild cause why step is status not_late (not_built instr len stands none unbuilt) =
+    ((pc, cause), in_first (pc, cause) [], subst (λ c. Tells c why) (sym unbuilt) tt)
+
 wild_at : AreInTable → (device : Device) → IsProgram device → (pc : ℕ) (calls : List ℕ) (frame : Frame) (a : State) (s : ChipState) (first : Option ChipState) → HoldsOf device a s first
-    → (choices left : List ℕ) (cause : WildCause) → step_of device s choices ≡ Some (Leaves cause, left)
-    → (r : Result (Action × Instr) Cause) → fetched device.image (register_of s 0) ≡ r → (work_at pc calls frame a r).opens ≢ []
-wild_at table device program pc calls frame a s first holds choices left cause step (Err why) stands = no_wild pc calls frame a why
-wild_at table device program pc calls frame a s first holds choices left cause step (Ok found) stands =
+    → register_of s 0 % 2 ≡ 0 → (choices left : List ℕ) (cause : WildCause) (why : Leaving) → step_of device s choices ≡ Some (Leaves cause, left) → leaving_of cause ≡ why
+    → (r : Result (Action × Instr) Cause) → fetched device.image (register_of s 0) ≡ r → IsTold (work_at pc calls frame a r) why
+wild_at table device program pc calls frame a s first holds even choices left cause why step is (Err open_cause) stands =
+    told_by device pc calls frame a s choices left cause open_cause why step is holds.status holds.not_late
+    (refused_at device.image (register_of s 0) open_cause even stands)
+wild_at table device program pc calls frame a s first holds even choices left cause why step is (Ok found) stands =
     absurd (not_both (done_by s found) (ran s found) cause (one_outcome (Leaves cause) (Onward (done_by s found) (ran s found)) left choices
     (sym step ∙ step_covered table device program a s first holds found stands choices)))
 
-wild_opens : AreInTable → (device : Device) → IsProgram device → (node : Node) (a : State) (s : ChipState) (first : Option ChipState) → IsLocation node → CoversState device node a s first → StepsTo device s Wild → (work_of device.image (One node) a None).opens ≢ []
-wild_opens table device program (At pc calls frame) a s first location covers (choices, cause, left, step) =
-    subst (λ at. (work_at pc calls frame a (fetched device.image at)).opens ≢ []) covers.0
-    (wild_at table device program pc calls frame a s first covers.1 choices left cause step (fetched device.image (register_of s 0)) refl)
-wild_opens table device program (Exit pc frame) a s first location covers step = absurd location
+wild_told : AreInTable → (device : Device) → IsProgram device → (node : Node) (a : State) (s : ChipState) (first : Option ChipState) (why : Leaving) → IsLocation node → HasChipForm node a
+    → CoversState device node a s first → StepsTo device s (Wild why) → IsTold (work_of device.image (One node) a None) why
+wild_told table device program (At pc calls frame) a s first why location form covers (choices, cause, left, step, is) =
+    let even : register_of s 0 % 2 ≡ 0 = ap (λ p. p % 2) covers.0 ∙ form.pc_even.1 in
+    subst (λ at. IsTold (work_at pc calls frame a (fetched device.image at)) why) covers.0
+    (wild_at table device program pc calls frame a s first covers.1 even choices left cause why step is (fetched device.image (register_of s 0)) refl)
+wild_told table device program (Exit pc frame) a s first why location form covers step = absurd location
+
+-- OPENS
+
+-- what the decoder's answer is
+abbrev pub AreAnswers : Type 0
+AreAnswers = (image : List (Option ℕ)) (pc : ℕ) → length image ≡ 65536 → All IsByte image → Decodes image pc (decoded image pc)
+
+abbrev pub AreOnly : Type 0
+AreOnly = (image : List (Option ℕ)) (pc : ℕ) (answer : Result (Instr × ℕ) NoInstr) → length image ≡ 65536 → All IsByte image → Decodes image pc answer
+    → answer ≡ decoded image pc
+
+breaks : AreAnswers → AreOnly → (device : Device) → IsProgram device → (pc : ℕ) (cause : Cause) → Refused device.image pc cause → BreaksLimit device pc cause
+breaks answers only device program pc cause (nothing_stands refusal refuses fetch) = subst (BreaksLimit device pc) (sym fetch)
+    (λ instr len stands. let bad = only device.image pc (Ok (instr, len)) program.size program.bytes stands ∙ refuses in absurd (cc))
+breaks answers only device program pc cause (not_built instr len is none unbuilt) = subst (BreaksLimit device pc) (sym unbuilt)
+    (instr, len, subst (Decodes device.image pc) is (answers device.image pc program.size program.bytes), none)
+
+open_at : AreAnswers → AreOnly → (device : Device) → IsProgram device → (pc : ℕ) (calls : List ℕ) (frame : Frame) (a : State) → pc % 2 ≡ 0 → (found : Result (Action × Instr) Cause)
+    → fetched device.image pc ≡ found → (at : ℕ) (cause : Cause) → Contains (work_at pc calls frame a found).opens (at, cause) → (pc ≡ at) × BreaksLimit device at cause
+open_at answers only device program pc calls frame a even (Err why) is at cause h = elim (in_cons (pc, why) [] (at, cause) h) [
+  | inl same ↦ subst (λ (o : ℕ × Cause). (pc ≡ o.0) × BreaksLimit device o.0 o.1) same
+      (refl, breaks answers only device program pc why (refused_at device.image pc why even is))
+  | inr none ↦ absurd (in_none (at, cause) none)
+]
+open_at answers only device program pc calls frame a even (Ok found) is at cause h = absurd (in_none (at, cause) h)
+
+opens_break : AreAnswers → AreOnly → (device : Device) → IsProgram device → (unit : WorkUnit) (a : State) (exit : Option State) (at : ℕ) (cause : Cause)
+    → AreFormed (msp430_analysis device) unit a exit → Contains (work_of device.image unit a exit).opens (at, cause)
+    → (pc_of (location_of unit) ≡ at) × BreaksLimit device at cause
+unfolding msp430_analysis
+opens_break answers only device program (One (At pc calls frame)) a None at cause formed h =
+    open_at answers only device program pc calls frame a formed.pc_even.1 (fetched device.image pc) refl at cause h
+opens_break answers only device program (One (At pc calls frame)) a (Some exit) at cause formed h = absurd formed
+opens_break answers only device program (One (Exit pc frame)) a exit at cause formed h = absurd formed
+opens_break answers only device program (Back node other) a exit at cause formed h = absurd (in_none (at, cause) h)
 
 shown_items : (pc : ℕ) (calls : List ℕ) (frame : Frame) (a : State) (s : ChipState) (found : Action × Instr) → register_of s 0 ≡ pc → HasWord a.sp (register_of s 1)
     → (item : Single) → Contains (done_by s found) item → AreShowing (work_at pc calls frame a (Ok found)).items item
@@ -159,8 +247,8 @@ parts_of items others t u e = (cc, cc)
 
 lands_at : SetLaws → AreInTable → (device : Device) → IsProgram device → (pc : ℕ) (calls : List ℕ) (frame : Frame) (a : State) (s : ChipState) (first : Option ChipState) (done : List Single) (t : ChipState) → HasChipForm (At pc calls frame) a
     → CoversState device (At pc calls frame) a s first → (choices left : List ℕ) → step_of device s choices ≡ Some (Onward done t, left)
-    → (r : Result (Action × Instr) Cause) → fetched device.image pc ≡ r → (work_at pc calls frame a r).opens ≡ [] → Lands (msp430 device) (At pc calls frame) (work_at pc calls frame a r) s first done t
-unfolding msp430
+    → (r : Result (Action × Instr) Cause) → fetched device.image pc ≡ r → (work_at pc calls frame a r).opens ≡ [] → Lands (msp430_machine device) (msp430_analysis device) (CoversState device) (At pc calls frame) (work_at pc calls frame a r) s first done t
+unfolding msp430_machine msp430_analysis
 lands_at laws table device program pc calls frame a s first done t form covers choices left step (Err cause) here no_open = absurd (no_wild pc calls frame a cause no_open)
 lands_at laws table device program pc calls frame a s first done t form covers choices left step (Ok found) here no_open =
     let stands : fetched device.image (register_of s 0) ≡ Ok found = ap (fetched device.image) covers.0 ∙ here in
@@ -176,7 +264,7 @@ lands_at laws table device program pc calls frame a s first done t form covers c
     stays to behind (in_first (to, behind) []) tt refl covered shown
 
 lands : SetLaws → AreInTable → (device : Device) → IsProgram device → (node : Node) (a : State) (s : ChipState) (first : Option ChipState) (done : List Single) (t : ChipState) → IsLocation node → HasChipForm node a → CoversState device node a s first
-    → StepsTo device s (Next done t) → (work_of device.image (One node) a None).opens ≡ [] → Lands (msp430 device) node (work_of device.image (One node) a None) s first done t
+    → StepsTo device s (Next done t) → (work_of device.image (One node) a None).opens ≡ [] → Lands (msp430_machine device) (msp430_analysis device) (CoversState device) node (work_of device.image (One node) a None) s first done t
 lands laws table device program (Exit pc frame) a s first done t location form covers step no_open = absurd location
 lands laws table device program (At pc calls frame) a s first done t location form covers (choices, left, step) no_open =
     lands_at laws table device program pc calls frame a s first done t form covers choices left step (fetched device.image pc) refl no_open
@@ -197,10 +285,14 @@ post_form laws pc calls frame a (Ok found) fits form to b there =
       | inr none ↦ absurd (in_none (to, b) none)
     ]
 
-location_form : SetLaws → AreInTable → (device : Device) → IsProgram device → (node : Node) (a : State) (to : Node) (b : State) → IsLocation node → HasChipForm node a → Contains (work_of device.image (One node) a None).posts (to, b) → HasChipForm to b
-location_form laws table device program (At pc calls frame) a to b location form there =
+posts_formed : SetLaws → AreInTable → (device : Device) → IsProgram device → (unit : WorkUnit) (a : State) (exit : Option State) (to : Node) (b : State)
+    → AreFormed (msp430_analysis device) unit a exit → Contains (work_of device.image unit a exit).posts (to, b) → HasChipForm to b
+unfolding msp430_analysis
+posts_formed laws table device program (One (At pc calls frame)) a None to b form there =
     post_form laws pc calls frame a (fetched device.image pc) (fetched_found table device program pc) form to b there
-location_form laws table device program (Exit pc frame) a to b location form there = absurd location
+posts_formed laws table device program (One (At pc calls frame)) a (Some exit) to b form there = absurd form
+posts_formed laws table device program (One (Exit pc frame)) a exit to b form there = absurd form
+posts_formed laws table device program (Back node other) a exit to b form there = absurd (in_none (to, b) there)
 
 -- THE ORDER OF STATES
 
@@ -237,37 +329,37 @@ pairs_of : (a b : State) → IsState a → IsState b → ArePairs a.registers b.
 pairs_of a b f g = record { first = f.registers; second = g.registers; even = f.count ∙ sym g.count }
 
 join_held : SetLaws → (a b : State) → IsState a → IsState b → state_within a (state_joined a b) ≡ true
-join_held laws a b f g = and_from (is_within 65536 a.sp (even_or_all (join 65536 a.sp b.sp))) (all_within a.registers (all_joined a.registers b.registers))
-    (even_or_all_includes laws (join 65536 a.sp b.sp) a.sp f.sp (laws.join_first a.sp b.sp f.sp.0 g.sp.0))
+join_held laws a b f g = and_from (is_within 65536 a.sp (join 65536 a.sp b.sp)) (all_within a.registers (all_joined a.registers b.registers))
+    ((laws.tested a.sp (join 65536 a.sp b.sp)).1 (laws.join_first a.sp b.sp f.sp.0 g.sp.0))
     (all_joined_held laws a.registers b.registers (pairs_of a b f g))
 
 join_new : SetLaws → (a b : State) → IsState a → IsState b → state_within b (state_joined a b) ≡ true
-join_new laws a b f g = and_from (is_within 65536 b.sp (even_or_all (join 65536 a.sp b.sp))) (all_within b.registers (all_joined a.registers b.registers))
-    (even_or_all_includes laws (join 65536 a.sp b.sp) b.sp g.sp (laws.join_second a.sp b.sp f.sp.0 g.sp.0))
+join_new laws a b f g = and_from (is_within 65536 b.sp (join 65536 a.sp b.sp)) (all_within b.registers (all_joined a.registers b.registers))
+    ((laws.tested b.sp (join 65536 a.sp b.sp)).1 (laws.join_second a.sp b.sp f.sp.0 g.sp.0))
     (all_joined_new laws a.registers b.registers (pairs_of a b f g))
 
 join_state : SetLaws → (a b : State) → IsState a → IsState b → IsState (state_joined a b)
 join_state laws a b f g = let pairs = pairs_of a b f g in record {
-  sp = even_or_all_form laws (join 65536 a.sp b.sp) (laws.join_words a.sp b.sp f.sp.0 g.sp.0);
+  sp = joined_form laws a.sp b.sp f.sp g.sp;
   count = length-all_joined a.registers b.registers pairs.even ∙ f.count;
   registers = all_joined_form laws a.registers b.registers pairs;
 }
 
 widen_held : SetLaws → (marks : List ℕ) → AreMarks marks → (a b : State) → IsState a → IsState b → state_within a (state_widened marks a b) ≡ true
 widen_held laws marks below a b f g =
-    and_from (is_within 65536 a.sp (even_or_all (widen 65536 a.sp b.sp marks))) (all_within a.registers (all_widened a.registers b.registers marks))
-    (even_or_all_includes laws (widen 65536 a.sp b.sp marks) a.sp f.sp (laws.widen_held a.sp b.sp marks f.sp.0 g.sp.0 below))
+    and_from (is_within 65536 a.sp (widen 65536 a.sp b.sp marks)) (all_within a.registers (all_widened a.registers b.registers marks))
+    ((laws.tested a.sp (widen 65536 a.sp b.sp marks)).1 (laws.widen_held a.sp b.sp marks f.sp.0 g.sp.0 below))
     (all_widened_held laws marks below a.registers b.registers (pairs_of a b f g))
 
 widen_new : SetLaws → (marks : List ℕ) → AreMarks marks → (a b : State) → IsState a → IsState b → state_within b (state_widened marks a b) ≡ true
 widen_new laws marks below a b f g =
-    and_from (is_within 65536 b.sp (even_or_all (widen 65536 a.sp b.sp marks))) (all_within b.registers (all_widened a.registers b.registers marks))
-    (even_or_all_includes laws (widen 65536 a.sp b.sp marks) b.sp g.sp (laws.widen_new a.sp b.sp marks f.sp.0 g.sp.0 below))
+    and_from (is_within 65536 b.sp (widen 65536 a.sp b.sp marks)) (all_within b.registers (all_widened a.registers b.registers marks))
+    ((laws.tested b.sp (widen 65536 a.sp b.sp marks)).1 (laws.widen_new a.sp b.sp marks f.sp.0 g.sp.0 below))
     (all_widened_new laws marks below a.registers b.registers (pairs_of a b f g))
 
 widen_state : SetLaws → (marks : List ℕ) → AreMarks marks → (a b : State) → IsState a → IsState b → IsState (state_widened marks a b)
 widen_state laws marks below a b f g = let pairs = pairs_of a b f g in record {
-  sp = even_or_all_form laws (widen 65536 a.sp b.sp marks) (laws.widen_words a.sp b.sp marks f.sp.0 g.sp.0 below);
+  sp = widened_form laws a.sp b.sp marks f.sp g.sp below;
   count = length-all_widened marks a.registers b.registers pairs.even ∙ f.count;
   registers = all_widened_form laws marks below a.registers b.registers pairs;
 }
@@ -276,29 +368,34 @@ within_unknown : SetLaws → (a : State) → IsState a → state_within a unknow
 within_unknown laws a form = and_from (is_within 65536 a.sp even_words) (all_within a.registers (replicate 12 all_words)) (within_even laws a.sp form.sp)
     (subst (λ n. all_within a.registers (replicate n all_words) ≡ true) form.count (all_within_whole laws a.registers form.registers))
 
-pub lawful : SetLaws → AreInTable → (device : Device) → IsProgram device → IsLawful (msp430 device)
-unfolding msp430
-lawful laws table device program = let start = reset_start device program in record {
+pub lawful : SetLaws → AreInTable → AreAnswers → AreOnly → (device : Device) → IsProgram device
+    → IsLawful (msp430_machine device) (msp430_analysis device) (CoversState device)
+unfolding msp430_machine msp430_analysis
+lawful laws table answers only device program = let start = reset_start device program in record {
+  keeps = record {
+    start = record { pc_even = start; few = omega arith; sites = All-nil IsEvenWord; framed = tt; state = unknown_form };
+    posts = posts_formed laws table device program;
+    joined = λ node a b f g. form_with node a (state_joined a b) f (join_state laws a b (state_of_form node a f) (state_of_form node b g));
+    widened = λ coarse node a b f g. form_with node a (state_widened (stops coarse device) a b) f
+        (widen_state laws (stops coarse device) (stops_below coarse device) a b (state_of_form node a f) (state_of_form node b g));
+    topped = λ node a form. form_with node a unknown form unknown_form;
+  };
+  ordered = record {
+    itself = λ node a form. state_itself laws a;
+    along = λ node a b c f g h. state_further laws a b c;
+    held_joined = λ node a b f g. join_held laws a b (state_of_form node a f) (state_of_form node b g);
+    posted_joined = λ node a b f g. join_new laws a b (state_of_form node a f) (state_of_form node b g);
+    held_widened = λ coarse node a b f g. widen_held laws (stops coarse device) (stops_below coarse device) a b (state_of_form node a f) (state_of_form node b g);
+    posted_widened = λ coarse node a b f g. widen_new laws (stops coarse device) (stops_below coarse device) a b (state_of_form node a f) (state_of_form node b g);
+    topped = λ node a form. within_unknown laws a (state_of_form node a form);
+  };
+  exit_form = λ exit x exits form. absurd (no_exit exit x exits form);
+  opens_break = opens_break answers only device program;
   first_is_location = tt;
   first_frame = refl;
-  first_form = record { pc_even = start; few = omega arith; sites = All-nil IsEvenWord; framed = tt; state = unknown_form };
   covers_reset = λ s reset. (reset.starts, reset_holds laws device s reset, refl);
-  wild_is_open = λ node a s first location form covers step. wild_opens table device program node a s first location covers step;
+  wild_is_told = λ node a s first why location form covers step. wild_told table device program node a s first why location form covers step;
   step_lands = λ node a s first done t location form covers step no_open. lands laws table device program node a s first done t location form covers step no_open;
-  posts_form = location_form laws table device program;
   return_resumes = λ node exit a x f first t location exits form exit_form covers left. absurd (no_exit exit x exits exit_form);
-  exit_form = λ exit x exits form. absurd (no_exit exit x exits form);
-  returns_form = λ node exit a x to b location exits form exit_form there. absurd (no_exit exit x exits exit_form);
   covers_more = λ node a b s first f g within covers. covers_more laws device node a b s first within covers;
-  within_itself = λ node a form. state_itself laws a;
-  within_further = λ node a b c f g h. state_further laws a b c;
-  joins_held = λ node a b f g. join_held laws a b (state_of_form node a f) (state_of_form node b g);
-  joins_new = λ node a b f g. join_new laws a b (state_of_form node a f) (state_of_form node b g);
-  join_form = λ node a b f g. form_with node a (state_joined a b) f (join_state laws a b (state_of_form node a f) (state_of_form node b g));
-  widens_held = λ coarse node a b f g. widen_held laws (stops coarse device) (stops_below coarse device) a b (state_of_form node a f) (state_of_form node b g);
-  widens_new = λ coarse node a b f g. widen_new laws (stops coarse device) (stops_below coarse device) a b (state_of_form node a f) (state_of_form node b g);
-  widen_form = λ coarse node a b f g. form_with node a (state_widened (stops coarse device) a b) f
-      (widen_state laws (stops coarse device) (stops_below coarse device) a b (state_of_form node a f) (state_of_form node b g));
-  within_top = λ node a form. within_unknown laws a (state_of_form node a form);
-  top_form = λ node a form. form_with node a unknown form unknown_form;
 }

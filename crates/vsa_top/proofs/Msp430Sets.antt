@@ -1,6 +1,7 @@
 -- Sets of words, and lists of them position by position: inclusion is an order that keeps values, and joins and widenings
 -- have both.
-use Rattle.std.proofs.Common.{◌≡◌, ℕ, zero, suc, ◌+◌, ◌-◌, ◌*◌, ◌/◌, ◌%◌, ◌<◌, true, List, [], ◌∷◌, length, get_or, replicate, refl, sym, ap, ◌∙◌, subst, arith, All, Contains}
+use Rattle.std.proofs.Common.{◌≡◌, ℕ, zero, suc, ◌+◌, ◌-◌, ◌*◌, ◌/◌, ◌%◌, ◌<◌, true, List, [], ◌∷◌, length, get_or, replicate, refl, sym, ap, ◌∙◌, subst, inl, inr, arith, All, Contains}
+use Rattle.call_context.specs.Members.{in_none, in_cons}
 use Rattle.std.specs.Prelude.{◌↔◌, bit_and}
 use Rattle.std.proofs.lemmas.Bool.{and_from, and_parts, cond_both}
 use Rattle.std.proofs.lemmas.List.Elements.{All-nil, All-cons, All-head, All-tail}
@@ -9,12 +10,13 @@ use Rattle.std.proofs.lemmas.Nat.Bits.{and_high_mask}
 use Rattle.value_set.specs.declared.form.Form.{Form}
 use Rattle.value_set.specs.declared.form.Form.TheVariants.{Run}
 use Rattle.value_set.specs.Form.{Includes, make, steps}
+use Rattle.value_set.specs.Remainders.{HasRemainder}
 use Rattle.value_set.specs.Joining.{is_within, join}
 use Rattle.value_set.specs.Summing.{single}
 use Rattle.value_set.specs.Widening.{widen}
 use Rattle.value_bits.specs.declared.tri.Logic.TheVariants.{And}
 use Rattle.value_bits.specs.Sets.{logic_set}
-use Rattle.vsa_top.specs.Msp430State.{all_words, even_words, even_or_all, even_parts, all_within, all_joined, all_widened}
+use Rattle.vsa_top.specs.Msp430State.{all_words, even_words, even_parts, all_within, all_joined, all_widened}
 use Rattle.vsa_top.specs.Msp430Cover.{HasWord, AreWords, AreEvenWords}
 use Rattle.vsa_top.proofs.Msp430MarksLemmas.{AreMarks}
 
@@ -33,6 +35,9 @@ pub record SetLaws : Type 0 where
   pub widen_held : (a b : Form) (marks : List ℕ) → AreWords a → AreWords b → AreMarks marks → Includes 65536 (widen 65536 a b marks) a
   pub widen_new : (a b : Form) (marks : List ℕ) → AreWords a → AreWords b → AreMarks marks → Includes 65536 (widen 65536 a b marks) b
   pub and_words : (a b : Form) → AreWords a → AreWords b → AreWords (logic_set 16 And a b)
+  pub join_even : (a b : Form) → AreEvenWords a → AreEvenWords b → HasRemainder 65536 2 0 (join 65536 a b)
+  pub widen_even : (a b : Form) (marks : List ℕ) → AreEvenWords a → AreEvenWords b → HasRemainder 65536 2 0 (widen 65536 a b marks)
+  pub and_even : (a b : Form) → AreWords a → AreEvenWords b → HasRemainder 65536 2 0 (logic_set 16 And a b)
   pub and_has : (x y : ℕ) (a b : Form) → AreWords a → AreWords b → HasWord a x → HasWord b y → HasWord (logic_set 16 And a b) (bit_and x y)
 
 -- RUNS
@@ -98,19 +103,11 @@ within_even laws a form = (laws.tested a even_words).1 (λ v h. even_words_have 
 pub even_form : AreEvenWords even_words
 even_form = (even_words_are, even_words_even)
 
-pub even_or_all_form : (laws : SetLaws) (values : Form) → AreWords values → AreEvenWords (even_or_all values)
-even_or_all_form laws values words = cond_both (is_within 65536 values even_words) values even_words AreEvenWords
-    (λ e. (words, λ v h. even_words_even v (within_has laws values even_words v e h)))
-    (λ e. even_form)
+pub joined_form : (laws : SetLaws) (a b : Form) → AreEvenWords a → AreEvenWords b → AreEvenWords (join 65536 a b)
+joined_form laws a b f g = (laws.join_words a b f.0 g.0, laws.join_even a b f g)
 
--- each even word that the set has stays
-pub even_or_all_has : (values : Form) (v : ℕ) → v < 65536 → v % 2 ≡ 0 → HasWord values v → HasWord (even_or_all values) v
-even_or_all_has values v small even h = cond_both (is_within 65536 values even_words) values even_words (λ set. HasWord set v)
-    (λ e. h) (λ e. even_words_have v small even)
-
-pub even_or_all_includes : (laws : SetLaws) (values a : Form) → AreEvenWords a → Includes 65536 values a → is_within 65536 a (even_or_all values) ≡ true
-even_or_all_includes laws values a form h = (laws.tested a (even_or_all values)).1
-    (λ v k. even_or_all_has values v (laws.below v a form.0 k) (form.1 v k) (h v k))
+pub widened_form : (laws : SetLaws) (a b : Form) (marks : List ℕ) → AreEvenWords a → AreEvenWords b → AreMarks marks → AreEvenWords (widen 65536 a b marks)
+widened_form laws a b marks f g below = (laws.widen_words a b marks f.0 g.0 below, laws.widen_even a b marks f g)
 
 without_bit : (v : ℕ) → v < 65536 → bit_and v 65534 ≡ v - v % 2
 without_bit v small =
@@ -120,24 +117,30 @@ without_bit v small =
 one_mask : (laws : SetLaws) → AreWords (single 65534) × HasWord (single 65534) 65534
 one_mask laws = laws.one 65534 (omega arith)
 
+mask_even : (laws : SetLaws) → AreEvenWords (single 65534)
+mask_even laws = (
+  (one_mask laws).0,
+  λ v h. elim (in_cons 65534 [] v h) [
+    | inl same ↦ subst (λ x. x % 2 ≡ 0) same refl
+    | inr none ↦ absurd (in_none v none)
+  ],
+)
+
 pub even_parts_form : (laws : SetLaws) (values : Form) → AreWords values → AreEvenWords (even_parts values)
 even_parts_form laws values words =
-    cond_both (is_within 65536 values even_words) values (even_or_all (logic_set 16 And values (single 65534))) AreEvenWords
+    cond_both (is_within 65536 values even_words) values (logic_set 16 And values (single 65534)) AreEvenWords
     (λ e. (words, λ v h. even_words_even v (within_has laws values even_words v e h)))
-    (λ e. even_or_all_form laws (logic_set 16 And values (single 65534)) (laws.and_words values (single 65534) words (one_mask laws).0))
+    (λ e. (laws.and_words values (single 65534) words (one_mask laws).0, laws.and_even values (single 65534) words (mask_even laws)))
 
 -- a value without bit 0 is one of the even parts
 pub even_parts_has : (laws : SetLaws) (values : Form) (v : ℕ) → AreWords values → HasWord values v → HasWord (even_parts values) (v - v % 2)
 even_parts_has laws values v words h =
     let small : v < 65536 = laws.below v values words h in
-    let part : v - v % 2 < 65536 = omega arith in
-    let even : (v - v % 2) % 2 ≡ 0 = omega arith in
-    cond_both (is_within 65536 values even_words) values (even_or_all (logic_set 16 And values (single 65534))) (λ set. HasWord set (v - v % 2))
+    cond_both (is_within 65536 values even_words) values (logic_set 16 And values (single 65534)) (λ set. HasWord set (v - v % 2))
     (λ e. let is_even : v % 2 ≡ 0 = even_words_even v (within_has laws values even_words v e h) in
     let same : v ≡ v - v % 2 = omega arith in subst (HasWord values) same h)
-    (λ e. even_or_all_has (logic_set 16 And values (single 65534)) (v - v % 2) part even
-    (subst (HasWord (logic_set 16 And values (single 65534))) (without_bit v small)
-    (laws.and_has v 65534 values (single 65534) words (one_mask laws).0 h (one_mask laws).1)))
+    (λ e. subst (HasWord (logic_set 16 And values (single 65534))) (without_bit v small)
+    (laws.and_has v 65534 values (single 65534) words (one_mask laws).0 h (one_mask laws).1))
 
 -- LISTS
 

@@ -12,7 +12,8 @@ use Rattle.msp430_chip.specs.Asking.{Asking, ask_if, and_then}
 use Rattle.msp430_chip.specs.Interrupts.{coming}
 use Rattle.msp430_chip.specs.Operands.{with_register}
 use Rattle.msp430_chip.specs.Outcome.{Outcome}
-use Rattle.msp430_chip.specs.Outcome.Outcome.{Next}
+use Rattle.msp430_chip.specs.Outcome.Outcome.{Next, Wild}
+use Rattle.msp430_chip.specs.declared.state.Wild.TheVariants.{NoInstr as NoInstruction}
 use Rattle.msp430_chip.specs.State.{even, register_of, allows_interrupts}
 use Rattle.msp430_chip.specs.Step.{Left, with_status, done, behind, double, double_left, jump, executed, run, taken, step_of}
 use Rattle.msp430_decode.specs.declared.instr.Condition.TheVariants.{NotEqual, Equal, NoCarry, Carry, Negative, GreaterOrEqual, Less, Always}
@@ -325,3 +326,9 @@ step_built table device program s long status not_late found stands choices =
     let runs : RunsAs s (run device s (decoded device.image (register_of s 0))) (Ok found) =
     subst (RunsAs s (run device s (decoded device.image (register_of s 0)))) stands (fetched_runs table device program s long) in
     step_alone device s choices (none_comes device s status not_late) ∙ runs choices
+
+-- where the decoder refuses, the state leaves the model
+pub step_refused : (device : Device) (s : ChipState) (choices : List ℕ) → register_of s 2 ≡ 0 → s.late ≡ false → (refusal : NoInstr)
+    → decoded device.image (register_of s 0) ≡ Err refusal → step_of device s choices ≡ Some (Wild (NoInstruction refusal), choices)
+step_refused device s choices status not_late refusal refuses =
+    step_alone device s choices (none_comes device s status not_late) ∙ ap (λ answer. run device s answer choices) refuses

@@ -125,7 +125,8 @@ report_has closed lines least line h =
     subst (λ front. HasLine ((front ++ body) ++ summary_of least lines) line) (sym head.1) within
 
 -- the report of works has the line of each item, and of each open
-pub report_has_item : {A : Type 0} (text : ℕ → List ℕ → List ℕ) (works : List (Work A)) (work : Work A) (item : Item) → Contains works work → Contains work.items item → HasLine (report_of text works) (item_line_of text item)
+pub report_has_item : {A : Type 0} (text : ℕ → List ℕ → List ℕ) (works : List (Work A)) (work : Work A) (item : Item) → Contains works work → Contains work.items item
+    → HasLine (report_of text true works) (item_line_of text item)
 report_has_item text works work item w i =
     report_has (are_closed works) (with_lines [] (flat_map (lines_of text) works)) (least_of _ (flat_map (λ w. w.items) works)) (item_line_of text item)
     (in_with_lines_new (flat_map (lines_of text) works) [] (item_line_of text item)

@@ -1,5 +1,5 @@
 -- What the program answers to an input.
-use Rattle.std.specs.Prelude.{◌≡◌, ◌⊎◌, true, false, ℕ, ◌≤◌, ◌<◌, Option, None, Some, IfSome, List, [], ◌++◌, length, take, codes}
+use Rattle.std.specs.Prelude.{◌≡◌, ◌⊎◌, Bool, true, if◌then◌else◌, ℕ, ◌≤◌, ◌<◌, Option, None, Some, IfSome, List, [], ◌++◌, length, take, codes}
 use Rattle.std.specs.Fmt.{decimal}
 use Rattle.ihex_read.specs.declared.fault.HexFault.{HexFault}
 use Rattle.ihex_read.specs.declared.fault.HexError.{HexError}
@@ -12,14 +12,14 @@ use Rattle.ihex_read.specs.Lines.{lines_of}
 use Rattle.ihex_read.specs.Names.{fault_name}
 use Rattle.ihex_read.specs.Reading.{feeds_of, FaultsWithin, HasEnded}
 use Rattle.vsa_io.specs.Stream.{appended, AppendsPrefix}
+use Rattle.chip_law.specs.Analysis.{Analysis}
 use Rattle.chip_law.specs.declared.chip.Work.{Work}
 use Rattle.round_core.specs.declared.event.Event.{Event}
 use Rattle.round_core.specs.Kept.{live_works}
 use Rattle.round_core.specs.Machine.{replay, IsLegalJournal, IsFinished}
 use Rattle.msp430_chip.specs.declared.device.Device.{Device}
-use Rattle.vsa_top.specs.declared.msp430.state.State.{State}
 use Rattle.vsa_top.specs.Disassembly.{IsDisassembly}
-use Rattle.vsa_top.specs.Msp430Chip.{msp430}
+use Rattle.vsa_top.specs.Msp430Chip.{msp430_analysis}
 use Rattle.vsa_top.specs.Msp430Built.{instr_text}
 use Rattle.vsa_top.specs.Report.{report_of, are_closed}
 use Rattle.vsa_top.specs.Scripts.{IsRefused, IsScript, second_limit}
@@ -114,17 +114,17 @@ abbrev pub long_line : List ℕ
 long_line = codes "LONG\n"
 
 -- the works of the units of the book that a journal leads to
-abbrev pub works_behind : Device → List Event → List (Work State)
-works_behind device journal = live_works (replay (msp430 device) journal)
+abbrev pub works_behind : {A : Type 0} → Analysis A → List Event → List (Work A)
+works_behind analysis journal = live_works (replay analysis journal)
 
--- the report of the book that a journal leads to
-abbrev pub report_behind : Device → List Event → List ℕ
-report_behind device journal = report_of instr_text (works_behind device journal)
+-- the report of the finished book that a journal leads to, where instructions have these texts
+abbrev pub report_behind : {A : Type 0} → (ℕ → List ℕ → List ℕ) → Analysis A → List Event → List ℕ
+report_behind text analysis journal = report_of text true (works_behind analysis journal)
 
 -- a journal of one worker, each event of which is legal, to a finished book
-pub record IsAnalysis (device : Device) (journal : List Event) : Type 0 where
-  pub legal : IsLegalJournal (msp430 device) journal
-  pub finished : IsFinished (replay (msp430 device) journal)
+pub record IsAnalysis {A : Type 0} (analysis : Analysis A) (journal : List Event) : Type 0 where
+  pub legal : IsLegalJournal analysis journal
+  pub finished : IsFinished (replay analysis journal)
   pub turns : AreTurns journal
 
 -- An answer by a text alone: this status with the text behind what was held, or the fault of the sink with a front of
@@ -134,22 +134,19 @@ pub data AnswersText (told : Status) (text : List ℕ) (answered : Status) (befo
   cut : answered ≡ status.WriteFault → AppendsPrefix before text after → journal ≡ []
       → AnswersText told text answered before after journal
 
--- what a device gets that is analysed: Open exactly where the book has an open
-abbrev pub AnswersAnalysis : Status → Device → (before after : Option (List ℕ)) → List Event → Type 0
-AnswersAnalysis status.Done device before after journal = IsAnalysis device journal
-    × (are_closed (works_behind device journal) ≡ true) × (after ≡ appended before (report_behind device journal))
-AnswersAnalysis status.Open device before after journal = IsAnalysis device journal
-    × (are_closed (works_behind device journal) ≡ false) × (after ≡ appended before (report_behind device journal))
-AnswersAnalysis status.WriteFault device before after journal =
-    IsAnalysis device journal × AppendsPrefix before (report_behind device journal) after
-AnswersAnalysis status.Usage device before after journal = ⊥
-AnswersAnalysis status.BadImage device before after journal = ⊥
-AnswersAnalysis status.BadCert device before after journal = ⊥
-AnswersAnalysis status.ReadFault device before after journal = ⊥
-AnswersAnalysis status.Memory device before after journal = ⊥
-AnswersAnalysis status.TooLong device before after journal = ⊥
-AnswersAnalysis status.Wild device before after journal = ⊥
-AnswersAnalysis status.NeedChoice device before after journal = ⊥
+-- Done of a closed report, and Open of another
+abbrev pub status_of_analysis : Bool → Status
+status_of_analysis closed = if closed then status.Done else status.Open
+
+-- this status with the report behind what was held, or the fault of the sink with a front of the report
+pub data WritesReport (told : Status) (report : List ℕ) (answered : Status) (before after : Option (List ℕ)) : Type 0 where
+  whole_report : answered ≡ told → after ≡ appended before report → WritesReport told report answered before after
+  cut_report : answered ≡ status.WriteFault → AppendsPrefix before report after → WritesReport told report answered before after
+
+-- what a program gets that is analysed: Open exactly where the book has an open
+pub record Analysed {A : Type 0} (text : ℕ → List ℕ → List ℕ) (analysis : Analysis A) (answered : Status) (before after : Option (List ℕ)) (journal : List Event) : Type 0 where
+  pub is_analysis : IsAnalysis analysis journal
+  pub writes : WritesReport (status_of_analysis (are_closed (works_behind analysis journal))) (report_behind text analysis journal) answered before after
 
 -- what an image gets that is disassembled: Done with its disassembly
 abbrev pub AnswersDisassembly : List (Option ℕ) → Status → (before after : Option (List ℕ)) → List Event → Type 0
@@ -170,7 +167,8 @@ pub data AnswersRun (device : Device) (steps : ℕ) (answered : Status) (second 
 
 -- what a device gets in a mode
 abbrev pub AnswersImage : Mode → Device → (steps : ℕ) → Status → (second before after : Option (List ℕ)) → List Event → Type 0
-AnswersImage Analyse device steps answered second before after journal = AnswersAnalysis answered device before after journal
+AnswersImage Analyse device steps answered second before after journal =
+    Analysed instr_text (msp430_analysis device) answered before after journal
 AnswersImage Disasm device steps answered second before after journal = AnswersDisassembly device.image answered before after journal
 AnswersImage Run device steps answered second before after journal = AnswersRun device steps answered second before after journal
 

@@ -4,6 +4,7 @@ pub mod Headline
 pub mod Msp430Built
 pub mod Msp430Chip
 pub mod Msp430Cover
+pub mod Msp430Machine
 pub mod Msp430Marks
 pub mod Msp430State
 pub mod Report

@@ -1,31 +1,29 @@
--- The MSP430 (SLAU049, MSP430x1xx Family User's Guide): what it does in single states, what an analysis makes of it in sets,
--- and what ties them.
-use Rattle.std.specs.Prelude.{◌≡◌, ℕ, Option, Some, Result, Ok, Err, List, [], ◌∷◌, length, All}
+-- What an analysis makes of a program of the MSP430, in sets.
+use Rattle.std.specs.Prelude.{◌≡◌, ◌⊎◌, ◌+◌, ◌%◌, ℕ, Option, None, Some, Result, Ok, Err, List, [], ◌∷◌}
 use Rattle.call_context.specs.declared.node.Frame.{Frame}
 use Rattle.call_context.specs.declared.node.Frame.TheVariants.{Base}
 use Rattle.call_context.specs.declared.node.Node.TheVariants.{At, Exit}
 use Rattle.call_context.specs.declared.node.Unit.{Unit as WorkUnit}
 use Rattle.call_context.specs.declared.node.Unit.TheVariants.{One, Back}
 use Rattle.call_context.specs.declared.shown.Cause.{Cause}
+use Rattle.call_context.specs.declared.shown.Cause.TheVariants.{Fetch, Targets, Store, Unbuilt}
 use Rattle.call_context.specs.declared.shown.Item.TheVariants as items
 use Rattle.call_context.specs.declared.shown.Set.TheVariants.{W}
-use Rattle.ihex_read.specs.Image.{IsByte}
+use Rattle.ihex_read.specs.Image.{byte_at}
+use Rattle.ihex_read.specs.Kept.{IsReadUnder}
+use Rattle.ihex_read.specs.declared.rule_set.Rules.TheVariants.{Msp430}
 use Rattle.chip_law.specs.declared.chip.Work.{Work}
-use Rattle.chip_law.specs.Meaning.{Meaning}
-use Rattle.chip_law.specs.Outcome.{Outcome}
-use Rattle.chip_law.specs.Outcome.Outcome.{Next, Wild}
+use Rattle.chip_law.specs.Analysis.{Analysis}
 use Rattle.msp430_chip.specs.declared.device.Device.{Device}
-use Rattle.msp430_chip.specs.declared.state.ChipState.{ChipState}
-use Rattle.msp430_chip.specs.declared.state.Wild.{Wild as WildCause}
-use Rattle.msp430_chip.specs.Outcome.Outcome.{Next as Onward, Wild as Leaves}
-use Rattle.msp430_chip.specs.State.{register_of, reset_address, IsResetOf}
-use Rattle.msp430_chip.specs.Step.{step_of}
+use Rattle.msp430_chip.specs.State.{reset_address}
 use Rattle.msp430_decode.specs.declared.instr.Instr.{Instr}
+use Rattle.msp430_decode.specs.Standing.{Stands}
 use Rattle.msp430_decode.specs.Table.{bytes_of}
+use Rattle.value_set.specs.Form.{Has}
 use Rattle.vsa_top.specs.declared.msp430.action.Action.{Action}
 use Rattle.vsa_top.specs.declared.msp430.state.State.{State}
-use Rattle.vsa_top.specs.Msp430Cover.{HasChipForm, CoversState}
-use Rattle.vsa_top.specs.Msp430Built.{fetched, next_of}
+use Rattle.vsa_top.specs.Msp430Cover.{HasChipForm}
+use Rattle.vsa_top.specs.Msp430Built.{action_of, fetched, next_of}
 use Rattle.vsa_top.specs.Msp430Marks.{stops}
 use Rattle.vsa_top.specs.Msp430State.{unknown, state_within, state_joined, state_widened, state_behind}
 
@@ -52,22 +50,26 @@ work_of image (One (At pc calls frame)) a exit = work_at pc calls frame a (fetch
 work_of image (One (Exit pc frame)) a exit = nothing
 work_of image (Back node other) a exit = nothing
 
--- a device with a byte or nothing at each of the 65,536 addresses of its image
-pub record IsProgram (device : Device) : Type 0 where
-  pub size : length device.image ≡ 65536
-  pub bytes : All IsByte device.image
+-- a device whose image was read under the rules of the chip with this RAM
+abbrev pub IsProgram : Device → Type 0
+IsProgram device = IsReadUnder (Msp430 device.lo device.hi) device.image
 
--- what a state may lead to: by some choices the chip's step has this outcome, whatever choices are left
-abbrev pub StepsTo : Device → ChipState → Outcome ChipState → Type 0
-StepsTo device s (Next items t) = (choices left : List ℕ) × (step_of device s choices ≡ Some (Onward items t, left))
-StepsTo device s Wild =
-    (choices : List ℕ) × (cause : WildCause) × (left : List ℕ) × (step_of device s choices ≡ Some (Leaves cause, left))
+-- a byte of the program, modulo 65,536
+abbrev pub IsProgramByte : Device → ℕ → Type 0
+IsProgramByte device at = (byte : ℕ) × (byte_at device.image (at % 65536) ≡ Some byte)
 
-unfoldable pub msp430 : Device → Meaning ChipState State
-msp430 device = record {
-  pc = λ s. register_of s 0;
-  IsReset = IsResetOf device;
-  Step = StepsTo device;
+-- The limit that the cause of an open names is broken at an address: no instruction stands there; or one stands there
+-- that isn't built; or the set of a store's addresses has one where a byte of the program is, or behind which one is. No
+-- instruction that is built has a second target.
+abbrev pub BreaksLimit : Device → ℕ → Cause → Type 0
+BreaksLimit device pc Fetch = (instr : Instr) (len : ℕ) → Stands device.image pc instr len → ⊥
+BreaksLimit device pc Unbuilt = (instr : Instr) × (len : ℕ) × Stands device.image pc instr len × (action_of instr ≡ None)
+BreaksLimit device pc (Store values) =
+    (at : ℕ) × Has 65536 values at × (IsProgramByte device at ⊎ IsProgramByte device (at + 1))
+BreaksLimit device pc (Targets values) = ⊥
+
+unfoldable pub msp430_analysis : Device → Analysis State
+msp430_analysis device = record {
   first_node = At (reset_address device) [] Base;
   first_state = unknown;
   work = work_of device.image;
@@ -76,5 +78,9 @@ msp430 device = record {
   widen = λ coarse. state_widened (stops coarse device);
   top = λ node. unknown;
   HasForm = HasChipForm;
-  Covers = CoversState device;
+  Breaks = BreaksLimit device;
 }
+
+-- two devices with the same RAM
+abbrev pub AreAlike : Device → Device → Type 0
+AreAlike a b = (a.lo ≡ b.lo) × (a.hi ≡ b.hi)

@@ -1,11 +1,14 @@
 -- What an analysis of the MSP430 says of a single state, and of the state that an interrupt suspended first: the sets of its
 -- values with their relations, and what a frame keeps (G. Balakrishnan and T. Reps, "WYSINWYX: What You See Is Not What
 -- You eXecute", 2010: value sets under call strings; the interrupts of SLAU049, chapter 2).
-use Rattle.std.specs.Prelude.{◌≡◌, ℕ, ◌+◌, ◌%◌, ◌<◌, ◌≤◌, ◌==◌, if◌then◌else◌, false, Option, None, Some, List, [], length, slice_index, bit_and, bit_or, All, Contains}
+use Rattle.std.specs.Prelude.{◌≡◌, ℕ, ◌+◌, ◌%◌, ◌<◌, ◌≤◌, ◌==◌, if◌then◌else◌, false, Option, None, Some, List, [], length, slice_index, All, Contains}
+use Rattle.std.specs.Option.{option_map}
 use Rattle.call_context.specs.declared.node.Frame.{Frame}
 use Rattle.call_context.specs.declared.node.Frame.TheVariants.{Base, Irq}
 use Rattle.call_context.specs.declared.node.Node.{Node}
 use Rattle.call_context.specs.declared.node.Node.TheVariants.{At, Exit}
+use Rattle.entry_value.specs.declared.word.Word.{Word}
+use Rattle.entry_value.specs.Words.{Suspended, HoldsOfWord}
 use Rattle.value_set.specs.declared.form.Form.{Form}
 use Rattle.value_set.specs.Form.{Has, IsNormal}
 use Rattle.msp430_chip.specs.declared.device.Device.{Device}
@@ -20,36 +23,13 @@ use Rattle.vsa_top.specs.Msp430State.{set_of}
 abbrev pub HasWord : Form → ℕ → Type 0
 HasWord set value = Has 65536 set value
 
--- how a number came from a register of the suspended state: that register, AND a mask, OR a mask; PC is register 0
-pub record Relation : Type 0 where
-  pub register : ℕ
-  pub and_mask : ℕ
-  pub or_mask : ℕ
-
--- a set of numbers, perhaps with a relation
-pub record Value : Type 0 where
-  pub set : Form
-  pub relation : Option Relation
-
 -- SR holds its bits 8 to 0, and each other register all of its bits
 abbrev pub held_bits : ℕ → ℕ
 held_bits register = if register == 2 then 511 else 65535
 
--- a register may be read as this word, which agrees with it in the bits that it holds
-abbrev pub Reads : ChipState → ℕ → ℕ → Type 0
-Reads s register word =
-    (word < 65536) × (bit_and word (held_bits register) ≡ bit_and (register_of s register) (held_bits register))
-
--- the number came so from the suspended state
-abbrev pub IsRelated : Option ChipState → Option Relation → ℕ → Type 0
-IsRelated first None number = Unit {0}
-IsRelated None (Some relation) number = ⊥
-IsRelated (Some f) (Some relation) number = (word : ℕ) × Reads f relation.register word
-    × (number ≡ bit_or (bit_and word relation.and_mask) relation.or_mask)
-
--- the value holds of the number, under the suspended state
-abbrev pub HoldsOfNumber : Option ChipState → Value → ℕ → Type 0
-HoldsOfNumber first value number = HasWord value.set number × IsRelated first value.relation number
+-- what a relation to a suspended state may name: its registers by number, PC being 0
+abbrev pub suspended_of : ChipState → Suspended
+suspended_of f = record { number = register_of f; held = held_bits }
 
 -- FRAMES
 
@@ -83,8 +63,8 @@ GoesOn Base s first = ⊥
 -- STATES
 
 -- what a state says of a register: no instruction that is built reads a place that an interrupt pushed, so none has a relation
-abbrev pub value_of : State → ℕ → Value
-value_of a register = record { set = set_of a register; relation = None }
+abbrev pub word_of : State → ℕ → Word
+word_of a register = record { set = set_of a register; entry = None }
 
 -- no instruction that is built writes RAM
 abbrev pub touched_by : State → List (ℕ × ℕ)
@@ -97,7 +77,7 @@ pub record HoldsOf (device : Device) (a : State) (s : ChipState) (first : Option
   pub status : register_of s 2 ≡ 0
   pub not_late : s.late ≡ false
   pub registers : (register : ℕ) → 3 < register → register < 16
-      → HoldsOfNumber first (value_of a register) (register_of s register)
+      → HoldsOfWord (option_map suspended_of first) (word_of a register) (register_of s register)
 
 abbrev pub CoversState : Device → Node → State → ChipState → Option ChipState → Type 0
 CoversState device (At pc calls frame) a s first =

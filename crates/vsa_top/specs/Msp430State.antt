@@ -20,14 +20,9 @@ all_words = make 65536 0 1 65536
 abbrev pub even_words : Form
 even_words = make 65536 0 2 32768
 
--- a set of even words as it is, and all of them in place of another set
-abbrev pub even_or_all : Form → Form
-even_or_all values = if is_within 65536 values even_words then values else even_words
-
 -- the values without bit 0: a set of even words as it is, else by AND
 abbrev pub even_parts : Form → Form
-even_parts values =
-    if is_within 65536 values even_words then values else even_or_all (logic_set 16 And values (single 65534))
+even_parts values = if is_within 65536 values even_words then values else logic_set 16 And values (single 65534)
 
 -- STATES
 
@@ -54,16 +49,15 @@ all_widened (a ∷ as') [] marks = []
 abbrev pub state_within : State → State → Bool
 state_within new held = is_within 65536 new.sp held.sp && all_within new.registers held.registers
 
--- A join or widening of sets of even words is one again.
 abbrev pub state_joined : State → State → State
 state_joined held new = record {
-  sp = even_or_all (join 65536 held.sp new.sp);
+  sp = join 65536 held.sp new.sp;
   registers = all_joined held.registers new.registers;
 }
 
 abbrev pub state_widened : List ℕ → State → State → State
 state_widened marks held new = record {
-  sp = even_or_all (widen 65536 held.sp new.sp marks);
+  sp = widen 65536 held.sp new.sp marks;
   registers = all_widened held.registers new.registers marks;
 }
 

@@ -1,5 +1,5 @@
 -- The report of an analysis, made from the works of its units.
-use Rattle.std.specs.Prelude.{ℕ, ◌+◌, ◌-◌, ◌*◌, ◌%◌, ◌≤◌, ◌==◌, nat_lt, ◌&&◌, ◌||◌, min, if◌then◌else◌, Bool, true, false, Option, None, Some, List, [], ◌∷◌, ◌++◌, map, count_by, codes, nat_eq}
+use Rattle.std.specs.Prelude.{ℕ, ◌+◌, ◌-◌, ◌*◌, ◌%◌, ◌≤◌, ◌==◌, nat_lt, ◌&&◌, ◌||◌, min, if◌then◌else◌, Bool, true, false, Option, None, Some, List, [], ◌∷◌, ◌++◌, map, count_by, codes, nat_eq, ◌≡◌, ◌↔◌, IsTrue}
 use Rattle.std.specs.List.{flat_map, starts_with, ends_with}
 use Rattle.std.specs.Fmt.{decimal}
 use Rattle.std.specs.Ordering.{nat_cmp}
@@ -18,6 +18,8 @@ use Rattle.call_context.specs.declared.shown.Item.TheVariants.{Instr, Edge, Acce
 use Rattle.chip_law.specs.declared.chip.Work.{Work}
 use Rattle.chip_law.specs.Digits.{hex}
 use Rattle.chip_law.specs.Line.{item_line_of, open_line_of}
+use Rattle.round_core.specs.Kept.{live_works}
+use Rattle.round_core.specs.Machine.{BookState, IsFinished}
 
 -- the bytes of lines
 abbrev pub bytes_of : List (Vec ℕ Global) → List (List ℕ)
@@ -102,5 +104,14 @@ head_line closed = if closed then codes "CLOSED\n" else codes "OPEN\n"
 abbrev pub report_text : Bool → List (List ℕ) → Option ℕ → List ℕ
 report_text closed lines least = head_line closed ++ flat_map (λ line. line ++ 10 ∷ []) lines ++ summary_of least lines
 
-abbrev pub report_of : {A : Type 0} → (ℕ → List ℕ → List ℕ) → List (Work A) → List ℕ
-report_of text works = report_text (are_closed works) (with_lines [] (flat_map (lines_of text) works)) (least_of None (flat_map (λ work. work.items) works))
+-- the report of works, which is closed where the book that has them is finished and none leaves a site open
+abbrev pub report_of : {A : Type 0} → (ℕ → List ℕ → List ℕ) → Bool → List (Work A) → List ℕ
+report_of text finished works = report_text (finished && are_closed works) (with_lines [] (flat_map (lines_of text) works))
+    (least_of None (flat_map (λ work. work.items) works))
+
+-- the report of a book, and whether it says that it is closed
+pub record IsReportOf {A : Type 0} (text : ℕ → List ℕ → List ℕ) (b : BookState A) (report : List ℕ) (closed : Bool) : Type 0 where
+  pub finished : Bool
+  pub is_finished : IsTrue finished ↔ IsFinished b
+  pub bytes : report ≡ report_of text finished (live_works b)
+  pub says : closed ≡ (finished && are_closed (live_works b))

@@ -2,6 +2,7 @@
 
 ghost use Rattle.std.specs.Prelude.{◌≡◌, ◌≢◌, ◌+◌, ◌++◌, ◌<◌, ◌≤◌, ◌↔◌, ℕ, List, [], None, Some, IsTrue, length, take, IfOk, IfErr, OnOk, IfSome};
 ghost use Rattle.ihex_read.specs.ImageText.{IsRamRange};
+ghost use Rattle.ihex_read.specs.Kept.{IsReadUnder};
 ghost use Rattle.ihex_read.specs.declared.rule_set.Tail.TheVariants.{Second};
 ghost use Rattle.ihex_read.specs.Reading.{HasEnded};
 ghost use Rattle.vsa_io.specs.Stream.{HasRisen};
@@ -118,6 +119,7 @@ pub fn image_in<S: Source>(
 ) -> Result<(Image, Vec<u8>), InputError>
     requires { IsRamRange rules }
     ensures image { IfOk result (λ given. InputGives rules tail (S.left source.old) (begun_with given.1.items (S.left source.new)) given.0) }
+    ensures kept { IfOk result (λ given. IsReadUnder rules given.0) }
     ensures refused { IfErr result (λ error. IfSome (S.left source.old) (λ text. LacksImage rules tail text error)) }
     ensures cause { IfErr result (λ error. error ≡ InputError.Failed → HasRisen (S.faults source.old) (S.faults source.new)) }
     ensures quiet { OnOk result (S.faults source.new ≡ S.faults source.old) }

@@ -4,7 +4,7 @@ ghost use Rattle.std.specs.Prelude.{◌≡◌, ◌++◌, ◌∷◌, ◌&&◌, if
 ghost use Rattle.round_core.specs.Kept.{live_works};
 ghost use Rattle.round_core.specs.Machine.{replay};
 ghost use Rattle.value_set.specs.Form.{IsNormalRun};
-ghost use Rattle.vsa_top.specs.Report.{with_lines, lines_of, is_empty, are_closed, lesser as the_lesser, least_stack as least_shown, least_of, is_whole, least_in_run, least_word, IsLeast, is_whole_stack as tells_whole_stack, report_text, report_of as the_report, bytes_of, summary_of};
+ghost use Rattle.vsa_top.specs.Report.{with_lines, lines_of, is_empty, are_closed, lesser as the_lesser, least_stack as least_shown, least_of, is_whole, least_in_run, least_word, IsLeast, is_whole_stack as tells_whole_stack, report_text, bytes_of, summary_of, IsReportOf};
 ghost use Rattle.std.specs.BTreeSet.{insert_key};
 ghost use Rattle.std.specs.Cmp.Lexicographic.{slice_cmp};
 ghost use Rattle.std.specs.List.{flat_map};
@@ -173,9 +173,9 @@ fn tell<C: ChipText>(
 
 /// What is told of the last works of a book's units.
 fn tell_all<C: ChipText>(alloc: Global, chip: &C, book: &Book<C>) -> Result<Told, Memory>
-    ensures lines { IfOk result (λ told. bytes_of told.lines.keys ≡ with_lines [] (flat_map (lines_of (C.text_of chip.now)) (live_works (replay (C.meaning book.now.base) book.now.journal)))) }
-    ensures closed { IfOk result (λ told. told.is_closed ≡ are_closed (live_works (replay (C.meaning book.now.base) book.now.journal))) }
-    ensures least { IfOk result (λ told. told.least ≡ least_of None (flat_map (λ work. work.items) (live_works (replay (C.meaning book.now.base) book.now.journal)))) }
+    ensures lines { IfOk result (λ told. bytes_of told.lines.keys ≡ with_lines [] (flat_map (lines_of (C.text_of chip.now)) (live_works (replay (C.analysis book.now.base) book.now.journal)))) }
+    ensures closed { IfOk result (λ told. told.is_closed ≡ are_closed (live_works (replay (C.analysis book.now.base) book.now.journal))) }
+    ensures least { IfOk result (λ told. told.least ≡ least_of None (flat_map (λ work. work.items) (live_works (replay (C.analysis book.now.base) book.now.journal)))) }
 {
     let mut told = Told {
         lines: BTreeSet::new(alloc),
@@ -248,12 +248,12 @@ fn text_of(alloc: Global, told: &Told) -> Result<Vec<u8>, AllocError>
     Ok(text)
 }
 
-/// The report of the last works of a book's units.
+/// The report of the last works of a book's units. It is closed where the book is finished and none of its sites is open.
 pub fn report_of<C: ChipText>(alloc: Global, chip: &C, book: &Book<C>) -> Result<Report, Memory>
-    ensures text { IfOk result (λ report. report.text.items ≡ the_report (C.text_of chip.now) (live_works (replay (C.meaning book.now.base) book.now.journal))) }
-    ensures closed { IfOk result (λ report. report.is_closed ≡ are_closed (live_works (replay (C.meaning book.now.base) book.now.journal))) }
+    ensures { IfOk result (λ report. IsReportOf (C.text_of chip.now) (replay (C.analysis book.now.base) book.now.journal) report.text.items report.is_closed) }
 {
-    let told = tell_all(alloc, chip, book)?;
+    let mut told = tell_all(alloc, chip, book)?;
+    told.is_closed = book.finished() && told.is_closed;
     let text = text_of(alloc, &told)?;
     Ok(Report {
         text,

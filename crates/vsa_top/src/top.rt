@@ -1,11 +1,15 @@
 //! The top call.
 
-ghost use Rattle.std.specs.Prelude.{◌≡◌, ◌≢◌, if◌then◌else◌, [], IfOk, OnOk, ◌⊎◌, ◌≤◌, OnErr, ℕ, List, Option, Some};
+ghost use Rattle.std.specs.Prelude.{◌≡◌, ◌≢◌, [], IfOk, OnOk, ◌⊎◌, ◌≤◌, OnErr, ℕ, List, Option, Some};
 ghost use Rattle.vsa_io.specs.Stream.{HasRisen, AppendsPrefix, appended};
 ghost use Rattle.vsa_top.specs.Headline.{CoversEveryRun, ShowsOpenSites, ReportsOn};
 ghost use Rattle.ihex_read.specs.ImageText.{IsRamRange};
+ghost use Rattle.ihex_read.specs.Kept.{IsReadUnder};
+ghost use Rattle.vsa_top.specs.Msp430Built.{instr_text};
+ghost use Rattle.vsa_top.specs.Msp430Chip.{msp430_analysis};
+ghost use Rattle.vsa_top.specs.Msp430Machine.{msp430_machine};
 ghost use Rattle.vsa_top.specs.declared.words.Reading.{Reading as AReading};
-ghost use Rattle.vsa_top.specs.Answer.{usage_line, bad_line as the_bad_line, begun_with, no_line as the_no_line, tail_of, AnswersText, AnswersAnalysis, AnswersDisassembly, AnswersImage, AnswersInput, AnswersRun, Gives, IsCutShort, IsOfImage};
+ghost use Rattle.vsa_top.specs.Answer.{usage_line, bad_line as the_bad_line, begun_with, no_line as the_no_line, tail_of, status_of_analysis, Analysed, AnswersText, AnswersDisassembly, AnswersImage, AnswersInput, AnswersRun, Gives, IsCutShort, IsOfImage};
 ghost use Rattle.vsa_top.specs.Trace.{run_of};
 ghost use Rattle.vsa_top.specs.Words.{Reads, device_of, rules_of};
 
@@ -19,6 +23,7 @@ use crate::report::report_of;
 use crate::script::{ScriptRefusal, script_in};
 use crate::trace::trace_of;
 use crate::words::{Mode, Reading, reading_of};
+use chip_law::ChipText;
 use ihex_read::{HexFault, Image};
 use std::alloc::{AllocError, Global};
 use std::sync::Wait;
@@ -95,8 +100,12 @@ fn answer_bad<K: Sink>(
 }
 
 /// Analyses a program, and writes the report.
-fn analyse_image<K: Sink>(alloc: Global, chip: &Msp430, sink: &mut K) -> Result<Outcome, Memory>
-    ensures answer { IfOk result (λ outcome. AnswersAnalysis outcome.status chip.now (K.held sink.old) (K.held sink.new) outcome.journal.items) }
+fn analyse_image<C: ChipText, K: Sink>(
+    alloc: Global,
+    chip: &C,
+    sink: &mut K,
+) -> Result<Outcome, Memory>
+    ensures answer { IfOk result (λ outcome. Analysed (C.text_of chip.now) (C.analysis (C.base chip.now)) outcome.status (K.held sink.old) (K.held sink.new) outcome.journal.items) }
     ensures cause { IfOk result (λ outcome. outcome.status ≡ Status.WriteFault → HasRisen (K.faults sink.old) (K.faults sink.new)) }
     ensures quiet { IfOk result (λ outcome. outcome.status ≢ Status.WriteFault → K.faults sink.new ≡ K.faults sink.old) }
     ensures unwritten { OnErr result (K.held sink.new ≡ K.held sink.old) }
@@ -111,7 +120,7 @@ fn analyse_image<K: Sink>(alloc: Global, chip: &Msp430, sink: &mut K) -> Result<
 
 /// The status of a report.
 fn status_of(is_closed: bool) -> Status
-    ensures { result ≡ (if is_closed then Status.Done else Status.Open) }
+    ensures { result ≡ status_of_analysis is_closed }
 {
     if is_closed {
         Status::Done
@@ -209,7 +218,8 @@ fn answer_image<S: Source, K: Sink>(
     source: &mut S,
     sink: &mut K,
 ) -> Result<Outcome, Memory>
-    requires { IsRamRange (rules_of reading) }
+    requires range { IsRamRange (rules_of reading) }
+    requires kept { IsReadUnder (rules_of reading) image }
     ensures answer { IfOk result (λ outcome. AnswersImage reading.mode (device_of reading image) reading.steps outcome.status (begun_with begun.now (S.left source.old)) (K.held sink.old) (K.held sink.new) outcome.journal.items) }
     ensures read_fault { IfOk result (λ outcome. outcome.status ≡ Status.ReadFault → HasRisen (S.faults source.old) (S.faults source.new)) }
     ensures quiet_source { IfOk result (λ outcome. outcome.status ≢ Status.ReadFault → S.faults source.new ≡ S.faults source.old) }
@@ -272,11 +282,11 @@ pub fn vsa<R: Threads + Wait + Sync, S: Source, K: Sink, G: Gate>(
     // which tells a report that says CLOSED, whatever the chip meets on any run has its line in the report, and no run
     // leaves the model.
     ensures headline { (reading : AReading) → Reads words.now reading → reading.mode ≡ Mode.Analyse → result.status ≡ Status.Done
-        → ReportsOn reading (S.left source.old) (K.held sink.old) (K.held sink.new) CoversEveryRun }
+        → ReportsOn reading (S.left source.old) (K.held sink.old) (K.held sink.new) (λ device report. CoversEveryRun (msp430_machine device) instr_text report) }
     // Where the status is Open the report says OPEN and shows each open site, of which there is one: the address of a
-    // node of the book at which no instruction that is built stands.
+    // location of the book at which the limit that its cause names is broken.
     ensures open_sites { (reading : AReading) → Reads words.now reading → result.status ≡ Status.Open
-        → ReportsOn reading (S.left source.old) (K.held sink.old) (K.held sink.new) (λ device report. ShowsOpenSites device result.journal.items report) }
+        → ReportsOn reading (S.left source.old) (K.held sink.old) (K.held sink.new) (λ device report. ShowsOpenSites (msp430_analysis device) result.journal.items report) }
 
     // Words that aren't a reading are refused, and no others.
     ensures usage { ((reading : AReading) → ¬ Reads words.now reading)

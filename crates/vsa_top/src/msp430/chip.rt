@@ -4,7 +4,9 @@ ghost use Rattle.std.specs.Prelude.{◌≡◌, [], IfOk};
 ghost use Rattle.msp430_chip.specs.State.{reset_address};
 ghost use Rattle.msp430_decode.specs.Table.{IsInstr};
 ghost use Rattle.vsa_top.specs.Msp430Built.{IsAction, with_action, action_of as the_action, fetched, instr_text as the_text};
-ghost use Rattle.vsa_top.specs.Msp430Chip.{msp430, nothing, work_at};
+ghost use Rattle.vsa_top.specs.Msp430Chip.{IsProgram, msp430_analysis, nothing, work_at};
+ghost use Rattle.ihex_read.specs.Kept.{IsReadUnder};
+ghost use Rattle.ihex_read.specs.declared.rule_set.Rules.{Rules};
 ghost use Rattle.vsa_top.specs.Msp430Marks.{stops};
 
 use crate::msp430::action::{Action, action_of, next_address};
@@ -14,7 +16,7 @@ use arrayvec::ArrayString;
 use call_context::{Calls, Cause, Frame, InstrBytes, Item, Node, Sequence, Set, Unit};
 use chip_law::{Chip, ChipText, Work};
 use ihex_read::Image;
-use msp430_chip::{ChipState, Device};
+use msp430_chip::Device;
 use msp430_decode::{Instr, decode, encode, from_bytes};
 use msp430_text::text;
 use std::alloc::Global;
@@ -32,23 +34,32 @@ pub struct Msp430 {
 impl Model for Msp430 {
     ghost use Rattle.std.specs.Prelude.{◌≡◌};
     ghost use Rattle.msp430_chip.specs.declared.device.Device.{Device};
+    ghost use Rattle.vsa_top.specs.Msp430Chip.{IsProgram};
     ghost use Rattle.vsa_top.specs.Msp430Marks.{marks_of};
 
     ghost Value = { Device };
 
     ghost view = { λ chip. chip.device };
 
-    ghost invariant = { λ chip. chip.marks.items ≡ marks_of chip.device };
+    ghost invariant = { λ chip. (chip.marks.items ≡ marks_of chip.device) × IsProgram chip.device };
 }
 
 impl Msp430 {
-    /// The chip with this program, and with RAM between these addresses.
+    /// The chip with this program, which was read under its rules, and with RAM between these addresses.
     pub fn new(alloc: Global, image: Image, lo: u16, hi: u16) -> Result<Msp430, Memory>
+        requires { IsReadUnder (Rules.Msp430 lo hi) image }
         ensures { IfOk result (λ chip. chip ≡ record { image = image; lo = lo; hi = hi }) }
     {
         let device = Device { image, lo, hi };
         let marks = marks_of(alloc, &device)?;
         Ok(Msp430 { device, marks })
+    }
+
+    /// The program was read under the chip's rules.
+    pub fn keeps_rules(&self)
+        ensures { IsProgram self.now }
+    {
+        let _marks = self.marks.as_slice();
     }
 
     /// The device.
@@ -161,21 +172,15 @@ fn empty_work(alloc: Global) -> Work<State>
     }
 }
 
-#[tactic(auto, unfolding(crate::specs::Msp430Chip::msp430))]
+#[tactic(auto, unfolding(crate::specs::Msp430Chip::msp430_analysis))]
 impl Chip for Msp430 {
     type Base = Device;
-
-    type State = ChipState;
 
     type Abs = State;
 
     ghost base = { λ chip. chip };
 
-    ghost meaning = { msp430 };
-
-    fn base(&self, alloc: Global) -> Result<Device, Memory> {
-        self.device.copy(alloc)
-    }
+    ghost analysis = { msp430_analysis };
 
     fn start(&self, _alloc: Global) -> Result<(Node, State), Memory> {
         Ok((start_node(self.reset()), State::unknown()))

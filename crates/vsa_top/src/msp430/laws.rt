@@ -1,18 +1,35 @@
 //! The laws of the chip.
 
 ghost use Rattle.vsa_top.specs.Msp430Chip.{IsProgram};
+ghost use Rattle.vsa_top.specs.Msp430Cover.{CoversState};
+ghost use Rattle.vsa_top.specs.Msp430Machine.{msp430_machine};
 
 use super::Msp430;
 use chip_law::LawfulChip;
+use msp430_chip::ChipState;
 use msp430_decode::decoded_is_the_answer;
-use value_bits::logic_holds;
+use value_bits::{evens_stay, logic_holds};
 use value_set::{
-    inclusion_is_tested, joins_include_both, members_are_below, single_and_whole_sets,
-    widenings_include_both,
+    inclusion_is_tested, joins_include_both, members_are_below, remainders_stay,
+    single_and_whole_sets, widenings_include_both,
 };
 
 impl LawfulChip for Msp430 {
+    type State = ChipState;
+
+    ghost use Rattle.vsa_top.specs.Msp430Chip.{AreAlike};
+
+    ghost machine = { msp430_machine };
+
+    ghost covers = { CoversState };
+
     ghost program = { IsProgram };
+
+    ghost alike = { AreAlike };
+
+    fn is_program(&self) {
+        self.keeps_rules();
+    }
 
     fn laws() {
         members_are_below();
@@ -20,7 +37,11 @@ impl LawfulChip for Msp430 {
         inclusion_is_tested();
         joins_include_both();
         widenings_include_both();
+        remainders_stay();
         logic_holds();
+        evens_stay();
         decoded_is_the_answer();
     }
+
+    fn alike_laws() {}
 }

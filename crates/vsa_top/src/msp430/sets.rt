@@ -1,7 +1,7 @@
 //! Sets of words and of even words.
 
 ghost use Rattle.std.specs.Prelude.{◌≡◌};
-ghost use Rattle.vsa_top.specs.Msp430State.{even_words as all_even_words, even_or_all as even_or_whole, even_parts as parts};
+ghost use Rattle.vsa_top.specs.Msp430State.{even_words as all_even_words, even_parts as parts};
 
 use value_bits::w16;
 use value_set::Vs16;
@@ -16,17 +16,6 @@ pub fn even_words() -> Vs16
     }
 }
 
-/// A set of even words as it is, and all of them in place of another set.
-pub fn even_or_all(values: Vs16) -> Vs16
-    ensures { result ≡ even_or_whole values }
-{
-    let whole = even_words();
-    if values.within(&whole) {
-        return values;
-    }
-    whole
-}
-
 /// The words of a set without bit 0.
 pub fn even_parts(values: Vs16) -> Vs16
     ensures { result ≡ parts values }
@@ -34,5 +23,5 @@ pub fn even_parts(values: Vs16) -> Vs16
     if values.within(&even_words()) {
         return values;
     }
-    even_or_all(w16::and(&values, &Vs16::one(0xFFFE)))
+    w16::and(&values, &Vs16::one(0xFFFE))
 }

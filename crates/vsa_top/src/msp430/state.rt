@@ -5,7 +5,7 @@ ghost use Rattle.vsa_top.specs.Msp430State.{unknown as nothing_known, state_with
 ghost use Rattle.vsa_top.specs.Msp430Built.{IsAction, is_general, is_destination};
 
 use crate::msp430::action::Action;
-use crate::msp430::sets::{even_or_all, even_parts, even_words};
+use crate::msp430::sets::{even_parts, even_words};
 use value_set::Vs16;
 
 /// Sets of values for SP and for R4 to R15, in this order.
@@ -72,7 +72,7 @@ impl State {
         ensures { result ≡ state_joined self.now new.now }
     {
         State {
-            sp: even_or_all(self.sp.join(&new.sp)),
+            sp: self.sp.join(&new.sp),
             registers: join_all(&self.registers, &new.registers),
         }
     }
@@ -82,7 +82,7 @@ impl State {
         ensures { result ≡ state_widened marks.now self.now new.now }
     {
         State {
-            sp: even_or_all(self.sp.widen(&new.sp, marks)),
+            sp: self.sp.widen(&new.sp, marks),
             registers: widen_all(&self.registers, &new.registers, marks),
         }
     }

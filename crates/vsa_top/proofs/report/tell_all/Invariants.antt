@@ -8,7 +8,7 @@ use Rattle.vsa_top.proofs.report.tell_all.Given as goal
 
 -- what is told and what is left to tell are all that is to be told
 abbrev pub invariant-loop-unit : goal.invariant-loop-unit
-invariant-loop-unit g l = let b = replay (g.C.Chip.meaning l.book.base) l.book.journal in
+invariant-loop-unit g l = let b = replay (g.C.Chip.analysis l.book.base) l.book.journal in
     let left = map (λ p. p.1) (filter (λ p. is_live b.done p.0) (drop l.unit-index l.unit-items)) in
     let all = live_works b in
     let text = g.C.ChipText.text_of l.chip in

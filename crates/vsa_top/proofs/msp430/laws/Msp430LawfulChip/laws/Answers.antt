@@ -1,3 +1,4 @@
+use Rattle.std.proofs.Common.{refl, arith}
 use Rattle.value_bits.specs.declared.tri.Logic.TheVariants.{And}
 use Rattle.vsa_top.proofs.Msp430Laws.{lawful}
 use Rattle.vsa_top.proofs.msp430.laws.Msp430LawfulChip.laws.Goals as goal
@@ -15,5 +16,8 @@ returns c = lawful record {
   widen_held = c.widenings_include_both.ensures.held 65536;
   widen_new = c.widenings_include_both.ensures.new 65536;
   and_words = c.logic_holds.ensures.normal 16 And;
+  join_even = λ a b f g. c.remainders_stay.ensures.join 65536 2 0 a b refl f.0 g.0 f.1 g.1;
+  widen_even = λ a b marks f g. c.remainders_stay.ensures.widen 65536 2 0 a b marks refl f.0 g.0 f.1 g.1;
+  and_even = λ a b f g. c.evens_stay.ensures.and 16 a b (omega arith) f g.0 g.1;
   and_has = λ x y a b f g h k. c.logic_holds.ensures.holds 16 x y And a b f g h k;
-} c.decoded_is_the_answer.ensures.instruction
+} c.decoded_is_the_answer.ensures.instruction c.decoded_is_the_answer.ensures.answer c.decoded_is_the_answer.ensures.one
