@@ -3,6 +3,7 @@ pub mod Bytes
 pub mod Each
 mod Examples
 pub mod Holding
+pub mod Inside
 pub mod LowSets
 pub mod Masks
 pub mod Ordering

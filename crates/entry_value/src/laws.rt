@@ -1,6 +1,6 @@
 //! What cells hold, over their definitions and for every list of cells. Proofs of representations of cells call these.
 
-ghost use Rattle.std.specs.Prelude.{◌≡◌, ◌≤◌, ◌<◌, ℕ, ◌⊎◌, All, true, Option, None, List, option_map, bit_and, bit_or};
+ghost use Rattle.std.specs.Prelude.{◌≡◌, ◌≤◌, ◌<◌, ℕ, ◌⊎◌, All, true, Option, None, List, [], option_map, bit_and, bit_or};
 ghost use Rattle.value_set.specs.declared.form.Form.{Form as AForm};
 ghost use Rattle.value_set.specs.Form.{Has, IsNormal, make};
 ghost use Rattle.entry_value.specs.declared.cells.Cell.{Cell as ACell};
@@ -94,6 +94,14 @@ pub fn unions_cover()
     joins_include_both();
     widenings_include_both();
 }
+
+/// Cells speak of the bytes of their RAM alone: where two RAMs agree from the first address to the last, both stand under the
+/// same cells. Each RAM of bytes stands under no cells.
+pub fn cells_speak_of_ram()
+    ensures agree { (first : Option Suspended) (one other : ℕ → ℕ) (lo hi from : ℕ) (cells : List ACell) → hi < 65536 → AreCells lo hi from cells → ((at : ℕ) → other at < 256)
+        → ((at : ℕ) → lo ≤ at → at ≤ hi → one at ≡ other at) → StandsUnder first cells one → StandsUnder first cells other }
+    ensures none { (first : Option Suspended) (ram : ℕ → ℕ) → ((at : ℕ) → ram at < 256) → StandsUnder first [] ram }
+{}
 
 /// Relations: what came from a place behind an AND and an OR came from it by the masked relation, and what either relation
 /// says their common one says. A relation says what another one does that it is within, and this is an order.
