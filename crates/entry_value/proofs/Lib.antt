@@ -8,6 +8,7 @@ pub mod LowSets
 pub mod Masks
 pub mod Ordering
 pub mod Premises
+pub mod ReadForms
 pub mod Reading
 pub mod Scattering
 pub mod Uniting

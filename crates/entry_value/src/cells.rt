@@ -37,6 +37,7 @@ pub trait Cells: Drop {
     fn read(&self, at: u16, size: u8) -> Word
         requires { (size ≡ 1) ⊎ (size ≡ 2) }
         ensures value { result ≡ the_cells.read (map self.now).cells at size }
+        ensures byte { size ≡ 1 → (v : ℕ) → Has 65536 result.set v → v < 256 }
         ensures holds { (first : Option Suspended) (ram : ℕ → ℕ) → StandsUnder first (map self.now).cells ram → HoldsOfWord first result (number_at ram at size) };
 
     /// Writes a value at one address: the cells that have a byte of it go, and it gets a cell, where that lies whole in

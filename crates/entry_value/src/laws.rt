@@ -3,6 +3,9 @@
 ghost use Rattle.std.specs.Prelude.{◌≡◌, ◌≤◌, ◌<◌, ℕ, ◌⊎◌, All, true, Option, None, List, [], option_map, bit_and, bit_or};
 ghost use Rattle.value_set.specs.declared.form.Form.{Form as AForm};
 ghost use Rattle.value_set.specs.Form.{Has, IsNormal, make};
+ghost use Rattle.value_set.specs.Joining.{join};
+ghost use Rattle.value_set.specs.Summing.{single};
+ghost use Rattle.value_bits.specs.Sets.{pair_set};
 ghost use Rattle.entry_value.specs.declared.cells.Cell.{Cell as ACell};
 ghost use Rattle.entry_value.specs.declared.word.Entry.{Entry as AEntry};
 ghost use Rattle.entry_value.specs.declared.word.Word.{Word as AWord};
@@ -24,6 +27,35 @@ pub fn reads_hold()
 {
     halves_hold();
     single_and_whole_sets();
+}
+
+/// What is read has a set in normal form, and one byte that is read is below 100h.
+pub fn reads_keep_form()
+    ensures normal { (lo hi from at size : ℕ) (cells : List ACell) → AreCells lo hi from cells → IsNormal 65536 (the_cells.read cells at size).set }
+    ensures byte { (lo hi from at size : ℕ) (cells : List ACell) → AreCells lo hi from cells → size ≡ 1 → (v : ℕ) → Has 65536 (the_cells.read cells at size).set v → v < 256 }
+{
+    members_are_below();
+    halves_hold();
+    single_and_whole_sets();
+}
+
+/// Sets of words of which each is a byte, as a write of one byte takes them: that of one byte, that of all bytes, words of
+/// bytes with the high byte 0, their joins, and those widened as bytes.
+pub fn bytes_stay_bytes()
+    ensures single { (n v : ℕ) → n < 256 → Has 65536 (single n) v → v < 256 }
+    ensures whole { (v : ℕ) → Has 65536 (the_cells.any_of 1) v → v < 256 }
+    ensures pair { (low : AForm) (v : ℕ) → IsNormal 256 low → Has 65536 (pair_set low (single 0)) v → v < 256 }
+    ensures join { (a b : AForm) → IsNormal 65536 a → IsNormal 65536 b → ((n : ℕ) → Has 65536 a n → n < 256) → ((n : ℕ) → Has 65536 b n → n < 256)
+        → (v : ℕ) → Has 65536 (join 65536 a b) v → v < 256 }
+    ensures widen_normal { (held new : AWord) (marks : List ℕ) → IsNormal 65536 held.set → IsNormal 65536 new.set → IsNormal 65536 (the_cells.byte_widened held new marks).set }
+    ensures widen { (held new : AWord) (marks : List ℕ) → IsNormal 65536 held.set → IsNormal 65536 new.set → ((n : ℕ) → Has 65536 held.set n → n < 256)
+        → (v : ℕ) → Has 65536 (the_cells.byte_widened held new marks).set v → v < 256 }
+{
+    members_are_below();
+    halves_hold();
+    single_and_whole_sets();
+    inclusion_is_tested();
+    widenings_include_both();
 }
 
 /// What stood under cells stands under those behind a write of a number, of which the value holds.
