@@ -32,6 +32,12 @@ pub trait Cells: Drop {
         requires { lo ≤ hi }
         ensures { IfOk result (λ cells. map cells ≡ record { lo = lo; hi = hi; cells = [] }) };
 
+    /// The cells have their form.
+    fn keep_form(&self)
+        ensures some { (map self.now).lo ≤ (map self.now).hi }
+        ensures high { (map self.now).hi < 65536 }
+        ensures are { AreCells (map self.now).lo (map self.now).hi (map self.now).lo (map self.now).cells };
+
     /// What stands at an address in 1 or 2 bytes: the cell of that size, else what is put together from the parts of
     /// others, else any number.
     fn read(&self, at: u16, size: u8) -> Word
