@@ -5,7 +5,7 @@ ghost use Rattle.std.specs.Prelude.{◌≡◌, ◌≤◌};
 use crate::{finding, joining, reading, writing};
 use entry_value::{
     Cell, Cells, Word, inclusion_covers, reads_hold, reads_keep_form, unions_cover,
-    unions_keep_form, writes_cover, writes_keep_form,
+    unions_keep_form, writes_are_at_one_or_several, writes_cover, writes_keep_form,
 };
 use std::alloc::Global;
 use std::marker::Model;
@@ -69,6 +69,7 @@ impl Cells for CellList {
     }
 
     fn write_any(&mut self, at: &Vs16, size: u8, value: Word) -> Result<(), Memory> {
+        writes_are_at_one_or_several();
         if at.count() == 1 {
             return self.write_one(at.nth(0), size, value);
         }

@@ -1,11 +1,11 @@
 //! What cells hold, over their definitions and for every list of cells. Proofs of representations of cells call these.
 
-ghost use Rattle.std.specs.Prelude.{◌≡◌, ◌≤◌, ◌<◌, ℕ, ◌⊎◌, All, true, Option, None, List, [], option_map, bit_and, bit_or};
+ghost use Rattle.std.specs.Prelude.{◌≡◌, ◌≢◌, ◌≤◌, ◌<◌, ℕ, ◌⊎◌, All, true, Option, None, List, [], slice_index, option_map, bit_and, bit_or};
 ghost use Rattle.value_set.specs.declared.form.Form.{Form as AForm};
-ghost use Rattle.value_set.specs.Form.{Has, IsNormal, make};
+ghost use Rattle.value_set.specs.Form.{Has, IsNormal, make, members};
 ghost use Rattle.value_set.specs.Joining.{join};
-ghost use Rattle.value_set.specs.Summing.{single};
-ghost use Rattle.value_bits.specs.Sets.{pair_set};
+ghost use Rattle.value_set.specs.Summing.{single, count_of};
+ghost use Rattle.value_bits.specs.Sets.{low_set, pair_set};
 ghost use Rattle.entry_value.specs.declared.cells.Cell.{Cell as ACell};
 ghost use Rattle.entry_value.specs.declared.word.Entry.{Entry as AEntry};
 ghost use Rattle.entry_value.specs.declared.word.Word.{Word as AWord};
@@ -57,6 +57,13 @@ pub fn bytes_stay_bytes()
     inclusion_is_tested();
     widenings_include_both();
 }
+
+/// A write at the addresses of a set is one at its only address, or one at several.
+pub fn writes_are_at_one_or_several()
+    ensures one { (map : CellMap) (at : AForm) (size : ℕ) (word : AWord) → count_of 65536 at ≡ 1 → the_cells.write_any map at size word ≡ the_cells.write_one map (slice_index (members 65536 at) 0) size word }
+    ensures only { (at : AForm) (address : ℕ) → count_of 65536 at ≡ 1 → Has 65536 at address → slice_index (members 65536 at) 0 ≡ address }
+    ensures several { (map : CellMap) (at : AForm) (size : ℕ) (word : AWord) → count_of 65536 at ≢ 1 → the_cells.write_any map at size word ≡ the_cells.write_several map at size word }
+{}
 
 /// What stood under cells stands under those behind a write of a number, of which the value holds.
 pub fn writes_cover()
@@ -195,6 +202,17 @@ pub fn bytes_hold()
     joins_include_both();
     widenings_include_both();
     logic_holds();
+}
+
+/// A byte becomes a word with the high byte 0, and a word of a byte its low byte. What it says stays, and so does its relation.
+pub fn bytes_are_words()
+    ensures to_word { (first : Option Suspended) (v : ℕ) (byte : AByte) → IsNormal 256 byte.set → HoldsOfByte first byte v
+        → HoldsOfWord first (record { set = pair_set byte.set (single 0); entry = byte.entry }) v }
+    ensures to_byte { (first : Option Suspended) (v : ℕ) (word : AWord) → IsNormal 65536 word.set → v < 256 → HoldsOfWord first word v
+        → HoldsOfByte first (record { set = low_set word.set; entry = word.entry }) v }
+{
+    halves_hold();
+    single_and_whole_sets();
 }
 
 /// The order of words. Each is within itself, a word within another is within all that this is within, and words are
