@@ -1,19 +1,17 @@
 -- What holds of a number under a suspended state, behind joins, widenings and masks.
 use Rattle.std.proofs.Common.{◌≡◌, ℕ, ◌+◌, ◌*◌, ◌%◌, ◌^◌, ◌<◌, true, Option, List, All, bit_and, bit_or, subst, arith}
-use Rattle.std.specs.Prelude.{◌&&◌}
 use Rattle.std.proofs.lemmas.Bool.{and_parts}
 use Rattle.value_set.specs.declared.form.Form.{Form}
 use Rattle.value_set.specs.Form.{Has, IsNormal}
-use Rattle.value_set.specs.Joining.{is_within, join}
+use Rattle.value_set.specs.Joining.{is_within}
 use Rattle.value_set.specs.Summing.{single}
-use Rattle.value_set.specs.Widening.{widen}
 use Rattle.value_bits.specs.declared.tri.Logic.{Logic}
 use Rattle.value_bits.specs.declared.tri.Logic.TheVariants.{And, Or}
 use Rattle.value_bits.specs.Bits.{logic_of}
 use Rattle.value_bits.specs.Sets.{logic_set, low_set, pair_set}
 use Rattle.entry_value.specs.declared.word.Word.{Word}
 use Rattle.entry_value.specs.declared.byte.Byte.{Byte}
-use Rattle.entry_value.specs.Words.{Suspended, HoldsOfWord, HoldsOfByte, is_entry_within, word_join, word_widen, word_within, word_and, word_or, byte_join, byte_widen, byte_within, byte_and, byte_or}
+use Rattle.entry_value.specs.Words.{Suspended, HoldsOfWord, HoldsOfByte, is_entry_within, word_join, word_widen, word_and, word_or, byte_join, byte_widen, byte_within, byte_and, byte_or}
 use Rattle.entry_value.proofs.Masks.{from_entry_and, from_entry_or}
 use Rattle.entry_value.proofs.Premises.{InclusionIsTested, Halves, Singles, Joins, Widens, Logics}
 use Rattle.entry_value.proofs.Values.{common_first, common_second, entry_within}

@@ -1,9 +1,8 @@
 -- Cells speak of the bytes of their RAM alone.
 use Rattle.std.proofs.Common.{◌≡◌, ℕ, ◌+◌, ◌%◌, ◌<◌, ◌≤◌, Option, List, [], sym, subst, inl, inr, arith}
-use Rattle.std.specs.List.{Contains}
 use Rattle.entry_value.specs.declared.cells.Cell.{Cell}
 use Rattle.entry_value.specs.Words.{Suspended, HoldsOfWord}
-use Rattle.entry_value.specs.Cells.{StandsUnder, IsCell, AreCells, number_at}
+use Rattle.entry_value.specs.Cells.{StandsUnder, IsCell, AreCells}
 use Rattle.entry_value.proofs.Bytes.{IsSize, AreBytes, same_number}
 use Rattle.entry_value.proofs.Each.{each_from, each_in, each_both, each_then, each_cell}
 use Rattle.entry_value.proofs.Writing.{StandsAt, whole_turn}
