@@ -1,14 +1,10 @@
--- A set's members: the test of one, and a set of one alone.
+-- A set's test of its members.
 use Prim.Native.Nat.{zero, suc}
 use Rattle.std.proofs.Common.{◌≡◌, ℕ, ◌<◌, ◌==◌, refl, sym, ◌∙◌, Bool, true, List, [], ◌∷◌, length, get_or, inl, inr, arith}
-use Rattle.std.specs.Prelude.{◌↔◌, IsTrue, slice_index}
+use Rattle.std.specs.Prelude.{◌↔◌, IsTrue}
 use Rattle.std.specs.List.{Contains, list_any}
-use Rattle.std.proofs.lemmas.Bool.{cases_Bool, eq-eqb, ne_eqb}
+use Rattle.std.proofs.lemmas.Bool.{cases_Bool}
 use Rattle.std.proofs.lemmas.Bool.Decides.{nat_tests}
-use Rattle.value_set.specs.declared.form.Form.{Form}
-use Rattle.value_set.specs.Form.{members}
-use Rattle.entry_value.specs.declared.word.Word.{Word}
-use Rattle.entry_value.specs.Cells.{CellMap, write_one, write_several, write_any}
 
 any_from_index : (xs : List ℕ) (v k : ℕ) → k < length xs → get_or xs k v ≡ v → list_any (λ x. x == v) xs ≡ true
 any_from_index [] v k lt is = absurd (omega arith)
@@ -35,18 +31,3 @@ any_is xs v answer (there, back) =
             | inr not_any ↦ none ∙ sym not_any
           ]
     ]
-
-pub only_member : (xs : List ℕ) (x : ℕ) → length xs ≡ 1 → Contains xs x → slice_index xs 0 ≡ x
-only_member [] x one h = absurd (omega (arith, h.1))
-only_member (y ∷ xs) x one (zero, below, is) = is
-only_member (y ∷ xs) x one (suc k, below, is) = absurd (omega (arith, below))
-
--- a write at one address alone, and at several
-pub at_one : (map : CellMap) (at : Form) (size : ℕ) (word : Word) → length (members 65536 at) ≡ 1
-    → write_any map at size word ≡ write_one map (slice_index (members 65536 at) 0) size word
-unfolding write_any
-at_one map at size word one = rw (eq-eqb (length (members 65536 at)) 1 one) refl
-
-pub at_several : (map : CellMap) (at : Form) (size : ℕ) (word : Word) → (length (members 65536 at) ≡ 1 → ⊥) → write_any map at size word ≡ write_several map at size word
-unfolding write_any
-at_several map at size word several = rw (ne_eqb (length (members 65536 at)) 1 several) refl

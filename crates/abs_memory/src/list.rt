@@ -4,8 +4,8 @@ ghost use Rattle.std.specs.Prelude.{◌≡◌, ◌≤◌};
 
 use crate::{finding, joining, reading, writing};
 use entry_value::{
-    Cell, Cells, Word, inclusion_covers, reads_hold, unions_cover, unions_keep_form, writes_cover,
-    writes_keep_form,
+    Cell, Cells, Word, inclusion_covers, reads_hold, reads_keep_form, unions_cover,
+    unions_keep_form, writes_are_at_one_or_several, writes_cover, writes_keep_form,
 };
 use std::alloc::Global;
 use std::marker::Model;
@@ -44,8 +44,13 @@ impl Cells for CellList {
         })
     }
 
+    fn keep_form(&self) {
+        let _lo = self.lo;
+    }
+
     fn read(&self, at: u16, size: u8) -> Word {
         reads_hold();
+        reads_keep_form();
         reading::read(&self.cells, at, size)
     }
 
@@ -64,6 +69,7 @@ impl Cells for CellList {
     }
 
     fn write_any(&mut self, at: &Vs16, size: u8, value: Word) -> Result<(), Memory> {
+        writes_are_at_one_or_several();
         if at.count() == 1 {
             return self.write_one(at.nth(0), size, value);
         }

@@ -172,6 +172,30 @@ fn rows_of_writes_at_one(rt: HostRuntime) -> Result<(), Fail> {
     writes_at_one::<CellList>(&rt, rt.alloc())
 }
 
+/// A byte that is read is written at other places.
+fn copies_of_bytes<C: Cells>(rt: &impl Abort, alloc: Global) -> Result<(), Fail> {
+    let mut cells: C = word_and_byte(alloc)?;
+    cells.keep_form();
+    let low = cells.read(0x200, 1);
+    cells.write_one(0x204, 1, low)?;
+    assert_eq!(rt; cells.read(0x203, 2), number(0x3456));
+    let some = Vs16::gather([0x203, 0x205].as_slice()).ok_or("two addresses")?;
+    cells.write_any(&some, 1, low)?;
+    assert_eq!(rt; cells.read(0x203, 1), numbers([0x34, 0x56].as_slice())?);
+    let either = cells.read(0x203, 1);
+    cells.write_one(0x204, 1, either)?;
+    assert_eq!(rt; cells.read(0x204, 1), either);
+    let unknown = cells.read(0x20A, 1);
+    cells.write_one(0x204, 1, unknown)?;
+    assert_eq!(rt; cells.next(0x204), None);
+    Ok(())
+}
+
+#[test]
+fn rows_of_copies(rt: HostRuntime) -> Result<(), Fail> {
+    copies_of_bytes::<CellList>(&rt, rt.alloc())
+}
+
 /// Cells that both have are joined, and each is within the join.
 fn joins<C: Cells>(rt: &impl Abort, alloc: Global) -> Result<(), Fail> {
     let one: C = word_and_byte(alloc)?;

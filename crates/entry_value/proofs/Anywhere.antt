@@ -1,25 +1,33 @@
 -- A write at one of the addresses of a set: where the set has one address alone, a write at that.
-use Rattle.std.proofs.Common.{◌≡◌, ℕ, ◌<◌, ◌≤◌, Option, List, [], ◌∷◌, length, sym, subst, inl, inr, arith}
+use Rattle.std.proofs.Common.{◌≡◌, ℕ, ◌<◌, ◌≤◌, Option, List, [], ◌∷◌, length, refl, sym, subst, inl, inr, arith}
 use Prim.Native.Nat.{zero, suc}
 use Rattle.std.specs.Prelude.{◌==◌, slice_index}
 use Rattle.std.specs.List.{Contains}
-use Rattle.std.proofs.lemmas.Bool.{cases_Bool, eqb-true}
+use Rattle.std.proofs.lemmas.Bool.{cases_Bool, eq-eqb, eqb-true, ne_eqb}
 use Rattle.value_set.specs.declared.form.Form.{Form}
 use Rattle.value_set.specs.Form.{Has, IsNormal, members}
 use Rattle.value_set.specs.Summing.{count_of}
 use Rattle.entry_value.specs.declared.word.Word.{Word}
 use Rattle.entry_value.specs.Words.{Suspended, HoldsOfWord}
-use Rattle.entry_value.specs.Cells.{CellMap, StandsUnder, AreCells, written, write_one, write_any}
+use Rattle.entry_value.specs.Cells.{CellMap, StandsUnder, AreCells, written, write_one, write_several, write_any}
 use Rattle.entry_value.proofs.Bytes.{IsSize}
 use Rattle.entry_value.proofs.Premises.{MembersAreBelow, Joins}
 use Rattle.entry_value.proofs.Scattering.{several_covers, several_form, several_lo, several_hi}
 use Rattle.entry_value.proofs.Values.{JoinsStayLow}
 use Rattle.entry_value.proofs.Writing.{one_covers, one_form, one_lo, one_hi}
 
-only_member : (xs : List ℕ) (x : ℕ) → length xs ≡ 1 → Contains xs x → slice_index xs 0 ≡ x
+pub only_member : (xs : List ℕ) (x : ℕ) → length xs ≡ 1 → Contains xs x → slice_index xs 0 ≡ x
 only_member [] x one h = absurd (omega (arith, h.1))
 only_member (y ∷ xs) x one (zero, below, is) = is
 only_member (y ∷ xs) x one (suc k, below, is) = absurd (omega (arith, below))
+
+pub at_one : (map : CellMap) (at : Form) (size : ℕ) (word : Word) → count_of 65536 at ≡ 1 → write_any map at size word ≡ write_one map (slice_index (members 65536 at) 0) size word
+unfolding write_any
+at_one map at size word one = rw (eq-eqb (count_of 65536 at) 1 one) refl
+
+pub at_several : (map : CellMap) (at : Form) (size : ℕ) (word : Word) → (count_of 65536 at ≡ 1 → ⊥) → write_any map at size word ≡ write_several map at size word
+unfolding write_any
+at_several map at size word several = rw (ne_eqb (count_of 65536 at) 1 several) refl
 
 pub any_covers : MembersAreBelow → Joins → (first : Option Suspended) (ram : ℕ → ℕ) (from size address v : ℕ) (map : CellMap) (at : Form) (word : Word) → map.hi < 65536 → AreCells map.lo map.hi from map.cells
     → IsNormal 65536 at → IsSize size → IsNormal 65536 word.set → (size ≡ 1 → (n : ℕ) → Has 65536 word.set n → n < 256)

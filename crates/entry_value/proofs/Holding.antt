@@ -1,21 +1,19 @@
 -- What holds of a number under a suspended state, behind joins, widenings and masks.
-use Rattle.std.proofs.Common.{◌≡◌, ℕ, ◌^◌, ◌<◌, true, Option, List, All, bit_and, bit_or}
-use Rattle.std.specs.Prelude.{◌&&◌}
+use Rattle.std.proofs.Common.{◌≡◌, ℕ, ◌+◌, ◌*◌, ◌%◌, ◌^◌, ◌<◌, true, Option, List, All, bit_and, bit_or, subst, arith}
 use Rattle.std.proofs.lemmas.Bool.{and_parts}
 use Rattle.value_set.specs.declared.form.Form.{Form}
 use Rattle.value_set.specs.Form.{Has, IsNormal}
-use Rattle.value_set.specs.Joining.{is_within, join}
+use Rattle.value_set.specs.Joining.{is_within}
 use Rattle.value_set.specs.Summing.{single}
-use Rattle.value_set.specs.Widening.{widen}
 use Rattle.value_bits.specs.declared.tri.Logic.{Logic}
 use Rattle.value_bits.specs.declared.tri.Logic.TheVariants.{And, Or}
 use Rattle.value_bits.specs.Bits.{logic_of}
-use Rattle.value_bits.specs.Sets.{logic_set}
+use Rattle.value_bits.specs.Sets.{logic_set, low_set, pair_set}
 use Rattle.entry_value.specs.declared.word.Word.{Word}
 use Rattle.entry_value.specs.declared.byte.Byte.{Byte}
-use Rattle.entry_value.specs.Words.{Suspended, HoldsOfWord, HoldsOfByte, is_entry_within, word_join, word_widen, word_within, word_and, word_or, byte_join, byte_widen, byte_within, byte_and, byte_or}
+use Rattle.entry_value.specs.Words.{Suspended, HoldsOfWord, HoldsOfByte, is_entry_within, word_join, word_widen, word_and, word_or, byte_join, byte_widen, byte_within, byte_and, byte_or}
 use Rattle.entry_value.proofs.Masks.{from_entry_and, from_entry_or}
-use Rattle.entry_value.proofs.Premises.{InclusionIsTested, Singles, Joins, Widens, Logics}
+use Rattle.entry_value.proofs.Premises.{InclusionIsTested, Halves, Singles, Joins, Widens, Logics}
 use Rattle.entry_value.proofs.Values.{common_first, common_second, entry_within}
 
 -- ---- words
@@ -93,3 +91,21 @@ byte_or_normal logics singles m byte below n = masked_normal logics singles 8 m 
 pub byte_or_holds : Logics → Singles → (first : Option Suspended) (m v : ℕ) (byte : Byte) → m < 256 → IsNormal 256 byte.set → HoldsOfByte first byte v
     → HoldsOfByte first (byte_or m byte) (bit_or v m)
 byte_or_holds logics singles first m v byte below n h = (masked_has logics singles 8 m v Or byte.set below n h.0, from_entry_or first byte.entry v m h.1)
+
+-- ---- a byte as a word of one byte, and back
+
+word_alone : (v : ℕ) → v + 0 * 256 ≡ v
+word_alone v = omega arith
+
+low_itself : (v : ℕ) → v < 256 → v % 256 ≡ v
+low_itself v h = omega arith
+
+pub byte_as_word : Halves → Singles → (first : Option Suspended) (v : ℕ) (byte : Byte) → IsNormal 256 byte.set → HoldsOfByte first byte v
+    → let word : Word = record { set = pair_set byte.set (single 0); entry = byte.entry } in HoldsOfWord first word v
+byte_as_word halves singles first v byte n h =
+    let zero_set = singles.single 256 0 (omega arith) in
+    (subst (λ (x : ℕ). Has 65536 (pair_set byte.set (single 0)) x) (word_alone v) (halves.pair v 0 byte.set (single 0) n zero_set.0 h.0 zero_set.1), h.1)
+
+pub word_as_byte : Halves → (first : Option Suspended) (v : ℕ) (word : Word) → IsNormal 65536 word.set → v < 256 → HoldsOfWord first word v
+    → let byte : Byte = record { set = low_set word.set; entry = word.entry } in HoldsOfByte first byte v
+word_as_byte halves first v word n below h = (subst (λ (x : ℕ). Has 256 (low_set word.set) x) (low_itself v below) (halves.low v word.set n h.0), h.1)

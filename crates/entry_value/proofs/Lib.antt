@@ -3,10 +3,12 @@ pub mod Bytes
 pub mod Each
 mod Examples
 pub mod Holding
+pub mod Inside
 pub mod LowSets
 pub mod Masks
 pub mod Ordering
 pub mod Premises
+pub mod ReadForms
 pub mod Reading
 pub mod Scattering
 pub mod Uniting

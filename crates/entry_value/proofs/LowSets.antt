@@ -92,7 +92,7 @@ low_steps n m b d c v low h k =
 lower_base : (n b low d c : ℕ) → low ≤ b → b + (c - 1) * d < n → low + (c - 1) * d < n
 lower_base n b low d c h k = omega arith
 
-low_make : (n m b d c v : ℕ) → b + (c - 1) * d < n → n ≤ m → Has m (make m b d c) v → v < n
+pub low_make : (n m b d c v : ℕ) → b + (c - 1) * d < n → n ≤ m → Has m (make m b d c) v → v < n
 unfolding make
 low_make n m b d c v low h = elim (cases_Bool (nat_le c 16)) [
   | inl few ↦ rw few (λ k. low_member n v (ascending (steps m b d c)) (low_put_all n [] (steps m b d c) tt (all_low n (steps m b d c) (λ w i. low_steps n m b d c w low h i))) k)

@@ -11,12 +11,12 @@ use Rattle.entry_value.specs.declared.word.Word.{Word}
 use Rattle.entry_value.specs.declared.cells.Cell.{Cell}
 use Rattle.entry_value.specs.Words.{Suspended, HoldsOfWord, word_join}
 use Rattle.entry_value.specs.Cells.{CellMap, StandsUnder, IsCell, AreCells, number_at, written, meets_beside, is_nothing, cell_behind, kept, write_several}
-use Rattle.entry_value.proofs.Bytes.{IsSize, AreBytes, within_turn, written_bytes, written_itself}
+use Rattle.entry_value.proofs.Bytes.{IsSize, AreBytes, written_bytes, written_itself}
 use Rattle.entry_value.proofs.Each.{OfSome, each_from, each_in, each_both, each_kept, each_cell}
 use Rattle.entry_value.proofs.Premises.{MembersAreBelow, Joins}
 use Rattle.entry_value.proofs.Uniting.{of_telling, small_number, IsAlike, kept_form}
 use Rattle.entry_value.proofs.Values.{JoinsStayLow, join_covers, join_forms}
-use Rattle.entry_value.proofs.Writing.{StandsAt, stays}
+use Rattle.entry_value.proofs.Writing.{StandsAt, whole_turn, stays}
 
 -- ---- addresses
 
@@ -36,9 +36,6 @@ previous address place below e = omega arith
 
 same_next : (address place : ℕ) → address < 65536 → place < 65536 → (place + 1) % 65536 ≡ (address + 1) % 65536 → place ≡ address
 same_next address place below low e = omega arith
-
-whole_turn : (place size hi : ℕ) → size ≡ 2 → place + size ≤ hi + 1 → hi < 65536 → (place + 1) % 65536 ≡ place + 1
-whole_turn place size hi two high below = within_turn (place + 1) (omega arith)
 
 its_place : (place size hi : ℕ) → IsSize size → place + size ≤ hi + 1 → hi < 65536 → place < 65536
 its_place place size hi (inl one) high below = omega arith

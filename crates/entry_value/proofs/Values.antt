@@ -153,13 +153,13 @@ widen_forms widens size marks wide below = record {
   byte = λ a b n k one low other v h. absurd (wide one);
 }
 
-byte_widened_normal : Sets → (held new : Word) (marks : List ℕ) → IsNormal 65536 held.set → IsNormal 65536 new.set → IsNormal 65536 (byte_widened held new marks).set
+pub byte_widened_normal : Sets → (held new : Word) (marks : List ℕ) → IsNormal 65536 held.set → IsNormal 65536 new.set → IsNormal 65536 (byte_widened held new marks).set
 byte_widened_normal sets held new marks n k = elim (cases_Bool (is_within 65536 new.set held.set)) [
   | inl within ↦ rw within n
   | inr beyond ↦ rw beyond (sets.halves.pair_normal (widened_low held.set new.set marks) (single 0) (widened_normal sets held.set new.set marks n k) (sets.singles.single 256 0 (omega arith)).0)
 ]
 
-byte_widened_low : Sets → PairsStayLow → (held new : Word) (marks : List ℕ) → IsNormal 65536 held.set → IsNormal 65536 new.set → ((n : ℕ) → Has 65536 held.set n → n < 256)
+pub byte_widened_low : Sets → PairsStayLow → (held new : Word) (marks : List ℕ) → IsNormal 65536 held.set → IsNormal 65536 new.set → ((n : ℕ) → Has 65536 held.set n → n < 256)
     → (n : ℕ) → Has 65536 (byte_widened held new marks).set n → n < 256
 byte_widened_low sets stays held new marks n k low v = elim (cases_Bool (is_within 65536 new.set held.set)) [
   | inl within ↦ rw within (low v)

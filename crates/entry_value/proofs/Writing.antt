@@ -28,7 +28,7 @@ some_byte : (size : ℕ) → IsSize size → 0 < size
 some_byte size (inl one) = omega arith
 some_byte size (inr two) = omega arith
 
-whole_turn : (place size hi : ℕ) → size ≡ 2 → place + size ≤ hi + 1 → hi < 65536 → (place + 1) % 65536 ≡ place + 1
+pub whole_turn : (place size hi : ℕ) → size ≡ 2 → place + size ≤ hi + 1 → hi < 65536 → (place + 1) % 65536 ≡ place + 1
 whole_turn place size hi two high below = within_turn (place + 1) (omega arith)
 
 its_byte : (cell : Cell) (at : ℕ) → cell.place ≤ at → at < cell.place + cell.size → has_byte cell at ≡ true

@@ -32,11 +32,18 @@ pub trait Cells: Drop {
         requires { lo ≤ hi }
         ensures { IfOk result (λ cells. map cells ≡ record { lo = lo; hi = hi; cells = [] }) };
 
+    /// The cells have their form.
+    fn keep_form(&self)
+        ensures some { (map self.now).lo ≤ (map self.now).hi }
+        ensures high { (map self.now).hi < 65536 }
+        ensures are { AreCells (map self.now).lo (map self.now).hi (map self.now).lo (map self.now).cells };
+
     /// What stands at an address in 1 or 2 bytes: the cell of that size, else what is put together from the parts of
     /// others, else any number.
     fn read(&self, at: u16, size: u8) -> Word
         requires { (size ≡ 1) ⊎ (size ≡ 2) }
         ensures value { result ≡ the_cells.read (map self.now).cells at size }
+        ensures byte { size ≡ 1 → (v : ℕ) → Has 65536 result.set v → v < 256 }
         ensures holds { (first : Option Suspended) (ram : ℕ → ℕ) → StandsUnder first (map self.now).cells ram → HoldsOfWord first result (number_at ram at size) };
 
     /// Writes a value at one address: the cells that have a byte of it go, and it gets a cell, where that lies whole in

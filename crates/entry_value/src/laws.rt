@@ -1,8 +1,11 @@
 //! What cells hold, over their definitions and for every list of cells. Proofs of representations of cells call these.
 
-ghost use Rattle.std.specs.Prelude.{◌≡◌, ◌≤◌, ◌<◌, ℕ, ◌⊎◌, All, true, Option, None, List, option_map, bit_and, bit_or};
+ghost use Rattle.std.specs.Prelude.{◌≡◌, ◌≢◌, ◌≤◌, ◌<◌, ℕ, ◌⊎◌, All, true, Option, None, List, [], slice_index, option_map, bit_and, bit_or};
 ghost use Rattle.value_set.specs.declared.form.Form.{Form as AForm};
-ghost use Rattle.value_set.specs.Form.{Has, IsNormal, make};
+ghost use Rattle.value_set.specs.Form.{Has, IsNormal, make, members};
+ghost use Rattle.value_set.specs.Joining.{join};
+ghost use Rattle.value_set.specs.Summing.{single, count_of};
+ghost use Rattle.value_bits.specs.Sets.{low_set, pair_set};
 ghost use Rattle.entry_value.specs.declared.cells.Cell.{Cell as ACell};
 ghost use Rattle.entry_value.specs.declared.word.Entry.{Entry as AEntry};
 ghost use Rattle.entry_value.specs.declared.word.Word.{Word as AWord};
@@ -25,6 +28,42 @@ pub fn reads_hold()
     halves_hold();
     single_and_whole_sets();
 }
+
+/// What is read has a set in normal form, and one byte that is read is below 100h.
+pub fn reads_keep_form()
+    ensures normal { (lo hi from at size : ℕ) (cells : List ACell) → AreCells lo hi from cells → IsNormal 65536 (the_cells.read cells at size).set }
+    ensures byte { (lo hi from at size : ℕ) (cells : List ACell) → AreCells lo hi from cells → size ≡ 1 → (v : ℕ) → Has 65536 (the_cells.read cells at size).set v → v < 256 }
+{
+    members_are_below();
+    halves_hold();
+    single_and_whole_sets();
+}
+
+/// Sets of words of which each is a byte, as a write of one byte takes them: that of one byte, that of all bytes, words of
+/// bytes with the high byte 0, their joins, and those widened as bytes.
+pub fn bytes_stay_bytes()
+    ensures single { (n v : ℕ) → n < 256 → Has 65536 (single n) v → v < 256 }
+    ensures whole { (v : ℕ) → Has 65536 (the_cells.any_of 1) v → v < 256 }
+    ensures pair { (low : AForm) (v : ℕ) → IsNormal 256 low → Has 65536 (pair_set low (single 0)) v → v < 256 }
+    ensures join { (a b : AForm) → IsNormal 65536 a → IsNormal 65536 b → ((n : ℕ) → Has 65536 a n → n < 256) → ((n : ℕ) → Has 65536 b n → n < 256)
+        → (v : ℕ) → Has 65536 (join 65536 a b) v → v < 256 }
+    ensures widen_normal { (held new : AWord) (marks : List ℕ) → IsNormal 65536 held.set → IsNormal 65536 new.set → IsNormal 65536 (the_cells.byte_widened held new marks).set }
+    ensures widen { (held new : AWord) (marks : List ℕ) → IsNormal 65536 held.set → IsNormal 65536 new.set → ((n : ℕ) → Has 65536 held.set n → n < 256)
+        → (v : ℕ) → Has 65536 (the_cells.byte_widened held new marks).set v → v < 256 }
+{
+    members_are_below();
+    halves_hold();
+    single_and_whole_sets();
+    inclusion_is_tested();
+    widenings_include_both();
+}
+
+/// A write at the addresses of a set is one at its only address, or one at several.
+pub fn writes_are_at_one_or_several()
+    ensures one { (map : CellMap) (at : AForm) (size : ℕ) (word : AWord) → count_of 65536 at ≡ 1 → the_cells.write_any map at size word ≡ the_cells.write_one map (slice_index (members 65536 at) 0) size word }
+    ensures only { (at : AForm) (address : ℕ) → count_of 65536 at ≡ 1 → Has 65536 at address → slice_index (members 65536 at) 0 ≡ address }
+    ensures several { (map : CellMap) (at : AForm) (size : ℕ) (word : AWord) → count_of 65536 at ≢ 1 → the_cells.write_any map at size word ≡ the_cells.write_several map at size word }
+{}
 
 /// What stood under cells stands under those behind a write of a number, of which the value holds.
 pub fn writes_cover()
@@ -95,6 +134,14 @@ pub fn unions_cover()
     widenings_include_both();
 }
 
+/// Cells speak of the bytes of their RAM alone: where two RAMs agree from the first address to the last, both stand under the
+/// same cells. Each RAM of bytes stands under no cells.
+pub fn cells_speak_of_ram()
+    ensures agree { (first : Option Suspended) (one other : ℕ → ℕ) (lo hi from : ℕ) (cells : List ACell) → hi < 65536 → AreCells lo hi from cells → ((at : ℕ) → other at < 256)
+        → ((at : ℕ) → lo ≤ at → at ≤ hi → one at ≡ other at) → StandsUnder first cells one → StandsUnder first cells other }
+    ensures none { (first : Option Suspended) (ram : ℕ → ℕ) → ((at : ℕ) → ram at < 256) → StandsUnder first [] ram }
+{}
+
 /// Relations: what came from a place behind an AND and an OR came from it by the masked relation, and what either relation
 /// says their common one says. A relation says what another one does that it is within, and this is an order.
 pub fn relations_hold()
@@ -155,6 +202,17 @@ pub fn bytes_hold()
     joins_include_both();
     widenings_include_both();
     logic_holds();
+}
+
+/// A byte becomes a word with the high byte 0, and a word of a byte its low byte. What it says stays, and so does its relation.
+pub fn bytes_are_words()
+    ensures to_word { (first : Option Suspended) (v : ℕ) (byte : AByte) → IsNormal 256 byte.set → HoldsOfByte first byte v
+        → HoldsOfWord first (record { set = pair_set byte.set (single 0); entry = byte.entry }) v }
+    ensures to_byte { (first : Option Suspended) (v : ℕ) (word : AWord) → IsNormal 65536 word.set → v < 256 → HoldsOfWord first word v
+        → HoldsOfByte first (record { set = low_set word.set; entry = word.entry }) v }
+{
+    halves_hold();
+    single_and_whole_sets();
 }
 
 /// The order of words. Each is within itself, a word within another is within all that this is within, and words are

@@ -16,8 +16,10 @@ mod word;
 pub use byte::Byte;
 pub use cells::{Cell, Cells};
 pub use laws::{
-    bytes_are_ordered, bytes_hold, cells_are_ordered, inclusion_covers, reads_hold, relations_hold,
-    unions_cover, unions_keep_form, words_are_ordered, words_hold, writes_cover, writes_keep_form,
+    bytes_are_ordered, bytes_are_words, bytes_hold, bytes_stay_bytes, cells_are_ordered,
+    cells_speak_of_ram, inclusion_covers, reads_hold, reads_keep_form, relations_hold,
+    unions_cover, unions_keep_form, words_are_ordered, words_hold, writes_are_at_one_or_several,
+    writes_cover, writes_keep_form,
 };
 pub use word::{Entry, Word, common};
 

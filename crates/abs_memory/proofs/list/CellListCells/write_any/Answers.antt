@@ -4,7 +4,6 @@ use Rattle.value_set.specs.Form.{members}
 use Rattle.entry_value.specs.declared.cells.Cell.{Cell}
 use Rattle.entry_value.specs.Cells.{CellMap, AreCells, StandsUnder, write_one, write_several, write_any, written}
 use Rattle.abs_memory.proofs.Lists.{list_ends}
-use Rattle.abs_memory.proofs.Members.{only_member, at_one, at_several}
 use Rattle.abs_memory.proofs.list.CellListCells.write_any.Goals as goal
 
 pub write_several-requires : goal.write_several-requires
@@ -16,7 +15,7 @@ invariant_of-self c =
     let fields = c.self.inside in
     let map : CellMap = record { lo = fields.lo; hi = fields.hi; cells = fields.cells.items } in
     let several : length (members 65536 c.args.at.now) ≡ 1 → ⊥ = λ one. c.if-count-eq1.false (c.count.ensures.value ∙ one) in
-    let same : write_any map c.args.at.now c.args.size c.args.value ≡ write_several map c.args.at.now c.args.size c.args.value = at_several map c.args.at.now c.args.size c.args.value several in
+    let same : write_any map c.args.at.now c.args.size c.args.value ≡ write_several map c.args.at.now c.args.size c.args.value = c.writes_are_at_one_or_several.ensures.several map c.args.at.now c.args.size c.args.value several in
     let items : c.write_several.new.cells.items ≡ (write_any map c.args.at.now c.args.size c.args.value).cells = c.write_several.ensures ∙ ap (λ (one : CellMap). one.cells) (sym same) in
     record {
       some = c.self.invariant.some;
@@ -31,7 +30,7 @@ returns-clause-value c =
     let fields = c.self.inside in
     let map : CellMap = record { lo = fields.lo; hi = fields.hi; cells = fields.cells.items } in
     let several : length (members 65536 c.args.at.now) ≡ 1 → ⊥ = λ one. c.if-count-eq1.false (c.count.ensures.value ∙ one) in
-    let same : write_any map c.args.at.now c.args.size c.args.value ≡ write_several map c.args.at.now c.args.size c.args.value = at_several map c.args.at.now c.args.size c.args.value several in
+    let same : write_any map c.args.at.now c.args.size c.args.value ≡ write_several map c.args.at.now c.args.size c.args.value = c.writes_are_at_one_or_several.ensures.several map c.args.at.now c.args.size c.args.value several in
     let made : List Cell → CellMap = λ cells. record { lo = fields.lo; hi = fields.hi; cells = cells } in
     let written_several : made c.write_several.new.cells.items ≡ write_several map c.args.at.now c.args.size c.args.value = ap made c.write_several.ensures in
     written_several ∙ sym same ∙ ap (λ one. write_any one c.args.at.now c.args.size c.args.value) c.self.view_is
@@ -42,7 +41,7 @@ returns-clause-covers c = λ first ram address v under is_one holds.
     let fields = c.self.inside in
     let map : CellMap = record { lo = fields.lo; hi = fields.hi; cells = fields.cells.items } in
     let several : length (members 65536 c.args.at.now) ≡ 1 → ⊥ = λ one. c.if-count-eq1.false (c.count.ensures.value ∙ one) in
-    let same : write_any map c.args.at.now c.args.size c.args.value ≡ write_several map c.args.at.now c.args.size c.args.value = at_several map c.args.at.now c.args.size c.args.value several in
+    let same : write_any map c.args.at.now c.args.size c.args.value ≡ write_several map c.args.at.now c.args.size c.args.value = c.writes_are_at_one_or_several.ensures.several map c.args.at.now c.args.size c.args.value several in
     let items : c.write_several.new.cells.items ≡ (write_any map c.args.at.now c.args.size c.args.value).cells = c.write_several.ensures ∙ ap (λ (one : CellMap). one.cells) (sym same) in
     let stands : StandsUnder first fields.cells.items ram = subst (λ (one : CellMap). StandsUnder first one.cells ram) (sym c.self.view_is) under in
     subst (λ cells. StandsUnder first cells (written ram address c.args.size v)) (sym items)
@@ -51,9 +50,9 @@ returns-clause-covers c = λ first ram address v under is_one holds.
 pub returns-then-count-eq1-clause-value : goal.returns-then-count-eq1-clause-value
 returns-then-count-eq1-clause-value c = on_ok_weaker c.write_one.result (λ value.
     value ∙ ap (λ place. write_one c.args.self.now place c.args.size c.args.value) c.nth.ensures
-    ∙ sym (at_one c.args.self.now c.args.at.now c.args.size c.args.value (sym c.count.ensures.value ∙ c.if-count-eq1.true))) c.write_one.ensures.value
+    ∙ sym (c.writes_are_at_one_or_several.ensures.one c.args.self.now c.args.at.now c.args.size c.args.value (sym c.count.ensures.value ∙ c.if-count-eq1.true))) c.write_one.ensures.value
 
 pub returns-then-count-eq1-clause-covers : goal.returns-then-count-eq1-clause-covers
 returns-then-count-eq1-clause-covers c = on_ok_weaker c.write_one.result (λ covers first ram address v under is_one holds.
-    let place : c.nth.result ≡ address = c.nth.ensures ∙ only_member (members 65536 c.args.at.now) address (sym c.count.ensures.value ∙ c.if-count-eq1.true) is_one in
+    let place : c.nth.result ≡ address = c.nth.ensures ∙ c.writes_are_at_one_or_several.ensures.only c.args.at.now address (sym c.count.ensures.value ∙ c.if-count-eq1.true) is_one in
     subst (λ at. StandsUnder first c.write_one.new.self.cells (written ram at c.args.size v)) place (covers first ram v under holds)) c.write_one.ensures.covers
