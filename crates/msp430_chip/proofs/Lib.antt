@@ -1,5 +1,3 @@
-pub mod Fronts
-pub mod Gives
 pub mod MemoryForm
 pub mod Registers
 pub mod Results

@@ -27,15 +27,15 @@ use Rattle.msp430_chip.specs.declared.place.Place.{Place}
 use Rattle.msp430_chip.specs.declared.place.Place.TheVariants.{InRegister, InMemory, Fixed}
 use Rattle.msp430_chip.specs.declared.state.ChipState.{ChipState}
 use Rattle.msp430_chip.specs.Arithmetic.{modulus, sets_flags, single_sets_flags, reads_destination, writes_result}
-use Rattle.msp430_chip.specs.Asking.{answer, ask, and_then}
+use Rattle.choosing.specs.Asking.{answer, ask, and_then}
 use Rattle.msp430_chip.specs.Interrupts.{coming, enter, handler_of, vector_address}
 use Rattle.msp430_chip.specs.Memory.{with_stored}
 use Rattle.msp430_chip.specs.Operands.{value_at, value_in, grown, source_place, destination_place, is_status, has_free_bits, with_free_bits, access_to}
 use Rattle.msp430_chip.specs.Outcome.{Outcome, unless_hit}
-use Rattle.msp430_chip.specs.Outcome.Outcome.{Next, Wild}
+use Rattle.choosing.specs.Outcome.Outcome.{Next, Wild}
 use Rattle.msp430_chip.specs.State.{IsChipState, register_of, even}
 use Rattle.msp430_chip.specs.Step.{Left, put, put_if, with_status, done, behind, counter, reads_counter, destination_value, double_left, double_accesses, double, single_left, single, is_formed_by_stack, with_lowered, lowered, pushed_word, pushed, push_left, push, one_operand, is_taken, jump, return, executed, run, taken, step_of}
-use Rattle.msp430_chip.proofs.Gives.{Gives, answer_gives, ask_gives, ask_if_gives, either_gives, choose_gives, then_gives, weaken}
+use Rattle.choosing.specs.Gives.{Gives, answer_gives, ask_gives, ask_if_gives, either_gives, choose_gives, then_gives, weaken}
 use Rattle.msp430_chip.proofs.MemoryForm.{IsMemory, read_word_gives, read_gives, with_stored_keeps, image_word_below}
 use Rattle.msp430_chip.proofs.Registers.{AreRegisters, set_pc, set_sp, set_status, even_below, even_is, with_register_keeps, grown_keeps, set_lowered, with_lowered_keeps}
 use Rattle.msp430_chip.proofs.Results.{Fits, modulus_some, result_gives, single_gives, made_flags_below}

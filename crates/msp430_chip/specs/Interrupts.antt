@@ -7,7 +7,7 @@ use Rattle.call_context.specs.Single.Single.{Access, Edge, Stack}
 use Rattle.msp430_decode.specs.declared.instr.Width.TheVariants.{Word}
 use Rattle.msp430_chip.specs.declared.device.Device.{Device}
 use Rattle.msp430_chip.specs.declared.state.ChipState.{ChipState}
-use Rattle.msp430_chip.specs.Asking.{Asking, answer, ask, and_then}
+use Rattle.choosing.specs.Asking.{Asking, answer, ask, and_then}
 use Rattle.msp430_chip.specs.Memory.{with_stored, program_hit}
 use Rattle.msp430_chip.specs.Outcome.{Outcome, unless_hit}
 use Rattle.msp430_chip.specs.State.{even, register_of, allows_interrupts, image_word}

@@ -1,5 +1,4 @@
 pub mod Arithmetic
-pub mod Asking
 pub mod Interrupts
 pub mod Memory
 pub mod Operands

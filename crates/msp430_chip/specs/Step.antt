@@ -29,12 +29,12 @@ use Rattle.msp430_chip.specs.declared.place.Place.TheVariants.{InRegister, InMem
 use Rattle.msp430_chip.specs.declared.state.ChipState.{ChipState}
 use Rattle.msp430_chip.specs.declared.state.Wild.TheVariants.{NoInstr}
 use Rattle.msp430_chip.specs.Arithmetic.{result_of, single_result, sets_flags, single_sets_flags, writes_result, reads_destination, with_made_flags}
-use Rattle.msp430_chip.specs.Asking.{Asking, answer, ask, ask_if, and_then}
+use Rattle.choosing.specs.Asking.{Asking, answer, ask, ask_if, and_then}
 use Rattle.msp430_chip.specs.Interrupts.{coming, enter}
 use Rattle.msp430_chip.specs.Memory.{read_word, with_stored, program_hit}
 use Rattle.msp430_chip.specs.Operands.{with_register, grown, source_place, destination_place, value_at, is_status, has_free_bits, with_free_bits, access_to}
 use Rattle.msp430_chip.specs.Outcome.{Outcome, unless_hit}
-use Rattle.msp430_chip.specs.Outcome.Outcome.{Wild}
+use Rattle.choosing.specs.Outcome.Outcome.{Wild}
 use Rattle.msp430_chip.specs.State.{even, register_of, allows_interrupts}
 
 -- WHAT AN INSTRUCTION LEAVES

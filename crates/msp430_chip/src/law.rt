@@ -6,7 +6,7 @@ ghost use Rattle.call_context.specs.Single.{Single};
 ghost use Rattle.msp430_chip.specs.declared.device.Device.{Device as ADevice};
 ghost use Rattle.msp430_chip.specs.declared.state.ChipState.{ChipState as AState};
 ghost use Rattle.msp430_chip.specs.Outcome.{Outcome};
-ghost use Rattle.msp430_chip.specs.Outcome.Outcome.{Next};
+ghost use Rattle.choosing.specs.Outcome.Outcome.{Next};
 ghost use Rattle.msp430_chip.specs.State.{IsChipState};
 ghost use Rattle.msp430_chip.specs.Step.{Step, step_of};
 

@@ -6,7 +6,7 @@ use Rattle.ihex_read.specs.declared.rule_set.Rules.TheVariants.{Msp430, Mcs51}
 use Rattle.msp430_chip.specs.declared.device.Device.{Device}
 use Rattle.msp430_chip.specs.declared.state.ChipState.{ChipState}
 use Rattle.msp430_chip.specs.Outcome.{Outcome}
-use Rattle.msp430_chip.specs.Outcome.Outcome.{Next, Wild as LeavesModel}
+use Rattle.choosing.specs.Outcome.Outcome.{Next, Wild as LeavesModel}
 use Rattle.msp430_chip.specs.State.{ram_size, reset_address}
 use Rattle.msp430_chip.specs.Step.{step_of}
 use Rattle.msp430_emu.specs.declared.stepped.Stepped.{Stepped}

@@ -1,6 +1,7 @@
 -- What a chip leaves free is asked from a list of choices, one question after the other. A choice is a number, and a
 -- question with so many options takes it modulo their number.
-use Rattle.std.specs.Prelude.{ℕ, ◌%◌, if◌then◌else◌, Bool, Option, None, Some, List, [], ◌∷◌}
+use Rattle.std.specs.Prelude.{◌≡◌, ℕ, ◌%◌, if◌then◌else◌, Bool, Option, None, Some, List, [], ◌∷◌}
+use Rattle.std.proofs.Common.{ap}
 
 -- an answer from a list of choices, with the choices that are left; there is none where they end before a question
 abbrev pub Asking : Type 0 → Type 0
@@ -26,3 +27,14 @@ continued next (Some (a, choices)) = next a choices
 -- first the one, and then what its answer leads to
 abbrev pub and_then : {A B : Type 0} → Asking A → (A → Asking B) → Asking B
 and_then first next choices = continued next (first choices)
+
+-- ---- one answer
+
+pub pair_is : {A : Type 0} (p q : A × List ℕ) → Some p ≡ Some q → p ≡ q
+pair_is p q e = cc
+
+pub value_is : {A : Type 0} (a b : A) (x y : List ℕ) → ◌≡◌ {A = Option (A × List ℕ)} (Some (a, x)) (Some (b, y)) → a ≡ b
+value_is {A} a b x y e = ap (λ (p : A × List ℕ). p.0) (pair_is (a, x) (b, y) e)
+
+pub rest_is : {A : Type 0} (a b : A) (x y : List ℕ) → ◌≡◌ {A = Option (A × List ℕ)} (Some (a, x)) (Some (b, y)) → x ≡ y
+rest_is {A} a b x y e = ap (λ (p : A × List ℕ). p.1) (pair_is (a, x) (b, y) e)
