@@ -28,6 +28,11 @@ continued next (Some (a, choices)) = next a choices
 abbrev pub and_then : {A B : Type 0} → Asking A → (A → Asking B) → Asking B
 and_then first next choices = continued next (first choices)
 
+-- the same, for steps on lines of their own
+infixl 10 ◌>>=◌
+abbrev pub ◌>>=◌ : {A B : Type 0} → Asking A → (A → Asking B) → Asking B
+first >>= next = and_then first next
+
 -- ---- one answer
 
 pub pair_is : {A : Type 0} (p q : A × List ℕ) → Some p ≡ Some q → p ≡ q

@@ -1,5 +1,7 @@
+pub mod Deciding
 pub mod MemoryForm
 pub mod Registers
+pub mod Resets
 pub mod Results
 pub mod StepForms
 pub mod StepFronts

@@ -1,8 +1,8 @@
 //! The machine: a state that runs on.
 
 ghost use Rattle.std.specs.Prelude.{◌≡◌, ◌≤◌, IfOk};
-ghost use Rattle.msp430_chip.specs.State.{IsChipState, IsResetOf};
-ghost use Rattle.msp430_emu.specs.Stepping.{IsMsp430, IsStill, Steps, device_of, device_under, first_state};
+ghost use Rattle.msp430_chip.specs.State.{IsChipState, IsResetOf, first_state};
+ghost use Rattle.msp430_emu.specs.Stepping.{IsMsp430, IsStill, Steps, device_of, device_under};
 
 use crate::advance::advance;
 use crate::interrupt::image_word;
