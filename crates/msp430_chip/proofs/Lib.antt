@@ -1,4 +1,5 @@
 pub mod Deciding
+pub mod KindsOfRegisters
 pub mod MemoryForm
 pub mod Registers
 pub mod Resets

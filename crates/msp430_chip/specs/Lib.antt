@@ -1,5 +1,6 @@
 pub mod Arithmetic
 pub mod Interrupts
+pub mod Kinds
 pub mod Memory
 pub mod Operands
 pub mod Outcome

@@ -4,6 +4,7 @@ ghost use Rattle.std.specs.Prelude.{◌≡◌, ◌++◌, ◌-◌, ◌<◌, ◌�
 ghost use Rattle.ihex_read.specs.Image.{IsByte};
 ghost use Rattle.call_context.specs.Single.{Single};
 ghost use Rattle.msp430_decode.specs.declared.instr.Instr.{Instr as AnInstr};
+ghost use Rattle.msp430_decode.specs.declared.instr.Register.{Register as ARegister};
 ghost use Rattle.msp430_decode.specs.declared.refusal.NoInstr.TheVariants.{Excluded, OffImage};
 ghost use Rattle.msp430_decode.specs.Standing.{IsExcluded, Lacks, Stands};
 ghost use Rattle.msp430_chip.specs.declared.device.Device.{Device as ADevice};
@@ -12,6 +13,7 @@ ghost use Rattle.msp430_chip.specs.Outcome.{Outcome};
 ghost use Rattle.choosing.specs.Outcome.Outcome.{Next, Wild};
 ghost use Rattle.msp430_chip.specs.declared.state.Wild.TheVariants.{NoInstr};
 ghost use Rattle.msp430_chip.specs.Interrupts.{coming, enter};
+ghost use Rattle.msp430_chip.specs.Kinds.{Kind};
 ghost use Rattle.msp430_chip.specs.State.{IsChipState, IsResetOf, first_state, register_of};
 ghost use Rattle.msp430_chip.specs.Step.{Step, executed, interrupt_option, step_of};
 
@@ -68,3 +70,8 @@ pub fn the_table_decides()
 {
     decoded_is_the_answer();
 }
+
+/// A register is PC, SP, SR or R3, or it is one of R4 to R15, which are alike.
+pub fn registers_of_five_kinds()
+    ensures { (register : ARegister) → Kind register }
+{}
