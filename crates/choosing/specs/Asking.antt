@@ -1,6 +1,6 @@
 -- What a chip leaves free is asked from a list of choices, one question after the other. A choice is a number, and a
 -- question with so many options takes it modulo their number.
-use Rattle.std.specs.Prelude.{◌≡◌, ℕ, ◌%◌, if◌then◌else◌, Bool, Option, None, Some, List, [], ◌∷◌}
+use Rattle.std.specs.Prelude.{◌≡◌, ℕ, ◌%◌, ◌<◌, if◌then◌else◌, Bool, false, Option, option_map, None, Some, List, [], ◌∷◌}
 use Rattle.std.proofs.Common.{ap}
 
 -- an answer from a list of choices, with the choices that are left; there is none where they end before a question
@@ -32,6 +32,15 @@ and_then first next choices = continued next (first choices)
 infixl 10 ◌>>=◌
 abbrev pub ◌>>=◌ : {A B : Type 0} → Asking A → (A → Asking B) → Asking B
 first >>= next = and_then first next
+
+-- the answer where nothing is asked
+abbrev pub surely : {A : Type 0} → Asking A → Option A
+surely asking = option_map (λ p. p.0) (asking [])
+
+-- an option of a question that is asked in some cases
+pub record IsOption (asked : Bool) (options option : ℕ) : Type 0 where
+  pub below : option < options
+  pub none : asked ≡ false → option ≡ 0
 
 -- ---- one answer
 

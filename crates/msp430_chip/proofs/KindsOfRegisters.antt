@@ -11,7 +11,7 @@ use Rattle.msp430_chip.specs.declared.place.Place.TheVariants.{InRegister}
 use Rattle.msp430_chip.specs.Memory.{size_of}
 use Rattle.msp430_chip.specs.Operands.{growth, is_status, with_register}
 use Rattle.msp430_chip.specs.Step.{is_formed_by_stack, reads_counter}
-use Rattle.msp430_chip.specs.Kinds.{IsGeneral, Kind}
+use Rattle.msp430_chip.specs.Kinds.{Kind}
 use Rattle.msp430_chip.specs.Kinds.Kind.{Counter, Stack, Status, Empty, General}
 
 grows_alike : (register : Register) → growth Byte register ≡ 1 → (width : Width) → growth width register ≡ size_of width

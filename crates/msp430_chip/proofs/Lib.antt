@@ -1,5 +1,6 @@
 pub mod Deciding
 pub mod KindsOfRegisters
+pub mod Leads
 pub mod MemoryForm
 pub mod Registers
 pub mod Resets

@@ -41,18 +41,22 @@ abbrev pub first_hit : Option ℕ → Option ℕ → Option ℕ
 first_hit None other = other
 first_hit (Some at) other = Some at
 
--- PC is pushed, then SR with any bits 9 to 15. As with 0280h in SP: PC is written at 027Eh, SR at 027Ch, and SP is 027Ch.
-unfoldable pub enter : Device → ChipState → ℕ → Asking (Outcome ChipState)
-enter device s vector = do
-  let pc = register_of s 0
-  let sp = register_of s 1
-  let first = (sp + 65534) % 65536
-  let second = (sp + 65532) % 65536
-  bits ← ask 128
-  answer (unless_hit (first_hit (program_hit device Word first) (program_hit device Word second))
+-- PC is pushed, then SR with these bits 9 to 15. As with 0280h in SP: PC is written at 027Eh, SR at 027Ch, and SP is 027Ch.
+abbrev pub entry : Device → ChipState → (vector bits : ℕ) → Outcome ChipState
+entry device s vector bits =
+    let pc = register_of s 0 in
+    let sp = register_of s 1 in
+    let first = (sp + 65534) % 65536 in
+    let second = (sp + 65532) % 65536 in
+    unless_hit (first_hit (program_hit device Word first) (program_hit device Word second))
     (Stack pc sp ∷ Access pc Mem true 2 first ∷ Access pc Mem true 2 second ∷ Edge pc (handler_of device vector) ∷ [])
     (record {
       registers = entered device s vector;
       ram = with_stored device (with_stored device s.ram Word first pc) Word second (register_of s 2 + 512 * bits);
       late = false;
-    }))
+    })
+
+unfoldable pub enter : Device → ChipState → ℕ → Asking (Outcome ChipState)
+enter device s vector = do
+  bits ← ask 128
+  answer (entry device s vector bits)

@@ -232,18 +232,21 @@ jump s condition offset =
     done s (Jump condition offset) [] (record { registers = slice_set s.registers 0 next; ram = s.ram; hit = None })
 
 -- RETI takes SR from the stack, and then PC
+abbrev pub returned : ChipState → (status target : ℕ) → Outcome ChipState
+returned s status target =
+    let pc = register_of s 0 in
+    let sp = register_of s 1 in
+    done s ReturnFromInterrupt (Access pc Mem false 2 sp ∷ Access pc Mem false 2 ((sp + 2) % 65536) ∷ []) (record {
+      registers = slice_set (slice_set (slice_set s.registers 0 (even target)) 1 ((sp + 4) % 65536)) 2 (status % 512);
+      ram = s.ram;
+      hit = None;
+    })
+
 unfoldable pub return : Device → ChipState → Asking (Outcome ChipState)
 return device s = do
-  let pc = register_of s 0
-  let sp = register_of s 1
-  let second = (sp + 2) % 65536
-  status ← read_word device s.ram sp
-  target ← read_word device s.ram second
-  answer (done s ReturnFromInterrupt (Access pc Mem false 2 sp ∷ Access pc Mem false 2 second ∷ []) (record {
-    registers = slice_set (slice_set (slice_set s.registers 0 (even target)) 1 ((sp + 4) % 65536)) 2 (status % 512);
-    ram = s.ram;
-    hit = None;
-  }))
+  status ← read_word device s.ram (register_of s 1)
+  target ← read_word device s.ram ((register_of s 1 + 2) % 65536)
+  answer (returned s status target)
 
 -- STEPS
 

@@ -7,6 +7,7 @@ ghost use Rattle.msp430_decode.specs.declared.instr.Instr.{Instr as AnInstr};
 ghost use Rattle.msp430_decode.specs.declared.instr.Register.{Register as ARegister};
 ghost use Rattle.msp430_decode.specs.declared.refusal.NoInstr.TheVariants.{Excluded, OffImage};
 ghost use Rattle.msp430_decode.specs.Standing.{IsExcluded, Lacks, Stands};
+ghost use Rattle.choosing.specs.Gives.{Gives};
 ghost use Rattle.msp430_chip.specs.declared.device.Device.{Device as ADevice};
 ghost use Rattle.msp430_chip.specs.declared.state.ChipState.{ChipState as AState};
 ghost use Rattle.msp430_chip.specs.Outcome.{Outcome};
@@ -14,6 +15,7 @@ ghost use Rattle.choosing.specs.Outcome.Outcome.{Next, Wild};
 ghost use Rattle.msp430_chip.specs.declared.state.Wild.TheVariants.{NoInstr};
 ghost use Rattle.msp430_chip.specs.Interrupts.{coming, enter};
 ghost use Rattle.msp430_chip.specs.Kinds.{Kind};
+ghost use Rattle.msp430_chip.specs.Leading.{MayLead, MayRun};
 ghost use Rattle.msp430_chip.specs.State.{IsChipState, IsResetOf, first_state, register_of};
 ghost use Rattle.msp430_chip.specs.Step.{Step, executed, interrupt_option, step_of};
 
@@ -75,3 +77,12 @@ pub fn the_table_decides()
 pub fn registers_of_five_kinds()
     ensures { (register : ARegister) → Kind register }
 {}
+
+/// What an instruction of so many bytes leads to, format by format, and what a step leads to, as relations in which no
+/// choices stand (`specs/Leading.antt`).
+pub fn steps_lead()
+    ensures format { (device : ADevice) (s : AState) (instr : AnInstr) (len : ℕ) → Gives (MayRun device s instr len) (executed device s instr len) }
+    ensures step { (device : ADevice) (s : AState) → length device.image ≡ 65536 → All IsByte device.image → Gives (MayLead device s) (step_of device s) }
+{
+    decoded_is_the_answer();
+}

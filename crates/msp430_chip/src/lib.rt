@@ -10,6 +10,7 @@
 //! - [`steps_are_taken`]: seven choices are enough for a step, and choices of 16 bits take each step.
 //! - [`a_reset_exists`]: a device with a program has a state behind a reset.
 //! - [`the_table_decides`]: the instruction that stands at PC by the instruction table is the one that runs.
+//! - [`steps_lead`]: what a step leads to, format by format, without choices (`specs/Leading.antt`).
 //! - [`registers_of_five_kinds`]: a register is PC, SP, SR, R3 or one of R4 to R15.
 //! - [`steps_keep_form`]: steps keep the form of states.
 #![tactic(auto)]
@@ -23,7 +24,7 @@ mod state;
 pub use device::Device;
 pub use law::{
     a_reset_exists, one_front, registers_of_five_kinds, steps_are_taken, steps_keep_form,
-    the_table_decides,
+    steps_lead, the_table_decides,
 };
 pub use place::{Flags, Place};
 pub use ram::Ram;
