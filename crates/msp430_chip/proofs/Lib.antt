@@ -1,7 +1,9 @@
-pub mod Fronts
-pub mod Gives
+pub mod Deciding
+pub mod KindsOfRegisters
+pub mod Leads
 pub mod MemoryForm
 pub mod Registers
+pub mod Resets
 pub mod Results
 pub mod StepForms
 pub mod StepFronts

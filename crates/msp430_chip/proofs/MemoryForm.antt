@@ -10,11 +10,11 @@ use Rattle.ihex_read.specs.Image.{IsByte, byte_at}
 use Rattle.msp430_decode.specs.declared.instr.Width.{Width}
 use Rattle.msp430_decode.specs.declared.instr.Width.TheVariants.{Word, Byte}
 use Rattle.msp430_chip.specs.declared.device.Device.{Device}
-use Rattle.msp430_chip.specs.Asking.{answer}
+use Rattle.choosing.specs.Asking.{answer}
 use Rattle.msp430_chip.specs.Arithmetic.{modulus}
 use Rattle.msp430_chip.specs.Memory.{is_ram, read_outside, read_byte, read_word, read, with_byte, with_stored}
 use Rattle.msp430_chip.specs.State.{even, ram_size, image_word, word_from}
-use Rattle.msp430_chip.proofs.Gives.{Gives, answer_gives, ask_gives, if_gives, then_gives}
+use Rattle.choosing.specs.Gives.{Gives, answer_gives, ask_gives, if_gives, then_gives}
 
 pub record IsMemory (device : Device) (ram : List ℕ) : Type 0 where
   pub image : All IsByte device.image

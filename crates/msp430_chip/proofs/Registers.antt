@@ -1,16 +1,19 @@
 -- Sixteen registers keep their form where one is set.
-use Rattle.std.proofs.Common.{◌≡◌, ℕ, ◌%◌, ◌<◌, ◌≤◌, ◌==◌, Bool, true, false, cond, List, length, slice_index, slice_set, arith}
+use Rattle.std.proofs.Common.{◌≡◌, ℕ, ◌%◌, ◌<◌, ◌≤◌, ◌==◌, Bool, true, false, cond, List, length, slice_index, slice_set, sym, subst, arith}
 use Rattle.std.specs.Prelude.{All}
 use Rattle.std.proofs.lemmas.Grind.{common_steps}
 use Rattle.std.proofs.lemmas.List.Elements.{All-set}
 use Rattle.msp430_decode.specs.declared.instr.Register.{Register}
-use Rattle.msp430_decode.specs.declared.instr.Register.TheVariants.{Pc, Sp, Sr, R3, R4, R5, R6, R7, R8, R9, R10, R11, R12, R13, R14, R15}
 use Rattle.msp430_decode.specs.declared.instr.Width.{Width}
 use Rattle.msp430_decode.specs.declared.instr.Source.{Source}
 use Rattle.msp430_decode.specs.declared.instr.Source.TheVariants as source
+use Rattle.msp430_decode.specs.Codes.{number}
+use Rattle.msp430_chip.specs.Kinds.{Kind}
+use Rattle.msp430_chip.specs.Kinds.Kind.{Counter, Stack, Status, Empty, General}
 use Rattle.msp430_chip.specs.State.{even}
 use Rattle.msp430_chip.specs.Operands.{with_register, grown}
 use Rattle.msp430_chip.specs.Step.{lowered, with_lowered}
+use Rattle.msp430_chip.proofs.KindsOfRegisters.{kind_of}
 
 pub record AreRegisters (registers : List ℕ) : Type 0 where
   pub count : length registers ≡ 16
@@ -69,23 +72,15 @@ even_below value h = omega arith
 pub even_is : (value : ℕ) → even value % 2 ≡ 0
 even_is value = omega arith
 
+with_register_by : (registers : List ℕ) (register : Register) (value : ℕ) → Kind register → AreRegisters registers → value < 65536 → AreRegisters (with_register registers register value)
+with_register_by registers register value (Counter is) are below = subst (λ r. AreRegisters (with_register registers r value)) (sym is) (set_pc registers (even value) are (even_below value below) (even_is value))
+with_register_by registers register value (Stack is) are below = subst (λ r. AreRegisters (with_register registers r value)) (sym is) (set_sp registers (even value) are (even_below value below) (even_is value))
+with_register_by registers register value (Status is) are below = subst (λ r. AreRegisters (with_register registers r value)) (sym is) (set_status registers (value % 512) are (omega arith))
+with_register_by registers register value (Empty is) are below = subst (λ r. AreRegisters (with_register registers r value)) (sym is) are
+with_register_by registers register value (General is) are below = subst AreRegisters (sym (is.set registers value)) (set_other registers (number register) value are (omega (arith, is.above)) below)
+
 pub with_register_keeps : (registers : List ℕ) (register : Register) (value : ℕ) → AreRegisters registers → value < 65536 → AreRegisters (with_register registers register value)
-with_register_keeps registers Pc value are below = set_pc registers (even value) are (even_below value below) (even_is value)
-with_register_keeps registers Sp value are below = set_sp registers (even value) are (even_below value below) (even_is value)
-with_register_keeps registers Sr value are below = set_status registers (value % 512) are (omega arith)
-with_register_keeps registers R3 value are below = are
-with_register_keeps registers R4 value are below = set_other registers 4 value are (omega arith) below
-with_register_keeps registers R5 value are below = set_other registers 5 value are (omega arith) below
-with_register_keeps registers R6 value are below = set_other registers 6 value are (omega arith) below
-with_register_keeps registers R7 value are below = set_other registers 7 value are (omega arith) below
-with_register_keeps registers R8 value are below = set_other registers 8 value are (omega arith) below
-with_register_keeps registers R9 value are below = set_other registers 9 value are (omega arith) below
-with_register_keeps registers R10 value are below = set_other registers 10 value are (omega arith) below
-with_register_keeps registers R11 value are below = set_other registers 11 value are (omega arith) below
-with_register_keeps registers R12 value are below = set_other registers 12 value are (omega arith) below
-with_register_keeps registers R13 value are below = set_other registers 13 value are (omega arith) below
-with_register_keeps registers R14 value are below = set_other registers 14 value are (omega arith) below
-with_register_keeps registers R15 value are below = set_other registers 15 value are (omega arith) below
+with_register_keeps registers register value = with_register_by registers register value (kind_of register)
 
 pub grown_keeps : (registers : List ℕ) (width : Width) (operand : Source) → AreRegisters registers → AreRegisters (grown registers width operand)
 grown_keeps registers width (source.IndirectIncrement register) are = with_register_keeps registers register _ are (omega arith)

@@ -15,7 +15,7 @@ use Rattle.msp430_decode.specs.declared.instr.SingleOperation.TheVariants.{Rrc, 
 use Rattle.msp430_decode.specs.Table.{AreSingle}
 use Rattle.msp430_chip.specs.declared.place.Flags.{Flags}
 use Rattle.msp430_chip.specs.Arithmetic.{Made, modulus, digits_of, top_place, complement, sum, decimal, result_of, rotated, single_result, bit_from, with_flags, with_made_flags}
-use Rattle.msp430_chip.proofs.Gives.{Gives, answer_gives, ask_gives, either_gives, then_gives}
+use Rattle.choosing.specs.Gives.{Gives, answer_gives, ask_gives, either_gives, then_gives}
 
 -- a result of this width
 abbrev pub Fits : Width → Made → Type 0

@@ -1,5 +1,5 @@
 -- A step keeps the form of states.
-use Rattle.std.proofs.Common.{◌≡◌, ℕ, ◌+◌, ◌-◌, ◌*◌, ◌/◌, ◌%◌, ◌<◌, ◌==◌, ◌&&◌, ◌||◌, Bool, true, false, cond, nat_lt, List, [], ◌∷◌, ◌++◌, length, slice_index, slice_set, Option, None, Some, Result, Ok, Err, refl, arith}
+use Rattle.std.proofs.Common.{◌≡◌, ℕ, ◌+◌, ◌-◌, ◌*◌, ◌/◌, ◌%◌, ◌<◌, ◌==◌, ◌&&◌, ◌||◌, Bool, true, false, cond, nat_lt, List, [], ◌∷◌, ◌++◌, length, slice_index, slice_set, Option, None, Some, Result, Ok, Err, refl, sym, subst, arith}
 use Rattle.std.specs.Prelude.{All}
 use Rattle.std.proofs.lemmas.List.Elements.{All-get_or}
 use Rattle.ihex_read.specs.Image.{IsByte}
@@ -7,7 +7,7 @@ use Rattle.call_context.specs.declared.shown.Space.TheVariants.{Mem}
 use Rattle.call_context.specs.Single.{Single}
 use Rattle.call_context.specs.Single.Single.{Access}
 use Rattle.msp430_decode.specs.declared.instr.Register.{Register}
-use Rattle.msp430_decode.specs.declared.instr.Register.TheVariants.{Pc, Sp, Sr, R3, R4, R5, R6, R7, R8, R9, R10, R11, R12, R13, R14, R15}
+use Rattle.msp430_decode.specs.declared.instr.Register.TheVariants.{Sr}
 use Rattle.msp430_decode.specs.declared.instr.Width.{Width}
 use Rattle.msp430_decode.specs.declared.instr.Width.TheVariants.{Word, Byte}
 use Rattle.msp430_decode.specs.declared.instr.Operation.{Operation}
@@ -27,15 +27,18 @@ use Rattle.msp430_chip.specs.declared.place.Place.{Place}
 use Rattle.msp430_chip.specs.declared.place.Place.TheVariants.{InRegister, InMemory, Fixed}
 use Rattle.msp430_chip.specs.declared.state.ChipState.{ChipState}
 use Rattle.msp430_chip.specs.Arithmetic.{modulus, sets_flags, single_sets_flags, reads_destination, writes_result}
-use Rattle.msp430_chip.specs.Asking.{answer, ask, and_then}
+use Rattle.choosing.specs.Asking.{answer, ask, and_then}
 use Rattle.msp430_chip.specs.Interrupts.{coming, enter, handler_of, vector_address}
 use Rattle.msp430_chip.specs.Memory.{with_stored}
 use Rattle.msp430_chip.specs.Operands.{value_at, value_in, grown, source_place, destination_place, is_status, has_free_bits, with_free_bits, access_to}
 use Rattle.msp430_chip.specs.Outcome.{Outcome, unless_hit}
-use Rattle.msp430_chip.specs.Outcome.Outcome.{Next, Wild}
+use Rattle.choosing.specs.Outcome.Outcome.{Next, Wild}
 use Rattle.msp430_chip.specs.State.{IsChipState, register_of, even}
 use Rattle.msp430_chip.specs.Step.{Left, put, put_if, with_status, done, behind, counter, reads_counter, destination_value, double_left, double_accesses, double, single_left, single, is_formed_by_stack, with_lowered, lowered, pushed_word, pushed, push_left, push, one_operand, is_taken, jump, return, executed, run, taken, step_of}
-use Rattle.msp430_chip.proofs.Gives.{Gives, answer_gives, ask_gives, ask_if_gives, either_gives, choose_gives, then_gives, weaken}
+use Rattle.choosing.specs.Gives.{Gives, answer_gives, ask_gives, ask_if_gives, either_gives, choose_gives, then_gives, weaken}
+use Rattle.msp430_chip.specs.Kinds.{Kind}
+use Rattle.msp430_chip.specs.Kinds.Kind.{Counter, Stack, Status, Empty, General}
+use Rattle.msp430_chip.proofs.KindsOfRegisters.{kind_of}
 use Rattle.msp430_chip.proofs.MemoryForm.{IsMemory, read_word_gives, read_gives, with_stored_keeps, image_word_below}
 use Rattle.msp430_chip.proofs.Registers.{AreRegisters, set_pc, set_sp, set_status, even_below, even_is, with_register_keeps, grown_keeps, set_lowered, with_lowered_keeps}
 use Rattle.msp430_chip.proofs.Results.{Fits, modulus_some, result_gives, single_gives, made_flags_below}
@@ -105,27 +108,16 @@ status_operand : (width : Width) (registers : List ℕ) → AreRegisters registe
 status_operand Word registers are = let h = are.status in record { below = omega arith; held = λ _. omega arith }
 status_operand Byte registers are = record { below = omega arith; held = λ free. absurd cc }
 
-register_operand : (width : Width) (registers : List ℕ) (register : Register) → AreRegisters registers → IsOperand width (InRegister register) (value_in registers register % modulus width)
-register_operand width registers Sr are = status_operand width registers are
-register_operand width registers Pc are = plain_operand width (InRegister Pc) _ (no_free_bits width (InRegister Pc) refl) (rest_below width _)
-register_operand width registers Sp are = plain_operand width (InRegister Sp) _ (no_free_bits width (InRegister Sp) refl) (rest_below width _)
-register_operand width registers R3 are = plain_operand width (InRegister R3) _ (no_free_bits width (InRegister R3) refl) (rest_below width _)
-register_operand width registers R4 are = plain_operand width (InRegister R4) _ (no_free_bits width (InRegister R4) refl) (rest_below width _)
-register_operand width registers R5 are = plain_operand width (InRegister R5) _ (no_free_bits width (InRegister R5) refl) (rest_below width _)
-register_operand width registers R6 are = plain_operand width (InRegister R6) _ (no_free_bits width (InRegister R6) refl) (rest_below width _)
-register_operand width registers R7 are = plain_operand width (InRegister R7) _ (no_free_bits width (InRegister R7) refl) (rest_below width _)
-register_operand width registers R8 are = plain_operand width (InRegister R8) _ (no_free_bits width (InRegister R8) refl) (rest_below width _)
-register_operand width registers R9 are = plain_operand width (InRegister R9) _ (no_free_bits width (InRegister R9) refl) (rest_below width _)
-register_operand width registers R10 are = plain_operand width (InRegister R10) _ (no_free_bits width (InRegister R10) refl) (rest_below width _)
-register_operand width registers R11 are = plain_operand width (InRegister R11) _ (no_free_bits width (InRegister R11) refl) (rest_below width _)
-register_operand width registers R12 are = plain_operand width (InRegister R12) _ (no_free_bits width (InRegister R12) refl) (rest_below width _)
-register_operand width registers R13 are = plain_operand width (InRegister R13) _ (no_free_bits width (InRegister R13) refl) (rest_below width _)
-register_operand width registers R14 are = plain_operand width (InRegister R14) _ (no_free_bits width (InRegister R14) refl) (rest_below width _)
-register_operand width registers R15 are = plain_operand width (InRegister R15) _ (no_free_bits width (InRegister R15) refl) (rest_below width _)
+register_operand : (width : Width) (registers : List ℕ) (register : Register) → Kind register → AreRegisters registers → IsOperand width (InRegister register) (value_in registers register % modulus width)
+register_operand width registers register (Status is) are = subst (λ r. IsOperand width (InRegister r) (value_in registers r % modulus width)) (sym is) (status_operand width registers are)
+register_operand width registers register (Counter is) are = plain_operand width (InRegister register) _ (no_free_bits width (InRegister register) (rw is refl)) (rest_below width _)
+register_operand width registers register (Stack is) are = plain_operand width (InRegister register) _ (no_free_bits width (InRegister register) (rw is refl)) (rest_below width _)
+register_operand width registers register (Empty is) are = plain_operand width (InRegister register) _ (no_free_bits width (InRegister register) (rw is refl)) (rest_below width _)
+register_operand width registers register (General is) are = plain_operand width (InRegister register) _ (no_free_bits width (InRegister register) is.no_status) (rest_below width _)
 
 at_gives : (device : Device) (ram registers : List ℕ) (width : Width) (place : Place) → AreRegisters registers → IsMemory device ram
     → Gives (IsOperand width place) (value_at device ram registers width place)
-at_gives device ram registers width (InRegister register) are is = answer_gives (IsOperand width (InRegister register)) _ (register_operand width registers register are)
+at_gives device ram registers width (InRegister register) are is = answer_gives (IsOperand width (InRegister register)) _ (register_operand width registers register (kind_of register) are)
 at_gives device ram registers width (InMemory address) are is =
     weaken (λ (x : ℕ). x < modulus width) (IsOperand width (InMemory address)) _ (λ x h. plain_operand width (InMemory address) x (no_free_bits width (InMemory address) refl) h) (read_gives device ram width address is)
 at_gives device ram registers width (Fixed value) are is =

@@ -1,203 +1,320 @@
--- A step needs a front of the choices.
-use Rattle.std.proofs.Common.{ℕ, ◌+◌, ◌==◌, ◌&&◌, ◌||◌, nat_lt, length, slice_set, Bool, true, false, cond, List, Option, None, Some, Result, Ok, Err}
+-- A step needs a front of the choices, and at most seven of them.
+use Rattle.std.proofs.Common.{◌≡◌, ℕ, ◌+◌, ◌<◌, ◌≤◌, ◌==◌, ◌&&◌, ◌||◌, nat_lt, length, slice_set, Bool, true, false, cond, List, [], Option, None, Some, Result, Ok, Err, refl, arith}
+use Rattle.std.specs.List.{filter, range_with_len}
+use Rattle.std.proofs.lemmas.List.Sums.{length-filter, count_by-le-length}
+use Rattle.std.proofs.lemmas.List.FromFn.{length-range_with_len}
 use Rattle.msp430_decode.specs.declared.instr.Operation.{Operation}
 use Rattle.msp430_decode.specs.declared.instr.Operation.TheVariants.{Mov, Add, Addc, Subc, Sub, Cmp, Dadd, Bit, Bic, Bis, Xor, And}
 use Rattle.msp430_decode.specs.declared.instr.SingleOperation.{SingleOperation}
 use Rattle.msp430_decode.specs.declared.instr.SingleOperation.TheVariants.{Rrc, Swpb, Rra, Sxt, Push, Call}
 use Rattle.msp430_decode.specs.declared.instr.Source.{Source}
+use Rattle.msp430_decode.specs.declared.instr.Source.TheVariants as source
 use Rattle.msp430_decode.specs.declared.instr.Destination.{Destination}
+use Rattle.msp430_decode.specs.declared.instr.Destination.TheVariants as destination
 use Rattle.msp430_decode.specs.declared.instr.Instr.{Instr}
 use Rattle.msp430_decode.specs.declared.instr.Instr.TheVariants.{Double, Single as OneOperand, Jump, ReturnFromInterrupt}
 use Rattle.msp430_decode.specs.declared.refusal.NoInstr.{NoInstr}
 use Rattle.msp430_decode.specs.Decoding.{decoded}
 use Rattle.msp430_chip.specs.declared.place.Place.{Place}
 use Rattle.msp430_chip.specs.declared.place.Place.TheVariants.{InRegister, InMemory, Fixed}
-use Rattle.msp430_chip.specs.Arithmetic.{Made, reads_destination, decimal, result_of, rotated, single_result}
-use Rattle.msp430_chip.specs.Operands.{value_at, grown, source_place, destination_place, has_free_bits}
-use Rattle.msp430_chip.specs.State.{register_of}
+use Rattle.msp430_chip.specs.Arithmetic.{Made, modulus, reads_destination, decimal, result_of, rotated, single_result}
+use Rattle.msp430_chip.specs.Operands.{value_at, grown, source_place, destination_place, is_status, has_free_bits}
+use Rattle.msp430_chip.specs.State.{register_of, allows_interrupts}
 use Rattle.msp430_decode.specs.declared.instr.Width.{Width}
 use Rattle.msp430_decode.specs.declared.instr.Width.TheVariants.{Word, Byte}
 use Rattle.msp430_chip.specs.declared.device.Device.{Device}
 use Rattle.msp430_chip.specs.declared.state.ChipState.{ChipState}
-use Rattle.msp430_chip.specs.Asking.{Asking, ask, answer, ask_if, and_then}
-use Rattle.msp430_chip.specs.Interrupts.{coming, enter}
+use Rattle.choosing.specs.Asking.{answer, ask_if, and_then}
+use Rattle.msp430_chip.specs.Interrupts.{may_come, coming, enter}
 use Rattle.msp430_chip.specs.Memory.{read_outside, read_byte, read_word, read}
-use Rattle.msp430_chip.specs.Step.{Left, behind, is_formed_by_stack, with_lowered, destination_value, double_left, counter, double, single_left, single, pushed_word, pushed, push_left, push, one_operand, return, executed, run, taken, step_of}
-use Rattle.msp430_chip.proofs.Fronts.{IsPrefixed, answer_prefixed, ask_prefixed, if_prefixed, then_prefixed}
+use Rattle.msp430_chip.specs.Step.{Left, behind, is_formed_by_stack, with_lowered, destination_value, status_bits, double_left, counter, double, single_left, single, pushed_word, pushed, push_left, push, one_operand, return, executed, run, taken, step_of}
+use Rattle.choosing.specs.Fronts.{AsksAtMost, answer_asks, more_asks, ask_asks, ask_if_asks, if_asks, choose_asks, then_asks}
 
-if_asking : {A : Type 0} {f g : Asking A} (b : Bool) → IsPrefixed f → IsPrefixed g → IsPrefixed (cond b f g)
-if_asking true p q = p
-if_asking false p q = q
+-- ---- memory
 
-ask_if_prefixed : (asked : Bool) (options : ℕ) → IsPrefixed (ask_if asked options)
-ask_if_prefixed asked options = if_prefixed asked (ask options) (answer 0) (ask_prefixed options) (answer_prefixed 0)
+outside_asks : (byte : Option ℕ) → AsksAtMost 1 (read_outside byte)
+outside_asks None = ask_asks 256 (omega arith) (omega arith)
+outside_asks (Some byte) = more_asks 0 1 (answer byte) (omega arith) (answer_asks byte)
 
-outside_prefixed : (byte : Option ℕ) → IsPrefixed (read_outside byte)
-outside_prefixed None = ask_prefixed 256
-outside_prefixed (Some byte) = answer_prefixed byte
-
-byte_prefixed : (device : Device) (ram : List ℕ) (at : ℕ) → IsPrefixed (read_byte device ram at)
+byte_asks : (device : Device) (ram : List ℕ) (at : ℕ) → AsksAtMost 1 (read_byte device ram at)
 unfolding read_byte
-byte_prefixed device ram at = if_prefixed _ (answer _) _ (answer_prefixed _) (outside_prefixed _)
+byte_asks device ram at = if_asks 1 _ (answer _) _ (more_asks 0 1 _ (omega arith) (answer_asks _)) (outside_asks _)
 
-word_prefixed : (device : Device) (ram : List ℕ) (at : ℕ) → IsPrefixed (read_word device ram at)
+word_asks : (device : Device) (ram : List ℕ) (at : ℕ) → AsksAtMost 2 (read_word device ram at)
 unfolding read_word
-word_prefixed device ram at = then_prefixed _ _ (byte_prefixed device ram _) (λ (low : ℕ). then_prefixed _ _ (byte_prefixed device ram _) (λ (high : ℕ). answer_prefixed _))
+word_asks device ram at = then_asks 1 1 _ _ (byte_asks device ram _) (λ (low : ℕ). then_asks 1 0 _ _ (byte_asks device ram _) (λ (high : ℕ). answer_asks _))
 
-read_prefixed : (device : Device) (ram : List ℕ) (width : Width) (at : ℕ) → IsPrefixed (read device ram width at)
-read_prefixed device ram Word at = word_prefixed device ram at
-read_prefixed device ram Byte at = byte_prefixed device ram at
+read_asks : (device : Device) (ram : List ℕ) (width : Width) (at : ℕ) → AsksAtMost 2 (read device ram width at)
+read_asks device ram Word at = word_asks device ram at
+read_asks device ram Byte at = more_asks 1 2 _ (omega arith) (byte_asks device ram at)
 
-enter_prefixed : (device : Device) (s : ChipState) (vector : ℕ) → IsPrefixed (enter device s vector)
+enter_asks : (device : Device) (s : ChipState) (vector : ℕ) → AsksAtMost 1 (enter device s vector)
 unfolding enter
-enter_prefixed device s vector = then_prefixed _ _ (ask_prefixed 128) (λ (bits : ℕ). answer_prefixed _)
+enter_asks device s vector = then_asks 1 0 _ _ (ask_asks 128 (omega arith) (omega arith)) (λ (bits : ℕ). answer_asks _)
 
 -- ---- operands and results
 
-at_prefixed : (device : Device) (ram registers : List ℕ) (width : Width) (place : Place) → IsPrefixed (value_at device ram registers width place)
-at_prefixed device ram registers width (InRegister register) = answer_prefixed _
-at_prefixed device ram registers width (InMemory address) = read_prefixed device ram width address
-at_prefixed device ram registers width (Fixed value) = answer_prefixed _
+at_asks : (device : Device) (ram registers : List ℕ) (width : Width) (place : Place) → AsksAtMost 2 (value_at device ram registers width place)
+at_asks device ram registers width (InRegister register) = more_asks 0 2 _ (omega arith) (answer_asks _)
+at_asks device ram registers width (InMemory address) = read_asks device ram width address
+at_asks device ram registers width (Fixed value) = more_asks 0 2 _ (omega arith) (answer_asks _)
 
-destination_prefixed : (device : Device) (ram registers : List ℕ) (operation : Operation) (width : Width) (place : Place)
-    → IsPrefixed (destination_value device ram registers operation width place)
-destination_prefixed device ram registers operation width place =
-    if_prefixed _ _ (answer 0) (at_prefixed device ram registers width place) (answer_prefixed 0)
+some_asked : (width : Width) → 0 < modulus width × (modulus width ≤ 65536)
+some_asked Word = (omega arith, omega arith)
+some_asked Byte = (omega arith, omega arith)
 
-decimal_prefixed : (width : Width) (x y carry : ℕ) → IsPrefixed (decimal width x y carry)
+decimal_asks : (width : Width) (x y carry : ℕ) → AsksAtMost 2 (decimal width x y carry)
 unfolding decimal
-decimal_prefixed width x y carry = if_prefixed _ _ _
-    (then_prefixed _ _ (ask_prefixed 2) (λ (overflow : ℕ). answer_prefixed _))
-    (then_prefixed _ _ (ask_prefixed _) (λ (result : ℕ). then_prefixed _ _ (ask_prefixed 16) (λ (option : ℕ). answer_prefixed _)))
+decimal_asks width x y carry = if_asks 2 _ _ _
+    (more_asks 1 2 _ (omega arith) (then_asks 1 0 _ _ (ask_asks 2 (omega arith) (omega arith)) (λ (overflow : ℕ). answer_asks _)))
+    (then_asks 1 1 _ _ (ask_asks _ (some_asked width).0 (some_asked width).1) (λ (result : ℕ). then_asks 1 0 _ _ (ask_asks 16 (omega arith) (omega arith)) (λ (option : ℕ). answer_asks _)))
 
-result_prefixed : (operation : Operation) (width : Width) (x y carry : ℕ) → IsPrefixed (result_of operation width x y carry)
-result_prefixed Mov width x y carry = answer_prefixed _
-result_prefixed Add width x y carry = answer_prefixed _
-result_prefixed Addc width x y carry = answer_prefixed _
-result_prefixed Subc width x y carry = answer_prefixed _
-result_prefixed Sub width x y carry = answer_prefixed _
-result_prefixed Cmp width x y carry = answer_prefixed _
-result_prefixed Dadd width x y carry = decimal_prefixed width y x carry
-result_prefixed Bit width x y carry = answer_prefixed _
-result_prefixed Bic width x y carry = answer_prefixed _
-result_prefixed Bis width x y carry = answer_prefixed _
-result_prefixed Xor width x y carry = answer_prefixed _
-result_prefixed And width x y carry = answer_prefixed _
+made_asks : {A : Type 0} (a : A) → AsksAtMost 2 (answer a)
+made_asks a = more_asks 0 2 (answer a) (omega arith) (answer_asks a)
 
-rotated_prefixed : (width : Width) (x carry : ℕ) → IsPrefixed (rotated width x carry)
+result_asks : (operation : Operation) (width : Width) (x y carry : ℕ) → AsksAtMost 2 (result_of operation width x y carry)
+result_asks Mov width x y carry = made_asks _
+result_asks Add width x y carry = made_asks _
+result_asks Addc width x y carry = made_asks _
+result_asks Subc width x y carry = made_asks _
+result_asks Sub width x y carry = made_asks _
+result_asks Cmp width x y carry = made_asks _
+result_asks Dadd width x y carry = decimal_asks width y x carry
+result_asks Bit width x y carry = made_asks _
+result_asks Bic width x y carry = made_asks _
+result_asks Bis width x y carry = made_asks _
+result_asks Xor width x y carry = made_asks _
+result_asks And width x y carry = made_asks _
+
+rotated_asks : (width : Width) (x carry : ℕ) → AsksAtMost 1 (rotated width x carry)
 unfolding rotated
-rotated_prefixed width x carry = then_prefixed _ _ (ask_prefixed 2) (λ (overflow : ℕ). answer_prefixed _)
+rotated_asks width x carry = then_asks 1 0 _ _ (ask_asks 2 (omega arith) (omega arith)) (λ (overflow : ℕ). answer_asks _)
 
-single_result_prefixed : (operation : SingleOperation) (width : Width) (x carry : ℕ) → IsPrefixed (single_result operation width x carry)
-single_result_prefixed Rrc width x carry = rotated_prefixed width x carry
-single_result_prefixed Swpb width x carry = answer_prefixed _
-single_result_prefixed Rra width x carry = answer_prefixed _
-single_result_prefixed Sxt width x carry = answer_prefixed _
-single_result_prefixed Push width x carry = answer_prefixed _
-single_result_prefixed Call width x carry = answer_prefixed _
+shown_asks : {A : Type 0} (a : A) → AsksAtMost 1 (answer a)
+shown_asks a = more_asks 0 1 (answer a) (omega arith) (answer_asks a)
 
--- ---- instructions
+single_result_asks : (operation : SingleOperation) (width : Width) (x carry : ℕ) → AsksAtMost 1 (single_result operation width x carry)
+single_result_asks Rrc width x carry = rotated_asks width x carry
+single_result_asks Swpb width x carry = shown_asks _
+single_result_asks Rra width x carry = shown_asks _
+single_result_asks Sxt width x carry = shown_asks _
+single_result_asks Push width x carry = shown_asks _
+single_result_asks Call width x carry = shown_asks _
 
-double_left_prefixed : (device : Device) (ram registers : List ℕ) (operation : Operation) (width : Width) (place : Place) (x y carry : ℕ)
-    → IsPrefixed (double_left device ram registers operation width place x y carry)
+-- ---- two operands: a register is asked for no bytes, and nothing else for bits of SR or for an address
+
+abbrev source_questions : Source → ℕ
+source_questions (source.Register register) = 0
+source_questions (source.Indexed register offset) = 2
+source_questions (source.Indirect register) = 2
+source_questions (source.IndirectIncrement register) = 2
+source_questions (source.Immediate value) = 0
+source_questions (source.Symbolic offset) = 2
+source_questions (source.Absolute address) = 2
+source_questions (source.Constant constant) = 0
+
+abbrev destination_questions : Destination → ℕ
+destination_questions (destination.Register register) = 0
+destination_questions other = 2
+
+abbrev counter_questions : Source → ℕ
+counter_questions (source.Register register) = 1
+counter_questions other = 0
+
+abbrev target_bits : Destination → ℕ
+target_bits (destination.Register register) = 1
+target_bits other = 0
+
+abbrev bits_questions : Source → Destination → ℕ
+bits_questions (source.Register register) place = 1
+bits_questions other place = target_bits place
+
+source_asks : (device : Device) (ram before : List ℕ) (pc : ℕ) (width : Width) (operand : Source)
+    → AsksAtMost (source_questions operand) (value_at device ram before width (source_place pc before operand))
+source_asks device ram before pc width (source.Register register) = answer_asks _
+source_asks device ram before pc width (source.Indexed register offset) = read_asks device ram width _
+source_asks device ram before pc width (source.Indirect register) = read_asks device ram width _
+source_asks device ram before pc width (source.IndirectIncrement register) = read_asks device ram width _
+source_asks device ram before pc width (source.Immediate value) = answer_asks _
+source_asks device ram before pc width (source.Symbolic offset) = read_asks device ram width _
+source_asks device ram before pc width (source.Absolute address) = read_asks device ram width _
+source_asks device ram before pc width (source.Constant constant) = answer_asks _
+
+target_asks : (device : Device) (ram registers : List ℕ) (pc len : ℕ) (operation : Operation) (width : Width) (target : Destination)
+    → AsksAtMost (destination_questions target) (destination_value device ram registers operation width (destination_place pc len registers target))
+target_asks device ram registers pc len operation width (destination.Register register) = if_asks 0 _ _ (answer 0) (answer_asks _) (answer_asks 0)
+target_asks device ram registers pc len operation width (destination.Indexed register offset) = if_asks 2 _ _ (answer 0) (read_asks device ram width _) (made_asks 0)
+target_asks device ram registers pc len operation width (destination.Symbolic offset) = if_asks 2 _ _ (answer 0) (read_asks device ram width _) (made_asks 0)
+target_asks device ram registers pc len operation width (destination.Absolute address) = if_asks 2 _ _ (answer 0) (read_asks device ram width _) (made_asks 0)
+
+counter_asks : (s : ChipState) (len : ℕ) (operand : Source) (target : Destination) → AsksAtMost (counter_questions operand) (counter s len operand target)
+counter_asks s len (source.Register register) target =
+    if_asks 1 _ _ (answer _) (then_asks 1 0 _ _ (ask_asks 2 (omega arith) (omega arith)) (λ (option : ℕ). answer_asks _)) (shown_asks _)
+counter_asks s len (source.Indexed register offset) target = answer_asks _
+counter_asks s len (source.Indirect register) target = answer_asks _
+counter_asks s len (source.IndirectIncrement register) target = answer_asks _
+counter_asks s len (source.Immediate value) target = answer_asks _
+counter_asks s len (source.Symbolic offset) target = answer_asks _
+counter_asks s len (source.Absolute address) target = answer_asks _
+counter_asks s len (source.Constant constant) target = answer_asks _
+
+-- no bits of SR are free in memory, or in a number
+held_whole : (width : Width) (place : Place) → is_status place ≡ false → has_free_bits width place ≡ false
+held_whole Word place h = h
+held_whole Byte place h = refl
+
+unasked : (first reads second : Bool) → first ≡ false → second ≡ false → AsksAtMost 0 (ask_if (first || (reads && second)) 128)
+unasked false true false h k = answer_asks 0
+unasked false false false h k = answer_asks 0
+unasked true reads second h k = absurd cc
+unasked false reads true h k = absurd cc
+
+target_bits_asks : (operation : Operation) (width : Width) (pc len : ℕ) (registers : List ℕ) (origin : Place) (target : Destination) → has_free_bits width origin ≡ false
+    → AsksAtMost (target_bits target) (status_bits operation width origin (destination_place pc len registers target))
+target_bits_asks operation width pc len registers origin (destination.Register register) h = ask_if_asks _ 128 (omega arith) (omega arith)
+target_bits_asks operation width pc len registers origin (destination.Indexed register offset) h = unasked _ (reads_destination operation) _ h (held_whole width _ refl)
+target_bits_asks operation width pc len registers origin (destination.Symbolic offset) h = unasked _ (reads_destination operation) _ h (held_whole width _ refl)
+target_bits_asks operation width pc len registers origin (destination.Absolute address) h = unasked _ (reads_destination operation) _ h (held_whole width _ refl)
+
+bits_asks : (operation : Operation) (width : Width) (pc len : ℕ) (before registers : List ℕ) (operand : Source) (target : Destination)
+    → AsksAtMost (bits_questions operand target) (status_bits operation width (source_place pc before operand) (destination_place pc len registers target))
+bits_asks operation width pc len before registers (source.Register register) target = ask_if_asks _ 128 (omega arith) (omega arith)
+bits_asks operation width pc len before registers (source.Indexed register offset) target = target_bits_asks operation width pc len registers _ target (held_whole width _ refl)
+bits_asks operation width pc len before registers (source.Indirect register) target = target_bits_asks operation width pc len registers _ target (held_whole width _ refl)
+bits_asks operation width pc len before registers (source.IndirectIncrement register) target = target_bits_asks operation width pc len registers _ target (held_whole width _ refl)
+bits_asks operation width pc len before registers (source.Immediate value) target = target_bits_asks operation width pc len registers _ target (held_whole width _ refl)
+bits_asks operation width pc len before registers (source.Symbolic offset) target = target_bits_asks operation width pc len registers _ target (held_whole width _ refl)
+bits_asks operation width pc len before registers (source.Absolute address) target = target_bits_asks operation width pc len registers _ target (held_whole width _ refl)
+bits_asks operation width pc len before registers (source.Constant constant) target = target_bits_asks operation width pc len registers _ target (held_whole width _ refl)
+
+target_few : (target : Destination) → destination_questions target + target_bits target ≤ 2
+target_few (destination.Register register) = omega arith
+target_few (destination.Indexed register offset) = omega arith
+target_few (destination.Symbolic offset) = omega arith
+target_few (destination.Absolute address) = omega arith
+
+double_few : (operand : Source) (target : Destination)
+    → counter_questions operand + (source_questions operand + (destination_questions target + (bits_questions operand target + (2 + 0)))) ≤ 6
+double_few (source.Register register) target = omega (arith, target_few target)
+double_few (source.Indexed register offset) target = omega (arith, target_few target)
+double_few (source.Indirect register) target = omega (arith, target_few target)
+double_few (source.IndirectIncrement register) target = omega (arith, target_few target)
+double_few (source.Immediate value) target = omega (arith, target_few target)
+double_few (source.Symbolic offset) target = omega (arith, target_few target)
+double_few (source.Absolute address) target = omega (arith, target_few target)
+double_few (source.Constant constant) target = omega (arith, target_few target)
+
+double_left_asks : (device : Device) (ram registers : List ℕ) (operation : Operation) (width : Width) (place : Place) (x y carry : ℕ)
+    → AsksAtMost 2 (double_left device ram registers operation width place x y carry)
 unfolding double_left
-double_left_prefixed device ram registers operation width place x y carry = if_prefixed _ _ _
-    (then_prefixed _ _ (ask_prefixed 512) (λ (status : ℕ). answer_prefixed _))
-    (then_prefixed _ _ (result_prefixed operation width x y carry) (λ (made : Made). answer_prefixed _))
+double_left_asks device ram registers operation width place x y carry = if_asks 2 _ _ _
+    (more_asks 1 2 _ (omega arith) (then_asks 1 0 _ _ (ask_asks 512 (omega arith) (omega arith)) (λ (status : ℕ). answer_asks _)))
+    (then_asks 2 0 _ _ (result_asks operation width x y carry) (λ (made : Made). answer_asks _))
 
-counter_prefixed : (s : ChipState) (len : ℕ) (origin : Source) (destination : Destination) → IsPrefixed (counter s len origin destination)
-counter_prefixed s len origin destination = if_prefixed _ _ (answer _) (then_prefixed _ _ (ask_prefixed 2) (λ (option : ℕ). answer_prefixed _)) (answer_prefixed _)
-
-double_prefixed : (device : Device) (s : ChipState) (len : ℕ) (operation : Operation) (width : Width) (origin : Source) (destination : Destination)
-    → IsPrefixed (double device s len operation width origin destination)
+double_asks : (device : Device) (s : ChipState) (len : ℕ) (operation : Operation) (width : Width) (operand : Source) (target : Destination)
+    → AsksAtMost 6 (double device s len operation width operand target)
 unfolding double
-double_prefixed device s len operation width origin destination =
-    then_prefixed _ _ (counter_prefixed s len origin destination) (λ (counted : ℕ).
+double_asks device s len operation width operand target = more_asks _ 6 _ (double_few operand target)
+    (then_asks _ _ _ _ (counter_asks s len operand target) (λ (counted : ℕ).
     let before = slice_set s.registers 0 counted in
-    let from = source_place (register_of s 0) before origin in
-    let registers = grown before width origin in
-    let place = destination_place (register_of s 0) len registers destination in
-    then_prefixed _ _ (at_prefixed device s.ram before width from) (λ (x : ℕ).
-    then_prefixed _ _ (destination_prefixed device s.ram registers operation width place) (λ (y : ℕ).
-    then_prefixed _ _ (ask_if_prefixed (has_free_bits width from || (reads_destination operation && has_free_bits width place)) 128) (λ (bits : ℕ).
-    then_prefixed _ _ (double_left_prefixed device _ _ operation width _ _ _ _) (λ (left : Left). answer_prefixed _)))))
+    let registers = grown before width operand in
+    then_asks _ _ _ _ (source_asks device s.ram before (register_of s 0) width operand) (λ (x : ℕ).
+    then_asks _ _ _ _ (target_asks device s.ram registers (register_of s 0) len operation width target) (λ (y : ℕ).
+    then_asks _ _ _ _ (bits_asks operation width (register_of s 0) len before registers operand target) (λ (bits : ℕ).
+    then_asks 2 0 _ _ (double_left_asks device _ _ operation width _ _ _ _) (λ (left : Left). answer_asks _))))))
 
-single_left_prefixed : (device : Device) (ram registers : List ℕ) (operation : SingleOperation) (width : Width) (place : Place) (x carry : ℕ)
-    → IsPrefixed (single_left device ram registers operation width place x carry)
+-- ---- one operand
+
+single_left_asks : (device : Device) (ram registers : List ℕ) (operation : SingleOperation) (width : Width) (place : Place) (x carry : ℕ)
+    → AsksAtMost 1 (single_left device ram registers operation width place x carry)
 unfolding single_left
-single_left_prefixed device ram registers operation width place x carry = if_prefixed _ _ _
-    (then_prefixed _ _ (ask_prefixed 512) (λ (status : ℕ). answer_prefixed _))
-    (then_prefixed _ _ (single_result_prefixed operation width x carry) (λ (made : Made). answer_prefixed _))
+single_left_asks device ram registers operation width place x carry = if_asks 1 _ _ _
+    (then_asks 1 0 _ _ (ask_asks 512 (omega arith) (omega arith)) (λ (status : ℕ). answer_asks _))
+    (then_asks 1 0 _ _ (single_result_asks operation width x carry) (λ (made : Made). answer_asks _))
 
-single_prefixed : (device : Device) (s : ChipState) (len : ℕ) (operation : SingleOperation) (width : Width) (operand : Source)
-    → IsPrefixed (single device s len operation width operand)
+single_asks : (device : Device) (s : ChipState) (len : ℕ) (operation : SingleOperation) (width : Width) (operand : Source)
+    → AsksAtMost 4 (single device s len operation width operand)
 unfolding single
-single_prefixed device s len operation width operand =
+single_asks device s len operation width operand =
     let before = slice_set s.registers 0 (behind s len) in
     let place = source_place (register_of s 0) before operand in
-    then_prefixed _ _ (at_prefixed device s.ram before width place) (λ (x : ℕ).
-    then_prefixed _ _ (ask_if_prefixed (has_free_bits width place) 128) (λ (bits : ℕ).
-    then_prefixed _ _ (single_left_prefixed device _ _ operation width _ _ _) (λ (left : Left). answer_prefixed _)))
+    then_asks 2 2 _ _ (at_asks device s.ram before width place) (λ (x : ℕ).
+    then_asks 1 1 _ _ (ask_if_asks (has_free_bits width place) 128 (omega arith) (omega arith)) (λ (bits : ℕ).
+    then_asks 1 0 _ _ (single_left_asks device _ _ operation width _ _ _) (λ (left : Left). answer_asks _)))
 
-pushed_prefixed : (width : Width) (x : ℕ) → IsPrefixed (pushed_word width x)
-pushed_prefixed Word x = answer_prefixed x
-pushed_prefixed Byte x = then_prefixed _ _ (ask_prefixed 256) (λ (high : ℕ). answer_prefixed _)
+-- ---- PUSH, CALL and RETI
 
-plain_push_prefixed : (device : Device) (ram registers : List ℕ) (width : Width) (x : ℕ)
-    → IsPrefixed (and_then (pushed_word width x) (λ word. answer (pushed device registers ram word)))
-plain_push_prefixed device ram registers width x = then_prefixed _ _ (pushed_prefixed width x) (λ (word : ℕ). answer_prefixed _)
+pushed_asks : (width : Width) (x : ℕ) → AsksAtMost 1 (pushed_word width x)
+pushed_asks Word x = shown_asks x
+pushed_asks Byte x = then_asks 1 0 _ _ (ask_asks 256 (omega arith) (omega arith)) (λ (high : ℕ). answer_asks _)
 
-push_left_prefixed : (device : Device) (ram registers : List ℕ) (operation : SingleOperation) (width : Width) (x next : ℕ)
-    → IsPrefixed (push_left device ram registers operation width x next)
+plain_push_asks : (device : Device) (ram registers : List ℕ) (width : Width) (x : ℕ)
+    → AsksAtMost 1 (and_then (pushed_word width x) (λ word. answer (pushed device registers ram word)))
+plain_push_asks device ram registers width x = then_asks 1 0 _ _ (pushed_asks width x) (λ (word : ℕ). answer_asks _)
+
+push_left_asks : (device : Device) (ram registers : List ℕ) (operation : SingleOperation) (width : Width) (x next : ℕ)
+    → AsksAtMost 1 (push_left device ram registers operation width x next)
 unfolding push_left
-push_left_prefixed device ram registers Call width x next = answer_prefixed _
-push_left_prefixed device ram registers Rrc width x next = plain_push_prefixed device ram registers width x
-push_left_prefixed device ram registers Swpb width x next = plain_push_prefixed device ram registers width x
-push_left_prefixed device ram registers Rra width x next = plain_push_prefixed device ram registers width x
-push_left_prefixed device ram registers Sxt width x next = plain_push_prefixed device ram registers width x
-push_left_prefixed device ram registers Push width x next = plain_push_prefixed device ram registers width x
+push_left_asks device ram registers Call width x next = shown_asks _
+push_left_asks device ram registers Rrc width x next = plain_push_asks device ram registers width x
+push_left_asks device ram registers Swpb width x next = plain_push_asks device ram registers width x
+push_left_asks device ram registers Rra width x next = plain_push_asks device ram registers width x
+push_left_asks device ram registers Sxt width x next = plain_push_asks device ram registers width x
+push_left_asks device ram registers Push width x next = plain_push_asks device ram registers width x
 
-push_prefixed : (device : Device) (s : ChipState) (len : ℕ) (operation : SingleOperation) (width : Width) (operand : Source)
-    → IsPrefixed (push device s len operation width operand)
+push_asks : (device : Device) (s : ChipState) (len : ℕ) (operation : SingleOperation) (width : Width) (operand : Source)
+    → AsksAtMost 5 (push device s len operation width operand)
 unfolding push
-push_prefixed device s len operation width operand =
-    then_prefixed _ _ (ask_if_prefixed (is_formed_by_stack operand) 2) (λ (option : ℕ).
+push_asks device s len operation width operand =
+    then_asks 1 4 _ _ (ask_if_asks (is_formed_by_stack operand) 2 (omega arith) (omega arith)) (λ (option : ℕ).
     let forming = with_lowered option (slice_set s.registers 0 (behind s len)) in
     let place = source_place (register_of s 0) forming operand in
-    then_prefixed _ _ (at_prefixed device s.ram forming width place) (λ (x : ℕ).
-    then_prefixed _ _ (ask_if_prefixed (has_free_bits width place) 128) (λ (bits : ℕ).
-    then_prefixed _ _ (push_left_prefixed device _ _ operation width _ _) (λ (left : Left). answer_prefixed _))))
+    then_asks 2 2 _ _ (at_asks device s.ram forming width place) (λ (x : ℕ).
+    then_asks 1 1 _ _ (ask_if_asks (has_free_bits width place) 128 (omega arith) (omega arith)) (λ (bits : ℕ).
+    then_asks 1 0 _ _ (push_left_asks device _ _ operation width _ _) (λ (left : Left). answer_asks _))))
 
-one_operand_prefixed : (device : Device) (s : ChipState) (len : ℕ) (operation : SingleOperation) (width : Width) (operand : Source)
-    → IsPrefixed (one_operand device s len operation width operand)
-one_operand_prefixed device s len Push width operand = push_prefixed device s len Push width operand
-one_operand_prefixed device s len Call width operand = push_prefixed device s len Call width operand
-one_operand_prefixed device s len Rrc width operand = single_prefixed device s len Rrc width operand
-one_operand_prefixed device s len Swpb width operand = single_prefixed device s len Swpb width operand
-one_operand_prefixed device s len Rra width operand = single_prefixed device s len Rra width operand
-one_operand_prefixed device s len Sxt width operand = single_prefixed device s len Sxt width operand
+one_operand_asks : (device : Device) (s : ChipState) (len : ℕ) (operation : SingleOperation) (width : Width) (operand : Source)
+    → AsksAtMost 6 (one_operand device s len operation width operand)
+one_operand_asks device s len Push width operand = more_asks 5 6 _ (omega arith) (push_asks device s len Push width operand)
+one_operand_asks device s len Call width operand = more_asks 5 6 _ (omega arith) (push_asks device s len Call width operand)
+one_operand_asks device s len Rrc width operand = more_asks 4 6 _ (omega arith) (single_asks device s len Rrc width operand)
+one_operand_asks device s len Swpb width operand = more_asks 4 6 _ (omega arith) (single_asks device s len Swpb width operand)
+one_operand_asks device s len Rra width operand = more_asks 4 6 _ (omega arith) (single_asks device s len Rra width operand)
+one_operand_asks device s len Sxt width operand = more_asks 4 6 _ (omega arith) (single_asks device s len Sxt width operand)
 
-return_prefixed : (device : Device) (s : ChipState) → IsPrefixed (return device s)
+return_asks : (device : Device) (s : ChipState) → AsksAtMost 4 (return device s)
 unfolding return
-return_prefixed device s =
-    then_prefixed _ _ (word_prefixed device _ _) (λ (status : ℕ). then_prefixed _ _ (word_prefixed device _ _) (λ (target : ℕ). answer_prefixed _))
+return_asks device s =
+    then_asks 2 2 _ _ (word_asks device _ _) (λ (status : ℕ). then_asks 2 0 _ _ (word_asks device _ _) (λ (target : ℕ). answer_asks _))
 
 -- ---- steps
 
-executed_prefixed : (device : Device) (s : ChipState) (instr : Instr) (len : ℕ) → IsPrefixed (executed device s instr len)
-executed_prefixed device s (Double operation width origin destination) len = double_prefixed device s len operation width origin destination
-executed_prefixed device s (OneOperand operation width operand) len = one_operand_prefixed device s len operation width operand
-executed_prefixed device s (Jump condition offset) len = answer_prefixed _
-executed_prefixed device s ReturnFromInterrupt len = return_prefixed device s
+executed_asks : (device : Device) (s : ChipState) (instr : Instr) (len : ℕ) → AsksAtMost 6 (executed device s instr len)
+executed_asks device s (Double operation width origin destination) len = double_asks device s len operation width origin destination
+executed_asks device s (OneOperand operation width operand) len = one_operand_asks device s len operation width operand
+executed_asks device s (Jump condition offset) len = more_asks 0 6 _ (omega arith) (answer_asks _)
+executed_asks device s ReturnFromInterrupt len = more_asks 4 6 _ (omega arith) (return_asks device s)
 
-run_prefixed : (device : Device) (s : ChipState) (found : Result (Instr × ℕ) NoInstr) → IsPrefixed (run device s found)
-run_prefixed device s (Ok (instr, len)) = executed_prefixed device s instr len
-run_prefixed device s (Err none) = answer_prefixed _
+run_asks : (device : Device) (s : ChipState) (found : Result (Instr × ℕ) NoInstr) → AsksAtMost 6 (run device s found)
+run_asks device s (Ok (instr, len)) = executed_asks device s instr len
+run_asks device s (Err none) = more_asks 0 6 _ (omega arith) (answer_asks _)
 
-taken_prefixed : (device : Device) (s : ChipState) (vectors : List ℕ) (option : ℕ) → IsPrefixed (taken device s vectors option)
-taken_prefixed device s vectors option = if_asking (option == 0) (run_prefixed device s (decoded device.image (register_of s 0))) (enter_prefixed device s _)
+taken_asks : (device : Device) (s : ChipState) (vectors : List ℕ) (option : ℕ) → AsksAtMost 6 (taken device s vectors option)
+taken_asks device s vectors option = choose_asks 6 (option == 0) _ _
+    (run_asks device s (decoded device.image (register_of s 0))) (more_asks 1 6 _ (omega arith) (enter_asks device s _))
 
-pub step_prefixed : (device : Device) (s : ChipState) → IsPrefixed (step_of device s)
+chosen_few : (b : Bool) (vectors : List ℕ) → length vectors ≤ 14 → length (cond b vectors []) ≤ 14
+chosen_few true vectors h = h
+chosen_few false vectors h = omega arith
+
+few_filtered : (p : ℕ → Bool) (n : ℕ) → length (filter p (range_with_len 0 n)) ≤ n
+few_filtered p n = omega (arith, length-filter p (range_with_len 0 n), count_by-le-length p (range_with_len 0 n), length-range_with_len 0 n)
+
+few_vectors : (device : Device) (s : ChipState) → length (coming device s) ≤ 14
+unfolding coming
+few_vectors device s = chosen_few (allows_interrupts s || s.late) _ (few_filtered (may_come device) 14)
+
+pub step_asks : (device : Device) (s : ChipState) → AsksAtMost 7 (step_of device s)
 unfolding step_of
-step_prefixed device s = let vectors = coming device s in
-    then_prefixed _ _ (ask_if_prefixed (nat_lt 0 (length vectors)) (1 + length vectors)) (taken_prefixed device s vectors)
+step_asks device s = let vectors = coming device s in
+    then_asks 1 6 _ _ (ask_if_asks (nat_lt 0 (length vectors)) (1 + length vectors) (omega arith) (omega (arith, few_vectors device s))) (taken_asks device s vectors)

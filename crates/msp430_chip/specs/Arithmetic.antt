@@ -9,7 +9,7 @@ use Rattle.msp430_decode.specs.declared.instr.Operation.TheVariants.{Mov, Add, A
 use Rattle.msp430_decode.specs.declared.instr.SingleOperation.{SingleOperation}
 use Rattle.msp430_decode.specs.declared.instr.SingleOperation.TheVariants.{Rrc, Swpb, Rra, Sxt, Push, Call}
 use Rattle.msp430_chip.specs.declared.place.Flags.{Flags}
-use Rattle.msp430_chip.specs.Asking.{Asking, answer, ask, and_then}
+use Rattle.choosing.specs.Asking.{Asking, answer, ask, and_then}
 
 -- a result, and the flags that it sets, if it sets any
 abbrev pub Made : Type 0

@@ -7,7 +7,7 @@ use Rattle.call_context.specs.Single.Single.{Access, Edge, Stack}
 use Rattle.msp430_decode.specs.declared.instr.Width.TheVariants.{Word}
 use Rattle.msp430_chip.specs.declared.device.Device.{Device}
 use Rattle.msp430_chip.specs.declared.state.ChipState.{ChipState}
-use Rattle.msp430_chip.specs.Asking.{Asking, answer, ask, and_then}
+use Rattle.choosing.specs.Asking.{Asking, answer, ask, ◌>>=◌}
 use Rattle.msp430_chip.specs.Memory.{with_stored, program_hit}
 use Rattle.msp430_chip.specs.Outcome.{Outcome, unless_hit}
 use Rattle.msp430_chip.specs.State.{even, register_of, allows_interrupts, image_word}
@@ -41,18 +41,22 @@ abbrev pub first_hit : Option ℕ → Option ℕ → Option ℕ
 first_hit None other = other
 first_hit (Some at) other = Some at
 
--- PC is pushed, then SR with any bits 9 to 15
-unfoldable pub enter : Device → ChipState → ℕ → Asking (Outcome ChipState)
-enter device s vector =
+-- PC is pushed, then SR with these bits 9 to 15. As with 0280h in SP: PC is written at 027Eh, SR at 027Ch, and SP is 027Ch.
+abbrev pub entry : Device → ChipState → (vector bits : ℕ) → Outcome ChipState
+entry device s vector bits =
     let pc = register_of s 0 in
     let sp = register_of s 1 in
     let first = (sp + 65534) % 65536 in
     let second = (sp + 65532) % 65536 in
-    and_then (ask 128) (λ bits.
-    answer (unless_hit (first_hit (program_hit device Word first) (program_hit device Word second))
+    unless_hit (first_hit (program_hit device Word first) (program_hit device Word second))
     (Stack pc sp ∷ Access pc Mem true 2 first ∷ Access pc Mem true 2 second ∷ Edge pc (handler_of device vector) ∷ [])
     (record {
       registers = entered device s vector;
       ram = with_stored device (with_stored device s.ram Word first pc) Word second (register_of s 2 + 512 * bits);
       late = false;
-    })))
+    })
+
+unfoldable pub enter : Device → ChipState → ℕ → Asking (Outcome ChipState)
+enter device s vector = do
+  bits ← ask 128
+  answer (entry device s vector bits)

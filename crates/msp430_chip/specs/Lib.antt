@@ -1,6 +1,7 @@
 pub mod Arithmetic
-pub mod Asking
 pub mod Interrupts
+pub mod Kinds
+pub mod Leading
 pub mod Memory
 pub mod Operands
 pub mod Outcome

@@ -5,7 +5,7 @@ use Rattle.ihex_read.specs.Image.{byte_at}
 use Rattle.msp430_decode.specs.declared.instr.Width.{Width}
 use Rattle.msp430_decode.specs.declared.instr.Width.TheVariants.{Word, Byte}
 use Rattle.msp430_chip.specs.declared.device.Device.{Device}
-use Rattle.msp430_chip.specs.Asking.{Asking, answer, ask, and_then}
+use Rattle.choosing.specs.Asking.{Asking, answer, ask, and_then}
 use Rattle.msp430_chip.specs.State.{even}
 
 abbrev pub is_ram : Device → ℕ → Bool

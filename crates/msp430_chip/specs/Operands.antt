@@ -18,7 +18,7 @@ use Rattle.msp430_chip.specs.declared.device.Device.{Device}
 use Rattle.msp430_chip.specs.declared.place.Place.{Place}
 use Rattle.msp430_chip.specs.declared.place.Place.TheVariants.{InRegister, InMemory, Fixed}
 use Rattle.msp430_chip.specs.Arithmetic.{modulus}
-use Rattle.msp430_chip.specs.Asking.{Asking, answer}
+use Rattle.choosing.specs.Asking.{Asking, answer}
 use Rattle.msp430_chip.specs.Memory.{read, aligned, size_of}
 use Rattle.msp430_chip.specs.State.{even}
 

@@ -1,15 +1,16 @@
 -- What a step leads to.
 use Rattle.std.specs.Prelude.{ℕ, Option, None, Some, List}
 use Rattle.call_context.specs.Single.{Single}
-use Rattle.msp430_chip.specs.declared.state.Wild.{Wild as AWild}
+use Rattle.choosing.specs.Outcome.{Outcome as OutcomeBy}
+use Rattle.choosing.specs.Outcome.Outcome.{Next, Wild as Leaves}
+use Rattle.msp430_chip.specs.declared.state.Wild.{Wild}
 use Rattle.msp430_chip.specs.declared.state.Wild.TheVariants.{Store}
 
 -- the next state, with what the step did in its order, or out of what the model says
-pub data Outcome (S : Type 0) : Type 0 where
-  Next : (items : List Single) (state : S) → Outcome S
-  Wild : (cause : AWild) → Outcome S
+abbrev pub Outcome : Type 0 → Type 0
+Outcome S = OutcomeBy S Wild
 
 -- where a store hits the program, the state leaves the model
 abbrev pub unless_hit : {S : Type 0} → Option ℕ → List Single → S → Outcome S
-unless_hit (Some at) items state = Wild (Store at)
+unless_hit (Some at) items state = Leaves (Store at)
 unless_hit None items state = Next items state

@@ -1,10 +1,10 @@
 -- Single states of the MSP430 (SLAU049, chapter 3, "CPU Registers"; chapter 2, "System Reset and Initialization").
-use Rattle.std.specs.Prelude.{◌≡◌, ℕ, ◌+◌, ◌-◌, ◌*◌, ◌/◌, ◌%◌, ◌<◌, ◌==◌, Bool, false, Option, None, Some, length, slice_index, All}
+use Rattle.std.specs.Prelude.{◌≡◌, ℕ, ◌+◌, ◌-◌, ◌*◌, ◌/◌, ◌%◌, ◌<◌, ◌==◌, Bool, false, Option, None, Some, ◌∷◌, length, replicate, slice_index, All}
 use Rattle.ihex_read.specs.Image.{byte_at}
 use Rattle.msp430_chip.specs.declared.device.Device.{Device}
 use Rattle.msp430_chip.specs.declared.state.ChipState.{ChipState}
 
--- without bit 0
+-- a number without bit 0: the even one of it and its neighbour
 abbrev pub even : ℕ → ℕ
 even word = word - word % 2
 
@@ -12,7 +12,7 @@ even word = word - word % 2
 abbrev pub register_of : ChipState → ℕ → ℕ
 register_of s register = slice_index s.registers register
 
--- GIE, bit 3 of SR
+-- GIE, bit 3 of SR. An interrupt may come where this is set or `late` is.
 abbrev pub allows_interrupts : ChipState → Bool
 allows_interrupts s = register_of s 2 / 8 % 2 == 1
 
@@ -50,3 +50,11 @@ pub record IsResetOf (device : Device) (s : ChipState) : Type 0 where
   pub starts : register_of s 0 ≡ reset_address device
   pub status : register_of s 2 ≡ 0
   pub not_late : s.late ≡ false
+
+-- the state behind a reset in which all that is any is 0
+abbrev pub first_state : Device → ChipState
+first_state device = record {
+  registers = reset_address device ∷ replicate 15 0;
+  ram = replicate (ram_size device) 0;
+  late = false;
+}

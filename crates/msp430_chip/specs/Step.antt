@@ -29,12 +29,12 @@ use Rattle.msp430_chip.specs.declared.place.Place.TheVariants.{InRegister, InMem
 use Rattle.msp430_chip.specs.declared.state.ChipState.{ChipState}
 use Rattle.msp430_chip.specs.declared.state.Wild.TheVariants.{NoInstr}
 use Rattle.msp430_chip.specs.Arithmetic.{result_of, single_result, sets_flags, single_sets_flags, writes_result, reads_destination, with_made_flags}
-use Rattle.msp430_chip.specs.Asking.{Asking, answer, ask, ask_if, and_then}
+use Rattle.choosing.specs.Asking.{Asking, answer, ask, ask_if, and_then, ◌>>=◌}
 use Rattle.msp430_chip.specs.Interrupts.{coming, enter}
 use Rattle.msp430_chip.specs.Memory.{read_word, with_stored, program_hit}
 use Rattle.msp430_chip.specs.Operands.{with_register, grown, source_place, destination_place, value_at, is_status, has_free_bits, with_free_bits, access_to}
 use Rattle.msp430_chip.specs.Outcome.{Outcome, unless_hit}
-use Rattle.msp430_chip.specs.Outcome.Outcome.{Wild}
+use Rattle.choosing.specs.Outcome.Outcome.{Wild}
 use Rattle.msp430_chip.specs.State.{even, register_of, allows_interrupts}
 
 -- WHAT AN INSTRUCTION LEAVES
@@ -64,7 +64,8 @@ with_status flags left = record {
   hit = left.hit;
 }
 
--- The end of an instruction. The bit `late` behind it is what allowed interrupts before it.
+-- The end of an instruction. The bit `late` behind it is GIE as it stood before it: an interrupt may so come at one more
+-- boundary, behind an instruction that clears GIE.
 abbrev pub done : ChipState → Instr → List Single → Left → Outcome ChipState
 done s instr accesses left =
     let pc = register_of s 0 in
@@ -120,20 +121,21 @@ double_accesses pc operation width origin place =
     access_to pc false width origin ++ reads_if (reads_destination operation) pc width place
     ++ writes_if (writes_result operation) pc width place
 
+-- As MOV @R5+,0(R5) with 0200h in R5: the word at 0200h is read, R5 is then 0202h, and so the word is written at 0202h.
 unfoldable pub double : Device → ChipState → ℕ → Operation → Width → Source → Destination → Asking (Outcome ChipState)
-double device s len operation width source destination =
-    let pc = register_of s 0 in
-    and_then (counter s len source destination) (λ counted.
-    let before = slice_set s.registers 0 counted in
-    let origin = source_place pc before source in
-    let registers = grown before width source in
-    let place = destination_place pc len registers destination in
-    and_then (value_at device s.ram before width origin) (λ x.
-    and_then (destination_value device s.ram registers operation width place) (λ y.
-    and_then (status_bits operation width origin place) (λ bits.
-    and_then (double_left device s.ram (slice_set registers 0 (behind s len)) operation width place
-    (with_free_bits width origin bits x) (with_free_bits width place bits y) (register_of s 2 % 2)) (λ left.
-    answer (done s (Double operation width source destination) (double_accesses pc operation width origin place) left))))))
+double device s len operation width source destination = do
+  let pc = register_of s 0
+  counted ← counter s len source destination
+  let at_source = slice_set s.registers 0 counted
+  let origin = source_place pc at_source source
+  let behind_source = grown at_source width source
+  let place = destination_place pc len behind_source destination
+  x ← value_at device s.ram at_source width origin
+  y ← destination_value device s.ram behind_source operation width place
+  bits ← status_bits operation width origin place
+  let at_write = slice_set behind_source 0 (behind s len)
+  left ← double_left device s.ram at_write operation width place (with_free_bits width origin bits x) (with_free_bits width place bits y) (register_of s 2 % 2)
+  answer (done s (Double operation width source destination) (double_accesses pc operation width origin place) left)
 
 -- ONE OPERAND
 
@@ -145,17 +147,18 @@ single_left device ram registers operation width place x carry choices =
     else and_then (single_result operation width x carry) (λ made.
     answer (with_status made.1 (put device registers ram width place made.0))) choices
 
--- RRC, SWPB, RRA and SXT
+-- RRC, SWPB, RRA and SXT. As RRA @R5+ with 0200h in R5: the word at 0200h is read, R5 is then 0202h, and the result is written
+-- at 0200h.
 unfoldable pub single : Device → ChipState → ℕ → SingleOperation → Width → Source → Asking (Outcome ChipState)
-single device s len operation width operand =
-    let pc = register_of s 0 in
-    let before = slice_set s.registers 0 (behind s len) in
-    let place = source_place pc before operand in
-    let registers = grown before width operand in
-    and_then (value_at device s.ram before width place) (λ x.
-    and_then (ask_if (has_free_bits width place) 128) (λ bits.
-    and_then (single_left device s.ram registers operation width place (with_free_bits width place bits x) (register_of s 2 % 2)) (λ left.
-    answer (done s (OneOperand operation width operand) (access_to pc false width place ++ access_to pc true width place) left))))
+single device s len operation width operand = do
+  let pc = register_of s 0
+  let at_operand = slice_set s.registers 0 (behind s len)
+  let place = source_place pc at_operand operand
+  let behind_operand = grown at_operand width operand
+  x ← value_at device s.ram at_operand width place
+  bits ← ask_if (has_free_bits width place) 128
+  left ← single_left device s.ram behind_operand operation width place (with_free_bits width place bits x) (register_of s 2 % 2)
+  answer (done s (OneOperand operation width operand) (access_to pc false width place ++ access_to pc true width place) left)
 
 -- PUSH AND CALL
 
@@ -189,19 +192,21 @@ push_left device ram registers Call width x next =
 push_left device ram registers other width x next =
     and_then (pushed_word width x) (λ word. answer (pushed device registers ram word))
 
+-- As PUSH @SP+ with 0280h in SP: the word at 0280h is read, SP is then 0282h, and the word is written at 0280h. As PUSH @SP,
+-- which forms its operand before or after SP is lowered: the word at 0280h or at 027Eh is read, and written at 027Eh.
 unfoldable pub push : Device → ChipState → ℕ → SingleOperation → Width → Source → Asking (Outcome ChipState)
-push device s len operation width operand =
-    let pc = register_of s 0 in
-    let before = slice_set s.registers 0 (behind s len) in
-    and_then (ask_if (is_formed_by_stack operand) 2) (λ option.
-    let forming = with_lowered option before in
-    let place = source_place pc forming operand in
-    let registers = grown before width operand in
-    and_then (value_at device s.ram forming width place) (λ x.
-    and_then (ask_if (has_free_bits width place) 128) (λ bits.
-    and_then (push_left device s.ram registers operation width (with_free_bits width place bits x) (behind s len)) (λ left.
-    answer (done s (OneOperand operation width operand)
-    (access_to pc false width place ++ access_to pc true Word (InMemory (lowered (slice_index registers 1)))) left)))))
+push device s len operation width operand = do
+  let pc = register_of s 0
+  let before = slice_set s.registers 0 (behind s len)
+  option ← ask_if (is_formed_by_stack operand) 2
+  let at_operand = with_lowered option before
+  let place = source_place pc at_operand operand
+  let at_push = grown before width operand
+  x ← value_at device s.ram at_operand width place
+  bits ← ask_if (has_free_bits width place) 128
+  left ← push_left device s.ram at_push operation width (with_free_bits width place bits x) (behind s len)
+  let slot = InMemory (lowered (slice_index at_push 1))
+  answer (done s (OneOperand operation width operand) (access_to pc false width place ++ access_to pc true Word slot) left)
 
 abbrev pub one_operand : Device → ChipState → ℕ → SingleOperation → Width → Source → Asking (Outcome ChipState)
 one_operand device s len Push width operand = push device s len Push width operand
@@ -227,18 +232,21 @@ jump s condition offset =
     done s (Jump condition offset) [] (record { registers = slice_set s.registers 0 next; ram = s.ram; hit = None })
 
 -- RETI takes SR from the stack, and then PC
-unfoldable pub return : Device → ChipState → Asking (Outcome ChipState)
-return device s =
+abbrev pub returned : ChipState → (status target : ℕ) → Outcome ChipState
+returned s status target =
     let pc = register_of s 0 in
     let sp = register_of s 1 in
-    let second = (sp + 2) % 65536 in
-    and_then (read_word device s.ram sp) (λ status.
-    and_then (read_word device s.ram second) (λ target.
-    answer (done s ReturnFromInterrupt (Access pc Mem false 2 sp ∷ Access pc Mem false 2 second ∷ []) (record {
+    done s ReturnFromInterrupt (Access pc Mem false 2 sp ∷ Access pc Mem false 2 ((sp + 2) % 65536) ∷ []) (record {
       registers = slice_set (slice_set (slice_set s.registers 0 (even target)) 1 ((sp + 4) % 65536)) 2 (status % 512);
       ram = s.ram;
       hit = None;
-    }))))
+    })
+
+unfoldable pub return : Device → ChipState → Asking (Outcome ChipState)
+return device s = do
+  status ← read_word device s.ram (register_of s 1)
+  target ← read_word device s.ram ((register_of s 1 + 2) % 65536)
+  answer (returned s status target)
 
 -- STEPS
 
@@ -259,10 +267,15 @@ taken device s vectors option =
     if option == 0 then run device s (decoded device.image (register_of s 0))
     else enter device s (slice_index vectors (option - 1))
 
+-- which of the interrupts that may come does so: where none may, nothing is asked
+abbrev pub interrupt_option : Device → ChipState → Asking ℕ
+interrupt_option device s = ask_if (nat_lt 0 (length (coming device s))) (1 + length (coming device s))
+
 -- one step from a state
 unfoldable pub step_of : Device → ChipState → Asking (Outcome ChipState)
-step_of device s = let vectors = coming device s in
-    and_then (ask_if (nat_lt 0 (length vectors)) (1 + length vectors)) (taken device s vectors)
+step_of device s = do
+  option ← interrupt_option device s
+  taken device s (coming device s) option
 
 -- a state may lead to an outcome by these choices, which are as many as it asks
 abbrev pub Step : Device → ChipState → List ℕ → Outcome ChipState → Type 0

@@ -1,14 +1,23 @@
 //! What holds of all steps.
 
-ghost use Rattle.std.specs.Prelude.{◌≡◌, ◌++◌, ℕ, All, List, Some, length};
+ghost use Rattle.std.specs.Prelude.{◌≡◌, ◌++◌, ◌-◌, ◌<◌, ◌≤◌, ℕ, All, IsSome, List, Some, length, slice_index};
 ghost use Rattle.ihex_read.specs.Image.{IsByte};
 ghost use Rattle.call_context.specs.Single.{Single};
+ghost use Rattle.msp430_decode.specs.declared.instr.Instr.{Instr as AnInstr};
+ghost use Rattle.msp430_decode.specs.declared.instr.Register.{Register as ARegister};
+ghost use Rattle.msp430_decode.specs.declared.refusal.NoInstr.TheVariants.{Excluded, OffImage};
+ghost use Rattle.msp430_decode.specs.Standing.{IsExcluded, Lacks, Stands};
+ghost use Rattle.choosing.specs.Gives.{Gives};
 ghost use Rattle.msp430_chip.specs.declared.device.Device.{Device as ADevice};
 ghost use Rattle.msp430_chip.specs.declared.state.ChipState.{ChipState as AState};
 ghost use Rattle.msp430_chip.specs.Outcome.{Outcome};
-ghost use Rattle.msp430_chip.specs.Outcome.Outcome.{Next};
-ghost use Rattle.msp430_chip.specs.State.{IsChipState};
-ghost use Rattle.msp430_chip.specs.Step.{Step, step_of};
+ghost use Rattle.choosing.specs.Outcome.Outcome.{Next, Wild};
+ghost use Rattle.msp430_chip.specs.declared.state.Wild.TheVariants.{NoInstr};
+ghost use Rattle.msp430_chip.specs.Interrupts.{coming, enter};
+ghost use Rattle.msp430_chip.specs.Kinds.{Kind};
+ghost use Rattle.msp430_chip.specs.Leading.{MayLead, MayRun};
+ghost use Rattle.msp430_chip.specs.State.{IsChipState, IsResetOf, first_state, register_of};
+ghost use Rattle.msp430_chip.specs.Step.{Step, executed, interrupt_option, step_of};
 
 use msp430_decode::decoded_is_the_answer;
 
@@ -28,6 +37,52 @@ pub fn one_front()
 pub fn steps_keep_form()
     ensures { (device : ADevice) (s t : AState) (choices : List ℕ) (items : List Single) → length device.image ≡ 65536 → All IsByte device.image →
         IsChipState device s → Step device s choices (Next items t) → IsChipState device t }
+{
+    decoded_is_the_answer();
+}
+
+/// Seven choices are enough for any step, and each step is taken by choices of 16 bits.
+pub fn steps_are_taken()
+    ensures some { (device : ADevice) (s : AState) (choices : List ℕ) → 7 ≤ length choices → IsSome (step_of device s choices) }
+    ensures small { (device : ADevice) (s : AState) (choices : List ℕ) (outcome : Outcome AState) → Step device s choices outcome →
+        (few : List ℕ) × All (λ choice. choice < 65536) few × Step device s few outcome }
+{}
+
+/// A device with a program has a state behind a reset: among others, the one with 0 in all that a reset leaves open.
+pub fn a_reset_exists()
+    ensures { (device : ADevice) → All IsByte device.image → IsResetOf device (first_state device) }
+{}
+
+/// The instruction table decides a step, where the choices let no interrupt come: the instruction that stands at PC runs,
+/// and where a byte of it lacks, or the first word is excluded, the state leaves the model. An interrupt that comes is
+/// entered.
+pub fn the_table_decides()
+    ensures runs { (device : ADevice) (s : AState) (choices left : List ℕ) (instr : AnInstr) (len : ℕ) →
+        length device.image ≡ 65536 → All IsByte device.image → interrupt_option device s choices ≡ Some (0, left) →
+        Stands device.image (register_of s 0) instr len → step_of device s choices ≡ executed device s instr len left }
+    ensures lacks { (device : ADevice) (s : AState) (choices left : List ℕ) (at : ℕ) →
+        length device.image ≡ 65536 → All IsByte device.image → interrupt_option device s choices ≡ Some (0, left) →
+        Lacks device.image (register_of s 0) at → step_of device s choices ≡ Some (Wild (NoInstr (OffImage at)), left) }
+    ensures excluded { (device : ADevice) (s : AState) (choices left : List ℕ) →
+        length device.image ≡ 65536 → All IsByte device.image → interrupt_option device s choices ≡ Some (0, left) →
+        IsExcluded device.image (register_of s 0) → step_of device s choices ≡ Some (Wild (NoInstr Excluded), left) }
+    ensures enters { (device : ADevice) (s : AState) (choices left : List ℕ) (option : ℕ) →
+        interrupt_option device s choices ≡ Some (option, left) → 0 < option →
+        step_of device s choices ≡ enter device s (slice_index (coming device s) (option - 1)) left }
+{
+    decoded_is_the_answer();
+}
+
+/// A register is PC, SP, SR or R3, or it is one of R4 to R15, which are alike.
+pub fn registers_of_five_kinds()
+    ensures { (register : ARegister) → Kind register }
+{}
+
+/// What an instruction of so many bytes leads to, format by format, and what a step leads to, as relations in which no
+/// choices stand (`specs/Leading.antt`).
+pub fn steps_lead()
+    ensures format { (device : ADevice) (s : AState) (instr : AnInstr) (len : ℕ) → Gives (MayRun device s instr len) (executed device s instr len) }
+    ensures step { (device : ADevice) (s : AState) → length device.image ≡ 65536 → All IsByte device.image → Gives (MayLead device s) (step_of device s) }
 {
     decoded_is_the_answer();
 }

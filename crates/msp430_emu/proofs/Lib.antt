@@ -1,4 +1,3 @@
-pub mod ChoosingLemmas
 pub mod DecimalLemmas
 pub mod DoubleLemmas
 pub mod RamLemmas

@@ -14,7 +14,7 @@ use Rattle.msp430_chip.specs.declared.state.ChipState.{ChipState}
 use Rattle.msp430_chip.specs.Memory.{with_stored, program_hit, size_of}
 use Rattle.msp430_chip.specs.Outcome.{Outcome}
 use Rattle.msp430_chip.specs.State.{register_of}
-use Rattle.msp430_chip.specs.Asking.{Asking, answer, and_then}
+use Rattle.choosing.specs.Asking.{Asking, answer, and_then}
 use Rattle.msp430_chip.specs.Step.{Left, done, double_accesses, double_left}
 use Rattle.msp430_emu.specs.declared.double.Operands.{Operands}
 use Rattle.msp430_emu.specs.declared.draft.Store.{Store}
@@ -22,11 +22,6 @@ use Rattle.msp430_emu.specs.declared.draft.Access.{Access}
 use Rattle.msp430_emu.specs.declared.draft.Accesses.{Accesses}
 use Rattle.msp430_emu.specs.declared.draft.Effect.{Effect}
 use Rattle.msp430_emu.specs.declared.draft.Draft.{Draft}
-
--- what a call answered, read as something else, with the choices that it left
-abbrev pub asked_as : {A B : Type 0} → (A → B) → Option A → List ℕ → Option (B × List ℕ)
-asked_as read None left = None
-asked_as read (Some a) left = Some (read a, left)
 
 -- RAM behind a store, and the lowest byte of the program that it would write
 abbrev pub stored : Device → List ℕ → Option Store → List ℕ

@@ -1,4 +1,3 @@
-pub mod Choosing
 pub mod Drafting
 pub mod Planning
 pub mod Ranges

@@ -12,7 +12,7 @@ use Rattle.msp430_chip.specs.declared.state.ChipState.{ChipState}
 use Rattle.msp430_chip.specs.declared.state.Wild.TheVariants.{NoInstr}
 use Rattle.msp430_chip.specs.Interrupts.{first_hit}
 use Rattle.msp430_chip.specs.Outcome.{Outcome, unless_hit}
-use Rattle.msp430_chip.specs.Outcome.Outcome.{Wild}
+use Rattle.choosing.specs.Outcome.Outcome.{Wild}
 use Rattle.msp430_chip.specs.State.{register_of}
 use Rattle.value_set.specs.Summing.{single}
 use Rattle.msp430_emu.specs.declared.plan.Plan.{Plan}

@@ -1,13 +1,12 @@
 -- What a step of the machine says of the chip.
-use Rattle.std.specs.Prelude.{◌≡◌, ◌≤◌, ℕ, Option, None, Some, List, ◌∷◌, false, map, replicate}
+use Rattle.std.specs.Prelude.{◌≡◌, ◌≤◌, ℕ, Option, None, Some, List, map}
 use Rattle.call_context.specs.Single.{Single}
 use Rattle.ihex_read.specs.declared.rule_set.Rules.{Rules}
 use Rattle.ihex_read.specs.declared.rule_set.Rules.TheVariants.{Msp430, Mcs51}
 use Rattle.msp430_chip.specs.declared.device.Device.{Device}
 use Rattle.msp430_chip.specs.declared.state.ChipState.{ChipState}
 use Rattle.msp430_chip.specs.Outcome.{Outcome}
-use Rattle.msp430_chip.specs.Outcome.Outcome.{Next, Wild as LeavesModel}
-use Rattle.msp430_chip.specs.State.{ram_size, reset_address}
+use Rattle.choosing.specs.Outcome.Outcome.{Next, Wild as LeavesModel}
 use Rattle.msp430_chip.specs.Step.{step_of}
 use Rattle.msp430_emu.specs.declared.stepped.Stepped.{Stepped}
 use Rattle.msp430_emu.specs.declared.stepped.Stepped.TheVariants.{Met, Wild, NeedChoice}
@@ -40,14 +39,6 @@ IsMsp430 Mcs51 = ⊥
 abbrev pub device_under : Rules → List (Option ℕ) → Device
 device_under (Msp430 lo hi) image = device_of image lo hi
 device_under Mcs51 image = device_of image 0 0
-
--- the state behind a reset in which all that is any is 0
-abbrev pub first_state : Device → ChipState
-first_state device = record {
-  registers = reset_address device ∷ replicate 15 0;
-  ram = replicate (ram_size device) 0;
-  late = false;
-}
 
 -- the answer for an outcome, and the state behind it
 abbrev pub Ends : Outcome ChipState → Stepped → ChipState → Type 0

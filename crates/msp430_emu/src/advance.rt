@@ -3,11 +3,10 @@
 ghost use Rattle.std.specs.Prelude.{◌≡◌, ◌<◌, All, IfOk, length};
 ghost use Rattle.msp430_emu.specs.Planning.{outcome_of};
 ghost use Rattle.msp430_chip.specs.State as states;
-ghost use Rattle.msp430_emu.specs.Choosing.{left_of};
 ghost use Rattle.msp430_emu.specs.Registers.{AreRegisters};
 ghost use Rattle.msp430_emu.specs.Stepping.{Ends, IsStill, Steps};
 
-use crate::choices::Choices;
+use choosing::Unused;
 use crate::items::items_of;
 use crate::memory::Layout;
 use crate::plan::Plan;
@@ -42,25 +41,18 @@ fn finish(layout: &Layout, state: &mut ChipState, found: Result<Plan, NoInstr>) 
     }
 }
 
-/// A step of a state. Where none is done, the choices are left unused.
-pub(crate) fn advance(layout: &Layout, state: &mut ChipState, choices: &mut Choices) -> Stepped
+/// A step of a state.
+pub(crate) fn advance(layout: &Layout, state: &mut ChipState, choices: &mut Unused) -> Stepped
     requires size { length state.old.ram ≡ states.ram_size layout.now }
     requires registers { AreRegisters state.old.registers }
-    ensures steps { Steps layout.now state.old (left_of choices.old) result state.new (left_of choices.new) }
+    ensures steps { Steps layout.now state.old choices.old result state.new choices.new }
     ensures still { IsStill result → state.new ≡ state.old }
-    ensures unused { IsStill result → choices.new ≡ choices.old }
-    ensures list { choices.new.list ≡ choices.old.list }
     ensures registers { AreRegisters state.new.registers }
     ensures length { length state.new.ram ≡ length state.old.ram }
     ensures bytes { All (λ b. b < 256) state.old.ram → All (λ b. b < 256) state.new.ram }
 {
-    let used = choices.used();
-    let stepped = match course(layout, state, choices) {
+    match course(layout, state, choices) {
         None => Stepped::NeedChoice,
         Some(found) => finish(layout, state, found),
-    };
-    if !matches!(stepped, Stepped::Met(_)) {
-        choices.rewind(used);
     }
-    stepped
 }

@@ -4,9 +4,9 @@ ghost use Rattle.std.specs.Prelude.{◌≡◌, ◌<◌, ◌≤◌, IfSome};
 ghost use Rattle.msp430_decode.specs.declared.instr.Source.{Source as ASource};
 ghost use Rattle.msp430_decode.specs.Table.{AreSingle};
 ghost use Rattle.msp430_chip.specs.Arithmetic as arithmetic;
-ghost use Rattle.msp430_emu.specs.Choosing.{asked, left_of};
+ghost use Rattle.choosing.specs.Choosing.{asked};
 
-use crate::choices::Choices;
+use choosing::Unused;
 use crate::decimal::decimal;
 use crate::results::{
     Made, complement, exchanged, exclusive, halved, logic, rotated, sign_extended, sum,
@@ -21,14 +21,13 @@ pub(crate) fn result_of(
     source: u16,
     destination: u16,
     carry: u16,
-    choices: &mut Choices,
+    choices: &mut Unused,
 ) -> Option<Made>
     requires source { source < arithmetic.modulus width }
     requires destination { destination < arithmetic.modulus width }
     requires carry { carry ≤ 1 }
-    ensures exact { asked result (left_of choices.new) ≡ arithmetic.result_of operation width source destination carry (left_of choices.old) }
+    ensures exact { asked result choices.new ≡ arithmetic.result_of operation width source destination carry choices.old }
     ensures below { IfSome result (λ made. made.0 < arithmetic.modulus width) }
-    ensures kept { choices.new.list ≡ choices.old.list }
 {
     match operation {
         Operation::Mov => Some((source, None)),
@@ -55,13 +54,12 @@ pub(crate) fn single_result(
     width: Width,
     x: u16,
     carry: u16,
-    choices: &mut Choices,
+    choices: &mut Unused,
 ) -> Option<Made>
     requires x { x < arithmetic.modulus width }
     requires carry { carry ≤ 1 }
-    ensures exact { asked result (left_of choices.new) ≡ arithmetic.single_result operation width x carry (left_of choices.old) }
+    ensures exact { asked result choices.new ≡ arithmetic.single_result operation width x carry choices.old }
     ensures below { (operand : ASource) → AreSingle operation width operand → IfSome result (λ made. made.0 < arithmetic.modulus width) }
-    ensures kept { choices.new.list ≡ choices.old.list }
 {
     match operation {
         SingleOperation::Rrc => rotated(width, x, carry, choices),

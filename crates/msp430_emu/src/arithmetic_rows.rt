@@ -5,8 +5,8 @@ ghost use Rattle.std.specs.Prelude.{◌<◌};
 ghost use Rattle.msp430_chip.specs.Arithmetic as arithmetic;
 
 use crate::arithmetic::{result_of, single_result, with_flags, with_made_flags};
-use crate::choices::Choices;
 use crate::results::{Made, modulus};
+use choosing::{Choices, Unused};
 use msp430_chip::Flags;
 use msp430_decode::{Operation, SingleOperation, Width};
 use std::alloc::Global;
@@ -33,7 +33,7 @@ fn double(
     source: u16,
     destination: u16,
     carry: bool,
-    choices: &mut Choices,
+    choices: &mut Unused,
 ) -> Option<(u16, Option<u16>)> {
     let source = within(width, source);
     let destination = within(width, destination);
@@ -46,7 +46,7 @@ fn single(
     width: Width,
     x: u16,
     carry: bool,
-    choices: &mut Choices,
+    choices: &mut Unused,
 ) -> Option<(u16, Option<u16>)> {
     let x = within(width, x);
     let carry = if carry { 1 } else { 0 };
@@ -60,7 +60,8 @@ fn none(alloc: Global) -> Choices {
 /// Source, destination, C; result, flags.
 #[test]
 fn sums(rt: HostRuntime) {
-    let mut choices = none(rt.alloc());
+    let none = none(rt.alloc());
+    let mut choices = none.unused();
     for (operation, width, source, destination, carry, result, flags) in [
         (
             Operation::Add,
@@ -194,7 +195,8 @@ fn sums(rt: HostRuntime) {
 /// Source, destination; result, flags where they change.
 #[test]
 fn logic(rt: HostRuntime) {
-    let mut choices = none(rt.alloc());
+    let none = none(rt.alloc());
+    let mut choices = none.unused();
     for (operation, width, source, destination, result, flags) in [
         (
             Operation::Xor,
@@ -277,7 +279,8 @@ fn decimal_sums(rt: HostRuntime) -> Result<(), Fail> {
         ),
         (Width::Byte, 0x00, 0xA0, false, 0x1234, 0x0015, 0x34, 0x005),
     ] {
-        let mut choices = Choices::new(vec![in rt.alloc(); first, second]?);
+        let given = Choices::new(vec![in rt.alloc(); first, second]?);
+        let mut choices = given.unused();
         let made = double(
             Operation::Dadd,
             width,
@@ -384,7 +387,8 @@ fn one_operand(rt: HostRuntime) -> Result<(), Fail> {
             None,
         ),
     ] {
-        let mut choices = Choices::new(vec![in rt.alloc(); 1]?);
+        let given = Choices::new(vec![in rt.alloc(); 1]?);
+        let mut choices = given.unused();
         let made = single(operation, width, x, carry, &mut choices);
         assert_eq!(rt; made, Some((result, flags)), "{x}");
     }
@@ -394,7 +398,8 @@ fn one_operand(rt: HostRuntime) -> Result<(), Fail> {
 /// Where the choices end there is no answer. Flags leave the bits 3 to 7 of SR as they are.
 #[test]
 fn ends_and_flags(rt: HostRuntime) {
-    let mut choices = none(rt.alloc());
+    let none = none(rt.alloc());
+    let mut choices = none.unused();
     assert_eq!(rt;
         double(Operation::Dadd, Width::Word, 1, 1, false, &mut choices),
         None

@@ -3,9 +3,9 @@
 ghost use Rattle.std.specs.Prelude.{◌≡◌, ◌==◌, ◌+◌, ◌*◌, ◌^◌, ◌<◌, ◌≤◌, IfSome, true};
 ghost use Rattle.value_bits.specs.Numbers as numbers;
 ghost use Rattle.msp430_chip.specs.Arithmetic as arithmetic;
-ghost use Rattle.msp430_emu.specs.Choosing.{asked, left_of};
+ghost use Rattle.choosing.specs.Choosing.{asked};
 
-use crate::choices::Choices;
+use choosing::Unused;
 use crate::results::{Made, made, modulus};
 use msp430_chip::Flags;
 use msp430_decode::Width;
@@ -83,14 +83,13 @@ pub(crate) fn decimal(
     x: u16,
     y: u16,
     carry: u16,
-    choices: &mut Choices,
+    choices: &mut Unused,
 ) -> Option<Made>
     requires x { x < arithmetic.modulus width }
     requires y { y < arithmetic.modulus width }
     requires carry { carry ≤ 1 }
-    ensures exact { asked result (left_of choices.new) ≡ arithmetic.decimal width x y carry (left_of choices.old) }
+    ensures exact { asked result choices.new ≡ arithmetic.decimal width x y carry choices.old }
     ensures below { IfSome result (λ made. made.0 < arithmetic.modulus width) }
-    ensures kept { choices.new.list ≡ choices.old.list }
 {
     let digits = digits_of(width);
     if is_decimal(digits, x) && is_decimal(digits, y) {

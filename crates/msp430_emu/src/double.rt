@@ -1,19 +1,19 @@
 //! Instructions on two operands.
 
 ghost use Rattle.std.specs.Prelude.{◌≡◌, ◌%◌, ◌<◌, ◌≤◌, ℕ, IfSome, IsTrue, List, None, [], false, length, slice_index, true};
-ghost use Rattle.msp430_chip.specs.Asking.{continued};
+ghost use Rattle.choosing.specs.Asking.{continued};
 ghost use Rattle.msp430_decode.specs.declared.instr.Instr.TheVariants as instr;
 ghost use Rattle.msp430_chip.specs.declared.device.Device.{Device};
 ghost use Rattle.msp430_chip.specs.Arithmetic as numbers;
 ghost use Rattle.msp430_chip.specs.Operands as operands;
 ghost use Rattle.msp430_chip.specs.State as states;
 ghost use Rattle.msp430_chip.specs.Step as steps;
-ghost use Rattle.msp430_emu.specs.Choosing.{asked, left_of};
-ghost use Rattle.msp430_emu.specs.Drafting.{all_shown, asked_as, double_behind, drafted, left_by, shown};
+ghost use Rattle.choosing.specs.Choosing.{asked, asked_as};
+ghost use Rattle.msp430_emu.specs.Drafting.{all_shown, double_behind, drafted, left_by, shown};
 ghost use Rattle.msp430_emu.specs.Registers.{AreRegisters};
 
 use crate::arithmetic::{reads_destination, result_of, sets_flags, writes_result};
-use crate::choices::Choices;
+use choosing::Unused;
 use crate::draft::{Access, Accesses, Draft, Effect};
 use crate::effects::{access_to, free_status, put_if, with_status};
 use crate::memory::Layout;
@@ -51,13 +51,12 @@ fn counter(
     len: u8,
     source: Source,
     destination: Destination,
-    choices: &mut Choices,
+    choices: &mut Unused,
 ) -> Option<u16>
     requires pc { states.register_of s.now 0 % 2 ≡ 0 }
     requires len { len % 2 ≡ 0 }
-    ensures exact { asked result (left_of choices.new) ≡ steps.counter s.now len source destination (left_of choices.old) }
+    ensures exact { asked result choices.new ≡ steps.counter s.now len source destination choices.old }
     ensures even { IfSome result (λ counted. counted % 2 ≡ 0) }
-    ensures kept { choices.new.list ≡ choices.old.list }
 {
     if reads_counter(source, destination) {
         let option = choices.ask(2)?;
@@ -74,14 +73,13 @@ fn destination_value(
     operation: Operation,
     width: Width,
     place: Place,
-    choices: &mut Choices,
+    choices: &mut Unused,
 ) -> Option<u16>
     requires size { length ram.now ≡ states.ram_size layout.now }
     requires status { slice_index registers.now 2 < 512 }
-    ensures exact { asked result (left_of choices.new) ≡ steps.destination_value layout.now ram.now registers.now operation width place (left_of choices.old) }
+    ensures exact { asked result choices.new ≡ steps.destination_value layout.now ram.now registers.now operation width place choices.old }
     ensures below { IfSome result (λ value. value < numbers.modulus width) }
     ensures held { IfSome result (λ value. IsTrue (operands.has_free_bits width place) → value < 512) }
-    ensures kept { choices.new.list ≡ choices.old.list }
 {
     if reads_destination(operation) {
         value_at(layout, ram, registers, width, place, choices)
@@ -96,11 +94,10 @@ fn status_bits(
     width: Width,
     origin: Place,
     place: Place,
-    choices: &mut Choices,
+    choices: &mut Unused,
 ) -> Option<u32>
-    ensures exact { asked result (left_of choices.new) ≡ steps.status_bits operation width origin place (left_of choices.old) }
+    ensures exact { asked result choices.new ≡ steps.status_bits operation width origin place choices.old }
     ensures below { IfSome result (λ bits. bits < 128) }
-    ensures kept { choices.new.list ≡ choices.old.list }
 {
     let is_shown = has_free_bits(width, origin)
         || (reads_destination(operation) && has_free_bits(width, place));
@@ -137,15 +134,14 @@ fn double_left(
     width: Width,
     operands: Operands,
     carry: u16,
-    choices: &mut Choices,
+    choices: &mut Unused,
 ) -> Option<Effect>
     requires x { operands.x < numbers.modulus width }
     requires y { operands.y < numbers.modulus width }
     requires carry { carry ≤ 1 }
-    ensures exact { (device : Device) (ram : List ℕ) → asked_as (left_by device ram) result (left_of choices.new) ≡
-        steps.double_left device ram operands.registers operation width operands.place operands.x operands.y carry (left_of choices.old) }
+    ensures exact { (device : Device) (ram : List ℕ) → asked_as (left_by device ram) result choices.new ≡
+        steps.double_left device ram operands.registers operation width operands.place operands.x operands.y carry choices.old }
     ensures form { IfSome result (λ effect. AreRegisters operands.registers → AreRegisters effect.registers) }
-    ensures kept { choices.new.list ≡ choices.old.list }
 {
     let registers = &operands.registers;
     if sets_flags(operation) && is_status(operands.place) {
@@ -172,18 +168,17 @@ fn double_operands(
     width: Width,
     source: Source,
     destination: Destination,
-    choices: &mut Choices,
+    choices: &mut Unused,
 ) -> Option<Operands>
     requires size { length s.now.ram ≡ states.ram_size layout.now }
     requires registers { AreRegisters s.now.registers }
     requires len { 2 ≤ len }
     requires even { len % 2 ≡ 0 }
-    ensures exact { continued (double_behind layout.now s.now operation width source destination) (asked result (left_of choices.new)) ≡
-        steps.double layout.now s.now len operation width source destination (left_of choices.old) }
+    ensures exact { continued (double_behind layout.now s.now operation width source destination) (asked result choices.new) ≡
+        steps.double layout.now s.now len operation width source destination choices.old }
     ensures x { IfSome result (λ operands. operands.x < numbers.modulus width) }
     ensures y { IfSome result (λ operands. operands.y < numbers.modulus width) }
     ensures form { IfSome result (λ operands. AreRegisters operands.registers) }
-    ensures kept { choices.new.list ≡ choices.old.list }
 {
     let pc = s.registers[0];
     let mut before = s.registers;
@@ -213,16 +208,15 @@ pub(crate) fn double(
     width: Width,
     source: Source,
     destination: Destination,
-    choices: &mut Choices,
+    choices: &mut Unused,
 ) -> Option<Draft>
     requires size { length s.now.ram ≡ states.ram_size layout.now }
     requires registers { AreRegisters s.now.registers }
     requires len { 2 ≤ len }
     requires even { len % 2 ≡ 0 }
-    ensures exact { asked_as (drafted layout.now s.now (instr.Double operation width source destination)) result (left_of choices.new) ≡
-        steps.double layout.now s.now len operation width source destination (left_of choices.old) }
+    ensures exact { asked_as (drafted layout.now s.now (instr.Double operation width source destination)) result choices.new ≡
+        steps.double layout.now s.now len operation width source destination choices.old }
     ensures form { IfSome result (λ draft. AreRegisters draft.effect.registers) }
-    ensures kept { choices.new.list ≡ choices.old.list }
 {
     let operands = double_operands(
         layout,

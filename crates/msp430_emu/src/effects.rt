@@ -3,15 +3,15 @@
 ghost use Rattle.std.specs.Prelude.{◌≡◌, ◌<◌, ℕ, IfSome, List, None, slice_set};
 ghost use Rattle.msp430_chip.specs.declared.device.Device.{Device};
 ghost use Rattle.msp430_chip.specs.Arithmetic as numbers;
-ghost use Rattle.msp430_chip.specs.Asking.{and_then, answer, ask};
+ghost use Rattle.choosing.specs.Asking.{and_then, answer, ask};
 ghost use Rattle.msp430_chip.specs.Operands as operands;
 ghost use Rattle.msp430_chip.specs.Step as steps;
-ghost use Rattle.msp430_emu.specs.Choosing.{left_of};
-ghost use Rattle.msp430_emu.specs.Drafting.{asked_as, left_by, shown};
+ghost use Rattle.choosing.specs.Choosing.{asked_as};
+ghost use Rattle.msp430_emu.specs.Drafting.{left_by, shown};
 ghost use Rattle.msp430_emu.specs.Registers.{AreRegisters};
 
 use crate::arithmetic::with_made_flags;
-use crate::choices::Choices;
+use choosing::Unused;
 use crate::draft::{Access, Effect, Store};
 use crate::memory::aligned;
 use crate::operands::with_register;
@@ -92,11 +92,10 @@ pub(crate) fn access_to(write: bool, width: Width, place: Place) -> Option<Acces
 
 /// An SR that is left free, whole.
 #[tactic(auto, using(crate::proofs::RegisterLemmas::registers_kept))]
-pub(crate) fn free_status(registers: &[u16; 16], choices: &mut Choices) -> Option<Effect>
-    ensures exact { (device : Device) (ram : List ℕ) → asked_as (left_by device ram) result (left_of choices.new) ≡
-        and_then (ask 512) (λ status. answer (left_by device ram (record { registers = slice_set registers.now 2 status; store = None }))) (left_of choices.old) }
+pub(crate) fn free_status(registers: &[u16; 16], choices: &mut Unused) -> Option<Effect>
+    ensures exact { (device : Device) (ram : List ℕ) → asked_as (left_by device ram) result choices.new ≡
+        and_then (ask 512) (λ status. answer (left_by device ram (record { registers = slice_set registers.now 2 status; store = None }))) choices.old }
     ensures form { IfSome result (λ effect. AreRegisters registers.now → AreRegisters effect.registers) }
-    ensures kept { choices.new.list ≡ choices.old.list }
 {
     let status = choices.ask(512)?;
     let mut registers = *registers;

@@ -6,12 +6,11 @@ ghost use Rattle.ihex_read.specs.Image.{byte_at};
 ghost use Rattle.msp430_decode.specs.declared.instr.Width.TheVariants as widths;
 ghost use Rattle.msp430_chip.specs.Interrupts as interrupts;
 ghost use Rattle.msp430_chip.specs.State as states;
-ghost use Rattle.msp430_emu.specs.Choosing.{left_of};
-ghost use Rattle.msp430_emu.specs.Drafting.{asked_as};
+ghost use Rattle.choosing.specs.Choosing.{asked_as};
 ghost use Rattle.msp430_emu.specs.Planning.{planned};
 ghost use Rattle.msp430_emu.specs.Registers.{AreRegisters};
 
-use crate::choices::Choices;
+use choosing::Unused;
 use crate::draft::{Access, Accesses, Store};
 use crate::memory::{Layout, even};
 use crate::plan::Plan;
@@ -120,13 +119,12 @@ pub(crate) fn enter(
     layout: &Layout,
     s: &ChipState,
     vector: u16,
-    choices: &mut Choices,
+    choices: &mut Unused,
 ) -> Option<Plan>
     requires vector { vector < 14 }
     requires registers { AreRegisters s.now.registers }
-    ensures exact { asked_as (planned layout.now s.now) result (left_of choices.new) ≡ interrupts.enter layout.now s.now vector (left_of choices.old) }
+    ensures exact { asked_as (planned layout.now s.now) result choices.new ≡ interrupts.enter layout.now s.now vector choices.old }
     ensures form { IfSome result (λ plan. AreRegisters plan.registers) }
-    ensures kept { choices.new.list ≡ choices.old.list }
 {
     let first = s.registers[1].wrapping_sub(2);
     let second = s.registers[1].wrapping_sub(4);

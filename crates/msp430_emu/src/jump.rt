@@ -5,11 +5,11 @@ ghost use Rattle.msp430_decode.specs.declared.instr.Instr.TheVariants as instr;
 ghost use Rattle.msp430_decode.specs.declared.instr.Width.TheVariants as width;
 ghost use Rattle.msp430_chip.specs.State as states;
 ghost use Rattle.msp430_chip.specs.Step as steps;
-ghost use Rattle.msp430_emu.specs.Choosing.{left_of};
-ghost use Rattle.msp430_emu.specs.Drafting.{asked_as, drafted};
+ghost use Rattle.choosing.specs.Choosing.{asked_as};
+ghost use Rattle.msp430_emu.specs.Drafting.{drafted};
 ghost use Rattle.msp430_emu.specs.Registers.{AreRegisters};
 
-use crate::choices::Choices;
+use choosing::Unused;
 use crate::draft::{Access, Accesses, Draft, Effect};
 use crate::memory::{Layout, even, read_word};
 use crate::operands::behind;
@@ -64,14 +64,13 @@ pub(crate) fn jump(layout: &Layout, s: &ChipState, condition: Condition, offset:
 pub(crate) fn return_from_interrupt(
     layout: &Layout,
     s: &ChipState,
-    choices: &mut Choices,
+    choices: &mut Unused,
 ) -> Option<Draft>
     requires size { length s.now.ram ≡ states.ram_size layout.now }
     requires registers { AreRegisters s.now.registers }
-    ensures exact { asked_as (drafted layout.now s.now instr.ReturnFromInterrupt) result (left_of choices.new) ≡
-        steps.return layout.now s.now (left_of choices.old) }
+    ensures exact { asked_as (drafted layout.now s.now instr.ReturnFromInterrupt) result choices.new ≡
+        steps.return layout.now s.now choices.old }
     ensures form { IfSome result (λ draft. AreRegisters draft.effect.registers) }
-    ensures kept { choices.new.list ≡ choices.old.list }
 {
     let sp = s.registers[1];
     let second = sp.wrapping_add(2);

@@ -1,7 +1,7 @@
 //! The emulator of the MSP430: it runs single states, and answers each question of a step from a list of choices.
 //!
 //! `specs/Step.antt` of `msp430_chip` says what a step of the chip is. A step of the machine first computes registers,
-//! stores and accesses ([`Choices`] answer its questions in the order of that definition), and writes at the end, so that a
+//! stores and accesses (its questions are answered in the order of that definition), and writes at the end, so that a
 //! step that isn't done leaves all as it was.
 //!
 //! Proved:
@@ -18,7 +18,6 @@
 
 mod advance;
 mod arithmetic;
-mod choices;
 mod decimal;
 mod double;
 mod draft;
@@ -38,7 +37,7 @@ mod state;
 mod stepped;
 mod writing;
 
-pub use choices::Choices;
+pub use choosing::Choices;
 pub use msp430_chip::Wild;
 pub use msp430_decode::NoInstr;
 pub use state::Machine;

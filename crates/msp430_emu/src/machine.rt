@@ -1,18 +1,17 @@
 //! The machine: a state that runs on.
 
 ghost use Rattle.std.specs.Prelude.{◌≡◌, ◌≤◌, IfOk};
-ghost use Rattle.msp430_chip.specs.State.{IsChipState, IsResetOf};
-ghost use Rattle.msp430_emu.specs.Choosing.{left_of};
-ghost use Rattle.msp430_emu.specs.Stepping.{IsMsp430, IsStill, Steps, device_of, device_under, first_state};
+ghost use Rattle.msp430_chip.specs.State.{IsChipState, IsResetOf, first_state};
+ghost use Rattle.msp430_emu.specs.Stepping.{IsMsp430, IsStill, Steps, device_of, device_under};
 
 use crate::advance::advance;
-use crate::choices::Choices;
 use crate::interrupt::image_word;
 use crate::memory::{Layout, even};
 use crate::state::Machine;
 use crate::stepped::Stepped;
+use choosing::Choices;
 use ihex_read::{Image, Rules};
-use msp430_chip::{ChipState, Ram};
+use msp430_chip::{ChipState, Ram, one_front};
 use std::alloc::Global;
 use vsa_io::Memory;
 
@@ -45,11 +44,10 @@ impl Machine {
 
     /// One step under an image, by the next choices. Where no step is done, machine and choices are as before.
     pub fn step(&mut self, image: &Image, choices: &mut Choices) -> Stepped
-        ensures steps { Steps (device_of image.now self.old.lo self.old.hi) self.old.state (left_of choices.old) result self.new.state (left_of choices.new) }
+        ensures steps { Steps (device_of image.now self.old.lo self.old.hi) self.old.state choices.old result self.new.state choices.new }
         ensures form { IsChipState (device_of image.now self.old.lo self.old.hi) self.new.state }
         ensures still { IsStill result → self.new ≡ self.old }
         ensures unused { IsStill result → choices.new ≡ choices.old }
-        ensures list { choices.new.list ≡ choices.old.list }
         ensures lo { self.new.lo ≡ self.old.lo }
         ensures hi { self.new.hi ≡ self.old.hi }
     {
@@ -58,6 +56,13 @@ impl Machine {
             lo: self.lo,
             hi: self.hi,
         };
-        advance(&layout, &mut self.state, choices)
+        let mut unused = choices.unused();
+        let stepped = advance(&layout, &mut self.state, &mut unused);
+        let count = unused.count();
+        if matches!(stepped, Stepped::Met(_)) {
+            one_front();
+            choices.leave(count);
+        }
+        stepped
     }
 }

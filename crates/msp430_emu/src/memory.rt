@@ -4,9 +4,9 @@ ghost use Rattle.std.specs.Prelude.{◌≡◌, ◌<◌, IfSome, length};
 ghost use Rattle.msp430_chip.specs.Arithmetic.{modulus};
 ghost use Rattle.msp430_chip.specs.Memory as memory;
 ghost use Rattle.msp430_chip.specs.State as state;
-ghost use Rattle.msp430_emu.specs.Choosing.{asked, left_of};
+ghost use Rattle.choosing.specs.Choosing.{asked};
 
-use crate::choices::Choices;
+use choosing::Unused;
 use ihex_read::Image;
 use msp430_chip::Ram;
 use msp430_decode::Width;
@@ -71,11 +71,10 @@ impl<'a> Layout<'a> {
 
 /// A byte of RAM or of the program, or else any.
 #[tactic(auto, unfolding(msp430_chip::specs::Memory::read_byte))]
-pub(crate) fn read_byte(layout: &Layout, ram: &Ram, at: u16, choices: &mut Choices) -> Option<u16>
+pub(crate) fn read_byte(layout: &Layout, ram: &Ram, at: u16, choices: &mut Unused) -> Option<u16>
     requires { length ram.now ≡ state.ram_size layout.now }
-    ensures exact { asked result (left_of choices.new) ≡ memory.read_byte layout.now ram.now at (left_of choices.old) }
+    ensures exact { asked result choices.new ≡ memory.read_byte layout.now ram.now at choices.old }
     ensures below { IfSome result (λ value. value < 256) }
-    ensures kept { choices.new.list ≡ choices.old.list }
 {
     if layout.is_ram(at) {
         return Some(ram.byte((at - layout.lo) as usize) as u16);
@@ -88,10 +87,9 @@ pub(crate) fn read_byte(layout: &Layout, ram: &Ram, at: u16, choices: &mut Choic
 
 /// A word. Bit 0 of its address doesn't count.
 #[tactic(auto, unfolding(msp430_chip::specs::Memory::read_word))]
-pub(crate) fn read_word(layout: &Layout, ram: &Ram, at: u16, choices: &mut Choices) -> Option<u16>
+pub(crate) fn read_word(layout: &Layout, ram: &Ram, at: u16, choices: &mut Unused) -> Option<u16>
     requires { length ram.now ≡ state.ram_size layout.now }
-    ensures exact { asked result (left_of choices.new) ≡ memory.read_word layout.now ram.now at (left_of choices.old) }
-    ensures kept { choices.new.list ≡ choices.old.list }
+    ensures exact { asked result choices.new ≡ memory.read_word layout.now ram.now at choices.old }
 {
     let low = read_byte(layout, ram, even(at), choices)?;
     let high = read_byte(layout, ram, even(at) + 1, choices)?;
@@ -104,12 +102,11 @@ pub(crate) fn read(
     ram: &Ram,
     width: Width,
     at: u16,
-    choices: &mut Choices,
+    choices: &mut Unused,
 ) -> Option<u16>
     requires { length ram.now ≡ state.ram_size layout.now }
-    ensures exact { asked result (left_of choices.new) ≡ memory.read layout.now ram.now width at (left_of choices.old) }
+    ensures exact { asked result choices.new ≡ memory.read layout.now ram.now width at choices.old }
     ensures below { IfSome result (λ value. value < modulus width) }
-    ensures kept { choices.new.list ≡ choices.old.list }
 {
     match width {
         Width::Word => read_word(layout, ram, at, choices),

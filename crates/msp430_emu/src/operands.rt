@@ -5,10 +5,10 @@ ghost use Rattle.msp430_chip.specs.Arithmetic as numbers;
 ghost use Rattle.msp430_chip.specs.Operands as operands;
 ghost use Rattle.msp430_chip.specs.State as states;
 ghost use Rattle.msp430_chip.specs.Step as steps;
-ghost use Rattle.msp430_emu.specs.Choosing.{asked, left_of};
+ghost use Rattle.choosing.specs.Choosing.{asked};
 ghost use Rattle.msp430_emu.specs.Registers.{AreRegisters};
 
-use crate::choices::Choices;
+use choosing::Unused;
 use crate::memory::{Layout, even, read};
 use msp430_chip::{ChipState, Place, Ram};
 use msp430_decode::{Constant, Destination, Register, Source, Width};
@@ -177,14 +177,13 @@ pub(crate) fn value_at(
     registers: &[u16; 16],
     width: Width,
     place: Place,
-    choices: &mut Choices,
+    choices: &mut Unused,
 ) -> Option<u16>
     requires size { length ram.now ≡ states.ram_size layout.now }
     requires status { slice_index registers.now 2 < 512 }
-    ensures exact { asked result (left_of choices.new) ≡ operands.value_at layout.now ram.now registers.now width place (left_of choices.old) }
+    ensures exact { asked result choices.new ≡ operands.value_at layout.now ram.now registers.now width place choices.old }
     ensures below { IfSome result (λ value. value < numbers.modulus width) }
     ensures held { IfSome result (λ value. IsTrue (operands.has_free_bits width place) → value < 512) }
-    ensures kept { choices.new.list ≡ choices.old.list }
 {
     match place {
         Place::InRegister(register) => Some(low_part(width, value_in(registers, register))),

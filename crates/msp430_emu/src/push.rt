@@ -9,11 +9,11 @@ ghost use Rattle.msp430_chip.specs.Arithmetic as numbers;
 ghost use Rattle.msp430_chip.specs.Operands as operands;
 ghost use Rattle.msp430_chip.specs.State as states;
 ghost use Rattle.msp430_chip.specs.Step as steps;
-ghost use Rattle.msp430_emu.specs.Choosing.{asked, left_of};
-ghost use Rattle.msp430_emu.specs.Drafting.{all_shown, asked_as, drafted, left_by};
+ghost use Rattle.choosing.specs.Choosing.{asked, asked_as};
+ghost use Rattle.msp430_emu.specs.Drafting.{all_shown, drafted, left_by};
 ghost use Rattle.msp430_emu.specs.Registers.{AreRegisters};
 
-use crate::choices::Choices;
+use choosing::Unused;
 use crate::draft::{Accesses, Draft, Effect};
 use crate::effects::{access_to, put};
 use crate::memory::{Layout, even};
@@ -56,10 +56,9 @@ fn with_lowered(option: u32, registers: &[u16; 16]) -> [u16; 16]
 }
 
 /// The word that is pushed for a value: PUSH.B leaves its high byte free.
-fn pushed_word(width: Width, x: u16, choices: &mut Choices) -> Option<u16>
+fn pushed_word(width: Width, x: u16, choices: &mut Unused) -> Option<u16>
     requires { x < numbers.modulus width }
-    ensures exact { asked result (left_of choices.new) ≡ steps.pushed_word width x (left_of choices.old) }
-    ensures kept { choices.new.list ≡ choices.old.list }
+    ensures exact { asked result choices.new ≡ steps.pushed_word width x choices.old }
 {
     match width {
         Width::Word => Some(x),
@@ -90,13 +89,12 @@ fn push_left(
     width: Width,
     x: u16,
     next: u16,
-    choices: &mut Choices,
+    choices: &mut Unused,
 ) -> Option<Effect>
     requires { x < numbers.modulus width }
-    ensures exact { (device : Device) (ram : List ℕ) → asked_as (left_by device ram) result (left_of choices.new) ≡
-        steps.push_left device ram registers.now operation width x next (left_of choices.old) }
+    ensures exact { (device : Device) (ram : List ℕ) → asked_as (left_by device ram) result choices.new ≡
+        steps.push_left device ram registers.now operation width x next choices.old }
     ensures form { IfSome result (λ effect. AreRegisters registers.now → AreRegisters effect.registers) }
-    ensures kept { choices.new.list ≡ choices.old.list }
 {
     match operation {
         SingleOperation::Call => {
@@ -132,15 +130,14 @@ pub(crate) fn push(
     operation: SingleOperation,
     width: Width,
     operand: Source,
-    choices: &mut Choices,
+    choices: &mut Unused,
 ) -> Option<Draft>
     requires size { length s.now.ram ≡ states.ram_size layout.now }
     requires registers { AreRegisters s.now.registers }
     requires len { len % 2 ≡ 0 }
-    ensures exact { asked_as (drafted layout.now s.now (instr.Single operation width operand)) result (left_of choices.new) ≡
-        steps.push layout.now s.now len operation width operand (left_of choices.old) }
+    ensures exact { asked_as (drafted layout.now s.now (instr.Single operation width operand)) result choices.new ≡
+        steps.push layout.now s.now len operation width operand choices.old }
     ensures form { IfSome result (λ draft. AreRegisters draft.effect.registers) }
-    ensures kept { choices.new.list ≡ choices.old.list }
 {
     let mut before = s.registers;
     before[0] = behind(s, len);

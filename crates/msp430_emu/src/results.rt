@@ -4,9 +4,9 @@ ghost use Rattle.std.specs.Prelude.{◌≡◌, ◌<◌, ◌≤◌, ◌%◌, ◌=
 ghost use Rattle.std.specs.Int.{bit_at};
 ghost use Rattle.value_bits.specs.Numbers as numbers;
 ghost use Rattle.msp430_chip.specs.Arithmetic as arithmetic;
-ghost use Rattle.msp430_emu.specs.Choosing.{asked, left_of};
+ghost use Rattle.choosing.specs.Choosing.{asked};
 
-use crate::choices::Choices;
+use choosing::Unused;
 use msp430_chip::Flags;
 use msp430_decode::Width;
 
@@ -119,12 +119,11 @@ fn shifted(width: Width, x: u16, bit: u16) -> u16
 
 /// RRC, which leaves V free.
 #[tactic(auto, unfolding(msp430_chip::specs::Arithmetic::rotated))]
-pub(crate) fn rotated(width: Width, x: u16, carry: u16, choices: &mut Choices) -> Option<Made>
+pub(crate) fn rotated(width: Width, x: u16, carry: u16, choices: &mut Unused) -> Option<Made>
     requires x { x < arithmetic.modulus width }
     requires carry { carry ≤ 1 }
-    ensures exact { asked result (left_of choices.new) ≡ arithmetic.rotated width x carry (left_of choices.old) }
+    ensures exact { asked result choices.new ≡ arithmetic.rotated width x carry choices.old }
     ensures below { IfSome result (λ made. made.0 < arithmetic.modulus width) }
-    ensures kept { choices.new.list ≡ choices.old.list }
 {
     let overflow = choices.ask(2)?;
     Some(made(width, shifted(width, x, carry), x % 2 == 1, overflow == 1))

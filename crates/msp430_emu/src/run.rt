@@ -8,12 +8,12 @@ ghost use Rattle.msp430_decode.specs.Table.{AreSingle, IsInstr};
 ghost use Rattle.msp430_chip.specs.declared.device.Device.{Device};
 ghost use Rattle.msp430_chip.specs.State as states;
 ghost use Rattle.msp430_chip.specs.Step as steps;
-ghost use Rattle.msp430_emu.specs.Choosing.{left_of};
-ghost use Rattle.msp430_emu.specs.Drafting.{asked_as, drafted};
+ghost use Rattle.choosing.specs.Choosing.{asked_as};
+ghost use Rattle.msp430_emu.specs.Drafting.{drafted};
 ghost use Rattle.msp430_emu.specs.Planning.{outcome_of, planned};
 ghost use Rattle.msp430_emu.specs.Registers.{AreRegisters};
 
-use crate::choices::Choices;
+use choosing::Unused;
 use crate::double::double;
 use crate::draft::Draft;
 use crate::interrupt::{allows_interrupts, coming, enter};
@@ -33,16 +33,15 @@ fn one_operand(
     operation: SingleOperation,
     width: Width,
     operand: Source,
-    choices: &mut Choices,
+    choices: &mut Unused,
 ) -> Option<Draft>
     requires size { length s.now.ram ≡ states.ram_size layout.now }
     requires registers { AreRegisters s.now.registers }
     requires len { len % 2 ≡ 0 }
     requires form { AreSingle operation width operand }
-    ensures exact { asked_as (drafted layout.now s.now (instr.Single operation width operand)) result (left_of choices.new) ≡
-        steps.one_operand layout.now s.now len operation width operand (left_of choices.old) }
+    ensures exact { asked_as (drafted layout.now s.now (instr.Single operation width operand)) result choices.new ≡
+        steps.one_operand layout.now s.now len operation width operand choices.old }
     ensures form { IfSome result (λ draft. AreRegisters draft.effect.registers) }
-    ensures kept { choices.new.list ≡ choices.old.list }
 {
     match operation {
         SingleOperation::Push | SingleOperation::Call => {
@@ -61,17 +60,16 @@ fn executed(
     s: &ChipState,
     instr: Instr,
     len: u8,
-    choices: &mut Choices,
+    choices: &mut Unused,
 ) -> Option<Draft>
     requires size { length s.now.ram ≡ states.ram_size layout.now }
     requires registers { AreRegisters s.now.registers }
     requires len { 2 ≤ len }
     requires even { len % 2 ≡ 0 }
     requires form { IsInstr instr }
-    ensures exact { asked_as (drafted layout.now s.now instr) result (left_of choices.new) ≡
-        steps.executed layout.now s.now instr len (left_of choices.old) }
+    ensures exact { asked_as (drafted layout.now s.now instr) result choices.new ≡
+        steps.executed layout.now s.now instr len choices.old }
     ensures form { IfSome result (λ draft. AreRegisters draft.effect.registers) }
-    ensures kept { choices.new.list ≡ choices.old.list }
 {
     match instr {
         Instr::Double {
@@ -117,13 +115,12 @@ fn done(s: &ChipState, instr: &Instr, draft: Draft) -> Plan
 }
 
 /// The instruction at PC.
-fn run(layout: &Layout, s: &ChipState, choices: &mut Choices) -> Option<Result<Plan, NoInstr>>
+fn run(layout: &Layout, s: &ChipState, choices: &mut Unused) -> Option<Result<Plan, NoInstr>>
     requires size { length s.now.ram ≡ states.ram_size layout.now }
     requires registers { AreRegisters s.now.registers }
-    ensures exact { asked_as (outcome_of layout.now s.now) result (left_of choices.new) ≡
-        steps.run layout.now s.now (decoded layout.now.image (states.register_of s.now 0)) (left_of choices.old) }
+    ensures exact { asked_as (outcome_of layout.now s.now) result choices.new ≡
+        steps.run layout.now s.now (decoded layout.now.image (states.register_of s.now 0)) choices.old }
     ensures form { IfSome result (λ found. IfOk found (λ plan. AreRegisters plan.registers)) }
-    ensures kept { choices.new.list ≡ choices.old.list }
 {
     match decode(layout.image, s.registers[0]) {
         Ok((instr, len)) => {
@@ -139,13 +136,12 @@ fn run(layout: &Layout, s: &ChipState, choices: &mut Choices) -> Option<Result<P
 pub(crate) fn course(
     layout: &Layout,
     s: &ChipState,
-    choices: &mut Choices,
+    choices: &mut Unused,
 ) -> Option<Result<Plan, NoInstr>>
     requires size { length s.now.ram ≡ states.ram_size layout.now }
     requires registers { AreRegisters s.now.registers }
-    ensures exact { asked_as (outcome_of layout.now s.now) result (left_of choices.new) ≡ steps.step_of layout.now s.now (left_of choices.old) }
+    ensures exact { asked_as (outcome_of layout.now s.now) result choices.new ≡ steps.step_of layout.now s.now choices.old }
     ensures form { IfSome result (λ found. IfOk found (λ plan. AreRegisters plan.registers)) }
-    ensures kept { choices.new.list ≡ choices.old.list }
 {
     let vectors = coming(layout, s);
     let count = vectors.len();

@@ -9,12 +9,12 @@ ghost use Rattle.msp430_chip.specs.Arithmetic as numbers;
 ghost use Rattle.msp430_chip.specs.Operands as operands;
 ghost use Rattle.msp430_chip.specs.State as states;
 ghost use Rattle.msp430_chip.specs.Step as steps;
-ghost use Rattle.msp430_emu.specs.Choosing.{left_of};
-ghost use Rattle.msp430_emu.specs.Drafting.{all_shown, asked_as, drafted, left_by};
+ghost use Rattle.choosing.specs.Choosing.{asked_as};
+ghost use Rattle.msp430_emu.specs.Drafting.{all_shown, drafted, left_by};
 ghost use Rattle.msp430_emu.specs.Registers.{AreRegisters};
 
 use crate::arithmetic::{single_result, single_sets_flags};
-use crate::choices::Choices;
+use choosing::Unused;
 use crate::draft::{Accesses, Draft, Effect};
 use crate::effects::{access_to, free_status, put, with_status};
 use crate::memory::Layout;
@@ -33,15 +33,14 @@ fn single_left(
     place: Place,
     x: u16,
     carry: u16,
-    choices: &mut Choices,
+    choices: &mut Unused,
 ) -> Option<Effect>
     requires x { x < numbers.modulus width }
     requires carry { carry ≤ 1 }
     requires form { (operand : ASource) × AreSingle operation width operand }
-    ensures exact { (device : Device) (ram : List ℕ) → asked_as (left_by device ram) result (left_of choices.new) ≡
-        steps.single_left device ram registers.now operation width place x carry (left_of choices.old) }
+    ensures exact { (device : Device) (ram : List ℕ) → asked_as (left_by device ram) result choices.new ≡
+        steps.single_left device ram registers.now operation width place x carry choices.old }
     ensures form { IfSome result (λ effect. AreRegisters registers.now → AreRegisters effect.registers) }
-    ensures kept { choices.new.list ≡ choices.old.list }
 {
     if single_sets_flags(operation) && is_status(place) {
         return free_status(registers, choices);
@@ -70,16 +69,15 @@ pub(crate) fn single(
     operation: SingleOperation,
     width: Width,
     operand: Source,
-    choices: &mut Choices,
+    choices: &mut Unused,
 ) -> Option<Draft>
     requires size { length s.now.ram ≡ states.ram_size layout.now }
     requires registers { AreRegisters s.now.registers }
     requires len { len % 2 ≡ 0 }
     requires form { AreSingle operation width operand }
-    ensures exact { asked_as (drafted layout.now s.now (instr.Single operation width operand)) result (left_of choices.new) ≡
-        steps.single layout.now s.now len operation width operand (left_of choices.old) }
+    ensures exact { asked_as (drafted layout.now s.now (instr.Single operation width operand)) result choices.new ≡
+        steps.single layout.now s.now len operation width operand choices.old }
     ensures form { IfSome result (λ draft. AreRegisters draft.effect.registers) }
-    ensures kept { choices.new.list ≡ choices.old.list }
 {
     let mut before = s.registers;
     before[0] = behind(s, len);

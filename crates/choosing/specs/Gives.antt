@@ -1,7 +1,6 @@
 -- What each answer of a question is.
 use Rattle.std.proofs.Common.{◌≡◌, ℕ, ◌%◌, ◌<◌, List, [], ◌∷◌, Option, None, Some, Bool, true, false, cond, refl, subst, arith}
-use Rattle.msp430_chip.specs.Asking.{Asking, answer, ask, ask_if, continued, and_then}
-use Rattle.msp430_chip.proofs.Fronts.{value_is}
+use Rattle.choosing.specs.Asking.{Asking, answer, ask, ask_if, continued, and_then, IsOption, value_is}
 
 -- each answer is one of these
 pub record Gives {A : Type 0} (P : A → Type 0) (asking : Asking A) : Type 0 where
@@ -50,3 +49,12 @@ then_gives P Q first next p q = record { each = λ choices rest b e. then_each P
 
 pub weaken : {A : Type 0} (P Q : A → Type 0) (asking : Asking A) → ((a : A) → P a → Q a) → Gives P asking → Gives Q asking
 weaken P Q asking more p = record { each = λ choices rest a e. more a (p.each choices rest a e) }
+
+-- two properties
+pub both_gives : {A : Type 0} (P Q : A → Type 0) (asking : Asking A) → Gives P asking → Gives Q asking → Gives (λ a. P a × Q a) asking
+both_gives P Q asking p q = record { each = λ choices rest a e. (p.each choices rest a e, q.each choices rest a e) }
+
+pub option_gives : (asked : Bool) (options : ℕ) → 0 < options → Gives (IsOption asked options) (ask_if asked options)
+option_gives asked options some = if_gives (IsOption asked options) asked (ask options) (answer 0)
+    (λ is. weaken (λ (option : ℕ). option < options) (IsOption asked options) (ask options) (λ option h. record { below = h; none = λ none. absurd cc }) (ask_gives options some))
+    (λ is. answer_gives (IsOption asked options) 0 (record { below = some; none = λ none. refl }))

@@ -1,0 +1,5 @@
+pub mod Asking
+pub mod Choosing
+pub mod Fronts
+pub mod Gives
+pub mod Outcome
