@@ -1,5 +1,5 @@
 -- Parts one behind the other, how long they are, and cuts of 16.
-use Rattle.std.proofs.Common.{◌≡◌, ℕ, ◌+◌, ◌-◌, ◌*◌, ◌/◌, ◌<◌, ◌≤◌, List, [], ◌∷◌, ◌++◌, zero, suc, min, length, take, drop, refl, sym, ◌∙◌, ap, append_assoc, length-append, length-drop, arith}
+use Rattle.std.proofs.Common.{◌≡◌, ℕ, ◌+◌, ◌-◌, ◌*◌, List, [], ◌∷◌, ◌++◌, zero, suc, min, length, take, drop, refl, sym, ◌∙◌, ap, append_assoc, length-append, length-drop, arith}
 use Rattle.std.specs.Prelude.{flat_map}
 use Rattle.std.proofs.lemmas.List.{append-nil, take_min}
 use Rattle.image_gen.specs.Made.{low_first, msp430_call, msp430_function, msp430_words, msp430_program, mcs51_call, mcs51_function, mcs51_program}
@@ -17,12 +17,12 @@ each-more part n = let next : n + 1 ≡ suc n = omega arith in ap (each part) ne
 pub begun : (part : ℕ → List ℕ) (front : List ℕ) → front ≡ front ++ each part 0
 begun part front = sym (ap (λ parts. front ++ parts) (each-none part) ∙ append-nil front)
 
-length-each : (part : ℕ → List ℕ) (size : ℕ) → ((i : ℕ) → length (part i) ≡ size) → (n : ℕ) → length (each part n) ≡ n * size
+pub length-each : (part : ℕ → List ℕ) (size : ℕ) → ((i : ℕ) → length (part i) ≡ size) → (n : ℕ) → length (each part n) ≡ n * size
 unfolding each
 length-each part size same zero = omega arith
 length-each part size same (suc n) = omega (arith, length-append (each part n) (part n), length-each part size same n, same n)
 
-length-low_first : (words : List ℕ) → length (flat_map low_first words) ≡ 2 * length words
+pub length-low_first : (words : List ℕ) → length (flat_map low_first words) ≡ 2 * length words
 length-low_first [] = refl
 length-low_first (word ∷ words) = let rest = length-low_first words in omega (arith, rest)
 

@@ -1,6 +1,6 @@
 -- Programs of so many functions that are called one after the other, and their image texts. Codes are those of TI's
 -- SLAU049 and of Intel's MCS-51 Programmer's Guide and Instruction Set.
-use Rattle.std.specs.Prelude.{ℕ, ◌+◌, ◌*◌, ◌/◌, ◌%◌, List, [], ◌∷◌, ◌++◌, flat_map}
+use Rattle.std.specs.Prelude.{◌≡◌, ℕ, ◌+◌, ◌-◌, ◌*◌, ◌/◌, ◌%◌, ◌≤◌, List, [], ◌∷◌, ◌++◌, length, take, drop, flat_map}
 use Rattle.image_gen.specs.declared.chip_name.ChipName.{ChipName}
 use Rattle.image_gen.specs.declared.chip_name.ChipName.TheVariants.{Msp430, Mcs51}
 use Rattle.image_gen.specs.Records.{each, stretch_lines, end_line}
@@ -55,3 +55,7 @@ made_image Msp430 number =
     stretch_lines 0x4000 (msp430_program number) ++ stretch_lines 0xFFFE (low_first 0x4000) ++ end_line
 made_image Mcs51 number =
     stretch_lines 0x0000 (0x02 ∷ high_first 0x0030) ++ stretch_lines 0x0030 (mcs51_program number) ++ end_line
+
+-- bytes stand at an address of a program that starts at another one
+abbrev pub StandsAt : ℕ → List ℕ → ℕ → List ℕ → Type 0
+StandsAt start program at bytes = (start ≤ at) × (take (length bytes) (drop (at - start) program) ≡ bytes)

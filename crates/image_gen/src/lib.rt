@@ -6,12 +6,14 @@
 
 mod chip_name;
 mod image_text;
+mod laws;
 mod mcs51;
 mod msp430;
 mod records;
 
 pub use chip_name::ChipName;
 pub use image_text::{MOST, make};
+pub use laws::calls_reach_functions;
 
 #[cfg(test)]
 mod tests;
