@@ -1,0 +1,10 @@
+//! The chips that a program can be made for.
+
+/// A chip.
+#[derive(Clone, Copy, Debug, PartialEq, Eq)]
+pub enum ChipName {
+    /// TI's MSP430.
+    Msp430,
+    /// Intel's MCS-51.
+    Mcs51,
+}
