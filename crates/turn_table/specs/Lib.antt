@@ -1,0 +1,5 @@
+pub mod Events
+pub mod Views
+pub mod Rule
+pub mod Plays
+pub mod Shown
