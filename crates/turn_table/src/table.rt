@@ -1,6 +1,7 @@
 //! The lock itself.
-ghost use Rattle.std.specs.Prelude.{◌≡◌, ◌≢◌, ℕ, ◌<◌, false, true, [], ◌++◌, List, Some, IfOk};
+ghost use Rattle.std.specs.Prelude.{◌≡◌, ◌<◌, false, true, [], ◌++◌, List, Some, IfOk};
 ghost use Rattle.turn_table.specs.Events.{StartsWith, AllOf, AllBelow};
+ghost use Rattle.turn_table.specs.Named.{name_of};
 ghost use Rattle.turn_table.specs.Shown.{IsOwn, first_seat, turn_begun, turn_ended, seat_split, new_seat, seats_joined};
 
 use crate::board::{About, Knowledge, Turns};
@@ -31,7 +32,7 @@ impl<B: Journaled> TurnTable<B> {
         B: Drop,
         requires some_seat { 0 < seats }
         requires empty { B.history value ≡ [] }
-        ensures { IfOk result (λ t. t.1 ≡ first_seat t.0.board.shared.table_id (B.base value) seats) }
+        ensures { IfOk result (λ t. t.1 ≡ first_seat (name_of t.0) (B.base value) seats) }
     {
         let about = About {
             first: Snapshot::of(&value),
@@ -53,7 +54,7 @@ impl<B: Journaled> TurnTable<B> {
     /// Waits for the seat's turn, and gives the value. Its history then begins with all that the seat has seen, and of
     /// the seat's events it has those that the seat made and no others.
     pub fn turn<R: Wait>(&self, rt: &R, seat: &mut Seat<B>) -> Turn<B>
-        requires table { seat.old.table ≡ self.now.board.shared.table_id }
+        requires table { seat.old.table ≡ name_of self.now }
         requires idle { seat.old.holds ≡ false }
         ensures seat { seat.new ≡ turn_begun seat.old (B.history result.value) }
         ensures begins { StartsWith (B.history result.value) seat.old.seen }
@@ -67,7 +68,7 @@ impl<B: Journaled> TurnTable<B> {
 
     /// Gives the value back and ends the turn, which has added any number of events of this seat.
     pub fn pass(&self, seat: &mut Seat<B>, turn: Turn<B>)
-        requires table { seat.old.table ≡ self.now.board.shared.table_id }
+        requires table { seat.old.table ≡ name_of self.now }
         requires turn { seat.old.holds ≡ true }
         requires adds { (added : List B.Event) × (B.history turn.value ≡ seat.old.seen ++ added) × AllOf B.seat_of seat.old.number added }
         requires base { Some (B.base turn.value) ≡ seat.old.base }
@@ -80,7 +81,7 @@ impl<B: Journaled> TurnTable<B> {
 
     /// Gives the seat's greatest number to a new seat, which has seen as much.
     pub fn split(&self, seat: &mut Seat<B>) -> Seat<B>
-        requires table { seat.old.table ≡ self.now.board.shared.table_id }
+        requires table { seat.old.table ≡ name_of self.now }
         requires room { 0 < seat.old.room }
         ensures seat { seat.new ≡ seat_split seat.old }
         ensures new { result ≡ new_seat seat.old }
@@ -99,7 +100,7 @@ impl<B: Journaled> TurnTable<B> {
     /// Takes in another seat, which ends. The seat has then seen the longer of both histories, which begins with both.
     /// Numbers that the other could still give are given up.
     pub fn join(&self, seat: &mut Seat<B>, other: Seat<B>)
-        requires table { (seat.old.table ≡ self.now.board.shared.table_id) × (other.table ≡ self.now.board.shared.table_id) }
+        requires table { (seat.old.table ≡ name_of self.now) × (other.table ≡ name_of self.now) }
         requires idle { other.holds ≡ false }
         ensures seat { seat.new ≡ seats_joined seat.old other }
         ensures begins { StartsWith seat.new.seen seat.old.seen × StartsWith seat.new.seen other.seen }
@@ -115,7 +116,7 @@ impl<B: Journaled> TurnTable<B> {
 
     /// Takes the table apart, once every seat stands in this one. The value's history is the whole journal.
     pub fn close(self, seat: Seat<B>) -> B
-        requires table { seat.table ≡ self.board.shared.table_id }
+        requires table { seat.table ≡ name_of self }
         requires idle { seat.holds ≡ false }
         requires all { seat.stands ≡ seat.made }
         ensures history { B.history result ≡ seat.seen }
