@@ -1,16 +1,16 @@
 -- A table opens, seats come and go, and the table is closed.
-use Rattle.std.proofs.Common.{◌≡◌, ◌≢◌, ℕ, zero, suc, ◌+◌, ◌-◌, ◌%◌, ◌<◌, ◌≤◌, ◌⊎◌, List, [], ◌∷◌, ◌++◌, length, set, All, Option, Some, None, sym, refl, ap, ◌∙◌, subst, inl, inr, ⊎_elim, arith}
+use Rattle.std.proofs.Common.{◌≡◌, ◌≢◌, ℕ, zero, suc, ◌<◌, ◌⊎◌, List, [], ◌∷◌, ◌++◌, length, set, Option, Some, sym, refl, ap, ◌∙◌, subst, inl, inr, ⊎_elim, arith}
 use mathlib.Core.Logic.{dite}
 use mathlib.Core.Option.{some, none, some-injective}
 use native.Mathlib.Decide.{ℕ_discrete}
 use lib.ListN.{get_elem?}
 use Rattle.atomic_table.specs.Table.{State, opening, Splits, Joins, Final, Seen}
 use Rattle.atomic_table.proofs.Lists.{set_here, set_else, at_longer}
-use Rattle.turn_table.specs.Events.{StartsWith, events_of, AllBelow}
-use Rattle.turn_table.specs.Views.{Stage, idle, serving, Known, Standing, spent, seated, HasTicket, SeatedAnd, on, tickets_in, tickets_of, stands_of, says_of, made_of, room_of, opening_seat, gives, given_seat, takes_in, both_seats}
-use Rattle.turn_table.specs.Rule.{total, At, FitsStage, Apart, IsLatest, Suits, Fits, IsAway, IsAtHome, Kept}
-use Rattle.turn_table.proofs.Lists.{starts_same, starts_whole, starts_length, events_none}
-use Rattle.turn_table.proofs.Totals.{total_set, total_more, total_one, total_two, total_only, at_within, at_more, seated-injective, spent-not-seated, each_set, pairs_set, each_spent}
+use Rattle.turn_table.specs.Events.{AllBelow}
+use Rattle.turn_table.specs.Views.{idle, Known, Standing, spent, seated, SeatedAnd, on, tickets_in, tickets_of, stands_of, says_of, made_of, room_of, opening_seat, gives, given_seat, takes_in, both_seats}
+use Rattle.turn_table.specs.Rule.{total, At, Apart, Fits, IsAtHome, Kept}
+use Rattle.turn_table.proofs.Lists.{starts_whole, events_none}
+use Rattle.turn_table.proofs.Totals.{total_set, total_more, total_one, total_two, total_only, at_within, at_more, seated-injective, each_set, pairs_set, each_spent}
 use Rattle.turn_table.proofs.Moves.{same_view, latest_set, away_set, idle-not-serving}
 
 -- what a seat owes that closes the table
@@ -137,22 +137,24 @@ module _ {B E C : Type 0} (history : B → List E) (seat_of : E → ℕ) (base_o
       let fits_left : (j : ℕ) (u : Known E C) → At changed j u → F k.turns k.drawn k.log u = each_set s.views id w (F k.turns k.drawn k.log) left (λ j u ne bt. k.fits j u bt) in
       -- the left seat beside another, both ways
       let beside : (j : ℕ) (u : Known E C) → j ≢ id → At s.views j u → Apart w u × Apart u w = λ j u ne bt.
-          let a = k.apart id j v u (λ e. ne (sym e)) at bt in
-          let b = k.apart j id u v ne bt at in
-          (record { numbers = a.numbers; tickets = a.tickets; not_to_give = a.not_to_give },
-           record { numbers = b.numbers; tickets = b.tickets; not_to_give = (λ p q. b.not_to_give p (omega (arith, q))) }) in
+      let a = k.apart id j v u (λ e. ne (sym e)) at bt in
+      let b = k.apart j id u v ne bt at in (
+        record { numbers = a.numbers; tickets = a.tickets; not_to_give = a.not_to_give },
+        record { numbers = b.numbers; tickets = b.tickets; not_to_give = (λ p q. b.not_to_give p (omega (arith, q))) },
+      ) in
       -- the new seat beside an old one, both ways
-      let new_beside : (u : Known E C) → F k.turns k.drawn k.log u → (v.room ≢ u.number) → (0 < u.room → ⊥) ⊎ (u.room < v.room) → Apart n u × Apart u n = λ u fu ne no_room.
-          (record { numbers = ne; tickets = (λ t x y. absurd x); not_to_give = (λ p q. ⊎_elim (λ z. z (omega (arith, p, q))) (λ z. omega (arith, q, z)) no_room) },
-           record { numbers = (λ e. ne (sym e)); tickets = (λ t x y. absurd y); not_to_give = (λ p q. omega (arith, p, q)) }) in
+      let new_beside : (u : Known E C) → F k.turns k.drawn k.log u → (v.room ≢ u.number) → (0 < u.room → ⊥) ⊎ (u.room < v.room) → Apart n u × Apart u n = λ u fu ne no_room. (
+        record { numbers = ne; tickets = (λ t x y. absurd x); not_to_give = (λ p q. ⊎_elim (λ z. z (omega (arith, p, q))) (λ z. omega (arith, q, z)) no_room) },
+        record { numbers = (λ e. ne (sym e)); tickets = (λ t x y. absurd y); not_to_give = (λ p q. omega (arith, p, q)) },
+      ) in
       let new_and : (j : ℕ) (u : Known E C) → At changed j u → Apart n u × Apart u n = each_set s.views id w (λ u. Apart n u × Apart u n)
-          (new_beside w left (λ e. omega (arith, e, zero_number, has_room)) (inr (omega (arith, has_room))))
-          (λ j u ne bt.
-              let b = k.apart j id u v ne bt at in
-              let fu = k.fits j u bt in
-              new_beside u fu
-                (λ e. b.not_to_give (subst (λ (m : ℕ). 0 < m) e has_room) (omega (arith, e)))
-                (inl (λ p. b.numbers ((fu.suits.first p).0 ∙ sym zero_number)))) in
+      (new_beside w left (λ e. omega (arith, e, zero_number, has_room)) (inr (omega (arith, has_room))))
+      (λ j u ne bt.
+      let b = k.apart j id u v ne bt at in
+      let fu = k.fits j u bt in
+      new_beside u fu
+      (λ e. b.not_to_give (subst (λ (m : ℕ). 0 < m) e has_room) (omega (arith, e)))
+      (inl (λ p. b.numbers ((fu.suits.first p).0 ∙ sym zero_number)))) in
       record {
         drawn = k.drawn;
         turns = k.turns;
@@ -165,20 +167,20 @@ module _ {B E C : Type 0} (history : B → List E) (seat_of : E → ℕ) (base_o
         made = omega (arith, m₁, m₂, r₁, r₂, r₃, room_one, has_room);
         fits = (λ j u bt. ⊎_elim (λ x. fits_left j u x) (λ x. subst (F k.turns k.drawn k.log) (seated-injective n u x.1) right) (at_more changed (seated n) (seated u) j bt));
         apart = (λ i j u x ne bt ct. ⊎_elim
-          (λ p. ⊎_elim
+            (λ p. ⊎_elim
             (λ q. pairs_set s.views id w Apart beside k.apart i j u x ne p q)
             (λ q. subst (λ z. Apart u z) (seated-injective n x q.1) (new_and i u p).1)
             (at_more changed (seated n) (seated x) j ct))
-          (λ p. ⊎_elim
+            (λ p. ⊎_elim
             (λ q. subst (λ z. Apart z x) (seated-injective n u p.1) (new_and j x q).0)
             (λ q. absurd (ne (p.0 ∙ sym q.0)))
             (at_more changed (seated n) (seated x) j ct))
-          (at_more changed (seated n) (seated u) i bt));
+            (at_more changed (seated n) (seated u) i bt));
         below = k.below;
         latest = (let l = latest_set s.views id v w k.log lt at (λ x. x) k.latest in (l.0, l.1, at_longer changed (seated n ∷ []) l.0 (seated l.1) l.2, l.3));
         slot = ⊎_elim (λ x. inl x)
-          (λ x. let a = away_set s.views id v w s.homes lt at (λ t e. e) x in let (i, u, t, bt, is) = a.1 in inr (a.0, (i, u, t, at_longer changed (seated n ∷ []) i (seated u) bt, is)))
-          k.slot;
+            (λ x. let a = away_set s.views id v w s.homes lt at (λ t e. e) x in let (i, u, t, bt, is) = a.1 in inr (a.0, (i, u, t, at_longer changed (seated n ∷ []) i (seated u) bt, is)))
+            k.slot;
       }
 
   pub splits : (id : ℕ) (m : Standing E C) → SeatedAnd m (λ v. 0 < v.room) → Splits K id m (on gives m) (on given_seat m)
@@ -230,10 +232,11 @@ module _ {B E C : Type 0} (history : B → List E) (seat_of : E → ℕ) (base_o
         stage = fv.stage;
       } in
       let beside : (j : ℕ) (u : Known E C) → j ≢ id → At s.views j u → Apart b u × Apart u b = λ j u ne' bt.
-          let a = k.apart id j v u (λ e. ne' (sym e)) at bt in
-          let c = k.apart j id u v ne' bt at in
-          (record { numbers = a.numbers; tickets = a.tickets; not_to_give = a.not_to_give },
-           record { numbers = c.numbers; tickets = c.tickets; not_to_give = c.not_to_give }) in
+      let a = k.apart id j v u (λ e. ne' (sym e)) at bt in
+      let c = k.apart j id u v ne' bt at in (
+        record { numbers = a.numbers; tickets = a.tickets; not_to_give = a.not_to_give },
+        record { numbers = c.numbers; tickets = c.tickets; not_to_give = c.not_to_give },
+      ) in
       let kept : (j : ℕ) (u : Known E C) → j ≢ other → At changed j u → At (set changed other spent) j u = λ j u ne' bt. set_else changed other j spent ne' ∙ bt in
       let itself : At (set changed other spent) id b = kept id b (λ e. ne (sym e)) (set_here s.views id (seated b) lt) in
       let none_known : w.told ≡ k.log → v.seen ≡ k.log = λ e. sym (starts_whole k.log v.seen sv.seen (omega (arith, ap length (sym e ∙ w_told)))) in
@@ -251,19 +254,19 @@ module _ {B E C : Type 0} (history : B → List E) (seat_of : E → ℕ) (base_o
         apart = (λ i j u x ne' bt ct. pairs_set s.views id b Apart beside k.apart i j u x ne' (each_spent changed other i u bt).1 (each_spent changed other j x ct).1);
         below = k.below;
         latest = (let (j, u, bt, is) = k.latest in dite (ℕ_discrete j id)
-          (λ e. let same : u ≡ v = same_view s.views id u v (subst (λ n. At s.views n u) e bt) at in
-              (id, b, itself, inl (⊎_elim (λ x. ap (λ z. z.seen) (sym same) ∙ x) (λ x. sym (starts_whole k.log v.seen sv.seen (omega (arith, ap length (sym x ∙ ap (λ z. z.told) same ∙ v_told))))) is)))
-          (λ ne'. dite (ℕ_discrete j other)
+            (λ e. let same : u ≡ v = same_view s.views id u v (subst (λ n. At s.views n u) e bt) at in
+            (id, b, itself, inl (⊎_elim (λ x. ap (λ z. z.seen) (sym same) ∙ x) (λ x. sym (starts_whole k.log v.seen sv.seen (omega (arith, ap length (sym x ∙ ap (λ z. z.told) same ∙ v_told))))) is)))
+            (λ ne'. dite (ℕ_discrete j other)
             (λ e. let same : u ≡ w = same_view s.views other u w (subst (λ n. At s.views n u) e bt) atw in
-                (id, b, itself, ⊎_elim (λ x. inr (ap (λ z. z.seen) (sym same) ∙ x)) (λ x. inl (none_known (ap (λ z. z.told) (sym same) ∙ x))) is))
+            (id, b, itself, ⊎_elim (λ x. inr (ap (λ z. z.seen) (sym same) ∙ x)) (λ x. inl (none_known (ap (λ z. z.told) (sym same) ∙ x))) is))
             (λ ne''. (j, u, kept j u ne'' (set_else s.views id j (seated b) ne' ∙ bt), is))));
         slot = ⊎_elim (λ x. inl x)
-          (λ x. let (j, u, t, bt, is) = x.1 in dite (ℕ_discrete j id)
+            (λ x. let (j, u, t, bt, is) = x.1 in dite (ℕ_discrete j id)
             (λ e. let same : u ≡ v = same_view s.views id u v (subst (λ n. At s.views n u) e bt) at in inr (x.0, (id, b, t, itself, ap (λ z. z.stage) (sym same) ∙ is)))
             (λ ne'. dite (ℕ_discrete j other)
-              (λ e. let same : u ≡ w = same_view s.views other u w (subst (λ n. At s.views n u) e bt) atw in absurd (idle-not-serving w.stage t w_idle (ap (λ z. z.stage) (sym same) ∙ is)))
-              (λ ne''. inr (x.0, (j, u, t, kept j u ne'' (set_else s.views id j (seated b) ne' ∙ bt), is)))))
-          k.slot;
+            (λ e. let same : u ≡ w = same_view s.views other u w (subst (λ n. At s.views n u) e bt) atw in absurd (idle-not-serving w.stage t w_idle (ap (λ z. z.stage) (sym same) ∙ is)))
+            (λ ne''. inr (x.0, (j, u, t, kept j u ne'' (set_else s.views id j (seated b) ne' ∙ bt), is)))))
+            k.slot;
       }
 
   pub joins : (id : ℕ) (m : Standing E C) (other : ℕ) (n : Standing E C) → SeatedAnd m (λ v. v.told ≡ []) → SeatedAnd n (λ w. (w.told ≡ []) × (w.stage ≡ idle)) → Joins K id m other n (both_seats m n) spent
@@ -283,15 +286,14 @@ module _ {B E C : Type 0} (history : B → List E) (seat_of : E → ℕ) (base_o
       let others_made : (j : ℕ) (w : Standing E C) → j ≢ id → get_elem? s.views j ≡ some w → made_of w ≡ 0 = λ j w ne bt. none_made j w ne bt says_v one k at in
       let made_total = total_only made_of s.views id (seated v) at others_made in
       let alone : (j : ℕ) (u : Known E C) → At s.views j u → u ≡ v = λ j u bt. dite (ℕ_discrete j id)
-          (λ e. same_view s.views id u v (subst (λ n. At s.views n u) e bt) at)
-          (λ ne. let two = total_two stands_of s.views id j (seated v) (seated u) (λ e. ne (sym e)) at bt in let stands_u = (k.fits j u bt).suits.stands in
-              absurd (omega (arith, two, stands_u, stand, made_total, all))) in
+      (λ e. same_view s.views id u v (subst (λ n. At s.views n u) e bt) at)
+      (λ ne. let two = total_two stands_of s.views id j (seated v) (seated u) (λ e. ne (sym e)) at bt in let stands_u = (k.fits j u bt).suits.stands in
+      absurd (omega (arith, two, stands_u, stand, made_total, all))) in
       let whole : v.seen ≡ k.log = (let (j, u, bt, is) = k.latest in let same = alone j u bt in
-          ⊎_elim (λ x. ap (λ z. z.seen) (sym same) ∙ x)
-            (λ x. sym (starts_whole k.log v.seen sv.seen (omega (arith, ap length (sym x ∙ ap (λ z. z.told) same ∙ may.told))))) is) in
+      ⊎_elim (λ x. ap (λ z. z.seen) (sym same) ∙ x)
+      (λ x. sym (starts_whole k.log v.seen sv.seen (omega (arith, ap length (sym x ∙ ap (λ z. z.told) same ∙ may.told))))) is) in
       let home : IsAtHome history seat_of base_of base seats k.log s.homes = ⊎_elim (λ x. x)
-          (λ x. let (j, u, t, bt, is) = x.1 in absurd (idle-not-serving v.stage t may.resting (ap (λ z. z.stage) (sym (alone j u bt)) ∙ is))) k.slot in
-      (
+      (λ x. let (j, u, t, bt, is) = x.1 in absurd (idle-not-serving v.stage t may.resting (ap (λ z. z.stage) (sym (alone j u bt)) ∙ is))) k.slot in (
         home.0,
         homes 0 (Some home.0) (ap (λ h. get_elem? h 0) home.1),
         record {

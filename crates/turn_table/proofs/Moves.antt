@@ -1,5 +1,5 @@
 -- The steps of one seat keep the rule: a ticket is drawn, a turn comes, a turn is passed, and a seat catches up.
-use Rattle.std.proofs.Common.{◌≡◌, ◌≢◌, ℕ, zero, suc, ◌+◌, ◌%◌, ◌<◌, ◌≤◌, ◌⊎◌, List, [], ◌∷◌, ◌++◌, length, drop, set, get_or, All, Option, Some, None, sym, refl, ap, ◌∙◌, subst, inl, inr, ⊎_elim, arith, append-nil}
+use Rattle.std.proofs.Common.{◌≡◌, ◌≢◌, ℕ, ◌+◌, ◌%◌, ◌<◌, ◌≤◌, ◌⊎◌, List, [], ◌∷◌, ◌++◌, length, drop, set, get_or, Option, Some, None, sym, refl, ap, ◌∙◌, subst, inl, inr, ⊎_elim, arith, append-nil}
 use Rattle.std.proofs.lemmas.List.Elements.{All-append}
 use mathlib.Core.Logic.{dite}
 use mathlib.Core.Option.{some, none, some-injective}
@@ -7,13 +7,13 @@ use native.Mathlib.Nat.{mod-add-mod}
 use native.Mathlib.Decide.{ℕ_discrete}
 use lib.ListN.{get_elem?}
 use Rattle.atomic_table.specs.Table.{State, Me, Act, keeps, takes, gives, stepped, Allows}
-use Rattle.atomic_table.proofs.Lists.{set_here, set_else, set_again, one_turn}
+use Rattle.atomic_table.proofs.Lists.{set_here, set_else, one_turn}
 use Rattle.turn_table.specs.Events.{StartsWith, longer, events_of, AllOf, AllBelow}
-use Rattle.turn_table.specs.Views.{Stage, idle, waiting, serving, Known, Standing, spent, seated, tickets_in, ticket_in, HasTicket, SeatedAnd, on, tickets_of, stands_of, says_of, made_of, room_of, draws, serves, passes, catches_up, ticket_of}
+use Rattle.turn_table.specs.Views.{Stage, idle, waiting, serving, Known, Standing, spent, seated, tickets_in, ticket_in, HasTicket, SeatedAnd, on, tickets_of, stands_of, says_of, made_of, room_of, draws, serves, passes, catches_up}
 use Rattle.turn_table.specs.Rule.{total, At, FitsStage, Apart, IsLatest, Suits, Fits, IsAway, IsAtHome, Kept}
-use Rattle.turn_table.specs.Plays.{Begins, MayPass, drew, Served, looked, passed, caught_up}
-use Rattle.turn_table.proofs.Lists.{starts_same, starts_more, starts_whole, LongerIs, longer_is, longer_whole, drop_front, events_more, events_own, events_others, events_between, events_none, below_of}
-use Rattle.turn_table.proofs.Totals.{total_set, total_one, total_two, total_below, at_within, seated-injective, each_set, pairs_set}
+use Rattle.turn_table.specs.Plays.{MayPass, drew, Served, looked, passed, caught_up}
+use Rattle.turn_table.proofs.Lists.{starts_same, starts_more, longer_is, longer_whole, drop_front, events_more, events_own, events_others, events_between, events_none, below_of}
+use Rattle.turn_table.proofs.Totals.{total_set, total_below, at_within, seated-injective, each_set, pairs_set}
 
 abbrev M : ℕ
 M = 18446744073709551616
@@ -130,23 +130,22 @@ module _ {B E C : Type 0} (history : B → List E) (seat_of : E → ℕ) (base_o
         made = (let a = k.made in omega arith);
         fits = each_set s.views i w (F m.turns m.drawn m.log) m.here (λ j u ne bt. m.others u (k.fits j u bt) (k.apart i j v u (λ e. ne (sym e)) at bt));
         apart = pairs_set s.views i w Apart
-          (λ j u ne bt.
-              let a = k.apart i j v u (λ e. ne (sym e)) at bt in
-              let b = k.apart j i u v ne bt at in
-              let fu = k.fits j u bt in
-              (
-                record {
-                  numbers = (λ e. a.numbers (sym m.same.number ∙ e));
-                  tickets = (λ t x y. m.apart u fu t x y (λ z. a.tickets t z y));
-                  not_to_give = (λ x y. a.not_to_give (subst (λ (n : ℕ). 0 < n) m.same.number x) (subst (λ (n : ℕ). n ≤ u.room) m.same.number y));
-                },
-                record {
-                  numbers = (λ e. b.numbers (e ∙ m.same.number));
-                  tickets = (λ t y x. m.apart u fu t x y (λ z. a.tickets t z y));
-                  not_to_give = (λ x y. b.not_to_give x (subst (λ (n : ℕ). u.number ≤ n) m.same.room y));
-                }
-              ))
-          k.apart;
+            (λ j u ne bt.
+            let a = k.apart i j v u (λ e. ne (sym e)) at bt in
+            let b = k.apart j i u v ne bt at in
+            let fu = k.fits j u bt in (
+              record {
+                numbers = (λ e. a.numbers (sym m.same.number ∙ e));
+                tickets = (λ t x y. m.apart u fu t x y (λ z. a.tickets t z y));
+                not_to_give = (λ x y. a.not_to_give (subst (λ (n : ℕ). 0 < n) m.same.number x) (subst (λ (n : ℕ). n ≤ u.room) m.same.number y));
+              },
+              record {
+                numbers = (λ e. b.numbers (e ∙ m.same.number));
+                tickets = (λ t y x. m.apart u fu t x y (λ z. a.tickets t z y));
+                not_to_give = (λ x y. b.not_to_give x (subst (λ (n : ℕ). u.number ≤ n) m.same.room y));
+              },
+            ))
+            k.apart;
         below = m.below;
         latest = m.latest;
         slot = m.slot;
@@ -185,8 +184,7 @@ module _ {B E C : Type 0} (history : B → List E) (seat_of : E → ℕ) (base_o
       let w = draws k.drawn v in
       let lt = at_within s.views id (seated v) at in
       let none_held : tickets_in v.stage ≡ 0 = ap tickets_in rest in
-      let sums = k.tickets in
-      (
+      let sums = k.tickets in (
         seated w,
         keeps,
         tt,
@@ -242,8 +240,7 @@ module _ {B E C : Type 0} (history : B → List E) (seat_of : E → ℕ) (base_o
       let tk : ticket_in v.stage ≡ t = ap ticket_in waits in
       let one_held : tickets_in v.stage ≡ 1 = ap tickets_in waits in
       let span : (k.turns ≤ t) × (t < k.drawn) = subst (FitsStage k.turns k.drawn k.log v.seen) waits fv.stage in
-      let below_drawn = span.1 in
-      (
+      let below_drawn = span.1 in (
         seated w,
         takes 0 (Some x),
         ap (λ h. get_elem? h 0) home,
@@ -284,8 +281,8 @@ module _ {B E C : Type 0} (history : B → List E) (seat_of : E → ℕ) (base_o
   not_away id v t waits s k at now (home, (j, u, n, bt, served)) =
       let fu : (n ≡ k.turns) × (n < k.drawn) × (u.seen ≡ k.log) = subst (FitsStage k.turns k.drawn k.log u.seen) served (k.fits j u bt).stage in
       dite (ℕ_discrete j id)
-        (λ e. let same : u ≡ v = same_view s.views id u v (subst (λ m. At s.views m u) e bt) at in waiting-not-serving v.stage t n waits (sym (ap (λ z. z.stage) same) ∙ served))
-        (λ ne. (k.apart id j v u (λ e. ne (sym e)) at bt).tickets t (subst (λ st. HasTicket st t) (sym waits) refl) (subst (λ st. HasTicket st t) (sym served) (fu.0 ∙ now)))
+      (λ e. let same : u ≡ v = same_view s.views id u v (subst (λ m. At s.views m u) e bt) at in waiting-not-serving v.stage t n waits (sym (ap (λ z. z.stage) same) ∙ served))
+      (λ ne. (k.apart id j v u (λ e. ne (sym e)) at bt).tickets t (subst (λ st. HasTicket st t) (sym waits) refl) (subst (λ st. HasTicket st t) (sym served) (fu.0 ∙ now)))
 
   looking : (slots id : ℕ) (v : Known E C) (c : List (ℕ × Option B)) (t : ℕ) → v.stage ≡ waiting t → Allows K slots id (seated v, c) 1 (λ n. n) (looked history seat_of base_of (seated v, c))
   looking slots id v c t waits s k len at fits =
@@ -293,14 +290,14 @@ module _ {B E C : Type 0} (history : B → List E) (seat_of : E → ℕ) (base_o
       let tk : ticket_in v.stage ≡ t = ap ticket_in waits in
       let span : (k.turns ≤ t) × (t < k.drawn) = subst (FitsStage k.turns k.drawn k.log v.seen) waits (k.fits id v at).stage in
       dite (ℕ_discrete n (ticket_in v.stage % M))
-        (λ hit.
-            let few = few_held s k in
-            let late = span.1 in
-            let same : k.turns % M ≡ t % M = sym (ap (λ l. get_or l 1 0) k.words) ∙ hit ∙ ap (λ m. m % M) tk in
-            let now : k.turns ≡ t = one_turn k.turns t M span.0 (omega (arith, few, late)) same in
-            let a = taking slots id v c t waits s k at now (⊎_elim (λ x. x) (λ x. absurd (not_away id v t waits s k at now x)) k.slot) in
-            (a.0, a.1, a.2, a.3, ((λ _. a.4), (λ miss. absurd (miss hit)))))
-        (λ miss. (seated v, keeps, tt, missing slots id v c s k at, ((λ hit. absurd (miss hit)), (λ _. refl))))
+      (λ hit.
+      let few = few_held s k in
+      let late = span.1 in
+      let same : k.turns % M ≡ t % M = sym (ap (λ l. get_or l 1 0) k.words) ∙ hit ∙ ap (λ m. m % M) tk in
+      let now : k.turns ≡ t = one_turn k.turns t M span.0 (omega (arith, few, late)) same in
+      let a = taking slots id v c t waits s k at now (⊎_elim (λ x. x) (λ x. absurd (not_away id v t waits s k at now x)) k.slot) in
+      (a.0, a.1, a.2, a.3, ((λ _. a.4), (λ miss. absurd (miss hit)))))
+      (λ miss. (seated v, keeps, tt, missing slots id v c s k at, ((λ hit. absurd (miss hit)), (λ _. refl))))
 
   pub looks : (slots id : ℕ) (m : Standing E C) (c : List (ℕ × Option B)) (t : ℕ) → SeatedAnd m (λ v. v.stage ≡ waiting t) → Allows K slots id (m, c) 1 (λ n. n) (looked history seat_of base_of (m, c))
   looks slots id spent c t h = absurd h
@@ -342,9 +339,8 @@ module _ {B E C : Type 0} (history : B → List E) (seat_of : E → ℕ) (base_o
       let homes' = Rattle.atomic_table.specs.Table.put_back s.homes c in
       let homes_is : homes' ≡ some (Some y) ∷ [] = ap (Rattle.atomic_table.specs.Table.put_back s.homes) holds_it ∙ ap (λ h. set h 0 (some (Some y))) home.1 in
       let own' : events_of seat_of v.number log' ≡ v.mine ++ drop (length v.seen) (history y) =
-          events_more seat_of v.number k.log added ∙ ap (λ l. l ++ events_of seat_of v.number added) sv.own
-          ∙ ap (λ l. v.mine ++ l) (events_own seat_of v.number added all ∙ sym (ap (drop (length v.seen)) grown ∙ drop_front v.seen added)) in
-      (
+      events_more seat_of v.number k.log added ∙ ap (λ l. l ++ events_of seat_of v.number added) sv.own
+      ∙ ap (λ l. v.mine ++ l) (events_own seat_of v.number added all ∙ sym (ap (drop (length v.seen)) grown ∙ drop_front v.seen added)) in (
         seated w,
         gives,
         tt,
@@ -376,7 +372,7 @@ module _ {B E C : Type 0} (history : B → List E) (seat_of : E → ℕ) (base_o
           };
           others = (λ u fu a. record {
             suits = suits_more k.log added v.number u fu.suits all (λ e. a.numbers (sym e))
-              (λ m p q e. a.not_to_give (subst (λ (n : ℕ). 0 < n) e p) (subst (λ (n : ℕ). n ≤ u.room) e q));
+                (λ m p q e. a.not_to_give (subst (λ (n : ℕ). 0 < n) e p) (subst (λ (n : ℕ). n ≤ u.room) e q));
             stage = turn_over k.turns k.drawn k.log log' u.seen u.stage fu.stage (λ h. a.tickets k.turns has h);
           });
           apart = (λ u fu n x y' z. absurd x);
@@ -404,8 +400,7 @@ module _ {B E C : Type 0} (history : B → List E) (seat_of : E → ℕ) (base_o
       let fv = k.fits id v at in
       let sv = fv.suits in
       let l = longer_is k.log v.seen v.told sv.seen sv.told in
-      let own = events_between seat_of v.number k.log (longer v.seen v.told) v.seen v.mine l.whole l.first sv.own_seen sv.own in
-      (
+      let own = events_between seat_of v.number k.log (longer v.seen v.told) v.seen v.mine l.whole l.first sv.own_seen sv.own in (
         seated w,
         keeps,
         tt,

@@ -1,13 +1,13 @@
 -- From what a contract shows of a seat to what its steps ask, and back.
-use Rattle.std.proofs.Common.{◌≡◌, ℕ, ◌+◌, ◌-◌, ◌%◌, ◌<◌, ◌≤◌, Bool, true, false, List, [], ◌∷◌, ◌++◌, length, drop, Option, Some, None, sym, refl, ap, ◌∙◌, subst, arith, append-nil, true≢false}
+use Rattle.std.proofs.Common.{◌≡◌, ℕ, ◌-◌, ◌%◌, ◌<◌, false, List, [], ◌∷◌, ◌++◌, length, drop, Option, Some, None, sym, refl, ap, ◌∙◌, subst, arith, append-nil, true≢false}
 use mathlib.Core.Option.{some, some-injective}
 use lib.ListN.{get_elem?}
 use Rattle.atomic_table.specs.Seated.{TableId}
-use Rattle.atomic_table.specs.Table.{State, Me, rest, Final, Seen}
-use Rattle.turn_table.specs.Events.{longer, events_of, AllOf, AllBelow}
+use Rattle.atomic_table.specs.Table.{Me, rest, Final, Seen}
+use Rattle.turn_table.specs.Events.{events_of, AllOf, AllBelow}
 use Rattle.turn_table.specs.Rule.{Kept}
 use Rattle.turn_table.specs.Shown.{ShownSeat, shown, is_serving, IsAtRest, IsSeated, IsSeat, IsOwn}
-use Rattle.turn_table.specs.Views.{Stage, idle, waiting, serving, Known, Standing, spent, seated, SeatedAnd, on, draws, serves, passes, gives, given_seat, takes_in, catches_up, ticket_of, both_seats}
+use Rattle.turn_table.specs.Views.{Stage, idle, waiting, serving, Standing, spent, seated, SeatedAnd, on, draws, serves, passes, gives, given_seat, catches_up, ticket_of, both_seats}
 use Rattle.turn_table.specs.Plays.{Begins, Catches, Served, looked, passed}
 use Rattle.turn_table.proofs.Lists.{events_more, events_own, events_others, drop_front}
 use Rattle.turn_table.proofs.Comings.{MayClose, Closes, closes}
@@ -135,7 +135,7 @@ module _ {B E C : Type 0} (seat_of : E → ℕ) (number room : ℕ) where
         room_is = is.room_is;
         told = is.told;
         own = ap (events_of seat_of v.number) grown' ∙ events_more seat_of v.number v.seen added ∙ ap (λ l. l ++ events_of seat_of v.number added) is.own
-          ∙ ap (λ l. v.mine ++ l) (events_own seat_of v.number added all' ∙ sym (ap (drop (length v.seen)) grown' ∙ drop_front v.seen added));
+            ∙ ap (λ l. v.mine ++ l) (events_own seat_of v.number added all' ∙ sym (ap (drop (length v.seen)) grown' ∙ drop_front v.seen added));
         first = is.first;
         to_give = (λ n p q.
             let zero_number = is.first (omega (arith, p, q)) in

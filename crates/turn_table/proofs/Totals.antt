@@ -2,7 +2,7 @@
 use Rattle.std.proofs.Common.{◌≡◌, ◌≢◌, ℕ, zero, suc, ◌+◌, ◌<◌, ◌≤◌, ◌⊎◌, List, [], ◌∷◌, ◌++◌, length, set, sym, refl, ap, ◌∙◌, subst, inl, inr, ⊎_elim, arith}
 use mathlib.Core.Option.{some, some-injective, some-ne-none}
 use lib.ListN.{get_elem?}
-use Rattle.atomic_table.proofs.Lists.{at_set, set_else}
+use Rattle.atomic_table.proofs.Lists.{at_set}
 use Rattle.turn_table.specs.Views.{Known, Standing, spent, seated}
 use Rattle.turn_table.specs.Rule.{total, At}
 
@@ -82,13 +82,13 @@ module _ {E C : Type 0} where
       → (j k : ℕ) (u x : Known E C) → j ≢ k → At (set views i (seated w)) j u → At (set views i (seated w)) k x → R u x
   pairs_set views i w R with_it others j k u x ne at bt = ⊎_elim
       (λ t. ⊎_elim
-        (λ s. absurd (ne (t.0 ∙ sym s.0)))
-        (λ s. subst (λ z. R z x) (seated-injective w u t.1) (with_it k x s.0 s.1).0)
-        (at_set views i k (seated w) (seated x) bt))
+      (λ s. absurd (ne (t.0 ∙ sym s.0)))
+      (λ s. subst (λ z. R z x) (seated-injective w u t.1) (with_it k x s.0 s.1).0)
+      (at_set views i k (seated w) (seated x) bt))
       (λ t. ⊎_elim
-        (λ s. subst (λ z. R u z) (seated-injective w x s.1) (with_it j u t.0 t.1).1)
-        (λ s. others j k u x ne t.1 s.1)
-        (at_set views i k (seated w) (seated x) bt))
+      (λ s. subst (λ z. R u z) (seated-injective w x s.1) (with_it j u t.0 t.1).1)
+      (λ s. others j k u x ne t.1 s.1)
+      (at_set views i k (seated w) (seated x) bt))
       (at_set views i j (seated w) (seated u) at)
 
   pub each_spent : (views : List (Standing E C)) (i : ℕ) (j : ℕ) (u : Known E C) → At (set views i spent) j u → (j ≢ i) × At views j u

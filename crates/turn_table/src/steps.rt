@@ -19,11 +19,7 @@ const TURNS: usize = 1;
 const LOOKS: u32 = 64;
 
 /// Draws a ticket, waits until it is served, and takes the value.
-pub(crate) fn wait_turn<B: Journaled, R: Wait>(
-    rt: &R,
-    board: &Board<B>,
-    place: &mut Place<B>,
-) -> B
+pub(crate) fn wait_turn<B: Journaled, R: Wait>(rt: &R, board: &Board<B>, place: &mut Place<B>) -> B
     requires table { (place.old.table_id ≡ board.now.table_id) × IsSized board.now.table_id }
     requires idle { IsIdle place.old.me }
     ensures table { place.new.table_id ≡ place.old.table_id }

@@ -23,11 +23,7 @@ pub struct TurnTable<B: Journaled> {
 impl<B: Journaled> TurnTable<B> {
     /// Lays the value down, and gives the first seat, which may give the numbers below `seats`. At `Memory` the value
     /// is dropped.
-    pub fn new(
-        alloc: Global,
-        value: B,
-        seats: u32,
-    ) -> Result<(TurnTable<B>, Seat<B>), Memory>
+    pub fn new(alloc: Global, value: B, seats: u32) -> Result<(TurnTable<B>, Seat<B>), Memory>
     where
         B: Drop,
         requires some_seat { 0 < seats }

@@ -26,6 +26,7 @@ struct Numbers {
 
 impl Journaled for Numbers {
     type Event = Line;
+
     type Base = u32;
 
     ghost history = { λ n. n.lines.items };
@@ -80,7 +81,11 @@ fn write_all<R: Wait>(
 }
 
 /// Two seats write the numbers below `count` down, each in a thread of its own.
-fn write_both<R: Threads + Wait + Sync>(rt: &R, alloc: Global, count: u32) -> Result<Numbers, Memory>
+fn write_both<R: Threads + Wait + Sync>(
+    rt: &R,
+    alloc: Global,
+    count: u32,
+) -> Result<Numbers, Memory>
     ensures { IfOk result (λ n. AllBelow (λ l. l.seat) 2 n.lines.items) }
 {
     let numbers = Numbers {

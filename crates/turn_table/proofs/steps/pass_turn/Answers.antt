@@ -1,5 +1,4 @@
-use Rattle.std.proofs.Common.{rules, ◌≡◌, ◌∷◌, [], List, ℕ, Option, sym, ap, subst}
-use Rattle.atomic_table.specs.Table.{Me}
+use Rattle.std.proofs.Common.{rules, sym, ap, subst}
 use Rattle.turn_table.specs.Plays.{MayPass}
 use Rattle.turn_table.specs.Views.{SeatedAnd}
 use Rattle.turn_table.proofs.Moves.{passes_turn}
@@ -16,7 +15,7 @@ fetch_add-turns-requires g c =
       search rules,
       search rules,
       passes_turn J.history J.seat_of J.base (J.base key.first.value) key.seats _ _ new.0 new.1 c.args.value (ap (λ z. z.1) is)
-        (subst (λ z. SeatedAnd z (MayPass J.history J.seat_of J.base c.args.value)) (sym (ap (λ z. z.0) is)) c.requires.may),
+          (subst (λ z. SeatedAnd z (MayPass J.history J.seat_of J.base c.args.value)) (sym (ap (λ z. z.0) is)) c.requires.may),
     )
 
 pub returns-then-peek-turns-clause-passed : goal.returns-then-peek-turns-clause-passed

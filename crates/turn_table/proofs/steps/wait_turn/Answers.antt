@@ -1,6 +1,6 @@
 use Rattle.std.proofs.Common.{rules}
 use Rattle.turn_table.proofs.Moves.{draws_ticket, looks}
-use Rattle.turn_table.proofs.Seats.{waits, taken, taken_slot, taken_value, took}
+use Rattle.turn_table.proofs.Seats.{waits, taken, taken_slot}
 use Rattle.turn_table.proofs.steps.wait_turn.Goals as goal
 
 pub fetch_add-ticket-requires : goal.fetch_add-ticket-requires

@@ -11,4 +11,4 @@ new-requires g c =
     let base = J.base c.of.result.value in
     let items = c.in_ok-push.ensures.items ∙ ap (λ l. l ++ Some c.args.value ∷ []) c.new-slots.ensures.items in
     subst (λ l. Kept J.history J.seat_of J.base base c.args.seats (opening (0 ∷ 0 ∷ []) l (seated (opening_seat base c.args.seats)))) (sym items)
-      (opens J.history J.seat_of J.base base c.args.seats c.args.value c.requires.empty (ap J.base (sym c.of.ensures)) c.requires.some_seat c.ranges.seats.fits)
+    (opens J.history J.seat_of J.base base c.args.seats c.args.value c.requires.empty (ap J.base (sym c.of.ensures)) c.requires.some_seat c.ranges.seats.fits)

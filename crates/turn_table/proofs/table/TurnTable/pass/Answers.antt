@@ -8,9 +8,10 @@ invariant_of-seat g c =
     let J = g.B.Journaled in
     let inside = c.seat.inside in
     let e = c.pass_turn.ensures in
-    let adds = c.requires.adds in
-    (subst IsSized (sym e.table) c.seat.invariant.0,
-    passed_seat J.seat_of inside.number inside.room inside.place.table_id inside.place.me c.pass_turn.new.place.me c.args.seat.now (J.history c.args.turn.value) adds.0 c.seat.invariant.1 c.seat.view_is adds.1 adds.2 e.passed)
+    let adds = c.requires.adds in (
+      subst IsSized (sym e.table) c.seat.invariant.0,
+      passed_seat J.seat_of inside.number inside.room inside.place.table_id inside.place.me c.pass_turn.new.place.me c.args.seat.now (J.history c.args.turn.value) adds.0 c.seat.invariant.1 c.seat.view_is adds.1 adds.2 e.passed,
+    )
 
 pub returns-clause-own : goal.returns-clause-own
 returns-clause-own g c =
@@ -19,4 +20,4 @@ returns-clause-own g c =
     let e = c.pass_turn.ensures in
     let adds = c.requires.adds in
     own_shown J.seat_of inside.number inside.room c.pass_turn.new.place.table_id c.pass_turn.new.place.me
-      (passed_seat J.seat_of inside.number inside.room inside.place.table_id inside.place.me c.pass_turn.new.place.me c.args.seat.now (J.history c.args.turn.value) adds.0 c.seat.invariant.1 c.seat.view_is adds.1 adds.2 e.passed)
+    (passed_seat J.seat_of inside.number inside.room inside.place.table_id inside.place.me c.pass_turn.new.place.me c.args.seat.now (J.history c.args.turn.value) adds.0 c.seat.invariant.1 c.seat.view_is adds.1 adds.2 e.passed)
