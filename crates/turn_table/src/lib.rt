@@ -9,7 +9,7 @@
 //! Contracts see a seat as a `ShownSeat` (`specs/Shown.antt`), and each call is one equation of such records:
 //!
 //! - `table` is the name of its table, `number` that of its events; `seats` bounds all numbers; no call changes them.
-//! - `base` is the base of the value given to `new`, and of the value at the begin of each turn.
+//! - `base` is the base of the value given to `new`, and of the value at the start of each turn.
 //! - `seen` is the history as far as the seat knows it. It only grows at its end. While the seat `holds` the turn it
 //!   is the history with which that turn began, and `pass` may add any number of events of this seat to it.
 //! - `mine` are the seat's own events: exactly those of its number in `seen`, each once.

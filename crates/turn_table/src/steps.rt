@@ -1,4 +1,17 @@
-//! What a call does on the words and the slot. Between these steps a seat is open: it waits, or has the value.
+//! The atomic steps of each call. `specs/Plays.antt` says what they tell the seat, `specs/Views.antt` what they make of
+//! what it knows:
+//!
+//! | step | call | what it does |
+//! |---|---|---|
+//! | `fetch_add` on the tickets | `turn` | the seat draws a ticket |
+//! | load of the turns | `turn` | at its ticket the seat takes the value, and has seen its history; else nothing changes |
+//! | `fetch_add` on the turns | `pass` | the value is at home again, with the history that the turn leaves |
+//! | load of the tickets | `split` | the seat gives its greatest number to a new seat |
+//! | load of the tickets | `join` | the seat is told what the other had seen, and the other is spent |
+//! | load of the turns | `join` | the seat has seen the longer of both histories |
+//!
+//! Between the load that finds its turn and the `fetch_add` that passes it the slot is plain memory of the seat. While a
+//! call is between two steps, what a contract sees of a seat need not hold, so these functions work on its place alone.
 ghost use Rattle.std.specs.Prelude.{◌≡◌, ℕ, ◌<◌, [], ◌∷◌};
 ghost use Rattle.turn_table.specs.Plays.{Begins, Catches, IsIdle, MayPass};
 ghost use Rattle.turn_table.specs.Shown.{IsSized};
