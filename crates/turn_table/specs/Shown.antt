@@ -46,7 +46,7 @@ module _ {E C : Type 0} where
   shown id spent = record { table = id; number = 0; seats = 0; base = None; holds = false; seen = []; mine = []; stands = 0; made = 0; room = 0 }
   shown id (seated v) = record { table = id; number = v.number; seats = v.seats; base = Some v.base; holds = is_serving v.stage; seen = v.seen; mine = v.mine; stands = v.stands; made = v.made; room = v.room }
 
-  -- The events of the seat's number that it has seen are its own
+  -- the events of the seat's number that it has seen are its own, and no others
   abbrev pub IsOwn : (E → ℕ) → ShownSeat E C → Type 0
   IsOwn seat_of s = events_of seat_of s.number s.seen ≡ s.mine
 

@@ -113,6 +113,3 @@ module _ {E C : Type 0} where
   both_seats spent w = spent
   both_seats (seated v) spent = seated v
   both_seats (seated v) (seated w) = seated (takes_in v w)
-
-  abbrev pub given : Standing E C → Standing E C
-  given = on given_seat
