@@ -1,0 +1,5 @@
+pub mod Lists
+pub mod Totals
+pub mod Moves
+pub mod Comings
+pub mod Seats
