@@ -37,9 +37,7 @@ fn sentence_of(status: Status) -> Option<&'static str> {
         Status::BadImage => Some(
             "the input is no image text; docs/REPORT.md says what each fault means.",
         ),
-        Status::BadCert => Some(
-            "this line of the script, counted from the line after the end record, is no number of 1 to 4 hexadecimal digits.",
-        ),
+        Status::BadCert => Some("a line of the script is no number of 1 to 4 hexadecimal digits."),
         Status::ReadFault => Some(
             "standard input can't be read, so nothing is printed. Is it a folder, or closed?",
         ),
@@ -63,52 +61,68 @@ fn sentence_of(status: Status) -> Option<&'static str> {
 fn fault_of(name: &str) -> Option<&'static str> {
     match name {
         "NoColon" => Some(
-            "must begin with a colon. Is the input an Intel HEX text? `objcopy -O ihex` makes one of an ELF file.",
+            "of the image text must begin with a colon. Is the input an Intel HEX text? `objcopy -O ihex` makes one of an ELF file.",
         ),
-        "BadDigit" => Some("has a character after its colon that is no hexadecimal digit."),
+        "BadDigit" => Some(
+            "of the image text has a character after its colon that is no hexadecimal digit.",
+        ),
         "BadLength" => Some(
-            "is cut short or too long: its first two digits aren't the number of its data bytes.",
+            "of the image text is cut short or too long: its first two digits aren't the number of its data bytes.",
         ),
         "BadSum" => Some(
-            "has a wrong checksum: was it changed, or damaged on its way? Make the image text again.",
+            "of the image text has a wrong checksum: was it changed, or damaged on its way? Make the image text again.",
         ),
-        "BadType" => Some("has a record type above 05, which Intel HEX doesn't have."),
-        "BadTypeLength" => Some("has more or fewer data bytes than its record type must have."),
+        "BadType" => Some(
+            "of the image text has a record type above 05, which Intel HEX doesn't have.",
+        ),
+        "BadTypeLength" => Some(
+            "of the image text has more or fewer data bytes than its record type must have.",
+        ),
         "OutOfRange" => Some(
-            "has a byte above address FFFFh. MSP430X, with more than 64 KB, isn't covered.",
+            "of the image text has a byte above address FFFFh. MSP430X, with more than 64 KB, isn't covered.",
         ),
         "Clash" => Some(
-            "gives an address another byte than an earlier line. Were two programs joined?",
+            "of the image text gives an address another byte than an earlier line. Were two programs joined?",
         ),
         "Misplaced" => Some(
-            "has a byte below 0200h, where the peripherals are, or in RAM. Say by --ram LO-HI where the chip has its RAM.",
+            "of the image text has a byte below 0200h, where the peripherals are, or in RAM. Say by --ram LO-HI where the chip has its RAM.",
         ),
         "NoEnd" => Some(
-            "isn't there: the text ends without an end record, :00000001FF. Was it cut off?",
+            "of the image text isn't there: the text ends without an end record, :00000001FF. Was it cut off?",
         ),
-        "Trailing" => Some("stands after the end record, where only blank lines may."),
+        "Trailing" => Some(
+            "of the image text stands after the end record, where only blank lines may.",
+        ),
         "NoReset" => Some(
-            "ends an image without a reset vector. Both bytes at FFFEh and FFFFh must be in it.",
+            "of the image text ends an image without a reset vector. Both bytes at FFFEh and FFFFh must be in it.",
         ),
         _ => None,
     }
 }
 
-/// The line that `BAD line fault` names, and what its fault says.
-fn bad_line(first: &[u8]) -> Option<(&str, &'static str)> {
-    let text = str::from_utf8(first).ok()?;
-    let mut words = text.trim_end().split(' ').skip(1);
-    let line = words.next()?;
-    let fault = fault_of(words.next()?)?;
-    Some((line, fault))
+/// The line that an answer names, as `BAD line fault` and `NO line Syntax` do, and the word after it.
+fn named_line(first: &[u8]) -> Option<(&str, &str)> {
+    let mut words = str::from_utf8(first).ok()?.trim_end().split(' ').skip(1);
+    Some((words.next()?, words.next()?))
+}
+
+/// What is wrong with the line that an answer names.
+fn line_sentence_of(status: Status, fault: &str) -> Option<&'static str> {
+    match status {
+        Status::BadImage => fault_of(fault),
+        Status::BadCert => Some(
+            "of the script, counted after the end record, is no number of 1 to 4 hexadecimal digits.",
+        ),
+        _ => None,
+    }
 }
 
 /// Prints what an answer means, by its status and how its text begins.
 pub fn print_advice(rt: &impl Eprint, status: Status, first: &[u8]) -> io::Result<()> {
-    if status == Status::BadImage
-        && let Some((line, fault)) = bad_line(first)
+    if let Some((line, fault)) = named_line(first)
+        && let Some(sentence) = line_sentence_of(status, fault)
     {
-        return eprintln!(rt; "vsa: line {line} of the image text {fault}");
+        return eprintln!(rt; "vsa: line {line} {sentence}");
     }
     let Some(sentence) = sentence_of(status) else {
         return Ok(());
