@@ -1,5 +1,6 @@
 -- What the words ask: numbers of steps, options, and readings, of which there is at most one.
 use Rattle.std.proofs.Common.{◌≡◌, ℕ, ◌+◌, ◌-◌, ◌*◌, ◌<◌, ◌≤◌, Bool, true, false, List, [], ◌∷◌, Option, None, Some, refl, sym, ◌∙◌, ap, ap₂, subst, arith, All}
+use Rattle.std.proofs.lemmas.List.{length-map}
 use Rattle.std.proofs.lemmas.List.Elements.{All-cons, All-tail}
 use Rattle.std.specs.Prelude.{IfNone, IfSome, if◌then◌else◌, length, MatchOption, map, codes, string_bytes}
 use Rattle.std.specs.List.{IsFirstAndRest}
@@ -93,6 +94,33 @@ SayNone words = (options : Options) → Say words options → ⊥
 pub none_behind : (words rest : List (List ℕ)) (option text : List ℕ) → words ≡ option ∷ text ∷ rest → SayNone rest → SayNone words
 none_behind words rest option text two none =
     let there : SayNone (option ∷ text ∷ rest) = λ options said. none said.0 said.1 in subst SayNone (sym two) there
+
+-- how many words an option takes
+abbrev words_of : {A : Type 0} → Option A → ℕ
+words_of None = 0
+words_of (Some said) = 2
+
+few_words : {A : Type 0} (said : Option A) → words_of said ≤ 2
+few_words None = omega arith
+few_words (Some said) = omega arith
+
+two_more : (option text : List ℕ) (behind options : Options) → Adds option text behind options
+    → words_of options.ram + words_of options.steps ≡ words_of behind.ram + words_of behind.steps + 2
+two_more option text behind _ (ranged ram name none range) = let h : words_of behind.ram ≡ 0 = ap words_of none in omega (arith, h)
+two_more option text behind _ (stepped steps name none number) = let h : words_of behind.steps ≡ 0 = ap words_of none in omega (arith, h)
+
+-- each option takes two words
+words_said : (words : List (List ℕ)) (options : Options) → Say words options → length words ≡ words_of options.ram + words_of options.steps
+words_said [] options said = subst (λ (o : Options). 0 ≡ words_of o.ram + words_of o.steps) (sym said) refl
+words_said (option ∷ []) options said = elim said [ ]
+words_said (option ∷ text ∷ words) options said =
+    let behind = words_said words said.0 said.1 in let more = two_more option text said.0 options said.2 in omega (arith, behind, more)
+
+-- more words than two options take
+pub too_many : (words : List (String Global)) → 4 < length words → SayNone (Texts words)
+too_many words many = λ options said.
+    let same = words_said (Texts words) options said in
+    omega (arith, many, same, length-map words string_bytes, few_words options.ram, few_words options.steps)
 
 adds_none : (option text : List ℕ) (behind options : Options) → (option ≡ codes "--ram" → ⊥) → (option ≡ codes "--steps" → ⊥)
     → Adds option text behind options → ⊥

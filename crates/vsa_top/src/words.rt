@@ -208,10 +208,17 @@ fn with_steps(options: Options, steps: Option<u32>) -> Option<Options>
     }
 }
 
+/// How many words there are at most after the mode and the chip: two options with their texts.
+const MOST_WORDS: usize = 4;
+
 /// What the words behind the mode and the chip say.
 fn options_of(words: &[String]) -> Option<Options>
     ensures { MatchOption result ((options : AOptions) → ¬ Say (map string_bytes words.now) options) (Say (map string_bytes words.now)) }
 {
+    // So the stack holds at most three calls, whatever the number of words.
+    if words.len() > MOST_WORDS {
+        return None;
+    }
     let Some((option, behind)) = words.split_first() else {
         return Some(Options {
             ram: None,

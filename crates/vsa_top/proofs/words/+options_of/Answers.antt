@@ -1,6 +1,9 @@
 use Rattle.std.specs.Prelude.{string_bytes}
-use Rattle.vsa_top.proofs.WordsLemmas.{Texts, two_texts, none_behind, ram_said, steps_said, said_nothing}
+use Rattle.vsa_top.proofs.WordsLemmas.{Texts, two_texts, none_behind, ram_said, steps_said, said_nothing, too_many}
 use Rattle.vsa_top.proofs.words.+options_of.Goals as goal
+
+pub returns-then-words-gt-MOST_WORDS : goal.returns-then-words-gt-MOST_WORDS
+returns-then-words-gt-MOST_WORDS t c = too_many c.args.words.now c.if-words-gt-MOST_WORDS.true
 
 pub returns-in_default : goal.returns-in_default
 returns-in_default t c = said_nothing c.args.words.now c.in_default.ensures.cases
