@@ -1,0 +1,4 @@
+pub mod RowLemmas
+pub mod BytesLemmas
+pub mod AnswerLemmas
+pub mod UniqueLemmas

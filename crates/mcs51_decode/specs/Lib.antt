@@ -1,0 +1,5 @@
+pub mod Table
+pub mod Encoding
+pub mod Standing
+pub mod Decoding
+pub mod Targets
