@@ -37,7 +37,7 @@ use Rattle.vsa_top.specs.declared.msp430.action.Action.{Action}
 use Rattle.msp430_chip.specs.declared.device.Device.{Device}
 use Rattle.msp430_chip.specs.declared.state.ChipState.{ChipState}
 use Rattle.msp430_chip.specs.declared.state.Wild.{Wild as WildCause}
-use Rattle.msp430_chip.specs.Outcome.Outcome.{Next as Onward, Wild as Leaves}
+use Rattle.choosing.specs.Outcome.Outcome.{Next as Onward, Wild as Leaves}
 use Rattle.msp430_chip.specs.Outcome.{Outcome as ChipOutcome}
 use Rattle.msp430_chip.specs.State.{register_of, IsResetOf}
 use Rattle.msp430_chip.specs.Step.{step_of}

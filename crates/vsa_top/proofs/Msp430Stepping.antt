@@ -8,11 +8,11 @@ use Rattle.call_context.specs.Single.Single.{Instr as Ran, Edge as Went, Stack a
 use Rattle.ihex_read.specs.Image.{IsByte}
 use Rattle.msp430_chip.specs.declared.device.Device.{Device}
 use Rattle.msp430_chip.specs.declared.state.ChipState.{ChipState}
-use Rattle.msp430_chip.specs.Asking.{Asking, ask_if, and_then}
+use Rattle.choosing.specs.Asking.{Asking, ask_if, and_then}
 use Rattle.msp430_chip.specs.Interrupts.{coming}
 use Rattle.msp430_chip.specs.Operands.{with_register}
 use Rattle.msp430_chip.specs.Outcome.{Outcome}
-use Rattle.msp430_chip.specs.Outcome.Outcome.{Next, Wild}
+use Rattle.choosing.specs.Outcome.Outcome.{Next, Wild}
 use Rattle.msp430_chip.specs.declared.state.Wild.TheVariants.{NoInstr as NoInstruction}
 use Rattle.msp430_chip.specs.State.{even, register_of, allows_interrupts}
 use Rattle.msp430_chip.specs.Step.{Left, with_status, done, behind, double, double_left, jump, executed, run, taken, step_of}

@@ -8,7 +8,7 @@ use Rattle.chip_law.specs.Line.{item_line_of}
 use Rattle.msp430_chip.specs.declared.device.Device.{Device}
 use Rattle.msp430_chip.specs.declared.state.ChipState.{ChipState}
 use Rattle.msp430_chip.specs.declared.state.Wild.{Wild as ACause}
-use Rattle.msp430_chip.specs.Outcome.Outcome.{Next, Wild as Leaves}
+use Rattle.choosing.specs.Outcome.Outcome.{Next, Wild as Leaves}
 use Rattle.msp430_chip.specs.State.{register_of}
 use Rattle.msp430_chip.specs.Step.{step_of}
 use Rattle.msp430_emu.specs.Planning.{item_of}

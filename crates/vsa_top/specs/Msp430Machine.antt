@@ -8,7 +8,7 @@ use Rattle.msp430_chip.specs.declared.device.Device.{Device}
 use Rattle.msp430_chip.specs.declared.state.ChipState.{ChipState}
 use Rattle.msp430_chip.specs.declared.state.Wild.{Wild as WildCause}
 use Rattle.msp430_chip.specs.declared.state.Wild.TheVariants.{NoInstr, Store}
-use Rattle.msp430_chip.specs.Outcome.Outcome.{Next as Onward, Wild as Leaves}
+use Rattle.choosing.specs.Outcome.Outcome.{Next as Onward, Wild as Leaves}
 use Rattle.msp430_chip.specs.State.{register_of, IsResetOf}
 use Rattle.msp430_chip.specs.Step.{step_of}
 

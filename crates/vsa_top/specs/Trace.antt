@@ -8,11 +8,11 @@ use Rattle.chip_law.specs.Line.{item_line_of}
 use Rattle.msp430_chip.specs.declared.device.Device.{Device}
 use Rattle.msp430_chip.specs.declared.state.ChipState.{ChipState}
 use Rattle.msp430_chip.specs.Outcome.{Outcome}
-use Rattle.msp430_chip.specs.Outcome.Outcome.{Next, Wild as Leaves}
+use Rattle.choosing.specs.Outcome.Outcome.{Next, Wild as Leaves}
 use Rattle.msp430_chip.specs.State.{register_of}
 use Rattle.msp430_chip.specs.Step.{step_of}
 use Rattle.msp430_emu.specs.Planning.{item_of}
-use Rattle.msp430_emu.specs.Stepping.{first_state}
+use Rattle.msp430_chip.specs.State.{first_state}
 use Rattle.vsa_top.specs.Msp430Built.{instr_text}
 use Rattle.vsa_top.specs.declared.outcome.Status.{Status}
 use Rattle.vsa_top.specs.declared.outcome.Status.TheVariants.{Done, Wild, NeedChoice}

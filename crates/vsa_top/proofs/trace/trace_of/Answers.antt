@@ -1,8 +1,7 @@
 use Rattle.std.proofs.Common.{◌≡◌, ◌-◌, ◌+◌, Some, None, ◌++◌, ap, subst, ◌∙◌, arith}
 use Rattle.msp430_chip.specs.declared.device.Device.{Device}
-use Rattle.msp430_chip.specs.Outcome.Outcome.{Next, Wild as Leaves}
+use Rattle.choosing.specs.Outcome.Outcome.{Next, Wild as Leaves}
 use Rattle.msp430_chip.specs.Step.{step_of}
-use Rattle.msp430_emu.specs.Choosing.{left_of}
 use Rattle.vsa_top.specs.Trace.{end_line, run_of}
 use Rattle.vsa_top.proofs.TraceLemmas.{same_device, met, went_wild, lacked, ended}
 use Rattle.vsa_top.proofs.trace.trace_of.Goals as goal
@@ -12,7 +11,7 @@ returns-in-Wild-clause-run c =
     let chip = c.args.chip.now in
     let same = same_device chip c.device-device.result.now c.loop-done.machine.lo c.loop-done.machine.hi c.device-device.ensures c.loop-done.invariant.1 c.loop-done.invariant.2 in
     let s = c.loop-done.machine.state in
-    let choices = left_of c.loop-done.choices in
+    let choices = c.loop-done.choices in
     let steps = c.in-Wild.ensures.steps in
     went_wild chip (c.args.steps - c.loop-done.done) (c.args.steps - (c.loop-done.done + 1)) c.loop-done.done s choices steps.0 c.in-Wild.field-0
     c.loop-done.text.items c.push_wild.new.text.items (run_of chip c.args.script.items c.args.steps) (omega (arith, c.loop-done-test.true))
@@ -23,7 +22,7 @@ returns-in-NeedChoice-clause-run c =
     let chip = c.args.chip.now in
     let same = same_device chip c.device-device.result.now c.loop-done.machine.lo c.loop-done.machine.hi c.device-device.ensures c.loop-done.invariant.1 c.loop-done.invariant.2 in
     let s = c.loop-done.machine.state in
-    let choices = left_of c.loop-done.choices in
+    let choices = c.loop-done.choices in
     lacked chip (c.args.steps - c.loop-done.done) (c.args.steps - (c.loop-done.done + 1)) c.loop-done.done s choices
     c.loop-done.text.items c.push_need.new.text.items (run_of chip c.args.script.items c.args.steps) (omega (arith, c.loop-done-test.true))
     (subst (λ (d : Device). step_of d s choices ≡ None) same c.in-NeedChoice.ensures.steps) c.in_ok-push_need-in-NeedChoice.ensures c.loop-done.invariant.0
@@ -34,8 +33,8 @@ loop-done-preserved c =
     let same = same_device chip c.device-device.result.now c.loop-done.machine.lo c.loop-done.machine.hi c.device-device.ensures c.loop-done.invariant.1 c.loop-done.invariant.2 in
     let s = c.loop-done.machine.state in
     let t = c.step.new.self.state in
-    let choices = left_of c.loop-done.choices in
-    let after = left_of c.step.new.choices in
+    let choices = c.loop-done.choices in
+    let after = c.step.new.choices in
     let steps = c.in-Met.ensures.steps in (
       met chip (c.args.steps - c.loop-done.done) (c.args.steps - (c.loop-done.done + 1)) c.loop-done.done s t choices after steps.0 c.as_slice.result.now
           c.loop-done.text.items c.push_items.new.text.items (run_of chip c.args.script.items c.args.steps) (omega (arith, c.loop-done-test.true))
@@ -49,6 +48,6 @@ pub returns-clause-run : goal.returns-clause-run
 returns-clause-run c =
     let chip = c.args.chip.now in
     let last : c.args.steps ≡ c.loop-done.done = omega (arith, c.loop-done-test.false, c.loop-done.auto.done-end) in
-    ended chip (c.args.steps - c.loop-done.done) c.loop-done.done c.loop-done.machine.state (left_of c.loop-done.choices)
+    ended chip (c.args.steps - c.loop-done.done) c.loop-done.done c.loop-done.machine.state c.loop-done.choices
     c.loop-done.text.items c.push_end.new.text.items (run_of chip c.args.script.items c.args.steps) (omega (arith, c.loop-done-test.false))
     (c.in_ok-push_end.ensures ∙ ap (λ n. c.loop-done.text.items ++ end_line n) last) c.loop-done.invariant.0
