@@ -18,6 +18,7 @@
 
 mod bytes;
 mod decimal;
+mod flags;
 mod knowing;
 mod laws;
 mod making;
@@ -27,8 +28,12 @@ pub mod w16;
 pub mod w8;
 mod words;
 
-pub use laws::{bits_hold, decimals_hold, evens_stay, halves_hold, logic_holds, moves_hold};
-pub use tri::{Top, Tri};
+pub use flags::Flag;
+pub use laws::{
+    bits_hold, decimals_hold, evens_stay, flags_agree, halves_hold, left_shifts_hold, logic_holds,
+    moves_hold,
+};
+pub use tri::{Lowest, Top, Tri};
 
 #[cfg(test)]
 mod brute;
