@@ -94,9 +94,10 @@ left_agrees place lowest bits x bit long h is =
     let first = lowest_agrees place lowest bits x bit (omega arith) h is in
     let small = bit_small (lowest_bit place lowest bits) bit first in
     let low : shifted_left place x bit % 2 ≡ bit = omega (arith, small) in
-    let high : shifted_left place x bit / 2 ≡ x % 2 ^ place = omega (arith, small) in
-    (subst (λ (n : ℕ). IsBit (lowest_bit place lowest bits) n) (sym low) first,
-    subst (λ (n : ℕ). Agrees (take place bits) n) (sym high) (agrees_take place bits x (omega arith) h))
+    let high : shifted_left place x bit / 2 ≡ x % 2 ^ place = omega (arith, small) in (
+      subst (λ (n : ℕ). IsBit (lowest_bit place lowest bits) n) (sym low) first,
+      subst (λ (n : ℕ). Agrees (take place bits) n) (sym high) (agrees_take place bits x (omega arith) h),
+    )
 
 -- ---- halves
 

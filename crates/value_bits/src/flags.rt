@@ -28,13 +28,7 @@ pub trait Flag {
 }
 
 /// What is known of a flag over at most 256 combinations of members: known where all agree.
-pub fn agreed_few<F: Flag>(
-    modulus: u32,
-    flag: &F,
-    first: &Form,
-    second: &Form,
-    carry: &Form,
-) -> Tri
+pub fn agreed_few<F: Flag>(modulus: u32, flag: &F, first: &Form, second: &Form, carry: &Form) -> Tri
     requires small { modulus ≤ 65536 }
     requires first_normal { IsNormal modulus first.now }
     requires second_normal { IsNormal modulus second.now }
@@ -152,14 +146,7 @@ fn row_has<F: Flag>(
     true
 }
 
-fn pair_has<F: Flag>(
-    modulus: u32,
-    wanted: bool,
-    flag: &F,
-    x: u16,
-    y: u16,
-    carries: &[u16],
-) -> bool
+fn pair_has<F: Flag>(modulus: u32, wanted: bool, flag: &F, x: u16, y: u16, carries: &[u16]) -> bool
     requires width { F.modulus flag.now ≡ modulus }
     requires x_below { x < modulus }
     requires y_below { y < modulus }

@@ -198,7 +198,10 @@ pub fn left_bits(place: u32, lowest: Lowest, known: &[Tri]) -> ArrayVec<Tri, WID
     requires wide { length known.now ≡ place + 1 }
     ensures { result.items ≡ lefts.left_bits place lowest known.now }
 {
-    joined([lowest_bit(place, lowest, known)].as_slice(), &known[..place as usize])
+    joined(
+        [lowest_bit(place, lowest, known)].as_slice(),
+        &known[..place as usize],
+    )
 }
 
 fn lowest_bit(place: u32, lowest: Lowest, known: &[Tri]) -> Tri

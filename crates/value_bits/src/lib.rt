@@ -9,6 +9,7 @@
 //! - Of at most 256 combinations of members, with an unknown carry counted as two, a call gathers all results.
 //! - Of more, a bit of the result is known where the known bits of the operands decide it, and the result is the set of
 //!   the numbers with such bits.
+//! - A flag over at most 256 combinations is known where all agree, and else unknown.
 //! - A decimal operation of more than 256 combinations gives any number, and so does a decimal sum where a member has a
 //!   digit above 9.
 //!

@@ -14,12 +14,11 @@ ghost use Rattle.value_bits.specs.Lefts.{IsLowest, IsOneLowest};
 ghost use Rattle.value_bits.specs.Lefts as lefts;
 
 use crate::bytes::{chosen, is_few, lowest_carry, top_carry, with_bits};
-use crate::decimal;
-use crate::flags;
 use crate::flags::Flag;
 use crate::knowing::{exchanged_bits, known_bits, left_bits, logic_bits, shift_bits};
 use crate::operations::{Bitwise, DecimalAdjustment, DecimalSum, Exchange, LeftShift, Shift};
 use crate::tri::{Logic, Lowest, Top, Tri};
+use crate::{decimal, flags};
 use value_set::Vs8;
 
 /// How many bits a number has.
