@@ -20,7 +20,7 @@ use Rattle.value_bits.specs.declared.tri.Lowest.TheVariants.{High, Given}
 use Rattle.value_bits.specs.Numbers.{shifted_left, shifted_right, exchanged, sign_extended, low_byte, high_byte, word_of, is_decimal, decimal_sum, decimal_total, decimal_adjusted}
 use Rattle.value_bits.specs.Bits.{IsBit, Agrees, known_bit, known_bits, filled, least, greatest, numbers, unknown_count, lowest_unknown, from_bits, logic_of, tri_logic}
 use Rattle.value_bits.specs.Sets.{chosen, any, combine_or, logic_bits, logic_set, IsTop, top_answer, shift_answer, top_carry, top_bit, shift_bits, shift_set, exchange_set, sign_extend_set, low_set, high_set, words, pair_set, are_decimal, decimal_add_set, decimal_adjust_set}
-use Rattle.value_bits.specs.Lefts.{IsLowest, lowest_answer, left_answer, lowest_carry, lowest_bit, left_bits, left_set}
+use Rattle.value_bits.specs.Lefts.{IsLowest, lowest_answer, left_answer, lowest_carry, left_bits, left_set}
 use Rattle.value_bits.specs.Staying.{lowest_answer_below, left_below, logic_stays, top_answer_below, shifted_below, exchanged_below, sign_stays, digits_below, adjusted_below}
 use Rattle.value_bits.proofs.Within.{IsIn, in_from_Contains, Contains_from_in, in_map, in_mapped, in_flat}
 use Rattle.value_bits.proofs.Fillings.{AllBelow, numbers_below, few_numbers}

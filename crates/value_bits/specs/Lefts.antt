@@ -1,5 +1,5 @@
 -- Shifts to the left by one place: the sets of their results.
-use Rattle.std.specs.Prelude.{◌≡◌, ℕ, ◌+◌, ◌%◌, ◌^◌, List, [], ◌∷◌, take, slice_index_or}
+use Rattle.std.specs.Prelude.{◌≡◌, ℕ, ◌+◌, ◌%◌, ◌^◌, List, ◌∷◌, take, slice_index_or}
 use Rattle.std.specs.Int.{bit_at}
 use Rattle.value_set.specs.Summing.{single}
 use Rattle.value_set.specs.declared.form.Form.{Form}

@@ -1,4 +1,4 @@
-use Rattle.std.proofs.Common.{◌∙◌, ap, arith}
+use Rattle.std.proofs.Common.{◌∙◌, arith}
 use Rattle.value_bits.proofs.Combinations.{run_count, listed_values, listed_run, listed_below}
 use Rattle.value_bits.proofs.flags.listed.Goals as goal
 
