@@ -8,12 +8,15 @@ use Rattle.value_set.specs.Form.{Has, gather, set_of, put}
 use Rattle.value_set.specs.Summing.{single, combine, count_of}
 use Rattle.value_bits.specs.declared.tri.Tri.{Tri}
 use Rattle.value_bits.specs.declared.tri.Tri.TheVariants.{Zero, One, Either}
+use Rattle.value_bits.specs.declared.tri.Lowest.{Lowest}
+use Rattle.value_bits.specs.declared.tri.Lowest.TheVariants.{High, Given}
 use Rattle.value_bits.specs.declared.tri.Top.{Top}
 use Rattle.value_bits.specs.declared.tri.Top.TheVariants.{Sign, Low, Put}
-use Rattle.value_bits.specs.Numbers.{shifted_right}
+use Rattle.value_bits.specs.Numbers.{shifted_left, shifted_right}
 use Rattle.value_bits.specs.Bits.{IsBit}
 use Rattle.value_bits.proofs.Moves.{bit_small}
 use Rattle.value_bits.specs.Sets.{chosen, combine_or, IsTop, IsOneTop, top_carry, shift_answer}
+use Rattle.value_bits.specs.Lefts.{IsLowest, IsOneLowest, lowest_carry, left_answer}
 
 pub combine_few : (m : ℕ) (answer : ℕ → ℕ → ℕ → ℕ) (first second carry otherwise set : Form) → set ≡ combine m answer first second carry
     → count_of m first * (count_of m second * count_of m carry) ≤ 256 → set ≡ combine_or m answer first second carry otherwise
@@ -89,3 +92,18 @@ one_top place Low x bit one is = (0, refl, ap (λ (b : ℕ). shifted_right place
 one_top place (Put Zero) x bit one is = (0, refl, ap (λ (b : ℕ). shifted_right place x b) (sym is))
 one_top place (Put One) x bit one is = (1, refl, ap (λ (b : ℕ). shifted_right place x b) (sym is))
 one_top place (Put Either) x bit one is = absurd one
+
+pub lowest_choice : (m place : ℕ) (lowest : Lowest) (x bit : ℕ) → IsLowest place lowest x bit → (z : ℕ) × Has m (lowest_carry lowest) z × (left_answer place lowest x 0 z ≡ shifted_left place x bit)
+lowest_choice m place High x bit is = (0, single_has m 0, ap (λ (b : ℕ). shifted_left place x b) (sym is))
+lowest_choice m place (Given given) x bit is = (bit, chosen_has m bit given is, ap (λ (b : ℕ). shifted_left place x b) (let small = bit_small given bit is in let low : bit % 2 ≡ bit = omega (arith, small) in low))
+
+pub left_has : (m place : ℕ) (lowest : Lowest) (x bit : ℕ) (set : Form) → IsLowest place lowest x bit
+    → ((z : ℕ) → Has m (lowest_carry lowest) z → Has m set (left_answer place lowest x 0 z)) → Has m set (shifted_left place x bit)
+left_has m place lowest x bit set is each = let found = lowest_choice m place lowest x bit is in subst (λ (v : ℕ). Has m set v) found.2 (each found.0 found.1)
+
+pub one_lowest : (place : ℕ) (lowest : Lowest) (x bit : ℕ) → IsOneLowest lowest → IsLowest place lowest x bit
+    → (z : ℕ) × (lowest_carry lowest ≡ single z) × (left_answer place lowest x 0 z ≡ shifted_left place x bit)
+one_lowest place High x bit one is = (0, refl, ap (λ (b : ℕ). shifted_left place x b) (sym is))
+one_lowest place (Given Zero) x bit one is = (0, refl, ap (λ (b : ℕ). shifted_left place x b) (sym is))
+one_lowest place (Given One) x bit one is = (1, refl, ap (λ (b : ℕ). shifted_left place x b) (sym is))
+one_lowest place (Given Either) x bit one is = absurd one

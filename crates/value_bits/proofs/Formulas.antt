@@ -15,17 +15,20 @@ use Rattle.value_bits.specs.declared.tri.Tri.TheVariants.{Zero, One, Either}
 use Rattle.value_bits.specs.declared.tri.Top.{Top}
 use Rattle.value_bits.specs.declared.tri.Top.TheVariants.{Sign, Low, Put}
 use Rattle.value_bits.specs.declared.tri.Logic.{Logic}
-use Rattle.value_bits.specs.Numbers.{shifted_right, exchanged, sign_extended, low_byte, high_byte, word_of, is_decimal, decimal_sum, decimal_total, decimal_adjusted}
+use Rattle.value_bits.specs.declared.tri.Lowest.{Lowest}
+use Rattle.value_bits.specs.declared.tri.Lowest.TheVariants.{High, Given}
+use Rattle.value_bits.specs.Numbers.{shifted_left, shifted_right, exchanged, sign_extended, low_byte, high_byte, word_of, is_decimal, decimal_sum, decimal_total, decimal_adjusted}
 use Rattle.value_bits.specs.Bits.{IsBit, Agrees, known_bit, known_bits, filled, least, greatest, numbers, unknown_count, lowest_unknown, from_bits, logic_of, tri_logic}
 use Rattle.value_bits.specs.Sets.{chosen, any, combine_or, logic_bits, logic_set, IsTop, top_answer, shift_answer, top_carry, top_bit, shift_bits, shift_set, exchange_set, sign_extend_set, low_set, high_set, words, pair_set, are_decimal, decimal_add_set, decimal_adjust_set}
-use Rattle.value_bits.specs.Staying.{logic_stays, top_answer_below, shifted_below, exchanged_below, sign_stays, digits_below, adjusted_below}
+use Rattle.value_bits.specs.Lefts.{IsLowest, lowest_answer, left_answer, lowest_carry, left_bits, left_set}
+use Rattle.value_bits.specs.Staying.{lowest_answer_below, left_below, logic_stays, top_answer_below, shifted_below, exchanged_below, sign_stays, digits_below, adjusted_below}
 use Rattle.value_bits.proofs.Within.{IsIn, in_from_Contains, Contains_from_in, in_map, in_mapped, in_flat}
 use Rattle.value_bits.proofs.Fillings.{AllBelow, numbers_below, few_numbers}
 use Rattle.value_bits.proofs.Agreeing.{numbers_have, run_has, few_value, many_value}
 use Rattle.value_bits.proofs.Known.{known_agrees}
 use Rattle.value_bits.proofs.Logics.{logic_agrees}
-use Rattle.value_bits.proofs.Moves.{shift_agrees, exchange_agrees, sign_agrees, low_agrees, high_agrees, pair_agrees}
-use Rattle.value_bits.proofs.Choosing.{combine_few, combine_many, single_has, chosen_has, top_choice}
+use Rattle.value_bits.proofs.Moves.{left_agrees, shift_agrees, exchange_agrees, sign_agrees, low_agrees, high_agrees, pair_agrees}
+use Rattle.value_bits.proofs.Choosing.{combine_few, combine_many, single_has, chosen_has, lowest_choice, top_choice}
 use Rattle.value_bits.proofs.Halves.{low_few, low_many, high_few, high_many, pair_few, pair_many, words_have, words_some}
 use Rattle.value_bits.proofs.Decimals.{decimal_member}
 use Rattle.value_bits.specs.SetLaws.{SetLaws}
@@ -278,6 +281,34 @@ shift_has laws place set top x bit n h is = let m = 2 ^ (place + 1) in let pos =
     (choose_has laws m (shift_answer place top) set (single 0) (top_carry top) (from_bits (place + 1) bits) x 0 found.0 n (zero_normal m pos) (shift_kept place top)
     h (single_has m 0) found.1
     (subst (λ (v : ℕ). Has m (from_bits (place + 1) bits) v) (sym found.2) (bits_have laws (place + 1) bits (shifted_right place x bit) (shift_long place set top) agrees)))
+
+lowest_some : (m : ℕ) (lowest : Lowest) → 1 ≤ length (members m (lowest_carry lowest))
+lowest_some m High = omega arith
+lowest_some m (Given given) = chosen_some m given
+
+left_kept : (place : ℕ) (lowest : Lowest) → Stays (2 ^ (place + 1)) (left_answer place lowest)
+left_kept place lowest x y z h k = left_below place x (lowest_answer place lowest x z) (lowest_answer_below place lowest x z)
+
+left_long : (place : ℕ) (set : Form) (lowest : Lowest) → length (left_bits place lowest (known_bits (place + 1) set)) ≡ place + 1
+left_long place set lowest = let bits = known_bits (place + 1) set in let long = known_long (place + 1) set in
+    omega (arith, length-take-le place bits (omega (arith, long)))
+
+pub left_normal : SetLaws → (place : ℕ) (set : Form) (lowest : Lowest) → IsNormal (2 ^ (place + 1)) set → IsNormal (2 ^ (place + 1)) (left_set place set lowest)
+unfolding left_set
+left_normal laws place set lowest n = let m = 2 ^ (place + 1) in let pos = pow_pos (place + 1) in let bits = left_bits place lowest (known_bits (place + 1) set) in
+    choose_normal laws m (left_answer place lowest) set (single 0) (lowest_carry lowest) (from_bits (place + 1) bits) n (zero_normal m pos) (lowest_some m lowest) (left_kept place lowest)
+    (bits_normal laws (place + 1) bits (left_long place set lowest))
+
+pub left_has : SetLaws → (place : ℕ) (set : Form) (lowest : Lowest) (x bit : ℕ) → IsNormal (2 ^ (place + 1)) set → Has (2 ^ (place + 1)) set x → IsLowest place lowest x bit
+    → Has (2 ^ (place + 1)) (left_set place set lowest) (shifted_left place x bit)
+unfolding left_set
+left_has laws place set lowest x bit n h is = let m = 2 ^ (place + 1) in let pos = pow_pos (place + 1) in let bits = left_bits place lowest (known_bits (place + 1) set) in
+    let found = lowest_choice m place lowest x bit is in
+    let agrees = left_agrees place lowest (known_bits (place + 1) set) x bit (known_long (place + 1) set) (known_agrees (place + 1) x set n h) is in
+    subst (λ (v : ℕ). Has m (combine_or m (left_answer place lowest) set (single 0) (lowest_carry lowest) (from_bits (place + 1) bits)) v) found.2
+    (choose_has laws m (left_answer place lowest) set (single 0) (lowest_carry lowest) (from_bits (place + 1) bits) x 0 found.0 n (zero_normal m pos) (left_kept place lowest)
+    h (single_has m 0) found.1
+    (subst (λ (v : ℕ). Has m (from_bits (place + 1) bits) v) (sym found.2) (bits_have laws (place + 1) bits (shifted_left place x bit) (left_long place set lowest) agrees)))
 
 -- ---- decimal operations
 

@@ -11,3 +11,4 @@ pub mod Halves
 mod Examples
 pub mod Formulas
 pub mod Evens
+pub mod Combinations

@@ -10,9 +10,12 @@ use Rattle.value_bits.specs.declared.tri.Tri.{Tri}
 use Rattle.value_bits.specs.declared.tri.Tri.TheVariants.{Zero, One, Either}
 use Rattle.value_bits.specs.declared.tri.Top.{Top}
 use Rattle.value_bits.specs.declared.tri.Top.TheVariants.{Sign, Low, Put}
-use Rattle.value_bits.specs.Numbers.{shifted_right, exchanged, sign_extended, low_byte, high_byte, word_of}
+use Rattle.value_bits.specs.declared.tri.Lowest.{Lowest}
+use Rattle.value_bits.specs.declared.tri.Lowest.TheVariants.{High, Given}
+use Rattle.value_bits.specs.Numbers.{shifted_left, shifted_right, exchanged, sign_extended, low_byte, high_byte, word_of}
 use Rattle.value_bits.specs.Bits.{IsBit, Agrees}
 use Rattle.value_bits.specs.Sets.{IsTop, top_bit, shift_bits}
+use Rattle.value_bits.specs.Lefts.{IsLowest, lowest_bit, left_bits}
 
 pub bit_small : (b : Tri) (bit : ℕ) → IsBit b bit → bit < 2
 bit_small Zero bit h = omega (arith, h)
@@ -80,6 +83,21 @@ shift_agrees place top bits x bit long h is =
     let last = agrees_zero (top_bit place top bits) bit (top_agrees place top bits x bit (omega arith) h is) in
     let size : length (drop 1 bits) ≡ place = omega (arith, length-drop 1 bits) in
     subst (λ (n : ℕ). Agrees (shift_bits place top bits) (x / 2 + bit * 2 ^ n)) size (agrees_append (drop 1 bits) (top_bit place top bits ∷ []) (x / 2) bit rest last)
+
+lowest_agrees : (place : ℕ) (lowest : Lowest) (bits : List Tri) (x bit : ℕ) → place < length bits → Agrees bits x → IsLowest place lowest x bit → IsBit (lowest_bit place lowest bits) bit
+lowest_agrees place High bits x bit short h is = subst (λ (n : ℕ). IsBit (get_or bits place Either) n) (sym is) (agrees_at place bits x short h)
+lowest_agrees place (Given given) bits x bit short h is = is
+
+pub left_agrees : (place : ℕ) (lowest : Lowest) (bits : List Tri) (x bit : ℕ) → length bits ≡ place + 1 → Agrees bits x → IsLowest place lowest x bit
+    → Agrees (left_bits place lowest bits) (shifted_left place x bit)
+left_agrees place lowest bits x bit long h is =
+    let first = lowest_agrees place lowest bits x bit (omega arith) h is in
+    let small = bit_small (lowest_bit place lowest bits) bit first in
+    let low : shifted_left place x bit % 2 ≡ bit = omega (arith, small) in
+    let high : shifted_left place x bit / 2 ≡ x % 2 ^ place = omega (arith, small) in (
+      subst (λ (n : ℕ). IsBit (lowest_bit place lowest bits) n) (sym low) first,
+      subst (λ (n : ℕ). Agrees (take place bits) n) (sym high) (agrees_take place bits x (omega arith) h),
+    )
 
 -- ---- halves
 

@@ -3,3 +3,5 @@ pub mod Bits
 pub mod Sets
 pub mod Staying
 pub mod SetLaws
+pub mod Flags
+pub mod Lefts

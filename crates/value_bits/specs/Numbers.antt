@@ -11,6 +11,10 @@ use Rattle.std.specs.Int.{bit_at}
 abbrev pub shifted_right : (place x bit : ℕ) → ℕ
 shifted_right place x bit = x / 2 + bit * 2 ^ place
 
+-- RL A and RLC A: each bit moves up one place, and a bit comes in at the lowest place
+abbrev pub shifted_left : (place x bit : ℕ) → ℕ
+shifted_left place x bit = x % 2 ^ place * 2 + bit
+
 -- SWPB, with n 256, and SWAP A, with n 16: the halves of a number below n * n change places
 abbrev pub exchanged : (n x : ℕ) → ℕ
 exchanged n x = x % n * n + x / n

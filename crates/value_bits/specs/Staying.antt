@@ -3,16 +3,19 @@ use Rattle.std.specs.Prelude.{◌≡◌, ℕ, ◌+◌, ◌*◌, ◌/◌, ◌%◌
 use Prim.Native.Nat.{zero, suc}
 use Rattle.std.proofs.Common.{arith}
 use Rattle.std.proofs.Math.Nat.{mod-lt, pow-suc}
-use Rattle.std.proofs.lemmas.Nat.{and_le_l, or_lt, xor_lt, pow-add, mul-add-lt, div_below}
+use Rattle.std.proofs.lemmas.Nat.{and_le_l, or_lt, xor_lt, pow_pos, pow-add, mul-add-lt, div_below}
 use Rattle.std.proofs.lemmas.Nat.Bits.{bit_at-lt}
 use Rattle.value_set.specs.Operations.{StaysBelow}
 use Rattle.value_bits.specs.declared.tri.Top.{Top}
 use Rattle.value_bits.specs.declared.tri.Top.TheVariants.{Sign, Low, Put}
+use Rattle.value_bits.specs.declared.tri.Lowest.{Lowest}
+use Rattle.value_bits.specs.declared.tri.Lowest.TheVariants.{High, Given}
 use Rattle.value_bits.specs.declared.tri.Logic.{Logic}
 use Rattle.value_bits.specs.declared.tri.Logic.TheVariants.{And, Or, Xor}
 use Rattle.value_bits.specs.Numbers.{exchanged, sign_extended, decimal_digits, decimal_sum, decimal_adjusted, high_adjusted, low_adjusted, decimal_total}
 use Rattle.value_bits.specs.Bits.{logic_of}
 use Rattle.value_bits.specs.Sets.{shift_answer, top_answer}
+use Rattle.value_bits.specs.Lefts.{left_answer, lowest_answer}
 
 pub logic_stays : (width : ℕ) (logic : Logic) → StaysBelow (2 ^ width) (λ x y z. logic_of logic x y)
 logic_stays width And x y z h k l = let small = and_le_l x y in omega (arith, small)
@@ -33,6 +36,19 @@ shifted_below place x bit h b =
 
 pub shift_stays : (place : ℕ) (top : Top) → StaysBelow (2 ^ (place + 1)) (shift_answer place top)
 shift_stays place top x y z h k l = shifted_below place x (top_answer place top x z) h (top_answer_below place top x z)
+
+pub lowest_answer_below : (place : ℕ) (lowest : Lowest) (x z : ℕ) → lowest_answer place lowest x z < 2
+lowest_answer_below place High x z = bit_at-lt x place
+lowest_answer_below place (Given given) x z = mod-lt z {m = 2} (omega arith)
+
+pub left_below : (place x bit : ℕ) → bit < 2 → x % 2 ^ place * 2 + bit < 2 ^ (place + 1)
+left_below place x bit b =
+    let double : 2 ^ (place + 1) ≡ 2 ^ place * 2 ^ 1 = pow-add 2 place 1 in
+    let rest = mod-lt x {m = 2 ^ place} (pow_pos place) in
+    omega (arith, rest, b, double)
+
+pub left_stays : (place : ℕ) (lowest : Lowest) → StaysBelow (2 ^ (place + 1)) (left_answer place lowest)
+left_stays place lowest x y z h k l = left_below place x (lowest_answer place lowest x z) (lowest_answer_below place lowest x z)
 
 pub exchanged_below : (n x : ℕ) → x < n * n → exchanged n x < n * n
 exchanged_below n x h =

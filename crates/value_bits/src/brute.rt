@@ -1,11 +1,12 @@
 //! Every call on bytes against plain loops, over all pairs of some hundred sets.
 
+use crate::flags::Flag;
 use crate::plain::{
     Known, Marks, adjusted, bit_of, count_of, decimal_sum, has_all, has_bits, is_decimal,
-    is_gathered, is_list_of, is_made_of, known_of_results, result_of, shifted,
+    is_gathered, is_list_of, is_made_of, known_of_results, result_of, shifted, shifted_left,
 };
 use crate::samples::{Sample, some_samples};
-use crate::tri::{Logic, Top, Tri};
+use crate::tri::{Logic, Lowest, Top, Tri};
 use crate::{w8, w16};
 use std::alloc::Global;
 use std::process::Abort;
@@ -115,6 +116,47 @@ fn check_decimal_add(
     Ok(())
 }
 
+/// The carry out of bit 7 of a sum.
+struct CarryOut;
+
+impl Flag for CarryOut {
+    ghost use Rattle.std.specs.Prelude.{◌+◌, nat_le};
+
+    ghost modulus = { λ flag. 256 };
+
+    ghost value = { λ flag x y carry. nat_le 256 (x + y + carry) };
+
+    fn is_set(&self, x: u16, y: u16, carry: u16) -> bool {
+        256 <= x as u32 + y as u32 + carry as u32
+    }
+}
+
+/// Known where all sums of at most 256 agree.
+fn check_flag(rt: &impl Abort, first: &Sample, second: &Sample, carry: Tri, carries: &[bool]) {
+    let mut some = false;
+    let mut all = true;
+    for x in first.members.as_slice() {
+        for y in second.members.as_slice() {
+            for bit in carries {
+                let out = u16::from(*x) + u16::from(*y) + u16::from(*bit) > 255;
+                some |= out;
+                all &= out;
+            }
+        }
+    }
+    let known = if !are_few(first, second, carries.len()) || some != all {
+        Tri::Either
+    } else if all {
+        Tri::One
+    } else {
+        Tri::Zero
+    };
+    assert_eq!(rt;
+        w8::agreed(&CarryOut, &first.set, &second.set, carry),
+        known
+    );
+}
+
 fn check_pair(rt: &impl Abort, alloc: Global, first: &Sample, second: &Sample) -> Result<(), Fail> {
     for logic in [Logic::And, Logic::Or, Logic::Xor] {
         check_logic(rt, alloc, first, second, logic)?;
@@ -125,6 +167,7 @@ fn check_pair(rt: &impl Abort, alloc: Global, first: &Sample, second: &Sample) -
         (Tri::Either, [false, true].as_slice()),
     ] {
         check_decimal_add(rt, alloc, first, second, carry, carries)?;
+        check_flag(rt, first, second, carry, carries);
     }
     Ok(())
 }
@@ -147,6 +190,31 @@ fn check_shift(rt: &impl Abort, alloc: Global, sample: &Sample, top: Top) -> Res
             let known = Known {
                 ones: sample.known.ones / 2,
                 zeros: sample.known.zeros / 2,
+            };
+            assert!(rt; is_made_of(&set, &known) && has_all(&set, &marks));
+            Ok(())
+        }
+        _ => check_gathered(rt, alloc, &set, &marks),
+    }
+}
+
+fn left_shifts(sample: &Sample, lowest: Lowest) -> Marks {
+    let mut marks = [false; 256];
+    for x in sample.members.as_slice() {
+        marks[shifted_left(*x, lowest, 0) as usize] = true;
+        marks[shifted_left(*x, lowest, 1) as usize] = true;
+    }
+    marks
+}
+
+fn check_left(rt: &impl Abort, alloc: Global, sample: &Sample, lowest: Lowest) -> Result<(), Fail> {
+    let set = w8::shift_left(&sample.set, lowest);
+    let marks = left_shifts(sample, lowest);
+    match lowest {
+        Lowest::Given(Tri::Either) if sample.members.len() > 128 => {
+            let known = Known {
+                ones: sample.known.ones << 1,
+                zeros: sample.known.zeros << 1,
             };
             assert!(rt; is_made_of(&set, &known) && has_all(&set, &marks));
             Ok(())
@@ -229,6 +297,14 @@ fn check_alone(rt: &impl Abort, alloc: Global, sample: &Sample) -> Result<(), Fa
         Top::Put(Tri::Either),
     ] {
         check_shift(rt, alloc, sample, top)?;
+    }
+    for lowest in [
+        Lowest::High,
+        Lowest::Given(Tri::Zero),
+        Lowest::Given(Tri::One),
+        Lowest::Given(Tri::Either),
+    ] {
+        check_left(rt, alloc, sample, lowest)?;
     }
     check_adjusts(rt, alloc, sample)
 }

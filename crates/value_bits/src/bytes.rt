@@ -7,9 +7,10 @@ ghost use Rattle.value_set.specs.Form.{Has, IsNormal, members};
 ghost use Rattle.value_bits.specs.Bits as known;
 ghost use Rattle.value_bits.specs.Bits.{Agrees};
 ghost use Rattle.value_bits.specs.Sets as sets;
+ghost use Rattle.value_bits.specs.Lefts as lefts;
 
 use crate::making::{FEW, FEW_UNKNOWN, filled, lowest_unknown, numbers, unknown_count};
-use crate::tri::{Top, Tri};
+use crate::tri::{Lowest, Top, Tri};
 use arrayvec::ArrayVec;
 use value_set::Vs8;
 
@@ -65,6 +66,16 @@ pub fn top_carry(top: Top) -> Vs8
     match top {
         Top::Sign | Top::Low => Vs8::one(0),
         Top::Put(bit) => chosen(bit),
+    }
+}
+
+/// What the carry of a shift to the left may be.
+pub fn lowest_carry(lowest: Lowest) -> Vs8
+    ensures { result ≡ lefts.lowest_carry lowest }
+{
+    match lowest {
+        Lowest::High => Vs8::one(0),
+        Lowest::Given(bit) => chosen(bit),
     }
 }
 

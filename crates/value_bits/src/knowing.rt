@@ -6,8 +6,9 @@ ghost use Rattle.std.specs.Int.{bit_at};
 ghost use Rattle.value_set.specs.Form.{IsNormal, IsNormalRun};
 ghost use Rattle.value_bits.specs.Bits as bits;
 ghost use Rattle.value_bits.specs.Sets as sets;
+ghost use Rattle.value_bits.specs.Lefts as lefts;
 
-use crate::tri::{Logic, Top, Tri};
+use crate::tri::{Logic, Lowest, Top, Tri};
 use arrayvec::ArrayVec;
 use value_set::{Form, Progression};
 
@@ -188,6 +189,28 @@ fn top_bit(place: u32, top: Top, known: &[Tri]) -> Tri
         Top::Sign => known[place as usize],
         Top::Low => known[0],
         Top::Put(bit) => bit,
+    }
+}
+
+/// The bits of the members of a set, shifted to the left by one place.
+pub fn left_bits(place: u32, lowest: Lowest, known: &[Tri]) -> ArrayVec<Tri, WIDEST>
+    requires narrow { place < 16 }
+    requires wide { length known.now ≡ place + 1 }
+    ensures { result.items ≡ lefts.left_bits place lowest known.now }
+{
+    joined(
+        [lowest_bit(place, lowest, known)].as_slice(),
+        &known[..place as usize],
+    )
+}
+
+fn lowest_bit(place: u32, lowest: Lowest, known: &[Tri]) -> Tri
+    requires { length known.now ≡ place + 1 }
+    ensures { result ≡ lefts.lowest_bit place lowest known.now }
+{
+    match lowest {
+        Lowest::High => known[place as usize],
+        Lowest::Given(bit) => bit,
     }
 }
 

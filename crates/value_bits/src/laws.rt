@@ -1,17 +1,21 @@
 //! What the sets of the formulas hold, for every set of numbers of a width. Proofs over formulas call these.
 
-ghost use Rattle.std.specs.Prelude.{◌≡◌, ℕ, ◌+◌, ◌^◌, ◌<◌, ◌≤◌, ◌&&◌, IsFalse, List, length, slice_index_or};
+ghost use Rattle.std.specs.Prelude.{◌≡◌, ℕ, ◌+◌, ◌*◌, ◌^◌, ◌<◌, ◌≤◌, ◌&&◌, Bool, true, false, IsFalse, List, length, slice_index_or};
 ghost use Rattle.value_set.specs.declared.form.Form.{Form as AForm};
 ghost use Rattle.value_set.specs.Form.{Has, IsNormal};
 ghost use Rattle.value_set.specs.Remainders.{HasRemainder};
+ghost use Rattle.value_set.specs.Summing.{count_of};
 ghost use Rattle.value_bits.specs.declared.tri.Tri.{Tri as ATri};
 ghost use Rattle.value_bits.specs.declared.tri.Tri.TheVariants.{Zero, One, Either};
 ghost use Rattle.value_bits.specs.declared.tri.Top.{Top as ATop};
+ghost use Rattle.value_bits.specs.declared.tri.Lowest.{Lowest as ALowest};
 ghost use Rattle.value_bits.specs.declared.tri.Logic.{Logic as ALogic};
 ghost use Rattle.value_bits.specs.declared.tri.Logic.TheVariants.{And};
-ghost use Rattle.value_bits.specs.Numbers.{shifted_right, exchanged, sign_extended, low_byte, high_byte, word_of, is_decimal, decimal_sum, decimal_adjusted};
+ghost use Rattle.value_bits.specs.Numbers.{shifted_left, shifted_right, exchanged, sign_extended, low_byte, high_byte, word_of, is_decimal, decimal_sum, decimal_adjusted};
 ghost use Rattle.value_bits.specs.Bits.{IsBit, Agrees, known_bits, from_bits, logic_of};
 ghost use Rattle.value_bits.specs.Sets.{IsTop, logic_set, shift_set, exchange_set, sign_extend_set, low_set, high_set, pair_set, decimal_add_set, decimal_adjust_set};
+ghost use Rattle.value_bits.specs.Flags.{IsFlag, agreed};
+ghost use Rattle.value_bits.specs.Lefts.{IsLowest, left_set};
 ghost use Rattle.value_bits.specs.SetLaws.{SetLaws};
 
 use value_set::{
@@ -66,6 +70,15 @@ pub fn moves_hold()
     sets_hold();
 }
 
+/// The set of numbers shifted to the left by one place is in normal form, and has that of each member.
+pub fn left_shifts_hold()
+    ensures normal { (place : ℕ) (a : AForm) (lowest : ALowest) → IsNormal (2 ^ (place + 1)) a → IsNormal (2 ^ (place + 1)) (left_set place a lowest) }
+    ensures holds { (place x bit : ℕ) (a : AForm) (lowest : ALowest) → IsNormal (2 ^ (place + 1)) a → Has (2 ^ (place + 1)) a x → IsLowest place lowest x bit
+        → Has (2 ^ (place + 1)) (left_set place a lowest) (shifted_left place x bit) }
+{
+    sets_hold();
+}
+
 /// The sets of decimal sums and adjustments are in normal form, and have the result of each combination of members and
 /// bits. A sum of numbers of which one has a digit above 9 is any number.
 pub fn decimals_hold()
@@ -96,6 +109,17 @@ pub fn evens_stay()
     ensures odd { (width : ℕ) (bits : List ATri) → length bits ≡ width → slice_index_or bits 0 Either ≡ One → HasRemainder (2 ^ width) 2 1 (from_bits width bits) }
     ensures and { (width : ℕ) (a b : AForm) → 1 ≤ width → IsNormal (2 ^ width) a → IsNormal (2 ^ width) b
         → HasRemainder (2 ^ width) 2 0 b → HasRemainder (2 ^ width) 2 0 (logic_set width And a b) }
+{
+    sets_hold();
+}
+
+/// A flag that is known is that of each combination of members, and where all of at most 256 agree it is known.
+pub fn flags_agree()
+    ensures holds { (m x y z : ℕ) (flag : ℕ → ℕ → ℕ → Bool) (a b c : AForm) → Has m a x → Has m b y → Has m c z → IsFlag (agreed m flag a b c) (flag x y z) }
+    ensures set { (m : ℕ) (flag : ℕ → ℕ → ℕ → Bool) (a b c : AForm) → count_of m a * (count_of m b * count_of m c) ≤ 256
+        → ((x y z : ℕ) → Has m a x → Has m b y → Has m c z → flag x y z ≡ true) → agreed m flag a b c ≡ One }
+    ensures clear { (m : ℕ) (flag : ℕ → ℕ → ℕ → Bool) (a b c : AForm) → IsNormal m a → IsNormal m b → IsNormal m c → count_of m a * (count_of m b * count_of m c) ≤ 256
+        → ((x y z : ℕ) → Has m a x → Has m b y → Has m c z → flag x y z ≡ false) → agreed m flag a b c ≡ Zero }
 {
     sets_hold();
 }

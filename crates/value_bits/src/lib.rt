@@ -9,6 +9,7 @@
 //! - Of at most 256 combinations of members, with an unknown carry counted as two, a call gathers all results.
 //! - Of more, a bit of the result is known where the known bits of the operands decide it, and the result is the set of
 //!   the numbers with such bits.
+//! - A flag over at most 256 combinations is known where all agree, and else unknown.
 //! - A decimal operation of more than 256 combinations gives any number, and so does a decimal sum where a member has a
 //!   digit above 9.
 //!
@@ -18,6 +19,7 @@
 
 mod bytes;
 mod decimal;
+mod flags;
 mod knowing;
 mod laws;
 mod making;
@@ -27,8 +29,12 @@ pub mod w16;
 pub mod w8;
 mod words;
 
-pub use laws::{bits_hold, decimals_hold, evens_stay, halves_hold, logic_holds, moves_hold};
-pub use tri::{Top, Tri};
+pub use flags::Flag;
+pub use laws::{
+    bits_hold, decimals_hold, evens_stay, flags_agree, halves_hold, left_shifts_hold, logic_holds,
+    moves_hold,
+};
+pub use tri::{Lowest, Top, Tri};
 
 #[cfg(test)]
 mod brute;

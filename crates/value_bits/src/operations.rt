@@ -3,9 +3,10 @@
 ghost use Rattle.std.specs.Prelude.{◌≡◌, ◌+◌, ◌*◌, ◌^◌, ◌<◌, ◌≤◌};
 ghost use Rattle.value_bits.specs.Numbers as numbers;
 ghost use Rattle.value_bits.specs.Sets as sets;
+ghost use Rattle.value_bits.specs.Lefts as lefts;
 
 use crate::decimal;
-use crate::tri::{Logic, Top, Tri};
+use crate::tri::{Logic, Lowest, Top, Tri};
 use value_set::Operation;
 
 /// AND, OR or XOR of numbers of a width.
@@ -77,6 +78,49 @@ fn shifted_right(place: u32, x: u16, bit: u16) -> u16
     ensures { result ≡ numbers.shifted_right place x bit }
 {
     x / 2 + (bit << place)
+}
+
+/// A shift to the left by one place. A bit that is unknown is the lowest one of the carry.
+#[derive(Clone, Copy)]
+pub struct LeftShift {
+    /// The place of the top bit.
+    pub place: u32,
+    pub lowest: Lowest,
+}
+
+impl Operation for LeftShift {
+    ghost use Rattle.value_bits.specs.Lefts.{left_answer};
+    ghost use Rattle.value_bits.specs.Staying.{left_stays};
+
+    ghost modulus = { λ operation. 2 ^ (operation.place + 1) };
+
+    ghost answer = { λ operation. left_answer operation.place operation.lowest };
+
+    fn apply(&self, x: u16, _y: u16, carry: u16) -> u16 {
+        shifted_left(self.place, x, new_lowest(self.place, self.lowest, x, carry))
+    }
+
+    ghost stays_below = { λ operation. left_stays operation.place operation.lowest };
+}
+
+/// The bit that a shift to the left puts in.
+fn new_lowest(place: u32, lowest: Lowest, x: u16, carry: u16) -> u16
+    requires { 2 ^ (place + 1) ≤ 65536 }
+    ensures value { result ≡ lefts.lowest_answer place lowest x carry }
+    ensures below { result < 2 }
+{
+    match lowest {
+        Lowest::High => (x >> place) % 2,
+        Lowest::Given(_) => carry % 2,
+    }
+}
+
+fn shifted_left(place: u32, x: u16, bit: u16) -> u16
+    requires small { 2 ^ (place + 1) ≤ 65536 }
+    requires bit { bit < 2 }
+    ensures { result ≡ numbers.shifted_left place x bit }
+{
+    x % (1 << place) * 2 + bit
 }
 
 /// The exchange of the halves of a number.

@@ -1,6 +1,6 @@
 //! What the calls on bytes answer, in plain loops over the 256 numbers.
 
-use crate::tri::{Logic, Top, Tri};
+use crate::tri::{Logic, Lowest, Top, Tri};
 use value_set::{Form, Progression, Vs8};
 
 /// Which of the 256 numbers are members.
@@ -200,6 +200,21 @@ fn top_of(x: u8, top: Top, given: u8) -> u8 {
 /// The bits move down one place.
 pub fn shifted(x: u8, top: Top, given: u8) -> u8 {
     x / 2 | top_of(x, top, given)
+}
+
+/// The bit that a shift to the left puts in, where an unknown one is a given one.
+fn lowest_of(x: u8, lowest: Lowest, given: u8) -> u8 {
+    match lowest {
+        Lowest::High => x / 128,
+        Lowest::Given(Tri::Zero) => 0,
+        Lowest::Given(Tri::One) => 1,
+        Lowest::Given(Tri::Either) => given % 2,
+    }
+}
+
+/// The bits move up one place.
+pub fn shifted_left(x: u8, lowest: Lowest, given: u8) -> u8 {
+    x << 1 | lowest_of(x, lowest, given)
 }
 
 /// Whether both digits are at most 9.

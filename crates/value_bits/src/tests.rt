@@ -1,6 +1,6 @@
 //! Rows of the manuals and rows worked by hand from their rules.
 
-use crate::{Top, Tri, w8, w16};
+use crate::{Lowest, Top, Tri, w8, w16};
 use std::test::Fail;
 use value_set::{Vs8, Vs16};
 
@@ -20,7 +20,7 @@ fn list16(values: &[u16]) -> Result<Vs16, Fail> {
     Ok(Vs16::gather(values).ok_or("a list of words")?)
 }
 
-/// The examples of ANL, ORL, XRL, RR, RRC and SWAP in the MCS-51 instruction set.
+/// The examples of ANL, ORL, XRL, RR, RRC, RL, RLC and SWAP in the MCS-51 instruction set.
 #[test]
 fn rows_of_bytes(rt: HostRuntime) {
     let a = Vs8::one(0xC3);
@@ -30,6 +30,11 @@ fn rows_of_bytes(rt: HostRuntime) {
     let a = Vs8::one(0xC5);
     assert_eq!(rt; w8::shift_right(&a, Top::Low), Vs8::one(0xE2));
     assert_eq!(rt; w8::shift_right(&a, Top::Put(Tri::Zero)), Vs8::one(0x62));
+    assert_eq!(rt; w8::shift_left(&a, Lowest::High), Vs8::one(0x8B));
+    assert_eq!(rt;
+        w8::shift_left(&a, Lowest::Given(Tri::Zero)),
+        Vs8::one(0x8A)
+    );
     assert_eq!(rt; w8::swap_digits(&a), Vs8::one(0x5C));
 }
 

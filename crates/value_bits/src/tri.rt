@@ -23,6 +23,15 @@ pub enum Top {
     Put(Tri),
 }
 
+/// The bit that a shift to the left puts in at the lowest place.
+#[derive(Clone, Copy, Debug, PartialEq, Eq, Hash)]
+pub enum Lowest {
+    /// The old top bit, which goes round.
+    High,
+    /// A given bit.
+    Given(Tri),
+}
+
 /// An operation on two numbers, bit by bit.
 #[derive(Clone, Copy, Debug, PartialEq, Eq, Hash)]
 pub enum Logic {

@@ -8,12 +8,15 @@ ghost use Rattle.value_bits.specs.Bits.{Agrees, IsBit, logic_of};
 ghost use Rattle.value_bits.specs.Numbers.{shifted_right, exchanged, sign_extended, low_byte, high_byte, word_of, is_decimal, decimal_sum};
 ghost use Rattle.value_bits.specs.Sets.{IsTop, IsOneTop};
 ghost use Rattle.value_bits.specs.Sets as sets;
+ghost use Rattle.value_bits.specs.Flags.{IsFlag};
+ghost use Rattle.value_bits.specs.Flags as flag_sets;
 
+use crate::flags::Flag;
 use crate::knowing::{exchanged_bits, extended_bits, joined, known_bits, logic_bits, shift_bits};
 use crate::operations::{Bitwise, DecimalSum, Exchange, Shift, SignExtension};
 use crate::tri::{Logic, Top, Tri};
 use crate::words::{chosen, gathered, is_few, top_carry, with_bits};
-use crate::{bytes, decimal};
+use crate::{bytes, decimal, flags};
 use arrayvec::ArrayVec;
 use value_set::{Vs8, Vs16};
 
@@ -210,6 +213,20 @@ fn push_words(all: &mut ArrayVec<u16, 256>, low: u8, high: &Vs8)
     for place in 0..high.count() {
         all.push(low as u16 + high.nth(place) as u16 * 256);
     }
+}
+
+/// What is known of a flag over each member of a set with each of another and a carry. It is known where at most 256
+/// combinations agree. An unknown carry counts as two.
+pub fn agreed<F: Flag>(flag: &F, a: &Vs16, b: &Vs16, carry: Tri) -> Tri
+    requires { F.modulus flag.now ≡ 65536 }
+    ensures value { result ≡ flag_sets.agreed 65536 (F.value flag.now) a.now b.now (sets.chosen carry) }
+    ensures holds { (x y bit : ℕ) → Has 65536 a.now x → Has 65536 b.now y → IsBit carry bit → IsFlag result (F.value flag.now x y bit) }
+{
+    let carries = chosen(carry);
+    if !is_few(a, b, &carries) {
+        return Tri::Either;
+    }
+    flags::agreed_few(65536, flag, &a.form(), &b.form(), &carries.form())
 }
 
 /// The decimal sum of each member of a set with each of another and a carry. An unknown carry counts as two. Where a

@@ -5,15 +5,20 @@ ghost use Rattle.value_set.specs.Form.{Has, IsNormal};
 ghost use Rattle.value_set.specs.Summing.{single};
 ghost use Rattle.value_bits.specs.Bits as known;
 ghost use Rattle.value_bits.specs.Bits.{Agrees, IsBit, logic_of};
-ghost use Rattle.value_bits.specs.Numbers.{shifted_right, exchanged, is_decimal, decimal_sum, decimal_adjusted};
+ghost use Rattle.value_bits.specs.Numbers.{shifted_left, shifted_right, exchanged, is_decimal, decimal_sum, decimal_adjusted};
 ghost use Rattle.value_bits.specs.Sets.{IsTop, IsOneTop};
 ghost use Rattle.value_bits.specs.Sets as sets;
+ghost use Rattle.value_bits.specs.Flags.{IsFlag};
+ghost use Rattle.value_bits.specs.Flags as flag_sets;
+ghost use Rattle.value_bits.specs.Lefts.{IsLowest, IsOneLowest};
+ghost use Rattle.value_bits.specs.Lefts as lefts;
 
-use crate::bytes::{chosen, is_few, top_carry, with_bits};
-use crate::decimal;
-use crate::knowing::{exchanged_bits, known_bits, logic_bits, shift_bits};
-use crate::operations::{Bitwise, DecimalAdjustment, DecimalSum, Exchange, Shift};
-use crate::tri::{Logic, Top, Tri};
+use crate::bytes::{chosen, is_few, lowest_carry, top_carry, with_bits};
+use crate::flags::Flag;
+use crate::knowing::{exchanged_bits, known_bits, left_bits, logic_bits, shift_bits};
+use crate::operations::{Bitwise, DecimalAdjustment, DecimalSum, Exchange, LeftShift, Shift};
+use crate::tri::{Logic, Lowest, Top, Tri};
+use crate::{decimal, flags};
 use value_set::Vs8;
 
 /// How many bits a number has.
@@ -97,6 +102,21 @@ pub fn shift_right(a: &Vs8, top: Top) -> Vs8
     with_bits(shift_bits(7, top, known_bits(8, &a.form()).as_slice()).as_slice())
 }
 
+/// Each member shifted to the left by one place. An unknown bit at the lowest place counts as an unknown carry.
+pub fn shift_left(a: &Vs8, lowest: Lowest) -> Vs8
+    ensures value { result ≡ lefts.left_set 7 a.now lowest }
+    ensures normal { IsNormal 256 result }
+    ensures holds { (x bit : ℕ) → Has 256 a.now x → IsLowest 7 lowest x bit → Has 256 result (shifted_left 7 x bit) }
+    ensures alone { (x bit : ℕ) → a.now ≡ single x → IsOneLowest lowest → IsLowest 7 lowest x bit → result ≡ single (shifted_left 7 x bit) }
+{
+    let none = Vs8::one(0);
+    let carry = lowest_carry(lowest);
+    if is_few(a, &none, &carry) {
+        return Vs8::combine(&LeftShift { place: 7, lowest }, a, &none, &carry);
+    }
+    with_bits(left_bits(7, lowest, known_bits(8, &a.form()).as_slice()).as_slice())
+}
+
 /// Each member with its two digits exchanged.
 pub fn swap_digits(a: &Vs8) -> Vs8
     ensures value { result ≡ sets.exchange_set 4 a.now }
@@ -109,6 +129,20 @@ pub fn swap_digits(a: &Vs8) -> Vs8
         return Vs8::combine(&Exchange { n: 16 }, a, &none, &none);
     }
     with_bits(exchanged_bits(4, known_bits(8, &a.form()).as_slice()).as_slice())
+}
+
+/// What is known of a flag over each member of a set with each of another and a carry. It is known where at most 256
+/// combinations agree. An unknown carry counts as two.
+pub fn agreed<F: Flag>(flag: &F, a: &Vs8, b: &Vs8, carry: Tri) -> Tri
+    requires { F.modulus flag.now ≡ 256 }
+    ensures value { result ≡ flag_sets.agreed 256 (F.value flag.now) a.now b.now (sets.chosen carry) }
+    ensures holds { (x y bit : ℕ) → Has 256 a.now x → Has 256 b.now y → IsBit carry bit → IsFlag result (F.value flag.now x y bit) }
+{
+    let carries = chosen(carry);
+    if !is_few(a, b, &carries) {
+        return Tri::Either;
+    }
+    flags::agreed_few(256, flag, &a.form(), &b.form(), &carries.form())
 }
 
 /// The decimal sum of each member of a set with each of another and a carry. An unknown carry counts as two. Where a

@@ -1,0 +1,22 @@
+use Rattle.std.proofs.Common.{◌≡◌, ◌*◌, ◌<◌, subst, sym}
+use Rattle.value_set.specs.declared.form.Form.{Form}
+use Rattle.value_set.specs.Summing.{count_of}
+use Rattle.value_bits.specs.declared.tri.Tri.{Tri}
+use Rattle.value_bits.specs.Sets.{chosen}
+use Rattle.value_bits.specs.Flags.{IsFlag, agreed}
+use Rattle.value_bits.proofs.Choosing.{chosen_has, not_few}
+use Rattle.value_bits.proofs.Combinations.{agreed-many, agreed_is}
+use Rattle.value_bits.proofs.w16.agreed.Goals as goal
+
+pub returns-then-not-is_few-clause-value : goal.returns-then-not-is_few-clause-value
+returns-then-not-is_few-clause-value g c =
+    let many : 256 < count_of 65536 c.args.a.now * (count_of 65536 c.args.b.now * count_of 65536 (chosen c.args.carry)) =
+    subst (λ (s : Form). 256 < count_of 65536 c.args.a.now * (count_of 65536 c.args.b.now * count_of 65536 s)) c.chosen-carries.ensures
+    (not_few c.is_few.result (count_of 65536 c.args.a.now * (count_of 65536 c.args.b.now * count_of 65536 c.chosen-carries.result)) c.is_few.ensures c.if-not-is_few.true) in
+    sym (agreed-many 65536 (g.F.Flag.value c.args.flag.now) c.args.a.now c.args.b.now (chosen c.args.carry) many)
+
+pub returns-clause-holds : goal.returns-clause-holds
+returns-clause-holds g c = λ x y bit h k is.
+    let same : c.agreed_few.result ≡ agreed 65536 (g.F.Flag.value c.args.flag.now) c.args.a.now c.args.b.now (chosen c.args.carry) = cc in
+    subst (λ (t : Tri). IsFlag t (g.F.Flag.value c.args.flag.now x y bit)) (sym same)
+    (agreed_is 65536 (g.F.Flag.value c.args.flag.now) c.args.a.now c.args.b.now (chosen c.args.carry) x y bit h k (chosen_has 65536 bit c.args.carry is))
