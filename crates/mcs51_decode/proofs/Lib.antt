@@ -2,3 +2,4 @@ pub mod RowLemmas
 pub mod BytesLemmas
 pub mod AnswerLemmas
 pub mod UniqueLemmas
+pub mod AgainLemmas

@@ -3,3 +3,4 @@ pub mod Encoding
 pub mod Standing
 pub mod Decoding
 pub mod Targets
+pub mod Fitting

@@ -6,6 +6,7 @@ ghost use Rattle.mcs51_decode.specs.declared.instr.Instr.{Instr};
 ghost use Rattle.mcs51_decode.specs.declared.refusal.NoInstr.{NoInstr};
 ghost use Rattle.mcs51_decode.specs.Table.{Row, is_excluded, length_at, row_at};
 ghost use Rattle.mcs51_decode.specs.Encoding.{bytes_of, length_of};
+ghost use Rattle.mcs51_decode.specs.Fitting.{IsInstr};
 ghost use Rattle.mcs51_decode.specs.Decoding.{decoded, instr_of_bytes};
 ghost use Rattle.mcs51_decode.specs.Standing.{Decodes, AreThere, upward};
 
@@ -52,9 +53,11 @@ pub fn decoded_is_the_answer()
         Row (bytes_of instr) instr × (len ≡ length_of instr) × AreThere (upward image pc) 0 (bytes_of instr) }
 {}
 
-/// The instruction of some bytes as a function is the one whose row they are, and there is none where they are no row.
+/// The instruction of some bytes as a function is the one whose row they are, and there is none where they are no row. An
+/// instruction's bytes are that instruction.
 pub fn bytes_of_one_instruction()
     ensures row { (bytes : List ℕ) (instr : Instr) → All (λ byte. byte < 256) bytes →
         instr_of_bytes bytes ≡ Some instr → Row bytes instr }
     ensures every { (bytes : List ℕ) (instr : Instr) → Row bytes instr → instr_of_bytes bytes ≡ Some instr }
+    ensures again { (instr : Instr) → IsInstr instr → instr_of_bytes (bytes_of instr) ≡ Some instr }
 {}

@@ -7,7 +7,8 @@
 //! `Stands` there, or the image `Lacks` a byte that is needed, or the opcode there is the excluded one. `Decodes` is the
 //! one answer of the three. The same answer as a function that computes is `decoded` of `specs/Decoding.antt`, beside
 //! `instr_of_bytes`, the instruction of some bytes. `specs/Encoding.antt` goes the other way, from an instruction to its
-//! bytes by its fields, and `specs/Targets.antt` says where jumps and calls go.
+//! bytes by its fields, for all whose operands fit, by `specs/Fitting.antt`; `specs/Targets.antt` says where jumps and
+//! calls go.
 //!
 //! Proved:
 //!
