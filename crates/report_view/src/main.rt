@@ -12,6 +12,9 @@ mod style;
 mod view;
 mod ways;
 
+#[cfg(test)]
+mod tests;
+
 use report_lines::Refusal;
 use std::alloc::Global;
 use std::process::ExitCode;
