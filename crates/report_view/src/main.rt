@@ -9,11 +9,10 @@ mod page;
 mod program;
 mod sets;
 mod style;
-mod view;
-mod ways;
-
 #[cfg(test)]
 mod tests;
+mod view;
+mod ways;
 
 use report_lines::Refusal;
 use std::alloc::Global;

@@ -5,13 +5,17 @@ use std::alloc::{AllocError, Global};
 use std::process::Abort;
 use std::test::Fail;
 
-const EIGHT_BYTES: &str = "CLOSED\nE F000 F004\nE F004 F004\nI F000 31408002 MOV #0280h,SP\nI F004 FF3F JMP F004h\nS F000 0000/2/8000\nS F004 0280\nT 0280 1\n";
+const EIGHT_BYTES: &str =
+    "CLOSED\nE F000 F004\nE F004 F004\nI F000 31408002 MOV #0280h,SP\nI F004 FF3F JMP F004h\nS F000 0000/2/8000\nS F004 0280\nT 0280 1\n";
 
-const TWO_CALLS: &str = "CLOSED\nE F000 F004\nE F004 F00E\nE F008 F00E\nE F00C F00C\nE F00E F008\nE F00E F00C\nI F000 31408002 MOV #0280h,SP\nI F004 B0120EF0 CALL #F00Eh\nI F008 B0120EF0 CALL #F00Eh\nI F00C FF3F JMP F00Ch\nI F00E 3041 MOV @SP+,PC\nM F004 mem w2 027E\nM F008 mem w2 027E\nM F00E mem r2 027E\nS F000 0000/2/8000\nS F004 0280\nS F008 0280\nS F00C 0280\nS F00E 027E\nT 027E 1\n";
+const TWO_CALLS: &str =
+    "CLOSED\nE F000 F004\nE F004 F00E\nE F008 F00E\nE F00C F00C\nE F00E F008\nE F00E F00C\nI F000 31408002 MOV #0280h,SP\nI F004 B0120EF0 CALL #F00Eh\nI F008 B0120EF0 CALL #F00Eh\nI F00C FF3F JMP F00Ch\nI F00E 3041 MOV @SP+,PC\nM F004 mem w2 027E\nM F008 mem w2 027E\nM F00E mem r2 027E\nS F000 0000/2/8000\nS F004 0280\nS F008 0280\nS F00C 0280\nS F00E 027E\nT 027E 1\n";
 
-const WAKING_HANDLER: &str = "CLOSED\nE F000 F004\nE F004 F006\nE F006 F006\nE F006 F008\nE F008 F00E\nE F00E F006\nI F000 31408002 MOV #0280h,SP\nI F004 32D2 BIS #8,SR\nI F006 FF3F JMP F006h\nI F008 B1C0F0000000 BIC #00F0h,0000h(SP)\nI F00E 0013 RETI\nM F006 mem w2 027C\nM F006 mem w2 027E\nM F008 mem r2 027C\nM F008 mem w2 027C\nM F00E mem r2 027C\nM F00E mem r2 027E\nS F000 0000/2/8000\nS F004 0280\nS F006 0280\nS F008 027C\nS F00E 027C\nT 027C 1\n";
+const WAKING_HANDLER: &str =
+    "CLOSED\nE F000 F004\nE F004 F006\nE F006 F006\nE F006 F008\nE F008 F00E\nE F00E F006\nI F000 31408002 MOV #0280h,SP\nI F004 32D2 BIS #8,SR\nI F006 FF3F JMP F006h\nI F008 B1C0F0000000 BIC #00F0h,0000h(SP)\nI F00E 0013 RETI\nM F006 mem w2 027C\nM F006 mem w2 027E\nM F008 mem r2 027C\nM F008 mem w2 027C\nM F00E mem r2 027C\nM F00E mem r2 027E\nS F000 0000/2/8000\nS F004 0280\nS F006 0280\nS F008 027C\nS F00E 027C\nT 027C 1\n";
 
-const STRANGE_TEXT: &str = "OPEN\nE F000 F002\nI F000 0343 A<B>&\"C\nM F000 xram w1 0200/2/20\nO F002 Fetch\nO F002 Targets *\nT none 0\n";
+const STRANGE_TEXT: &str =
+    "OPEN\nE F000 F002\nI F000 0343 A<B>&\"C\nM F000 xram w1 0200/2/20\nO F002 Fetch\nO F002 Targets *\nT none 0\n";
 
 /// How often a page or a graph has a part.
 fn counts(
@@ -49,9 +53,18 @@ fn ways_of_interrupts(rt: HostRuntime) -> Result<(), Fail> {
     let parts = [
         (" -> ", 4),
         ("[label=<", 3),
-        ("\"F000\":\"F004\" -> \"F006\":\"F006\" [tooltip=\"next\"]", 1),
-        ("\"F006\":\"F006\" -> \"F008\":\"F008\" [tooltip=\"interrupt\"", 1),
-        ("\"F008\":\"F00E\" -> \"F006\":\"F006\" [tooltip=\"resume\"", 1),
+        (
+            "\"F000\":\"F004\" -> \"F006\":\"F006\" [tooltip=\"next\"]",
+            1,
+        ),
+        (
+            "\"F006\":\"F006\" -> \"F008\":\"F008\" [tooltip=\"interrupt\"",
+            1,
+        ),
+        (
+            "\"F008\":\"F00E\" -> \"F006\":\"F006\" [tooltip=\"resume\"",
+            1,
+        ),
     ];
     counts(&rt, rt.alloc(), Form::Dot, WAKING_HANDLER, parts.as_slice())
 }
@@ -70,7 +83,13 @@ fn page_of_a_closed_report(rt: HostRuntime) -> Result<(), Fail> {
         ("4 bytes below 0280, first at <a href=#F008>F008</a>", 1),
         ("At 1 place it can have any value", 1),
     ];
-    counts(&rt, rt.alloc(), Form::Html, WAKING_HANDLER, parts.as_slice())
+    counts(
+        &rt,
+        rt.alloc(),
+        Form::Html,
+        WAKING_HANDLER,
+        parts.as_slice(),
+    )
 }
 
 #[test]
@@ -114,6 +133,10 @@ fn form_is_exact(rt: HostRuntime) -> Result<(), Fail> {
     let shown = view(rt.alloc(), Form::Dot, EIGHT_BYTES.as_bytes())?;
     let text = str::from_utf8(shown.as_bytes())?;
     assert!(rt; text.starts_with("digraph report {\n"));
-    assert!(rt; text.ends_with("\"F004\":\"F004\":e -> \"F004\":\"F004\":e [tooltip=\"jump\", color=\"#0b57d0\"];\n}\n"));
+    assert!(rt;
+        text.ends_with(
+            "\"F004\":\"F004\":e -> \"F004\":\"F004\":e [tooltip=\"jump\", color=\"#0b57d0\"];\n}\n"
+        )
+    );
     Ok(())
 }
