@@ -1,0 +1,71 @@
+//! How far the stack has grown.
+
+use report_lines::{Line, Report, Set};
+
+/// The stack of a report: its first value, and how far it grows at most.
+#[derive(Clone, Copy)]
+pub struct Depths {
+    pub grows_up: bool,
+    /// The value from which the stack grows.
+    pub top: u16,
+    /// The value that is farthest from it.
+    pub extreme: u16,
+}
+
+impl Depths {
+    /// The stack of a report, if some S line says something of it.
+    pub fn of(report: &Report<'_>) -> Option<Depths> {
+        let extreme = report.summary.extreme?;
+        let grows_up = report.grows_up();
+        let mut top = extreme;
+        for line in report.lines.iter() {
+            if let Line::Stack(stack) = line
+                && !stack.at.is_whole()
+            {
+                top = if grows_up {
+                    top.min(stack.at.least)
+                } else {
+                    top.max(stack.at.greatest)
+                };
+            }
+        }
+        Some(Depths {
+            grows_up,
+            top,
+            extreme,
+        })
+    }
+
+    /// How far a value lies from the first one.
+    pub fn of_value(&self, value: u16) -> u16 {
+        if self.grows_up {
+            value.saturating_sub(self.top)
+        } else {
+            self.top.saturating_sub(value)
+        }
+    }
+
+    /// How far the stack grows at most.
+    pub fn most(&self) -> u16 {
+        self.of_value(self.extreme)
+    }
+
+    /// The least and the greatest depth in a set.
+    pub fn of_set(&self, set: &Set<'_>) -> (u16, u16) {
+        let (least, greatest) = (self.of_value(set.least), self.of_value(set.greatest));
+        if self.grows_up {
+            (least, greatest)
+        } else {
+            (greatest, least)
+        }
+    }
+
+    /// A depth in parts of a hundred of the greatest one.
+    pub fn share(&self, depth: u16) -> usize {
+        let most = usize::from(self.most());
+        if most == 0 {
+            return 0;
+        }
+        usize::from(depth).wrapping_mul(100) / most
+    }
+}

@@ -1,0 +1,382 @@
+//! A report as one page of HTML.
+
+use crate::counts::Counts;
+use crate::depth::Depths;
+use crate::markup::Markup;
+use crate::program::{Link, Program, Site};
+use crate::sets::write_set;
+use crate::style::{NOTES, STYLE};
+use crate::ways::{Way, behind};
+use report_lines::{Access, Cause, Kind, Line, Report, Space};
+use std::alloc::Global;
+use vsa_io::Memory;
+
+/// The page of a report.
+pub fn page_of(alloc: Global, report: &Report<'_>) -> Result<Markup, Memory> {
+    let program = Program::of(alloc, report)?;
+    let counts = Counts::of(report);
+    let mut page = Markup::new(alloc);
+    head(&mut page, report, counts)?;
+    facts(&mut page, report, counts)?;
+    open_sites(&mut page, report, counts)?;
+    listing(&mut page, report, &program)?;
+    page.put(NOTES)?;
+    page.put("</main>\n</html>\n")?;
+    Ok(page)
+}
+
+/// The title and what the verdict says.
+fn head(page: &mut Markup, report: &Report<'_>, counts: Counts) -> Result<(), Memory> {
+    page.put("<!DOCTYPE html>\n<html lang=en>\n<meta charset=utf-8>\n")?;
+    page.put(
+        "<meta name=viewport content=\"width=device-width,initial-scale=1\">\n<title>Firmware report: ",
+    )?;
+    page.put(if report.closed { "CLOSED" } else { "OPEN" })?;
+    page.put("</title>\n<style>\n")?;
+    page.put(STYLE)?;
+    page.put("</style>\n<main>\n<h1>Firmware report</h1>\n")?;
+    if report.closed {
+        page.put(
+            "<div class=verdict><b>CLOSED</b>\n<p>The analysis is complete. Whatever the inputs are and whenever interrupts come, the program runs only the instructions on this page, goes only along the ways shown, reads and writes only at the addresses shown, and its stack pointer has only the values shown.\n<p>This holds from reset on, for the chip as the analyser's documents define it.\n</div>\n",
+        )
+    } else {
+        page.put(
+            "<div class=\"open verdict\"><b>OPEN</b>\n<p>The analysis isn't complete. It stopped at ",
+        )?;
+        count(page, counts.opens, "site", "sites")?;
+        page.put(
+            ", and what the program does behind them isn't on this page. So nothing on this page holds for the whole program yet: other code may run, and the stack may grow further.\n</div>\n",
+        )
+    }
+}
+
+/// A number with its noun.
+fn count(page: &mut Markup, number: usize, one: &str, more: &str) -> Result<(), Memory> {
+    page.number(number)?;
+    page.put(" ")?;
+    page.put(if number == 1 { one } else { more })
+}
+
+/// A link to the row of an address.
+fn link(page: &mut Markup, address: u16) -> Result<(), Memory> {
+    page.put("<a href=#")?;
+    page.address(address)?;
+    page.put(">")?;
+    page.address(address)?;
+    page.put("</a>")
+}
+
+/// The stack's extreme, and how many lines there are.
+fn facts(page: &mut Markup, report: &Report<'_>, counts: Counts) -> Result<(), Memory> {
+    page.put("<dl>\n<div><dt>")?;
+    page.put(if report.grows_up() {
+        "Highest stack pointer"
+    } else {
+        "Lowest stack pointer"
+    })?;
+    page.put("<dd>")?;
+    extreme(page, report)?;
+    page.put("</div>\n")?;
+    fact(page, "Instructions", counts.instrs)?;
+    fact(page, "Ways", counts.edges)?;
+    fact(page, "Memory accesses", counts.accesses)?;
+    fact(page, "Stack lines", counts.stacks)?;
+    fact(page, "Open sites", counts.opens)?;
+    page.put("</dl>\n")
+}
+
+fn fact(page: &mut Markup, name: &str, number: usize) -> Result<(), Memory> {
+    page.put("<div><dt>")?;
+    page.put(name)?;
+    page.put("<dd>")?;
+    page.number(number)?;
+    page.put("</div>\n")
+}
+
+/// A value of the stack pointer with its digits.
+fn pointer(page: &mut Markup, report: &Report<'_>, value: u16) -> Result<(), Memory> {
+    if report.grows_up() {
+        page.byte((value & 0xFF) as u8)
+    } else {
+        page.address(value)
+    }
+}
+
+fn extreme(page: &mut Markup, report: &Report<'_>) -> Result<(), Memory> {
+    match Depths::of(report) {
+        None => page.put("not known")?,
+        Some(depths) => {
+            pointer(page, report, depths.extreme)?;
+            page.put(" <small>")?;
+            extreme_place(page, report, depths)?;
+            page.put("</small>")?;
+        }
+    }
+    if report.summary.whole == 0 {
+        return Ok(());
+    }
+    page.put("<small>At ")?;
+    count(page, report.summary.whole, "place", "places")?;
+    page.put(" it can have any value, and isn't counted here")?;
+    unknown_place(page, report)?;
+    page.put("</small>")
+}
+
+/// Where the stack pointer has its extreme.
+fn extreme_place(page: &mut Markup, report: &Report<'_>, depths: Depths) -> Result<(), Memory> {
+    page.number(usize::from(depths.most()))?;
+    page.put(if depths.grows_up {
+        " bytes above "
+    } else {
+        " bytes below "
+    })?;
+    pointer(page, report, depths.top)?;
+    for line in report.lines.iter() {
+        if let Line::Stack(stack) = line
+            && !stack.at.is_whole()
+            && report.deepest(&stack.at) == depths.extreme
+        {
+            page.put(", first at ")?;
+            return link(page, stack.pc);
+        }
+    }
+    Ok(())
+}
+
+/// The first place where the stack pointer can have any value.
+fn unknown_place(page: &mut Markup, report: &Report<'_>) -> Result<(), Memory> {
+    for line in report.lines.iter() {
+        if let Line::Stack(stack) = line
+            && stack.at.is_whole()
+        {
+            page.put(": ")?;
+            return link(page, stack.pc);
+        }
+    }
+    Ok(())
+}
+
+/// The open sites with their causes.
+fn open_sites(page: &mut Markup, report: &Report<'_>, counts: Counts) -> Result<(), Memory> {
+    if counts.opens == 0 {
+        return Ok(());
+    }
+    page.put("<h2>Open sites</h2>\n<ul>\n")?;
+    for line in report.lines.iter() {
+        if let Line::Open(open) = line {
+            page.put("<li>")?;
+            link(page, open.pc)?;
+            page.put(" ")?;
+            cause(page, &open.cause)?;
+            page.put("\n")?;
+        }
+    }
+    page.put("</ul>\n")
+}
+
+/// Why the analysis stops, in words.
+fn cause(page: &mut Markup, cause: &Cause<'_>) -> Result<(), Memory> {
+    match cause {
+        Cause::Fetch => page.put(
+            "Control can come here, and no instruction stands here: bytes of it are missing, or no instruction begins so.",
+        ),
+        Cause::Unbuilt => page.put("The analyser doesn't know this instruction yet."),
+        Cause::Targets(set) => {
+            page.put("Control can go from here to more addresses than the analysis follows: ")?;
+            write_set(page, set)?;
+            page.put(".")
+        }
+        Cause::Store(set) => {
+            page.put("A write here may change the program itself. It may go to: ")?;
+            write_set(page, set)?;
+            page.put(".")
+        }
+    }
+}
+
+/// The program by address.
+fn listing(page: &mut Markup, report: &Report<'_>, program: &Program<'_>) -> Result<(), Memory> {
+    page.put(
+        "<h2>The program by address</h2>\n<table>\n<thead><tr><th>Address<th>Bytes<th>Instruction<th>Goes to<th>Comes from<th>Memory<th>Stack pointer\n<tbody>\n",
+    )?;
+    let depths = Depths::of(report);
+    let mut front: Option<&Site<'_>> = None;
+    for site in program.sites.values() {
+        let follows = match front {
+            None => false,
+            Some(front) => {
+                gap(page, report, front, site.pc)?;
+                site.follows(front)
+            }
+        };
+        row(page, site, follows, depths)?;
+        front = Some(site);
+    }
+    page.put("</table>\n")
+}
+
+/// The addresses between two rows, where there are some.
+fn gap(page: &mut Markup, report: &Report<'_>, front: &Site<'_>, pc: u16) -> Result<(), Memory> {
+    let Some(instr) = front.instr else {
+        return Ok(());
+    };
+    let from = behind(&instr);
+    if from < front.pc || from == pc {
+        return Ok(());
+    }
+    page.put("<tr class=g><td colspan=7>")?;
+    if pc < from {
+        page.put("The next instruction begins inside the one above.\n")?;
+        return Ok(());
+    }
+    page.address(from)?;
+    page.put(" to ")?;
+    page.address(pc.wrapping_sub(1))?;
+    page.put(": ")?;
+    count(page, usize::from(pc.wrapping_sub(from)), "byte", "bytes")?;
+    page.put(if report.closed {
+        " that never run\n"
+    } else {
+        " that the analysis didn't come to\n"
+    })
+}
+
+/// The row of an address.
+fn row(
+    page: &mut Markup,
+    site: &Site<'_>,
+    follows: bool,
+    depths: Option<Depths>,
+) -> Result<(), Memory> {
+    page.put("<tr id=")?;
+    page.address(site.pc)?;
+    page.put(match (follows, site.is_open()) {
+        (true, false) => "><th>",
+        (false, false) => " class=s><th>",
+        (true, true) => " class=o><th>",
+        (false, true) => " class=\"s o\"><th>",
+    })?;
+    link(page, site.pc)?;
+    instruction(page, site)?;
+    page.put("<td class=w>")?;
+    links(page, &site.goes)?;
+    page.put("<td class=\"w c\">")?;
+    links(page, &site.comes)?;
+    page.put("<td class=m>")?;
+    for access in site.accesses.iter() {
+        write_access(page, access)?;
+    }
+    page.put("<td class=k>")?;
+    stack(page, site, depths)?;
+    page.put("\n")?;
+    for open in site.causes.iter() {
+        page.put("<tr class=y><td colspan=7>Open. ")?;
+        cause(page, open)?;
+        page.put("\n")?;
+    }
+    Ok(())
+}
+
+fn instruction(page: &mut Markup, site: &Site<'_>) -> Result<(), Memory> {
+    match site.instr {
+        Some(instr) => {
+            page.put("<td class=b>")?;
+            page.escaped(instr.bytes)?;
+            page.put("<td class=t>")?;
+            page.escaped(instr.text)
+        }
+        None => page.put("<td><td><em>no instruction in the report</em>"),
+    }
+}
+
+fn links(page: &mut Markup, links: &Vec<Link>) -> Result<(), Memory> {
+    for link in links.iter() {
+        page.put("<a class=")?;
+        page.put(match link.way {
+            Way::Next => "n",
+            Way::Jump => "j",
+            Way::Call => "l",
+            Way::Return => "r",
+            Way::Interrupt => "i",
+            Way::Resume => "u",
+            Way::Plain => "p",
+        })?;
+        page.put(" href=#")?;
+        page.address(link.at)?;
+        page.put(">")?;
+        page.address(link.at)?;
+        page.put("</a>")?;
+    }
+    Ok(())
+}
+
+fn write_access(page: &mut Markup, access: &Access<'_>) -> Result<(), Memory> {
+    page.put("<span><i>")?;
+    page.put(match access.kind {
+        Kind::ReadOne => "reads 1 </i>",
+        Kind::ReadTwo => "reads 2 </i>",
+        Kind::WriteOne => "writes 1 </i>",
+        Kind::WriteTwo => "writes 2 </i>",
+    })?;
+    page.put(match access.space {
+        Space::Mem => "",
+        Space::Ram => "ram ",
+        Space::Sfr => "sfr ",
+        Space::Xram => "xram ",
+        Space::Code => "code ",
+    })?;
+    write_set(page, &access.at)?;
+    page.put("</span>")
+}
+
+/// The stack pointer's values, behind a bar of the depths.
+fn stack(page: &mut Markup, site: &Site<'_>, depths: Option<Depths>) -> Result<(), Memory> {
+    if let Some(depths) = depths {
+        bar(page, depths, bounds_of(site, depths))?;
+    }
+    let mut is_first = true;
+    for set in site.stacks.iter() {
+        if !is_first {
+            page.put(", ")?;
+        }
+        is_first = false;
+        write_set(page, set)?;
+    }
+    Ok(())
+}
+
+/// The least and the greatest depth of a site.
+fn bounds_of(site: &Site<'_>, depths: Depths) -> (u16, u16) {
+    let mut bounds = None;
+    for set in site.stacks.iter() {
+        if !set.is_whole() {
+            bounds = Some(wider(bounds, depths.of_set(set)));
+        }
+    }
+    bounds.unwrap_or((0, 0))
+}
+
+/// The least and the greatest of two pairs.
+fn wider(known: Option<(u16, u16)>, (least, most): (u16, u16)) -> (u16, u16) {
+    match known {
+        None => (least, most),
+        Some((low, high)) => (low.min(least), high.max(most)),
+    }
+}
+
+/// A bar up to the greatest depth, where that isn't 0.
+fn bar(page: &mut Markup, depths: Depths, (least, most): (u16, u16)) -> Result<(), Memory> {
+    let (near, far) = (depths.share(least), depths.share(most));
+    if far == 0 {
+        return Ok(());
+    }
+    page.put("<span class=d><i style=width:")?;
+    page.number(near)?;
+    page.put("%></i>")?;
+    if near < far {
+        page.put("<i style=width:")?;
+        page.number(far.wrapping_sub(near))?;
+        page.put("%></i>")?;
+    }
+    page.put("</span>")
+}

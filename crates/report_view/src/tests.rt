@@ -1,0 +1,142 @@
+//! Pages and graphs of small reports and of a large one.
+
+use crate::view::{Form, view};
+use std::alloc::{AllocError, Global};
+use std::process::Abort;
+use std::test::Fail;
+
+const EIGHT_BYTES: &str =
+    "CLOSED\nE F000 F004\nE F004 F004\nI F000 31408002 MOV #0280h,SP\nI F004 FF3F JMP F004h\nS F000 0000/2/8000\nS F004 0280\nT 0280 1\n";
+
+const TWO_CALLS: &str =
+    "CLOSED\nE F000 F004\nE F004 F00E\nE F008 F00E\nE F00C F00C\nE F00E F008\nE F00E F00C\nI F000 31408002 MOV #0280h,SP\nI F004 B0120EF0 CALL #F00Eh\nI F008 B0120EF0 CALL #F00Eh\nI F00C FF3F JMP F00Ch\nI F00E 3041 MOV @SP+,PC\nM F004 mem w2 027E\nM F008 mem w2 027E\nM F00E mem r2 027E\nS F000 0000/2/8000\nS F004 0280\nS F008 0280\nS F00C 0280\nS F00E 027E\nT 027E 1\n";
+
+const WAKING_HANDLER: &str =
+    "CLOSED\nE F000 F004\nE F004 F006\nE F006 F006\nE F006 F008\nE F008 F00E\nE F00E F006\nI F000 31408002 MOV #0280h,SP\nI F004 32D2 BIS #8,SR\nI F006 FF3F JMP F006h\nI F008 B1C0F0000000 BIC #00F0h,0000h(SP)\nI F00E 0013 RETI\nM F006 mem w2 027C\nM F006 mem w2 027E\nM F008 mem r2 027C\nM F008 mem w2 027C\nM F00E mem r2 027C\nM F00E mem r2 027E\nS F000 0000/2/8000\nS F004 0280\nS F006 0280\nS F008 027C\nS F00E 027C\nT 027C 1\n";
+
+const STRANGE_TEXT: &str =
+    "OPEN\nE F000 F002\nI F000 0343 A<B>&\"C\nM F000 xram w1 0200/2/20\nO F002 Fetch\nO F002 Targets *\nT none 0\n";
+
+/// How often a page or a graph has a part.
+fn counts(
+    rt: &impl Abort,
+    alloc: Global,
+    form: Form,
+    report: &str,
+    parts: &[(&str, usize)],
+) -> Result<(), Fail> {
+    let shown = view(alloc, form, report.as_bytes())?;
+    let text = str::from_utf8(shown.as_bytes())?;
+    for (part, count) in parts.iter() {
+        assert_eq!(rt; text.matches(*part).count(), *count, "{part:?}");
+    }
+    Ok(())
+}
+
+#[test]
+fn ways_of_calls_and_jumps(rt: HostRuntime) -> Result<(), Fail> {
+    let parts = [
+        (" -> ", 5),
+        // The first two instructions stand in one box.
+        ("[label=<", 4),
+        ("tooltip=\"call\"", 2),
+        ("tooltip=\"return\"", 2),
+        ("tooltip=\"jump\"", 1),
+        ("\"F00E\":\"F00E\" -> \"F008\":\"F008\"", 1),
+    ];
+    counts(&rt, rt.alloc(), Form::Dot, TWO_CALLS, parts.as_slice())
+}
+
+#[test]
+fn ways_of_interrupts(rt: HostRuntime) -> Result<(), Fail> {
+    // The first two instructions stand in one box, and so do the last two.
+    let parts = [
+        (" -> ", 4),
+        ("[label=<", 3),
+        (
+            "\"F000\":\"F004\" -> \"F006\":\"F006\" [tooltip=\"next\"]",
+            1,
+        ),
+        (
+            "\"F006\":\"F006\" -> \"F008\":\"F008\" [tooltip=\"interrupt\"",
+            1,
+        ),
+        (
+            "\"F008\":\"F00E\" -> \"F006\":\"F006\" [tooltip=\"resume\"",
+            1,
+        ),
+    ];
+    counts(&rt, rt.alloc(), Form::Dot, WAKING_HANDLER, parts.as_slice())
+}
+
+#[test]
+fn page_of_a_closed_report(rt: HostRuntime) -> Result<(), Fail> {
+    let parts = [
+        ("<b>CLOSED</b>", 1),
+        ("<td class=t>", 5),
+        ("<td class=t>BIC #00F0h,0000h(SP)<", 1),
+        ("<td class=b>B1C0F0000000<", 1),
+        ("<tr id=F008 ", 1),
+        ("<a class=i href=#F008>F008</a>", 1),
+        ("<a class=i href=#F006>F006</a>", 1),
+        ("<span><i>writes 2 </i>027E</span>", 1),
+        ("4 bytes below 0280, first at <a href=#F008>F008</a>", 1),
+        ("At 1 place it can have any value", 1),
+    ];
+    counts(
+        &rt,
+        rt.alloc(),
+        Form::Html,
+        WAKING_HANDLER,
+        parts.as_slice(),
+    )
+}
+
+#[test]
+fn page_with_strange_text(rt: HostRuntime) -> Result<(), Fail> {
+    let parts = [
+        ("<td class=t>A&lt;B&gt;&amp;&quot;C<", 1),
+        ("It stopped at 2 sites,", 1),
+        ("<td><td><em>no instruction in the report</em>", 1),
+        ("<td colspan=7>Open. ", 2),
+        ("</i>xram 0200 to 023E by 2<", 1),
+        ("not known", 1),
+    ];
+    counts(&rt, rt.alloc(), Form::Html, STRANGE_TEXT, parts.as_slice())?;
+    let parts = [("A&lt;B&gt;&amp;&quot;C", 1)];
+    counts(&rt, rt.alloc(), Form::Dot, STRANGE_TEXT, parts.as_slice())
+}
+
+/// A report of 10,000 edges, from each of a hundred addresses to each.
+fn ten_thousand_edges(alloc: Global) -> Result<String, AllocError> {
+    let mut text = String::from_str(alloc, "CLOSED\n")?;
+    for from in 4096..4196 {
+        for to in 4096..4196 {
+            write!(text, "E {from:04X} {to:04X}\n")?;
+        }
+    }
+    text.push_str("T none 0\n")?;
+    Ok(text)
+}
+
+#[test]
+fn row_ten_thousand_edges(rt: HostRuntime) -> Result<(), Fail> {
+    let text = ten_thousand_edges(rt.alloc())?;
+    let parts = [("<tr id=", 100), ("<a class=", 20_000)];
+    counts(&rt, rt.alloc(), Form::Html, text.as_str(), parts.as_slice())?;
+    let parts = [(" -> ", 10_000)];
+    counts(&rt, rt.alloc(), Form::Dot, text.as_str(), parts.as_slice())
+}
+
+#[test]
+fn form_is_exact(rt: HostRuntime) -> Result<(), Fail> {
+    let shown = view(rt.alloc(), Form::Dot, EIGHT_BYTES.as_bytes())?;
+    let text = str::from_utf8(shown.as_bytes())?;
+    assert!(rt; text.starts_with("digraph report {\n"));
+    assert!(rt;
+        text.ends_with(
+            "\"F004\":\"F004\":e -> \"F004\":\"F004\":e [tooltip=\"jump\", color=\"#0b57d0\"];\n}\n"
+        )
+    );
+    Ok(())
+}
