@@ -1,4 +1,5 @@
-//! What cells hold, over their definitions and for every list of cells. Proofs of representations of cells call these.
+//! What words, bytes and cells hold, over their definitions. Proofs over the formulas, and of representations of cells, call
+//! these.
 
 ghost use Rattle.std.specs.Prelude.{◌≡◌, ◌≢◌, ◌≤◌, ◌<◌, ℕ, ◌⊎◌, All, true, Option, None, List, [], slice_index, option_map, bit_and, bit_or};
 ghost use Rattle.value_set.specs.declared.form.Form.{Form as AForm};

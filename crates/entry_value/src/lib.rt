@@ -4,8 +4,10 @@
 //! when the interrupt came. `HoldsOfWord` in `specs/Words.antt` says when one holds of a number.
 //!
 //! [`Cells`] is what any representation of cells has to do, over the one list of them in `specs/Cells.antt`.
-//! The laws, as [`reads_hold`], are functions that do nothing: they say of every list of cells that what is read holds of
-//! what stands there, that writes, joins and widenings cover each RAM behind them, and that they keep the cells' form.
+//! The laws, as [`reads_hold`] and [`words_hold`], are functions that do nothing, for proofs over the definitions alone. They
+//! say of all words, bytes and relations what these say behind an operation, and how they are ordered. Of every list of
+//! cells they say that what is read holds of what stands there, that writes, joins and widenings cover each RAM behind them
+//! and keep the cells' form, and that `within` is an order.
 #![tactic(auto)]
 
 mod byte;
