@@ -134,7 +134,9 @@ double device s len operation width source destination = do
   y ← destination_value device s.ram behind_source operation width place
   bits ← status_bits operation width origin place
   let at_write = slice_set behind_source 0 (behind s len)
-  left ← double_left device s.ram at_write operation width place (with_free_bits width origin bits x) (with_free_bits width place bits y) (register_of s 2 % 2)
+  let first = with_free_bits width origin bits x
+  let second = with_free_bits width place bits y
+  left ← double_left device s.ram at_write operation width place first second (register_of s 2 % 2)
   answer (done s (Double operation width source destination) (double_accesses pc operation width origin place) left)
 
 -- ONE OPERAND
@@ -157,7 +159,8 @@ single device s len operation width operand = do
   let behind_operand = grown at_operand width operand
   x ← value_at device s.ram at_operand width place
   bits ← ask_if (has_free_bits width place) 128
-  left ← single_left device s.ram behind_operand operation width place (with_free_bits width place bits x) (register_of s 2 % 2)
+  let value = with_free_bits width place bits x
+  left ← single_left device s.ram behind_operand operation width place value (register_of s 2 % 2)
   answer (done s (OneOperand operation width operand) (access_to pc false width place ++ access_to pc true width place) left)
 
 -- PUSH AND CALL
@@ -204,7 +207,8 @@ push device s len operation width operand = do
   let at_push = grown before width operand
   x ← value_at device s.ram at_operand width place
   bits ← ask_if (has_free_bits width place) 128
-  left ← push_left device s.ram at_push operation width (with_free_bits width place bits x) (behind s len)
+  let value = with_free_bits width place bits x
+  left ← push_left device s.ram at_push operation width value (behind s len)
   let slot = InMemory (lowered (slice_index at_push 1))
   answer (done s (OneOperand operation width operand) (access_to pc false width place ++ access_to pc true Word slot) left)
 
