@@ -29,10 +29,10 @@ section{content-visibility:auto;contain-intrinsic-size:auto 5600px}
 .h th{font-weight:600;font-family:system-ui,-apple-system,'Segoe UI',Roboto,'DejaVu Sans',sans-serif;padding-top:6px;padding-bottom:6px;white-space:nowrap}
 th,td{vertical-align:top;padding:2px 14px 2px 0;text-align:left;overflow-wrap:anywhere}
 th:first-child{padding-left:12px;width:7%}
-th:nth-child(2),.b{width:10%}
-th:nth-child(3),.t{width:15.5%}
+th:nth-child(2),td:nth-child(2){width:10%}
+th:nth-child(3),td:nth-child(3){width:15.5%}
 th:nth-child(4),th:nth-child(5),.w{width:17%}
-th:nth-child(6),.m{width:17.5%}
+th:nth-child(6),td:nth-child(6){width:17.5%}
 tbody th{font-weight:400}
 tr{scroll-margin-top:40px}
 tr:hover>*{background:var(--soft)}
