@@ -5,7 +5,7 @@ use crate::depth::Depths;
 use crate::markup::Markup;
 use crate::program::{Link, Program, Site};
 use crate::sets::write_set;
-use crate::style::{NOTES, STYLE};
+use crate::style::{HEAD, NOTES, STYLE};
 use crate::ways::{Way, behind};
 use report_lines::{Access, Cause, Kind, Line, Report, Space};
 use std::alloc::Global;
@@ -194,12 +194,14 @@ fn cause(page: &mut Markup, cause: &Cause<'_>) -> Result<(), Memory> {
     }
 }
 
+/// How many rows stand in one section. A browser lays out only the sections that it shows.
+const SECTION: usize = 256;
+
 /// The program by address.
 fn listing(page: &mut Markup, report: &Report<'_>, program: &Program<'_>) -> Result<(), Memory> {
-    page.put(
-        "<h2>The program by address</h2>\n<table>\n<thead><tr><th>Address<th>Bytes<th>Instruction<th>Goes to<th>Comes from<th>Memory<th>Stack pointer\n<tbody>\n",
-    )?;
+    page.put(HEAD)?;
     let depths = Depths::of(report);
+    let mut rows = 0usize;
     let mut front: Option<&Site<'_>> = None;
     for site in program.sites.values() {
         let follows = match front {
@@ -209,10 +211,14 @@ fn listing(page: &mut Markup, report: &Report<'_>, program: &Program<'_>) -> Res
                 site.follows(front)
             }
         };
+        rows = rows.wrapping_add(1);
+        if rows % SECTION == 0 {
+            page.put("</table></section>\n<section><table><tbody>\n")?;
+        }
         row(page, site, follows, depths)?;
         front = Some(site);
     }
-    page.put("</table>\n")
+    page.put("</table></section>\n")
 }
 
 /// The addresses between two rows, where there are some.

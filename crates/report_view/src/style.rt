@@ -23,36 +23,39 @@ dt{font-size:13px;color:var(--dim)}
 dd{margin:0;font-size:22px;line-height:1.35;font-variant-numeric:tabular-nums}
 dd small{display:block;font-size:13px;line-height:1.45;color:var(--dim)}
 dd a,td,tbody th,code,.map,li a:first-child{font-family:var(--mono)}
-table{border-collapse:collapse;width:100%;font-size:13px;line-height:1.6}
-thead th{position:sticky;top:0;background:var(--bg);box-shadow:inset 0 -2px var(--line);font-weight:600;color:var(--dim);padding:6px 14px 6px 0;z-index:1}
-th,td{vertical-align:top;padding:2px 14px 2px 0;text-align:left}
-th:first-child{padding-left:12px}
-tbody th{font-weight:400;box-shadow:inset 4px 0 transparent}
+table{table-layout:fixed;border-collapse:collapse;width:100%;min-width:1000px;font-size:13px;line-height:1.6}
+section{content-visibility:auto;contain-intrinsic-size:auto 5600px}
+.h{position:sticky;top:0;background:var(--bg);border-bottom:2px solid var(--line);color:var(--dim);z-index:1}
+.h th{font-weight:600;font-family:system-ui,-apple-system,'Segoe UI',Roboto,'DejaVu Sans',sans-serif;padding-top:6px;padding-bottom:6px;white-space:nowrap}
+th,td{vertical-align:top;padding:2px 14px 2px 0;text-align:left;overflow-wrap:anywhere}
+th:first-child{padding-left:12px;width:7%}
+th:nth-child(2),td:nth-child(2){width:10%}
+th:nth-child(3),td:nth-child(3){width:15.5%}
+th:nth-child(4),th:nth-child(5),.w{width:17%}
+th:nth-child(6),td:nth-child(6){width:17.5%}
+tbody th{font-weight:400}
 tr{scroll-margin-top:40px}
 tr:hover>*{background:var(--soft)}
 tr:target>*{background:var(--mark)}
 .s>*{border-top:1px solid var(--line);padding-top:5px}
 .b{color:var(--dim)}
-.t{white-space:pre;font-weight:600}
+.t{font-weight:600}
 td em{font-weight:400;color:var(--dim)}
-.w{max-width:210px}
-.w a,.m span{display:inline-block;white-space:nowrap;margin-right:10px}
 .w a::before,.m i{font:12px system-ui,-apple-system,'Segoe UI',Roboto,'DejaVu Sans',sans-serif;color:var(--dim)}
+.w,.m{padding-right:4px}
+.w a,.m span{display:inline-block;margin-right:8px}
 .n{color:var(--dim)}
-.n::before{content:'next '}
+.w .n::before{content:'next '}
 .c .n::before{content:'above '}
-.j::before{content:'jump '}
-.l::before{content:'call '}
-.r::before{content:'return '}
-.i::before{content:'interrupt '}
-.u::before{content:'resume '}
+.w .j::before{content:'jump '}
+.w .l::before{content:'call '}
+.w .r::before{content:'return '}
+.w .i::before{content:'interrupt '}
+.w .u::before{content:'resume '}
 .l,.r,.w .l::before,.w .r::before{color:var(--call)}
 .i,.u,.w .i::before,.w .u::before{color:var(--irq)}
-.m{max-width:250px}
-.m .x{white-space:normal}
-.k{position:relative;padding-left:96px;min-width:150px}
-.d{position:absolute;left:0;top:8px;display:flex;width:84px;background:var(--line)}
-.s .d{top:11px}
+.k{padding-left:72px;padding-right:0}
+.d{float:left;display:flex;width:62px;margin:6px 0 0 -72px;background:var(--line)}
 .d i{border-top:8px solid var(--bar)}
 .d i+i{border-color:var(--far)}
 .o>*,.y>*{background:var(--badbg)}
@@ -62,7 +65,14 @@ td em{font-weight:400;color:var(--dim)}
 .notes{columns:2 380px;column-gap:40px;color:var(--dim);font-size:14px}
 .notes p{margin:0 0 8px;break-inside:avoid}
 .notes b{color:var(--fg)}
-@media print{body{font-size:10pt}main{max-width:none;padding:0}table{font-size:8pt}thead th{position:static}tr,dl div,.verdict{break-inside:avoid}a{color:inherit}h2{break-after:avoid}}
+@media print{body{font-size:10pt}main{max-width:none;padding:0}table{font-size:8pt}.h{position:static}section{content-visibility:visible}tr,dl div,.verdict{break-inside:avoid}a{color:inherit}h2{break-after:avoid}}
+";
+
+/// The names of the columns. Each section of rows is a table of its own, with columns of the same widths.
+pub const HEAD: &str = "\
+<h2>The program by address</h2>
+<table class=h><tr><th>Address<th>Bytes<th>Instruction<th>Goes to<th>Comes from<th>Memory<th>Stack pointer</table>
+<section><table><tbody>
 ";
 
 /// What the columns and words of a page say.
