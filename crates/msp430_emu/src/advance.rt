@@ -6,13 +6,13 @@ ghost use Rattle.msp430_chip.specs.State as states;
 ghost use Rattle.msp430_emu.specs.Registers.{AreRegisters};
 ghost use Rattle.msp430_emu.specs.Stepping.{Ends, IsStill, Steps};
 
-use choosing::Unused;
 use crate::items::items_of;
 use crate::memory::Layout;
 use crate::plan::Plan;
 use crate::run::course;
 use crate::stepped::Stepped;
 use crate::writing::{commit, plan_hit};
+use choosing::Unused;
 use msp430_chip::{ChipState, Wild};
 use msp430_decode::NoInstr;
 

@@ -6,11 +6,11 @@ ghost use Rattle.msp430_decode.specs.Table.{AreSingle};
 ghost use Rattle.msp430_chip.specs.Arithmetic as arithmetic;
 ghost use Rattle.choosing.specs.Choosing.{asked};
 
-use choosing::Unused;
 use crate::decimal::decimal;
 use crate::results::{
     Made, complement, exchanged, exclusive, halved, logic, rotated, sign_extended, sum,
 };
+use choosing::Unused;
 use msp430_chip::Flags;
 use msp430_decode::{Operation, SingleOperation, Width};
 

@@ -5,8 +5,8 @@ ghost use Rattle.value_bits.specs.Numbers as numbers;
 ghost use Rattle.msp430_chip.specs.Arithmetic as arithmetic;
 ghost use Rattle.choosing.specs.Choosing.{asked};
 
-use choosing::Unused;
 use crate::results::{Made, made, modulus};
+use choosing::Unused;
 use msp430_chip::Flags;
 use msp430_decode::Width;
 

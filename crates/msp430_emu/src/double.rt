@@ -13,7 +13,6 @@ ghost use Rattle.msp430_emu.specs.Drafting.{all_shown, double_behind, drafted, l
 ghost use Rattle.msp430_emu.specs.Registers.{AreRegisters};
 
 use crate::arithmetic::{reads_destination, result_of, sets_flags, writes_result};
-use choosing::Unused;
 use crate::draft::{Access, Accesses, Draft, Effect};
 use crate::effects::{access_to, free_status, put_if, with_status};
 use crate::memory::Layout;
@@ -21,6 +20,7 @@ use crate::operands::{
     behind, destination_place, grown, has_free_bits, is_status, source_place, value_at,
     with_free_bits,
 };
+use choosing::Unused;
 use msp430_chip::{ChipState, Place, Ram};
 use msp430_decode::{Destination, Operation, Register, Source, Width};
 

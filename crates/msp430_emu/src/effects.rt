@@ -11,10 +11,10 @@ ghost use Rattle.msp430_emu.specs.Drafting.{left_by, shown};
 ghost use Rattle.msp430_emu.specs.Registers.{AreRegisters};
 
 use crate::arithmetic::with_made_flags;
-use choosing::Unused;
 use crate::draft::{Access, Effect, Store};
 use crate::memory::aligned;
 use crate::operands::with_register;
+use choosing::Unused;
 use msp430_chip::{Flags, Place};
 use msp430_decode::Width;
 

@@ -10,11 +10,11 @@ ghost use Rattle.choosing.specs.Choosing.{asked_as};
 ghost use Rattle.msp430_emu.specs.Planning.{planned};
 ghost use Rattle.msp430_emu.specs.Registers.{AreRegisters};
 
-use choosing::Unused;
 use crate::draft::{Access, Accesses, Store};
 use crate::memory::{Layout, even};
 use crate::plan::Plan;
 use arrayvec::ArrayVec;
+use choosing::Unused;
 use ihex_read::Image;
 use msp430_chip::ChipState;
 use msp430_decode::Width;

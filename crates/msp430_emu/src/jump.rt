@@ -9,10 +9,10 @@ ghost use Rattle.choosing.specs.Choosing.{asked_as};
 ghost use Rattle.msp430_emu.specs.Drafting.{drafted};
 ghost use Rattle.msp430_emu.specs.Registers.{AreRegisters};
 
-use choosing::Unused;
 use crate::draft::{Access, Accesses, Draft, Effect};
 use crate::memory::{Layout, even, read_word};
 use crate::operands::behind;
+use choosing::Unused;
 use msp430_chip::ChipState;
 use msp430_decode::{Condition, Width, offset_target};
 

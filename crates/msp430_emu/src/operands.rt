@@ -8,8 +8,8 @@ ghost use Rattle.msp430_chip.specs.Step as steps;
 ghost use Rattle.choosing.specs.Choosing.{asked};
 ghost use Rattle.msp430_emu.specs.Registers.{AreRegisters};
 
-use choosing::Unused;
 use crate::memory::{Layout, even, read};
+use choosing::Unused;
 use msp430_chip::{ChipState, Place, Ram};
 use msp430_decode::{Constant, Destination, Register, Source, Width};
 

@@ -13,7 +13,6 @@ ghost use Rattle.msp430_emu.specs.Drafting.{drafted};
 ghost use Rattle.msp430_emu.specs.Planning.{outcome_of, planned};
 ghost use Rattle.msp430_emu.specs.Registers.{AreRegisters};
 
-use choosing::Unused;
 use crate::double::double;
 use crate::draft::Draft;
 use crate::interrupt::{allows_interrupts, coming, enter};
@@ -22,6 +21,7 @@ use crate::memory::Layout;
 use crate::plan::Plan;
 use crate::push::push;
 use crate::single::single;
+use choosing::Unused;
 use msp430_chip::ChipState;
 use msp430_decode::{Instr, NoInstr, SingleOperation, Source, Width, decode, encode};
 
