@@ -45,7 +45,7 @@ fn head(page: &mut Markup, report: &Report<'_>, counts: Counts) -> Result<(), Me
         )?;
         count(page, counts.opens, "site", "sites")?;
         page.put(
-            ", and what the program does behind them isn't on this page. So nothing on this page holds for the whole program yet: other code may run, and the stack may grow further.\n</div>\n",
+            ", and what the program does from there on isn't on this page. So nothing on this page holds for the whole program yet: other code may run, and the stack may grow further.\n</div>\n",
         )
     }
 }

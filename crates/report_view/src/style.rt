@@ -28,9 +28,9 @@ section{content-visibility:auto;contain-intrinsic-size:auto 5600px}
 .h{position:sticky;top:0;background:var(--bg);border-bottom:2px solid var(--line);color:var(--dim);z-index:1}
 .h th{font-weight:600;font-family:system-ui,-apple-system,'Segoe UI',Roboto,'DejaVu Sans',sans-serif;padding-top:6px;padding-bottom:6px;white-space:nowrap}
 th,td{vertical-align:top;padding:2px 14px 2px 0;text-align:left;overflow-wrap:anywhere}
-th:first-child{padding-left:12px;width:7%}
+th:first-child{padding-left:12px;width:7.5%}
 th:nth-child(2),td:nth-child(2){width:10%}
-th:nth-child(3),td:nth-child(3){width:15.5%}
+th:nth-child(3),td:nth-child(3){width:15%}
 th:nth-child(4),th:nth-child(5),.w{width:17%}
 th:nth-child(6),td:nth-child(6){width:17.5%}
 tbody th{font-weight:400}
@@ -79,11 +79,11 @@ pub const HEAD: &str = "\
 pub const NOTES: &str = "\
 <h2>How to read this page</h2>
 <div class=notes>
-<p><b>Goes to, comes from.</b> Where control can go behind an instruction, and from where it can come. <i>next</i> and <i>above</i> are the neighbours in the program. Where the report doesn't tell how control goes, no word stands there.
+<p><b>Goes to, comes from.</b> Where control can go after an instruction, and from where it can come. <i>next</i> and <i>above</i> are the neighbours in the program. Where the report doesn't tell how control goes, no word stands there.
 <p><b>interrupt, resume.</b> An interrupt can come at this instruction, and its handler can return to it.
 <p><b>Memory.</b> The addresses that the instruction, or an interrupt that comes there, may read or write, and how many bytes at once. Several addresses mean that it may be any of them.
 <p><b>Stack pointer.</b> Its values when control comes to the instruction. The bar shows how far the stack has grown: the full colour is reached in every case, the pale one in some case. The longest bar is the deepest stack of the program.
 <p><b>Numbers.</b> Addresses and bytes are hexadecimal. <code>0200 to 023E by 2</code> is every second number from 0200 to 023E.
-<p><b>Open.</b> A place where the analysis stopped. What the program does behind it isn't on this page.
+<p><b>Open.</b> A place where the analysis stopped. What the program does from there on isn't on this page.
 </div>
 ";
