@@ -111,8 +111,8 @@ pub trait LawfulChip: Chip {
         ensures { (a b : Self.Base) → alike a b → AreAlike (Self.analysis a) (Self.analysis b) };
 }
 
-/// A chip whose instructions have a text.
-pub trait ChipText: Chip {
+/// The texts of a chip's instructions.
+pub trait InstrText {
     /// The text of the instruction of these bytes at an address.
     ghost text_of: { Self → ℕ → List ℕ → List ℕ };
 
@@ -120,3 +120,6 @@ pub trait ChipText: Chip {
     fn instr_text(&self, pc: u16, bytes: &[u8]) -> ArrayString<40>
         ensures { result.bytes ≡ text_of self.now pc bytes.now };
 }
+
+/// A chip whose instructions have a text.
+pub trait ChipText: Chip + InstrText {}

@@ -4,7 +4,7 @@ ghost use Rattle.std.specs.Prelude.{◌≡◌, ◌++◌, ◌∷◌, codes, IfOk,
 ghost use Rattle.chip_law.specs.Digits.{hex, short_hex};
 ghost use Rattle.chip_law.specs.Line.{word_set_text, byte_set_text, set_text, item_line_of, open_line_of, bytes_text, space_text, kind_text, comma_list};
 
-use crate::chip::ChipText;
+use crate::chip::InstrText;
 use crate::digits::{hex_byte, hex_word, push_short_hex};
 use call_context::{Cause, Item, Set, Space};
 use std::alloc::{AllocError, Global};
@@ -117,7 +117,7 @@ fn line_at(alloc: Global, letter: u8, pc: u16) -> Result<Vec<u8>, AllocError>
     Ok(line)
 }
 
-fn instr_line<C: ChipText>(
+fn instr_line<C: InstrText>(
     alloc: Global,
     chip: &C,
     pc: u16,
@@ -137,7 +137,7 @@ fn instr_line<C: ChipText>(
 }
 
 /// The line of an item, without its line feed.
-pub fn item_line<C: ChipText>(alloc: Global, chip: &C, item: &Item) -> Result<Vec<u8>, Memory>
+pub fn item_line<C: InstrText>(alloc: Global, chip: &C, item: &Item) -> Result<Vec<u8>, Memory>
     ensures { IfOk result (λ line. line.items ≡ item_line_of (C.text_of chip.now) item.now) }
 {
     match item {
@@ -195,7 +195,7 @@ pub fn open_line(alloc: Global, pc: u16, cause: &Cause) -> Result<Vec<u8>, Memor
 }
 
 /// Appends the line of an item. A refusal appends nothing.
-pub fn put_item<C: ChipText>(chip: &C, item: &Item, out: &mut Vec<u8>) -> Result<(), Memory>
+pub fn put_item<C: InstrText>(chip: &C, item: &Item, out: &mut Vec<u8>) -> Result<(), Memory>
     ensures appended { OnOk result (out.new.items ≡ out.old.items ++ item_line_of (C.text_of chip.now) item.now) }
     ensures refused { OnErr result (out.new.items ≡ out.old.items) }
 {

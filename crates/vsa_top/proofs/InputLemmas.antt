@@ -13,7 +13,7 @@ use Rattle.ihex_read.specs.ImageText.{Denotes, FirstFault}
 use Rattle.ihex_read.specs.Lines.{lines_of}
 use Rattle.ihex_read.specs.Reading.{Reading, FaultsWithin, HasEnded, TellsFront, TellsWhole}
 use Rattle.vsa_io.specs.Stream.{Takes, IsAtEnd}
-use Rattle.vsa_top.specs.Answer.{text_limit, front_of, Gives, InputGives, IsTooLong, LacksImage, begun_with, input_error_of}
+use Rattle.vsa_top.specs.Input.{text_limit, front_of, Gives, InputGives, IsTooLong, LacksImage, begun_with, input_error_of}
 use Rattle.vsa_top.specs.declared.input.InputError.{InputError}
 
 -- what holds of the one error

@@ -1,16 +1,6 @@
-pub mod AnswerLemmas
 pub mod DisassemblyLemmas
 pub mod HeadlineLemmas
 pub mod InputLemmas
-pub mod LeastLemmas
-pub mod Msp430Laws
-pub mod Msp430MarksLemmas
-pub mod Msp430Sets
-pub mod Msp430Stepping
-pub mod Msp430Steps
-pub mod ReportLemmas
 pub mod ScriptLemmas
-pub mod ShownLemmas
 pub mod TraceLemmas
-pub mod TurnLemmas
 pub mod WordsLemmas

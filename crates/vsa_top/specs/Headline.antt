@@ -1,48 +1,12 @@
--- What a report says of every run of the chip.
-use Rattle.std.specs.Prelude.{◌≡◌, ℕ, Option, Some, List, ◌++◌, Contains, codes}
-use Rattle.call_context.specs.declared.shown.Cause.{Cause}
+-- What a report says of every run of the chip whose image the input denotes.
+use Rattle.std.specs.Prelude.{◌≡◌, ℕ, Option, Some, List}
 use Rattle.ihex_read.specs.declared.rule_set.Tail.TheVariants.{Blank}
 use Rattle.ihex_read.specs.ImageText.{Denotes}
 use Rattle.ihex_read.specs.Lines as texts
 use Rattle.vsa_io.specs.Stream.{appended}
-use Rattle.chip_law.specs.declared.chip.Work.{Work}
-use Rattle.chip_law.specs.Analysis.{Analysis}
-use Rattle.chip_law.specs.Line.{open_line_of}
-use Rattle.chip_law.specs.Machine.{Machine}
-use Rattle.chip_law.specs.Runs.{Meets, GoesWild}
-use Rattle.chip_law.specs.Shown.{HasLine, IsShownIn}
-use Rattle.call_context.specs.Single.{Single}
-use Rattle.closing_law.specs.Covered.{IsBroken}
-use Rattle.round_core.specs.Machine.{replay}
-use Rattle.round_core.specs.declared.event.Event.{Event}
 use Rattle.msp430_chip.specs.declared.device.Device.{Device}
 use Rattle.vsa_top.specs.declared.words.Reading.{Reading}
-use Rattle.vsa_top.specs.Answer.{works_behind}
 use Rattle.vsa_top.specs.Words.{rules_of, device_of}
-
--- the report begins with this text
-abbrev pub Says : List ℕ → List ℕ → Type 0
-Says text report = (rest : List ℕ) × (report ≡ text ++ rest)
-
--- The report says CLOSED. Whatever a run of the chip meets, in any number of steps, has its line in the report, where
--- instructions have these texts, and no run leaves the model.
-pub record CoversEveryRun {S : Type 0} (machine : Machine S) (text_of : ℕ → List ℕ → List ℕ) (report : List ℕ) : Type 0 where
-  pub says : Says (codes "CLOSED\n") report
-  pub shows : (n : ℕ) (item : Single) → Meets machine n item → IsShownIn text_of report item
-  pub stays : (n : ℕ) → GoesWild machine n → ⊥
-
--- The report has the line of an open site, which is the address of a location of the book, and the limit that its cause
--- names is broken there.
-pub record IsOpenSite {A : Type 0} (analysis : Analysis A) (journal : List Event) (report : List ℕ) (pc : ℕ) (cause : Cause) : Type 0 where
-  pub line : HasLine report (open_line_of pc cause)
-  pub site : IsBroken analysis (replay analysis journal).nodes pc cause
-
--- The report says OPEN. Some work of the book leaves a site open, and each that does is shown.
-pub record ShowsOpenSites {A : Type 0} (analysis : Analysis A) (journal : List Event) (report : List ℕ) : Type 0 where
-  pub says : Says (codes "OPEN\n") report
-  pub some : (work : Work A) × (site : ℕ × Cause) × Contains (works_behind analysis journal) work × Contains work.opens site
-  pub each : (work : Work A) (pc : ℕ) (cause : Cause) → Contains (works_behind analysis journal) work
-      → Contains work.opens (pc, cause) → IsOpenSite analysis journal report pc cause
 
 -- Where the input is told and denotes an image under the reading, the sink got a report of which P holds, of the device with
 -- this image.

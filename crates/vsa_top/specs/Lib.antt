@@ -1,14 +1,6 @@
 pub mod Answer
-pub mod Disassembly
 pub mod Headline
-pub mod Msp430Built
-pub mod Msp430Chip
-pub mod Msp430Cover
-pub mod Msp430Machine
-pub mod Msp430Marks
-pub mod Msp430State
-pub mod Report
+pub mod Input
+pub mod Msp430
 pub mod Scripts
-pub mod Trace
-pub mod Turns
 pub mod Words

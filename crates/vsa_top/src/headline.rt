@@ -1,37 +1,39 @@
 //! What an answer says of every run.
 
-ghost use Rattle.std.specs.Prelude.{◌≡◌, ℕ, Option, Some, List};
+ghost use Rattle.std.specs.Prelude.{◌≡◌, ℕ, Option, Some, List, ◌⊎◌};
+ghost use Rattle.msp430_flow.specs.Built.{instr_text};
+ghost use Rattle.msp430_flow.specs.Chip.{msp430_analysis};
+ghost use Rattle.msp430_flow.specs.Machine.{msp430_machine};
+ghost use Rattle.report_text.specs.Promise.{CoversEveryRun, ShowsOpenSites};
 ghost use Rattle.round_core.specs.declared.event.Event.{Event as AnEvent};
-ghost use Rattle.vsa_top.specs.declared.outcome.Status.TheVariants.{Done, Open, ReadFault, WriteFault};
+ghost use Rattle.vsa_top.specs.declared.outcome.Status.TheVariants.{Done, Memory, Open, ReadFault, WriteFault};
 ghost use Rattle.vsa_top.specs.declared.outcome.Status.{Status as AStatus};
-ghost use Rattle.vsa_top.specs.Answer.{AnswersInput, Gives, IsOfImage, tail_of};
+ghost use Rattle.vsa_top.specs.Answer.{Answers, Ends};
+ghost use Rattle.vsa_top.specs.Input.{Gives, tail_of};
 ghost use Rattle.vsa_top.specs.Words.{rules_of};
 ghost use Rattle.vsa_top.specs.declared.words.Mode.TheVariants.{Analyse};
 ghost use Rattle.vsa_top.specs.declared.words.Reading.{Reading as AReading};
-ghost use Rattle.vsa_top.specs.Msp430Built.{instr_text};
-ghost use Rattle.vsa_top.specs.Msp430Chip.{msp430_analysis};
-ghost use Rattle.vsa_top.specs.Msp430Machine.{msp430_machine};
-ghost use Rattle.vsa_top.specs.Headline.{CoversEveryRun, ShowsOpenSites, ReportsOn};
+ghost use Rattle.vsa_top.specs.Headline.{ReportsOn};
 
-use crate::msp430::Msp430;
-use closing_law::{closed_books_cover_runs, opens_break_limits};
 use ihex_read::{ended_texts_stay, image_or_fault, images_keep_rules};
+use msp430_flow::Msp430Chip;
+use report_text::{closed_reports_cover_runs, open_reports_show_sites};
 
 /// A report that is told as closed covers every run, and one that is told as open shows its open sites. An image within
 /// the limit gets what its mode asks where nothing fails and memory is there.
 pub(crate) fn reports_hold()
     ensures closed { (reading : AReading) (input before after : Option (List ℕ)) (journal : List AnEvent)
-        → reading.mode ≡ Analyse → AnswersInput reading Done input before after journal →
+        → reading.mode ≡ Analyse → Answers reading Done input before after journal →
         ReportsOn reading input before after (λ device report. CoversEveryRun (msp430_machine device) instr_text report) }
     ensures open { (reading : AReading) (input before after : Option (List ℕ)) (journal : List AnEvent)
-        → AnswersInput reading Open input before after journal → ReportsOn reading input before after (λ device report. ShowsOpenSites (msp430_analysis device) journal report) }
+        → Answers reading Open input before after journal → ReportsOn reading input before after (λ device report. ShowsOpenSites (msp430_analysis device) journal report) }
     ensures complete { (reading : AReading) (answered : AStatus) (input before after : Option (List ℕ)) (journal : List AnEvent) (text : List ℕ) (image : List (Option ℕ)) (second : List ℕ)
-        → AnswersInput reading answered input before after journal → input ≡ Some text → Gives (rules_of reading) (tail_of reading.mode) text image second
-        → ¬ (answered ≡ ReadFault) → ¬ (answered ≡ WriteFault) → IsOfImage reading.mode answered }
+        → Answers reading answered input before after journal → input ≡ Some text → Gives (rules_of reading) (tail_of reading.mode) text image second
+        → ¬ (answered ≡ ReadFault) → ¬ (answered ≡ WriteFault) → Ends reading.mode answered ⊎ (answered ≡ Memory) }
 {
     ended_texts_stay();
     image_or_fault();
     images_keep_rules();
-    closed_books_cover_runs::<Msp430>();
-    opens_break_limits::<Msp430>();
+    closed_reports_cover_runs::<Msp430Chip>();
+    open_reports_show_sites::<Msp430Chip>();
 }

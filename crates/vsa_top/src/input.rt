@@ -6,7 +6,7 @@ ghost use Rattle.ihex_read.specs.Kept.{IsReadUnder};
 ghost use Rattle.ihex_read.specs.declared.rule_set.Tail.TheVariants.{Second};
 ghost use Rattle.ihex_read.specs.Reading.{HasEnded};
 ghost use Rattle.vsa_io.specs.Stream.{HasRisen};
-ghost use Rattle.vsa_top.specs.Answer.{InputGives, LacksImage, begun_with};
+ghost use Rattle.vsa_top.specs.Input.{InputGives, LacksImage, begun_with};
 
 use ihex_read::{
     HexError, HexFault, Image, MOST_BYTES, Reader, Rules, Tail, ended_texts_stay, whole_faults_stay,
@@ -58,7 +58,7 @@ impl From<AllocError> for InputError {
 }
 
 impl From<HexError> for InputError {
-    ghost use Rattle.vsa_top.specs.Answer.{input_error_of};
+    ghost use Rattle.vsa_top.specs.Input.{input_error_of};
 
     ghost from_gives = { λ error e. e ≡ input_error_of error };
 

@@ -1,4 +1,4 @@
-//! What a call answers, and the gate that may watch its workers.
+//! What a call answers.
 
 use round_core::Event;
 
@@ -35,23 +35,4 @@ pub struct Outcome {
     pub status: Status,
     /// The events whose replay gives the printed book, where one is printed.
     pub journal: Vec<Event>,
-}
-
-/// What is told of each worker's turns.
-pub trait Gate {
-    /// A unit of this seat was claimed, and its work comes next.
-    fn before(&self, seat: u32);
-
-    /// The work of this seat was posted.
-    fn after(&self, seat: u32);
-}
-
-/// A gate that looks away.
-#[derive(Clone, Copy, Debug, PartialEq, Eq)]
-pub struct NoGate;
-
-impl Gate for NoGate {
-    fn before(&self, _seat: u32) {}
-
-    fn after(&self, _seat: u32) {}
 }

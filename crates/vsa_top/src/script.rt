@@ -2,7 +2,7 @@
 
 ghost use Rattle.std.specs.Prelude.{◌≡◌, ◌≢◌, ◌+◌, ◌++◌, ◌<◌, ◌≤◌, ℕ, List, length, IfOk, IfErr, OnOk, IfSome};
 ghost use Rattle.vsa_io.specs.Stream.{HasRisen};
-ghost use Rattle.vsa_top.specs.Answer.{begun_with};
+ghost use Rattle.vsa_top.specs.Input.{begun_with};
 ghost use Rattle.vsa_top.specs.Scripts.{IsAt, IsScript, LacksScript};
 
 use script_text::{MOST_BYTES, Reader, ScriptError, refusals_stay};

@@ -1,17 +1,17 @@
 //! Whole calls, over streams in memory.
 
-use crate::disassembly::disassembly_of;
-use crate::outcome::{NoGate, Status};
-use crate::report::least_number;
+use crate::msp430::Msp430Code;
+use crate::outcome::Status;
 use crate::top::vsa;
+use disassembly::disassembly_of;
 use ihex_read::Image;
 use std::alloc::{AllocError, Global};
 use std::process::Abort;
 use std::sync::Wait;
 use std::test::Fail;
 use std::thread::Threads;
-use value_set::Vs16;
 use vsa_io::{CleanSink, CleanSource, MemSource};
+use worker_rounds::NoGate;
 
 /// The words of a command line.
 fn words_of(alloc: Global, line: &str) -> Result<Vec<String>, AllocError> {
@@ -116,7 +116,7 @@ fn rows_of_the_last_word(rt: HostRuntime) -> Result<(), Fail> {
     bytes.resize(65534, None)?;
     bytes.push(Some(0x31))?;
     bytes.push(Some(0x40))?;
-    let lines = disassembly_of(rt.alloc(), &Image::new(bytes))?;
+    let lines = disassembly_of::<Msp430Code>(rt.alloc(), &Image::new(bytes))?;
     let text = "0000 3412 PUSH @R4+\nFFFE 31403412 MOV #1234h,SP\n";
     assert_eq!(rt; lines.as_slice(), text.as_bytes());
     Ok(())
@@ -156,27 +156,6 @@ fn row_of_a_copy(rt: HostRuntime) -> Result<(), Fail> {
     let report =
         "CLOSED\nE F000 F004\nE F004 F006\nE F006 F006\nI F000 34401300 MOV #0013h,R4\nI F004 0144 MOV R4,SP\nI F006 FF3F JMP F006h\nS F000 0000/2/8000\nS F004 0000/2/8000\nS F006 0012\nT 0012 2\n";
     answers(&rt, "analyse msp430", input, Status::Done, report)
-}
-
-#[test]
-fn rows_of_the_least_stack_pointer(rt: HostRuntime) {
-    for (base, stride, count, least) in [
-        (0x0200, 2, 0x20, Some(0x0200)),
-        (0x0274, 2, 3, Some(0x0274)),
-        // runs that go round
-        (0xFFF0, 2, 0x20, Some(0x0000)),
-        (0xFFF0, 3, 0x20, Some(0x0002)),
-        (0x0001, 2, 0x8000, Some(0x0001)),
-        // whole sets
-        (0x0000, 2, 0x8000, None),
-        (0x0000, 1, 0x10000, None),
-    ] {
-        if let Some(set) = Vs16::run(base, stride, count) {
-            assert_eq!(rt; least_number(&set), least);
-        } else {
-            assert!(rt; false);
-        }
-    }
 }
 
 #[test]

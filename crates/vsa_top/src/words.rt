@@ -4,7 +4,7 @@ ghost use Rattle.std.specs.Prelude.{◌≡◌, ◌<◌, ◌≤◌, ◌↔◌, �
 ghost use Rattle.hex.specs.Hex.{hex_digit_value};
 ghost use Rattle.ihex_read.specs.ImageText.{IsRamRange};
 ghost use Rattle.ihex_read.specs.declared.rule_set.Rules.TheVariants.{Msp430};
-ghost use Rattle.vsa_top.specs.Answer.{tail_of};
+ghost use Rattle.vsa_top.specs.Input.{tail_of};
 ghost use Rattle.vsa_top.specs.declared.words.Mode.{Mode as AMode};
 ghost use Rattle.vsa_top.specs.declared.words.Options.{Options as AOptions};
 ghost use Rattle.vsa_top.specs.declared.words.Ram.{Ram as ARam};

@@ -3,10 +3,10 @@ use Rattle.vsa_top.proofs.headline.reports_hold.Goals as goal
 
 pub returns-clause-closed : goal.returns-clause-closed
 returns-clause-closed c =
-    closed_lem c.closed_books_cover_runs.ensures c.images_keep_rules.ensures c.image_or_fault.ensures.one_image
+    closed_lem c.closed_reports_cover_runs.ensures c.images_keep_rules.ensures c.image_or_fault.ensures.one_image
 
 pub returns-clause-open : goal.returns-clause-open
-returns-clause-open c = open_lem c.opens_break_limits.ensures c.images_keep_rules.ensures c.image_or_fault.ensures.one_image
+returns-clause-open c = open_lem c.open_reports_show_sites.ensures c.images_keep_rules.ensures c.image_or_fault.ensures.one_image
 
 pub returns-clause-complete : goal.returns-clause-complete
 returns-clause-complete c = complete_lem c.image_or_fault.ensures.not_both c.ended_texts_stay.ensures.ended c.ended_texts_stay.ensures.denoted

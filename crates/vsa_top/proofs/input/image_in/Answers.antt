@@ -2,7 +2,7 @@ use Rattle.std.specs.Prelude.{IfSome}
 use Rattle.std.proofs.Common.{◌<◌, ◌≡◌, ◌∙◌, ap, length, take, arith}
 use Rattle.std.proofs.lemmas.List.{length-take}
 use Rattle.ihex_read.specs.Reading.{Reading}
-use Rattle.vsa_top.specs.Answer.{LacksImage, input_error_of}
+use Rattle.vsa_top.specs.Input.{LacksImage, input_error_of}
 use Rattle.vsa_top.proofs.InputLemmas.{IfErr-is, IsTaken-more, nothing_taken, image_at_end, image_at_stop, behind_used, bad_at_end, no_fault_at_stop, refused_piece}
 use Rattle.vsa_top.proofs.input.image_in.Goals as goal
 

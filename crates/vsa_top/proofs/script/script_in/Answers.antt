@@ -1,7 +1,7 @@
 use Rattle.std.proofs.Common.{◌≡◌, length, take, refl, ◌∙◌, arith}
 use Rattle.std.specs.Prelude.{IfSome}
 use Rattle.std.proofs.lemmas.List.{length-take}
-use Rattle.vsa_top.specs.Answer.{begun_with}
+use Rattle.vsa_top.specs.Input.{begun_with}
 use Rattle.vsa_top.specs.Scripts.{LacksScript}
 use Rattle.vsa_top.proofs.InputLemmas.{IfErr-is}
 use Rattle.vsa_top.proofs.ScriptLemmas.{fed_first, fed_more, piece_refused}

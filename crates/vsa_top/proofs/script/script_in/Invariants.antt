@@ -1,5 +1,5 @@
 use Rattle.std.proofs.Common.{◌≡◌}
-use Rattle.vsa_top.specs.Answer.{begun_with}
+use Rattle.vsa_top.specs.Input.{begun_with}
 use Rattle.vsa_top.proofs.ScriptLemmas.{IsFed}
 use Rattle.vsa_top.proofs.script.script_in.Given as goal
 

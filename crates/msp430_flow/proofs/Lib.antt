@@ -1,0 +1,5 @@
+pub mod CoverLemmas
+pub mod MarksLemmas
+pub mod SetLemmas
+pub mod StepLemmas
+pub mod SteppingLemmas

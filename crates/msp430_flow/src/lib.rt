@@ -1,0 +1,27 @@
+//! The MSP430 as an analysis sees it, with its first instructions.
+//!
+//! `specs/Machine.antt` says what the chip does, in single states; `specs/Chip.antt` what the analysis makes of a program,
+//! in sets; `specs/Cover.antt` when a set of states stands for a single one.
+//!
+//! Proved:
+//!
+//! - Each call of [`Msp430Chip`] gives exactly what `specs/Chip.antt` says.
+//! - [`LawfulChip`](chip_law::LawfulChip): the start stands for each reset state, the work of a unit for each step of the
+//!   chip from a state that its input stands for, and the states are in order. An open is left only where a stated limit
+//!   is broken.
+#![tactic(auto)]
+
+mod action;
+mod chip;
+mod laws;
+mod marks;
+mod sets;
+mod state;
+mod text;
+
+pub use chip::Msp430Chip;
+pub use state::State;
+pub use text::Msp430Text;
+
+#[cfg(test)]
+mod tests;

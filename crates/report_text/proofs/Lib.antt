@@ -1,0 +1,4 @@
+pub mod LeastLemmas
+pub mod PromiseLemmas
+pub mod ReportLemmas
+pub mod ShownLemmas

@@ -1,0 +1,31 @@
+use Rattle.std.proofs.Common.{◌≡◌, [], ◌∷◌, ◌&&◌, ◌+◌, ◌<◌, suc, None, ℕ, List, drop, length, sym, ◌∙◌, ap, subst, add-one, drop-cons, get_or}
+use Rattle.std.specs.List.{flat_map}
+use Rattle.round_core.specs.Kept.{is_live, live_works}
+use Rattle.round_core.specs.Machine.{replay}
+use Rattle.report_text.specs.Report.{bytes_of, with_lines, lines_of, are_closed, least_of}
+use Rattle.report_text.proofs.ReportLemmas.{passing, passing-cons, lines_more, closed_more, least_more}
+use Rattle.report_text.proofs.report.tell_all.Goals as goal
+
+-- what is left begins with the item at the index
+first_left : {X : Type 0} (i : ℕ) (items : List X) (item : X) → i < length items → item ≡ get_or items i item → drop i items ≡ item ∷ drop (i + 1) items
+first_left i items item h e = rw add-one (drop-cons items i item h ∙ ap (λ x. x ∷ drop (suc i) items) (sym e))
+
+pub loop-unit-preserved : goal.loop-unit-preserved
+loop-unit-preserved g c =
+    let i = c.loop-unit.unit-index in
+    let pairs = c.works-unit-items.result.now in
+    let pair = c.loop-unit-item.result in
+    let b = replay (g.C.Chip.analysis c.args.book.now.base) c.args.book.now.journal in
+    let text = g.C.InstrText.text_of c.args.chip.now in
+    let live = c.is_live-is_live.result in
+    let first = first_left i pairs pair c.loop-unit-test.true c.loop-unit-item.is in
+    let rest = passing (is_live b.done) (drop (i + 1) pairs) in
+    let left = ap (passing (is_live b.done)) first ∙ passing-cons (is_live b.done) pair (drop (i + 1) pairs) live (sym c.is_live-is_live.ensures) in
+    record {
+      lines = lines_more (lines_of text) live pair.1 rest (bytes_of c.loop-unit.told.lines.keys) (bytes_of c.tell.new.told.lines.keys) (with_lines [] (flat_map (lines_of text) (live_works b))) c.in_ok-tell.ensures.lines
+          (subst (λ works. with_lines (bytes_of c.loop-unit.told.lines.keys) (flat_map (lines_of text) works) ≡ with_lines [] (flat_map (lines_of text) (live_works b))) left c.loop-unit.invariant.lines);
+      closed = closed_more live pair.1 rest c.loop-unit.told.is_closed c.tell.new.told.is_closed (are_closed (live_works b)) c.in_ok-tell.ensures.closed
+          (subst (λ works. (c.loop-unit.told.is_closed && are_closed works) ≡ are_closed (live_works b)) left c.loop-unit.invariant.closed);
+      least = least_more live pair.1 rest c.loop-unit.told.least c.tell.new.told.least (least_of None (flat_map (λ work. work.items) (live_works b))) c.in_ok-tell.ensures.least
+          (subst (λ works. least_of c.loop-unit.told.least (flat_map (λ work. work.items) works) ≡ least_of None (flat_map (λ work. work.items) (live_works b))) left c.loop-unit.invariant.least);
+    }

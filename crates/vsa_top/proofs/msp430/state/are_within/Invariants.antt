@@ -1,6 +1,0 @@
-use Rattle.std.proofs.Common.{◌≡◌, drop}
-use Rattle.vsa_top.specs.Msp430State.{all_within}
-use Rattle.vsa_top.proofs.msp430.state.are_within.Given as goal
-
-abbrev pub invariant-loop-i : goal.invariant-loop-i
-invariant-loop-i l = all_within (drop l.i l.new) (drop l.i l.held) ≡ all_within l.new l.held

@@ -1,9 +1,0 @@
-use Rattle.std.proofs.Common.{◌≡◌, ◌++◌, take}
-use Rattle.std.specs.Prelude.{codes}
-use Rattle.std.specs.List.{flat_map}
-use Rattle.chip_law.specs.Line.{item_line_of}
-use Rattle.vsa_top.specs.Msp430Built.{instr_text}
-use Rattle.vsa_top.proofs.trace.push_items.Given as goal
-
-abbrev pub invariant-loop-item : goal.invariant-loop-item
-invariant-loop-item l = l.text.items ≡ l.fn.text.items ++ flat_map (λ item. item_line_of instr_text item ++ codes "\n") (take l.item-index l.items)

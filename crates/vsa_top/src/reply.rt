@@ -1,0 +1,240 @@
+//! What is answered to an input, before any of it is written.
+
+ghost use Rattle.std.specs.Prelude.{◌≡◌, ◌≢◌, ◌≤◌, [], IfOk, IfErr, OnOk};
+ghost use Rattle.ihex_read.specs.ImageText.{IsRamRange};
+ghost use Rattle.ihex_read.specs.Kept.{IsReadUnder};
+ghost use Rattle.vsa_io.specs.Stream.{HasRisen};
+ghost use Rattle.vsa_top.specs.Answer.{IsAnalysed, IsImageReply, IsReply, IsRun, TellsNoFault, bad_line as the_bad_line, no_line as the_no_line, status_of_analysis, status_of_end};
+ghost use Rattle.vsa_top.specs.Input.{begun_with};
+ghost use Rattle.vsa_top.specs.Words.{device_of, rules_of};
+
+use crate::input::{InputError, image_in};
+use crate::msp430::{Msp430Code, Msp430Run};
+use crate::outcome::Status;
+use crate::script::{ScriptRefusal, script_in};
+use crate::words::{Mode, Reading};
+use chip_law::ChipText;
+use disassembly::disassembly_of;
+use ihex_read::{HexFault, Image};
+use msp430_chip::Device;
+use msp430_flow::{Msp430Chip, Msp430Text};
+use report_text::report_of;
+use round_core::Event;
+use run_trace::{End, trace_of};
+use std::alloc::{AllocError, Global};
+use vsa_io::{Memory, Source};
+use worker_rounds::fixpoint_alone;
+
+/// A status with its text, and the events whose replay gives the book of which the text is the report, if it is one.
+#[derive(Drop)]
+pub struct Reply {
+    pub status: Status,
+    pub text: Vec<u8>,
+    pub journal: Vec<Event>,
+}
+
+/// Why there is no reply.
+#[derive(Clone, Copy, Debug, PartialEq, Eq)]
+pub enum NoReply {
+    /// The source failed.
+    ReadFault,
+    /// Memory was refused.
+    Memory,
+}
+
+impl From<Memory> for NoReply {
+    ghost use Rattle.vsa_top.specs.declared.reply.NoReply.TheVariants as no_reply;
+
+    ghost from_gives = { λ _ e. e ≡ no_reply.Memory };
+
+    fn from(_error: Memory) -> NoReply {
+        NoReply::Memory
+    }
+}
+
+impl From<AllocError> for NoReply {
+    ghost use Rattle.vsa_top.specs.declared.reply.NoReply.TheVariants as no_reply;
+
+    ghost from_gives = { λ _ e. e ≡ no_reply.Memory };
+
+    fn from(_error: AllocError) -> NoReply {
+        NoReply::Memory
+    }
+}
+
+/// A reply without events.
+fn text_reply(alloc: Global, status: Status, text: Vec<u8>) -> Reply
+    ensures status { result.status ≡ status }
+    ensures text { result.text.items ≡ text.items }
+    ensures journal { result.journal.items ≡ [] }
+{
+    Reply {
+        status,
+        text,
+        journal: Vec::new(alloc),
+    }
+}
+
+/// The status of a report.
+fn status_of(is_closed: bool) -> Status
+    ensures value { result ≡ status_of_analysis is_closed }
+    ensures no_fault { TellsNoFault result }
+{
+    if is_closed {
+        Status::Done
+    } else {
+        Status::Open
+    }
+}
+
+/// The status of a run.
+fn status_of_run(end: End) -> Status
+    ensures value { result ≡ status_of_end end }
+    ensures no_fault { TellsNoFault result }
+{
+    match end {
+        End::Ran => Status::Done,
+        End::Wild => Status::Wild,
+        End::NeedChoice => Status::NeedChoice,
+    }
+}
+
+/// The analysis of a program, with its report.
+fn analysed<C: ChipText>(alloc: Global, chip: &C) -> Result<Reply, Memory>
+    ensures no_fault { IfOk result (λ reply. TellsNoFault reply.status) }
+    ensures reply { IfOk result (λ reply. IsAnalysed (C.text_of chip.now) (C.analysis (C.base chip.now)) reply.status reply.text.items reply.journal.items) }
+{
+    let book = fixpoint_alone(alloc, chip)?;
+    let report = report_of(alloc, chip, &book)?;
+    let (_, _, journal) = book.into_parts();
+    Ok(Reply {
+        status: status_of(report.is_closed),
+        text: report.text,
+        journal,
+    })
+}
+
+/// The line that tells a faulty line of an image text.
+#[tactic(auto, unfolding(crate::specs::Answer::bad_line))]
+fn bad_line(alloc: Global, line: u32, fault: HexFault) -> Result<Vec<u8>, AllocError>
+    ensures { IfOk result (λ text. text.items ≡ the_bad_line line fault) }
+{
+    let number = line.to_string(alloc)?;
+    let mut text = Vec::new(alloc);
+    text.extend_from_slice(b"BAD ")?;
+    text.extend_from_slice(number.as_str().as_bytes())?;
+    text.push(b' ')?;
+    text.extend_from_slice(fault.name().as_bytes())?;
+    text.push(b'\n')?;
+    Ok(text)
+}
+
+/// The line that tells a refused line of a script.
+#[tactic(auto, unfolding(crate::specs::Answer::no_line))]
+fn no_line(alloc: Global, line: u32) -> Result<Vec<u8>, AllocError>
+    ensures { IfOk result (λ text. text.items ≡ the_no_line line) }
+{
+    let number = line.to_string(alloc)?;
+    let mut text = Vec::new(alloc);
+    text.extend_from_slice(b"NO ")?;
+    text.extend_from_slice(number.as_str().as_bytes())?;
+    text.extend_from_slice(b" Syntax\n")?;
+    Ok(text)
+}
+
+/// The run of a device along the script that stands behind its image text, of which so much was read; or what is refused
+/// of the script's text.
+fn run_reply<S: Source>(
+    alloc: Global,
+    device: &Device,
+    steps: u32,
+    begun: &[u8],
+    source: &mut S,
+) -> Result<Reply, NoReply>
+    requires { device.now.lo ≤ device.now.hi }
+    ensures no_fault { IfOk result (λ reply. TellsNoFault reply.status) }
+    ensures run { IfOk result (λ reply. IsRun device.now steps (begun_with begun.now (S.left source.old)) reply.status reply.text.items) }
+    ensures journal { IfOk result (λ reply. reply.journal.items ≡ []) }
+    ensures cause { IfErr result (λ error. error ≡ NoReply.ReadFault → HasRisen (S.faults source.old) (S.faults source.new)) }
+    ensures quiet { OnOk result (S.faults source.new ≡ S.faults source.old) }
+    ensures quiet_refusal { IfErr result (λ error. error ≢ NoReply.ReadFault → S.faults source.new ≡ S.faults source.old) }
+{
+    match script_in(alloc, source, begun) {
+        Ok(script) => {
+            let mut run = Msp430Run::reset(alloc, device)?;
+            let trace = trace_of(alloc, &mut run, &Msp430Text, script, steps)?;
+            Ok(text_reply(alloc, status_of_run(trace.end), trace.text))
+        }
+        Err(ScriptRefusal::Syntax { line }) => {
+            let text = no_line(alloc, line)?;
+            Ok(text_reply(alloc, Status::BadCert, text))
+        }
+        Err(ScriptRefusal::TooLong) => {
+            let text = Vec::from_slice(alloc, b"LONG\n")?;
+            Ok(text_reply(alloc, Status::TooLong, text))
+        }
+        Err(ScriptRefusal::Failed) => Err(NoReply::ReadFault),
+        Err(ScriptRefusal::Memory) => Err(NoReply::Memory),
+    }
+}
+
+/// What the words ask of an image, behind whose text so much was read.
+fn image_reply<S: Source>(
+    alloc: Global,
+    reading: Reading,
+    image: Image,
+    begun: &[u8],
+    source: &mut S,
+) -> Result<Reply, NoReply>
+    requires range { IsRamRange (rules_of reading) }
+    requires kept { IsReadUnder (rules_of reading) image }
+    ensures no_fault { IfOk result (λ reply. TellsNoFault reply.status) }
+    ensures reply { IfOk result (λ reply. IsImageReply reading.mode (device_of reading image) reading.steps (begun_with begun.now (S.left source.old)) reply.status reply.text.items reply.journal.items) }
+    ensures cause { IfErr result (λ error. error ≡ NoReply.ReadFault → HasRisen (S.faults source.old) (S.faults source.new)) }
+    ensures quiet { OnOk result (S.faults source.new ≡ S.faults source.old) }
+    ensures quiet_refusal { IfErr result (λ error. error ≢ NoReply.ReadFault → S.faults source.new ≡ S.faults source.old) }
+{
+    let (lo, hi) = (reading.ram.lo, reading.ram.hi);
+    match reading.mode {
+        Mode::Analyse => {
+            let chip = Msp430Chip::new(alloc, image, lo, hi)?;
+            Ok(analysed(alloc, &chip)?)
+        }
+        Mode::Disasm => {
+            let lines = disassembly_of::<Msp430Code>(alloc, &image)?;
+            Ok(text_reply(alloc, Status::Done, lines))
+        }
+        Mode::Run => {
+            let device = Device { image, lo, hi };
+            run_reply(alloc, &device, reading.steps, begun, source)
+        }
+    }
+}
+
+/// What the words ask of an input: of its image, or its first faulty line, or that it is too long.
+pub fn input_reply<S: Source>(
+    alloc: Global,
+    reading: Reading,
+    source: &mut S,
+) -> Result<Reply, NoReply>
+    requires { IsRamRange (rules_of reading) }
+    ensures no_fault { IfOk result (λ reply. TellsNoFault reply.status) }
+    ensures reply { IfOk result (λ reply. IsReply reading (S.left source.old) reply.status reply.text.items reply.journal.items) }
+    ensures cause { IfErr result (λ error. error ≡ NoReply.ReadFault → HasRisen (S.faults source.old) (S.faults source.new)) }
+    ensures quiet { OnOk result (S.faults source.new ≡ S.faults source.old) }
+    ensures quiet_refusal { IfErr result (λ error. error ≢ NoReply.ReadFault → S.faults source.new ≡ S.faults source.old) }
+{
+    match image_in(alloc, source, reading.rules(), reading.mode.tail()) {
+        Ok((image, begun)) => image_reply(alloc, reading, image, begun.as_slice(), source),
+        Err(InputError::Bad { line, fault }) => {
+            let text = bad_line(alloc, line, fault)?;
+            Ok(text_reply(alloc, Status::BadImage, text))
+        }
+        Err(InputError::TooLong) => {
+            let text = Vec::from_slice(alloc, b"LONG\n")?;
+            Ok(text_reply(alloc, Status::TooLong, text))
+        }
+        Err(InputError::Failed) => Err(NoReply::ReadFault),
+        Err(InputError::Memory) => Err(NoReply::Memory),
+    }
+}

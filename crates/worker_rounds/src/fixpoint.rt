@@ -1,0 +1,54 @@
+//! The analysis on one thread.
+
+ghost use Rattle.std.specs.Prelude.{◌≡◌, [], true, false, IfOk};
+ghost use Rattle.round_core.specs.Kept.{with_event};
+ghost use Rattle.round_core.specs.Machine.{replay, IsFirst, IsFinished, IsLegalJournal};
+ghost use Rattle.round_core.specs.declared.event.Event.TheVariants.{Claim, Post};
+ghost use Rattle.worker_rounds.specs.Turns.{AreTurns};
+ghost use Rattle.call_context.specs.declared.node.Unit.{Unit as AUnit};
+
+use chip_law::Chip;
+use round_core::{Book, Claimed, Done, turns_bring_home};
+use std::alloc::Global;
+use vsa_io::Memory;
+
+/// Claims a unit, works on it and posts the work. True says that the book is finished, and nothing was done.
+fn turn<C: Chip>(alloc: Global, chip: &C, book: &mut Book<C>) -> Result<bool, Memory>
+    requires chip { C.base chip.now ≡ book.old.base }
+    requires none_out { (replay (C.analysis book.old.base) book.old.journal).out ≡ [] }
+    ensures finished { IfOk result (λ finished. finished ≡ true → (book.new ≡ book.old) × IsFinished (replay (C.analysis book.old.base) book.old.journal)) }
+    ensures turned { IfOk result (λ finished. finished ≡ false → (unit : AUnit)
+        × IsFirst (replay (C.analysis book.old.base) book.old.journal) unit
+        × (book.new ≡ with_event (with_event book.old (Claim 0 unit)) (Post 0 unit))) }
+{
+    match book.claim(chip, 0)? {
+        Claimed::Ticket(ticket) => {
+            let work = chip.work(alloc, ticket.unit(), ticket.at(), ticket.exit())?;
+            match book.post(chip, Done { ticket, work }) {
+                Ok(()) => Ok(false),
+                Err((memory, _)) => Err(memory),
+            }
+        }
+        Claimed::Idle | Claimed::Finished => Ok(true),
+    }
+}
+
+/// Claims, works and posts until the book is finished.
+pub fn fixpoint_alone<C: Chip>(alloc: Global, chip: &C) -> Result<Book<C>, Memory>
+    ensures base { IfOk result (λ book. book.base ≡ C.base chip.now) }
+    ensures legal { IfOk result (λ book. IsLegalJournal (C.analysis book.base) book.journal) }
+    ensures finished { IfOk result (λ book. IsFinished (replay (C.analysis book.base) book.journal)) }
+    ensures turns { IfOk result (λ book. AreTurns book.journal) }
+{
+    turns_bring_home::<C>();
+    let mut book = Book::open(alloc, chip)?;
+    for _ in 0..u64::MAX {
+        if turn(alloc, chip, &mut book)? {
+            // The journal of a book is legal by itself.
+            book.journal();
+            return Ok(book);
+        }
+    }
+    // A journal never gets as long as this.
+    Err(Memory)
+}

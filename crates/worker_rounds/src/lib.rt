@@ -1,0 +1,13 @@
+//! The analysis of a program: units are claimed from a book, worked on and posted, until it is finished.
+//!
+//! Proved:
+//!
+//! - [`fixpoint_alone`] returns, and gives a finished book of the chip's program. Its journal is legal, and one worker made
+//!   it: each claim is followed at once by its post.
+#![tactic(auto)]
+
+mod fixpoint;
+mod gate;
+
+pub use fixpoint::fixpoint_alone;
+pub use gate::{Gate, NoGate};
