@@ -74,7 +74,12 @@ fn push_found(
 {
     match found {
         Some(line) => {
-            push_line(lines, at, line.bytes.as_slice(), line.text.as_str().as_bytes())?;
+            push_line(
+                lines,
+                at,
+                line.bytes.as_slice(),
+                line.text.as_str().as_bytes(),
+            )?;
             Ok(at as u32 + line.bytes.len() as u32)
         }
         None => {

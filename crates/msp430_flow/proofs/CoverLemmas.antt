@@ -11,7 +11,7 @@ use Rattle.call_context.specs.declared.node.Node.TheVariants.{At, Exit}
 use Rattle.call_context.specs.declared.node.Unit.{Unit as WorkUnit}
 use Rattle.call_context.specs.declared.node.Unit.TheVariants.{One, Back}
 use Rattle.call_context.specs.declared.shown.Cause.{Cause}
-use Rattle.call_context.specs.declared.shown.Cause.TheVariants.{Fetch, Targets, Store, Unbuilt}
+use Rattle.call_context.specs.declared.shown.Cause.TheVariants.{Fetch, Unbuilt}
 use Rattle.call_context.specs.declared.shown.Item.TheVariants as items
 use Rattle.call_context.specs.declared.shown.Set.TheVariants.{W}
 use Rattle.call_context.specs.Nodes.{pc_of, IsLocation}
@@ -27,7 +27,7 @@ use Rattle.chip_law.specs.Outcome.Outcome.{Next, Wild}
 use Rattle.msp430_decode.specs.declared.instr.Instr.{Instr}
 use Rattle.msp430_decode.specs.declared.refusal.NoInstr.{NoInstr}
 use Rattle.msp430_decode.specs.Decoding.{decoded}
-use Rattle.msp430_decode.specs.Standing.{Stands, Decodes}
+use Rattle.msp430_decode.specs.Standing.{Decodes}
 use Rattle.msp430_chip.specs.declared.state.Wild.TheVariants as wild_cause
 use Rattle.ihex_read.specs.Image.{IsByte}
 use Rattle.msp430_decode.specs.Table.{bytes_of}

@@ -1,5 +1,5 @@
 -- What the MSP430 does (SLAU049, MSP430x1xx Family User's Guide), in single states.
-use Rattle.std.specs.Prelude.{◌≡◌, ℕ, Option, Some, List}
+use Rattle.std.specs.Prelude.{◌≡◌, ℕ, Some, List}
 use Rattle.chip_law.specs.Machine.{Machine}
 use Rattle.chip_law.specs.Outcome.{Outcome, Leaving}
 use Rattle.chip_law.specs.Outcome.Leaving.{no_instruction, program_written}

@@ -32,11 +32,7 @@ pub struct Trace {
 }
 
 /// Adds the lines of what a step met.
-fn push_items<T: InstrText>(
-    text: &mut Vec<u8>,
-    texts: &T,
-    items: &[Item],
-) -> Result<(), Memory>
+fn push_items<T: InstrText>(text: &mut Vec<u8>, texts: &T, items: &[Item]) -> Result<(), Memory>
     ensures { OnOk result (text.new.items ≡ text.old.items ++ flat_map (λ item. item_line_of (T.text_of texts.now) item ++ codes "\n") items.now) }
 {
     for item in items {
@@ -97,7 +93,7 @@ pub fn trace_of<E: Emulator, T: InstrText>(
     script: Vec<u16>,
     steps: u32,
 ) -> Result<Trace, Memory>
-    ensures run { IfOk result (λ trace. (trace.end, trace.text.items) ≡ run_of (E.runner machine.old) (T.text_of texts.now) steps (E.state machine.old) script.items) }
+    ensures { IfOk result (λ trace. (trace.end, trace.text.items) ≡ run_of (E.runner machine.old) (T.text_of texts.now) steps (E.state machine.old) script.items) }
 {
     let mut choices = Choices::new(script);
     let mut text = Vec::new(alloc);

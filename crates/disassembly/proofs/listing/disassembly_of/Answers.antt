@@ -1,5 +1,5 @@
-use Rattle.std.proofs.Common.{◌≡◌, ◌*◌, ◌-◌, ◌+◌, ◌/◌, refl, ap, subst, sym, arith}
-use Rattle.disassembly.proofs.ListingLemmas.{GoesOn, begins, ends, passes_over, tells, one_text}
+use Rattle.std.proofs.Common.{◌*◌, ◌-◌, ◌+◌, ◌/◌, subst, arith}
+use Rattle.disassembly.proofs.ListingLemmas.{begins, ends, passes_over, tells, one_text}
 use Rattle.disassembly.specs.Listing.{IsDisassembly, shown}
 use Rattle.disassembly.proofs.listing.disassembly_of.Goals as goal
 
