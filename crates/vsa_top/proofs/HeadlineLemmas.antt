@@ -28,7 +28,7 @@ use Rattle.vsa_top.specs.declared.outcome.Status.{Status}
 use Rattle.vsa_top.specs.declared.outcome.Status.TheVariants.{Done, Open, ReadFault, WriteFault, Memory}
 use Rattle.vsa_top.specs.Answer.{Answers, Ends, IsAnalysed, IsImageReply, IsReply, IsRun, TellsNoFault, status_of_analysis, status_of_end}
 use Rattle.vsa_top.specs.Answer.Answers.{replied, unreplied}
-use Rattle.vsa_top.specs.Answer.Ends as ends
+use Rattle.vsa_top.specs.Answer.Ends.{closed, left_open, disassembled, ran_on, went_wild, lacked_a_choice, refused_script, script_too_long}
 use Rattle.vsa_top.specs.Answer.IsReply.{of_image, of_bad, of_long}
 use Rattle.vsa_top.specs.Answer.IsRun.{ran, refused, longer}
 use Rattle.vsa_top.specs.Answer.IsWritten.{whole, cut}
@@ -59,11 +59,11 @@ gives_reply reading answered input before after journal (unreplied (inl fault) k
 gives_reply reading answered input before after journal (unreplied (inr memory) kept none) quiet room = absurd (room memory)
 
 -- Done is the status of a closed report, and Open that of another
-closed_is : (closed : Bool) → Done ≡ status_of_analysis closed → closed ≡ true
+closed_is : (is_closed : Bool) → Done ≡ status_of_analysis is_closed → is_closed ≡ true
 closed_is true e = refl
 closed_is false e = absurd (cc)
 
-open_is : (closed : Bool) → Open ≡ status_of_analysis closed → closed ≡ false
+open_is : (is_closed : Bool) → Open ≡ status_of_analysis is_closed → is_closed ≡ false
 open_is true e = absurd (cc)
 open_is false e = refl
 
@@ -120,9 +120,9 @@ closed_reply cover rules one reading input report journal mode (of_image other s
     let device = device_of reading image in
     let is = analysed one reading input second Done report journal text image other mode gives reply e denoted in
     let program : IsProgram device = rules (rules_of reading) Blank (texts.lines_of text) image denoted in
-    let closed = closed_is (are_closed (last_works (msp430_analysis device) journal)) is.status_is in
+    let none_left = closed_is (are_closed (last_works (msp430_analysis device) journal)) is.status_is in
     subst (CoversEveryRun (msp430_machine device) instr_text) (sym is.text_is)
-    (cover device instr_text journal program is.is_analysis.legal is.is_analysis.finished closed)
+    (cover device instr_text journal program is.is_analysis.legal is.is_analysis.finished none_left)
 closed_reply cover rules one reading input report journal mode (of_bad line fault bad is line_is none) text image e denoted = absurd (cc)
 closed_reply cover rules one reading input report journal mode (of_long long is line_is none) text image e denoted = absurd (cc)
 
@@ -134,38 +134,38 @@ closed_lem cover rules one reading input before after journal mode answers text 
     (given.text, given.held, closed_reply cover rules one reading input given.text journal mode given.reply text image e denoted)
 
 end_ends : (end : End) → Ends Run (status_of_end end)
-end_ends ended.Ran = ends.ran_on
-end_ends ended.Wild = ends.went_wild
-end_ends ended.NeedChoice = ends.lacked_a_choice
+end_ends ended.Ran = ran_on
+end_ends ended.Wild = went_wild
+end_ends ended.NeedChoice = lacked_a_choice
 
-analysis_ends : (closed : Bool) → Ends Analyse (status_of_analysis closed)
-analysis_ends true = ends.closed
-analysis_ends false = ends.left_open
+analysis_ends : (is_closed : Bool) → Ends Analyse (status_of_analysis is_closed)
+analysis_ends true = closed
+analysis_ends false = left_open
 
 run_reply_ends : (device : Device) (steps : ℕ) (second : Option (List ℕ)) (answered : Status) (text : List ℕ) → IsRun device steps second answered text
     → Ends Run answered
 run_reply_ends device steps second answered text (ran script is told text_is) =
     subst (Ends Run) (sym told) (end_ends (msp430_run device script steps).0)
-run_reply_ends device steps second answered text (refused line is told line_is) = subst (Ends Run) (sym told) ends.refused_script
-run_reply_ends device steps second answered text (longer is told line_is) = subst (Ends Run) (sym told) ends.script_too_long
+run_reply_ends device steps second answered text (refused line is told line_is) = subst (Ends Run) (sym told) refused_script
+run_reply_ends device steps second answered text (longer is told line_is) = subst (Ends Run) (sym told) script_too_long
 
 image_reply_ends : (mode : Mode) (device : Device) (steps : ℕ) (second : Option (List ℕ)) (answered : Status) (text : List ℕ) (journal : List Event)
     → IsImageReply mode device steps second answered text journal → Ends mode answered
 image_reply_ends Analyse device steps second answered text journal is =
     subst (Ends Analyse) (sym is.status_is) (analysis_ends (are_closed (last_works (msp430_analysis device) journal)))
-image_reply_ends Disasm device steps second answered text journal is = subst (Ends Disasm) (sym is.0) ends.disassembled
+image_reply_ends Disasm device steps second answered text journal is = subst (Ends Disasm) (sym is.0) disassembled
 image_reply_ends Run device steps second answered text journal is = run_reply_ends device steps second answered text is.0
 
 -- of the modes an analysis alone leaves something open
 is_analyse : (mode : Mode) (answered : Status) → Ends mode answered → answered ≡ Open → mode ≡ Analyse
-is_analyse mode answered ends.closed e = refl
-is_analyse mode answered ends.left_open e = refl
-is_analyse mode answered ends.disassembled e = absurd (cc)
-is_analyse mode answered ends.ran_on e = absurd (cc)
-is_analyse mode answered ends.went_wild e = absurd (cc)
-is_analyse mode answered ends.lacked_a_choice e = absurd (cc)
-is_analyse mode answered ends.refused_script e = absurd (cc)
-is_analyse mode answered ends.script_too_long e = absurd (cc)
+is_analyse mode answered closed e = refl
+is_analyse mode answered left_open e = refl
+is_analyse mode answered disassembled e = absurd (cc)
+is_analyse mode answered ran_on e = absurd (cc)
+is_analyse mode answered went_wild e = absurd (cc)
+is_analyse mode answered lacked_a_choice e = absurd (cc)
+is_analyse mode answered refused_script e = absurd (cc)
+is_analyse mode answered script_too_long e = absurd (cc)
 
 open_reply : ShowSites → HaveRules → HaveOneImage → (reading : Reading) (input : Option (List ℕ)) (report : List ℕ) (journal : List Event)
     → IsReply reading input Open report journal → (text : List ℕ) (image : List (Option ℕ)) → input ≡ Some text

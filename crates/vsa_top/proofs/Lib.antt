@@ -1,6 +1,5 @@
-pub mod DisassemblyLemmas
 pub mod HeadlineLemmas
 pub mod InputLemmas
+pub mod ReplyLemmas
 pub mod ScriptLemmas
-pub mod TraceLemmas
 pub mod WordsLemmas

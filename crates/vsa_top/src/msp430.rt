@@ -44,6 +44,7 @@ impl Code for Msp430Code {
 }
 
 /// A device that runs.
+#[derive(Drop)]
 pub struct Msp430Run<'a> {
     device: &'a Device,
     machine: Machine,

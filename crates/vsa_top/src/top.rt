@@ -8,6 +8,7 @@ ghost use Rattle.msp430_flow.specs.Chip.{msp430_analysis};
 ghost use Rattle.msp430_flow.specs.Machine.{msp430_machine};
 ghost use Rattle.report_text.specs.Promise.{CoversEveryRun, ShowsOpenSites};
 ghost use Rattle.vsa_top.specs.Headline.{ReportsOn};
+ghost use Rattle.vsa_top.specs.declared.words.Mode.TheVariants.{Analyse};
 ghost use Rattle.vsa_top.specs.declared.words.Reading.{Reading as AReading};
 ghost use Rattle.vsa_top.specs.Answer.{Answers, Ends, IsCutShort, IsWritten, usage_line};
 ghost use Rattle.vsa_top.specs.Input.{Gives, tail_of};
@@ -77,7 +78,7 @@ pub fn vsa<R: Threads + Wait + Sync, S: Source, K: Sink, G: Gate>(
     // THE HEADLINE. Where the words ask an analysis, the input denotes an image under their rules and the status is Done,
     // which tells a report that says CLOSED, whatever the chip meets on any run has its line in the report, and no run
     // leaves the model.
-    ensures headline { (reading : AReading) → Reads words.now reading → reading.mode ≡ Mode.Analyse → result.status ≡ Status.Done
+    ensures headline { (reading : AReading) → Reads words.now reading → reading.mode ≡ Analyse → result.status ≡ Status.Done
         → ReportsOn reading (S.left source.old) (K.held sink.old) (K.held sink.new) (λ device report. CoversEveryRun (msp430_machine device) instr_text report) }
     // Where the status is Open the report says OPEN and shows each open site, of which there is one: the address of a
     // location of the book at which the limit that its cause names is broken.

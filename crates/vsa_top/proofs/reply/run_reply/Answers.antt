@@ -1,0 +1,27 @@
+use Rattle.std.proofs.Common.{◌≡◌, ap, subst, ◌∙◌}
+use Rattle.std.specs.Prelude.{IfSome}
+use Rattle.msp430_flow.specs.Built.{instr_text}
+use Rattle.run_trace.specs.Trace.{Ended, run_of}
+use Rattle.vsa_top.specs.Answer.{status_of_end}
+use Rattle.vsa_top.specs.Answer.IsRun.{ran, refused}
+use Rattle.vsa_top.specs.Input.{begun_with}
+use Rattle.vsa_top.specs.Msp430.{msp430_run, msp430_runner}
+use Rattle.vsa_top.specs.Scripts.{LacksScript}
+use Rattle.vsa_top.proofs.reply.run_reply.Goals as goal
+
+pub returns-in_ok-trace-in-Ok-clause-run : goal.returns-in_ok-trace-in-Ok-clause-run
+returns-in_ok-trace-in-Ok-clause-run g c =
+    let device = c.args.device.now in
+    let steps = c.args.steps in
+    let script = c.in-Ok.script.items in
+    let trace = c.in_ok-trace-in-Ok.trace in
+    let is : (trace.end, trace.text.items) ≡ msp430_run device script steps =
+    subst (λ r. (trace.end, trace.text.items) ≡ run_of (msp430_runner r.0) instr_text steps r.1 script) c.in_ok-run-in-Ok.ensures c.in_ok-trace-in-Ok.ensures in
+    ran script c.in-Ok.ensures.script (c.text_reply.ensures.status ∙ c.status_of_run.ensures.value ∙ ap (λ (e : Ended). status_of_end e.0) is)
+    (c.text_reply.ensures.text ∙ ap (λ (e : Ended). e.1) is)
+
+pub returns-in_ok-text-in-Err-Syntax-clause-run : goal.returns-in_ok-text-in-Err-Syntax-clause-run
+returns-in_ok-text-in-Err-Syntax-clause-run g c =
+    let second = begun_with c.args.begun.now (g.S.Source.left c.args.source.now) in
+    refused c.in-Err-Syntax.line (subst (λ e. IfSome second (λ text. LacksScript text e)) c.in-Err-Syntax.field-0-is c.in-Err-Syntax.ensures.refused)
+    c.text_reply-in-Err-Syntax.ensures.status (c.text_reply-in-Err-Syntax.ensures.text ∙ c.in_ok-text-in-Err-Syntax.ensures)
