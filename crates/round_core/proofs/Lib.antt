@@ -2,6 +2,7 @@ pub mod Cases
 pub mod ClaimEvent
 pub mod ClaimLemmas
 pub mod CountLaws
+pub mod DerivedTests
 pub mod EntryLaws
 pub mod ExpectLemmas
 pub mod FormLaws
@@ -9,6 +10,7 @@ pub mod HeldLaws
 pub mod ListLemmas
 pub mod LiveLaws
 pub mod MachineLemmas
+pub mod Members
 pub mod NodesLemmas
 pub mod OpenLemmas
 pub mod OutLemmas
@@ -20,9 +22,11 @@ pub mod PostLemmas
 pub mod RaiseLemmas
 pub mod ReplayLaws
 pub mod RiseLaws
+pub mod SameLaws
 pub mod SetAllLemmas
 pub mod ShownLemmas
 pub mod TableLaws
+pub mod TableLemmas
 pub mod TurnsLemmas
 pub mod WaitLemmas
 pub mod WorkLaws

@@ -5,8 +5,8 @@ use Rattle.std.proofs.Common.{refl, sym, ◌∙◌, ap, subst, inl, inr}
 use Rattle.std.proofs.lemmas.Bool.{false_from_ne_true}
 use Rattle.std.proofs.lemmas.Option.{same_Some}
 use Rattle.call_context.specs.declared.node.Unit.{Unit as WorkUnit}
-use Rattle.call_context.specs.Same.{same_unit}
-use Rattle.call_context.specs.SameLaws.{same_unit-eq, same_unit-refl}
+use Rattle.round_core.specs.Same.{same_unit}
+use Rattle.round_core.proofs.SameLaws.{same_unit-eq, same_unit-refl}
 use Rattle.chip_law.specs.Analysis.{Analysis}
 use Rattle.round_core.specs.Counts.{seat_of, NoneOfSeat}
 use Rattle.round_core.specs.Machine.{BookState, Out, out_at, without, after, posted, replay_from, replay, IsFirst, IsLegal, AllLegal}

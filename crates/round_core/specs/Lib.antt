@@ -13,6 +13,7 @@ pub mod Raise
 pub mod Reserved
 pub mod Returns
 pub mod Rows
+pub mod Same
 pub mod Shown
 pub mod Table
 pub mod Tickets

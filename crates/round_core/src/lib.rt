@@ -15,6 +15,7 @@ mod places;
 mod post;
 mod raise;
 mod reserved;
+mod table;
 mod ticket;
 mod turns;
 mod versions;

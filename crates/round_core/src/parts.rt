@@ -89,12 +89,12 @@ impl<A> Parts<A> {
     {
         match place {
             Place::One(node) => {
-                let (node, _) = self.nodes.at(node)?;
+                let node = self.nodes.at(node)?;
                 one_of(node)
             }
             Place::Back(node, exit) => {
-                let (node, _) = self.nodes.at(node)?;
-                let (exit, _) = self.nodes.at(exit)?;
+                let node = self.nodes.at(node)?;
+                let exit = self.nodes.at(exit)?;
                 self.back_of(node, exit)
             }
         }

@@ -4,7 +4,7 @@ use Rattle.std.specs.Prelude.{◌⊎◌, All, Contains, IfSome, length, map, ◌
 use Rattle.std.specs.List.{flat_map}
 use Rattle.std.proofs.lemmas.List.Elements.{Contains-append_right}
 use Rattle.std.proofs.lemmas.Option.{same_Some}
-use Rattle.call_context.specs.Members.{in_none, in_cons, in_first, in_rest}
+use Rattle.vsa_top.proofs.Members.{in_none, in_cons, in_first, in_rest}
 use Rattle.call_context.specs.declared.shown.Cause.{Cause}
 use Rattle.chip_law.specs.declared.chip.Work.{Work}
 use Rattle.chip_law.specs.Line.{item_line_of, open_line_of}

@@ -4,7 +4,7 @@ use Rattle.std.proofs.lemmas.Bool.{cond_both, cases_lt, cases_eq, ltb-true, ltb-
 use Rattle.std.proofs.Math.Nat.{div-add-mod, mul-le-mul_right, le_of_mul-le-mul_right, mod-lt, mod_self, mod-eq_of_lt}
 use Rattle.std.specs.Prelude.{IfSome}
 use Rattle.std.specs.List.{slice_get}
-use Rattle.call_context.specs.Members.{in_none, in_cons, in_first}
+use Rattle.vsa_top.proofs.Members.{in_none, in_cons, in_first}
 use Rattle.value_set.specs.declared.form.Form.{Form}
 use Rattle.value_set.specs.declared.form.Form.TheVariants.{Values, Run}
 use Rattle.value_set.specs.declared.form.Progression.{Progression}

@@ -3,6 +3,7 @@ pub mod DisassemblyLemmas
 pub mod HeadlineLemmas
 pub mod InputLemmas
 pub mod LeastLemmas
+pub mod Members
 pub mod Msp430Laws
 pub mod Msp430MarksLemmas
 pub mod Msp430Sets
