@@ -6,6 +6,7 @@ pub mod DerivedTests
 pub mod EntryLaws
 pub mod ExpectLemmas
 pub mod FormLaws
+pub mod FormerLemmas
 pub mod HeldLaws
 pub mod ListLemmas
 pub mod LiveLaws
@@ -16,6 +17,7 @@ pub mod OpenLemmas
 pub mod OutLemmas
 pub mod OutsLaws
 pub mod PlaceLemmas
+pub mod PlacedLaws
 pub mod PlacesLemmas
 pub mod PostEvent
 pub mod PostLemmas

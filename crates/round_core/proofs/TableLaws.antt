@@ -1,6 +1,6 @@
 -- The table of a closed book is closed.
 use Rattle.std.specs.Prelude.{◌≡◌, true, false, Option, None, Some, List, Contains, unwrap_or}
-use Rattle.std.specs.List.{AllByRecursion, list_any}
+use Rattle.std.specs.List.{list_any}
 use Rattle.std.specs.Option.{option_map}
 use Rattle.std.proofs.Common.{sym, ◌∙◌, ap, subst}
 use Rattle.std.proofs.lemmas.Option.{same_Some}

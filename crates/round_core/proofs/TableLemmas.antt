@@ -73,6 +73,26 @@ module _ {K V M : Type 0} where
           (subst (λ j. slice_get (map value_part (row ∷ rows)) j ≡ Some b) below q)
     ]
 
+    -- the row whose key passes first
+    row-there : (rows : List (K × (V × M))) (i : ℕ) → place_by test rows ≡ Some i
+        → (row : K × (V × M)) × (slice_get rows i ≡ Some row) × (lookup test rows ≡ Some row.1)
+    row-there [] i p = absurd (cc)
+    row-there (row ∷ rows) i p = elim (truth (test row.0)) [
+      | inl s ↦
+          let here : some_zero ≡ Some i = sym (if_true _ _ _ s) ∙ p in
+          let z : 0 ≡ i = cc in
+          (row, subst (λ n. slice_get (row ∷ rows) n ≡ Some row) z refl, if_true _ _ _ s)
+      | inr s ↦
+          let n = next_place (place_by test rows) i (sym (if_false _ _ _ s) ∙ p) in
+          let below : suc n.0 ≡ i = omega arith in
+          let there = row-there rows n.0 n.1 in
+          (there.0, subst (λ j. slice_get (row ∷ rows) j ≡ Some there.0) below there.1, if_false _ _ _ s ∙ there.2)
+    ]
+
+    pub row-at : (rows : List (K × (V × M))) (i : ℕ) → position test (keys_of rows) ≡ Some i
+        → (row : K × (V × M)) × (slice_get rows i ≡ Some row) × (lookup test rows ≡ Some row.1)
+    row-at rows i p = row-there rows i (sym (position-place test rows) ∙ p)
+
     no-row : (rows : List (K × (V × M))) → place_by test rows ≡ None → lookup test rows ≡ None
     no-row [] p = refl
     no-row (row ∷ rows) p = elim (truth (test row.0)) [

@@ -4,6 +4,7 @@ pub mod Claims
 pub mod Counting
 pub mod Counts
 pub mod Expected
+pub mod Former
 pub mod Kept
 pub mod Machine
 pub mod Nodes

@@ -6,3 +6,6 @@ use Rattle.round_core.specs.Machine.{Done}
 
 abbrev pub done_of : {A : Type 0} → WorkUnit × (Work A × Versions) → Done A
 done_of row = record { unit = row.0; work = row.1.0; versions = row.1.1 }
+
+abbrev pub work_of : {A : Type 0} → WorkUnit × (Work A × Versions) → Work A
+work_of row = row.1.0

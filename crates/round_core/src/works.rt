@@ -1,10 +1,13 @@
 //! The units of a book that were done.
 
-ghost use Rattle.std.specs.Prelude.{◌≡◌, ◌≤◌, ◌+◌, ◌<◌, [], map, IfOk, OnOk, IfSome, MatchOption, length, slice_get, Some, None, ◌^◌, ℕ};
+ghost use Rattle.std.specs.Prelude.{false, filter, ◌≡◌, ◌≤◌, ◌+◌, ◌<◌, [], map, IfOk, OnOk, IfSome, MatchOption, length, slice_get, Some, None, ◌^◌, ℕ};
+ghost use Rattle.std.specs.List.{AllByRecursion};
 ghost use Rattle.std.specs.Option.{option_map};
+ghost use Rattle.round_core.specs.Former.{is_no_unit};
 ghost use Rattle.round_core.specs.Kept.{is_live};
 ghost use Rattle.round_core.specs.Machine.{Done, done_at, with_done, waits_for};
 
+use crate::former::{live_works, waits};
 use crate::table::Table;
 use crate::versions::Versions;
 use call_context::{Frame, Node, Unit, equal_nodes_are_one};
@@ -55,6 +58,17 @@ impl<A> Works<A> {
         works
     }
 
+    /// The units that are still units of the book, with their last works.
+    pub fn into_live(self) -> Vec<(Unit, Work<A>)>
+    where
+        A: Drop,
+        requires { AllByRecursion (λ row. is_no_unit row.unit ≡ false) self.rows }
+        ensures { result.items ≡ filter (λ p. is_live self.rows p.0) (map (λ row. (row.unit, row.work)) self.rows) }
+    {
+        let (places, works) = self.table.into_parts();
+        live_works(&places, works)
+    }
+
     /// The last work of a unit, and the versions of its inputs.
     pub fn find(&self, unit: &Unit) -> Option<(&Work<A>, Versions)>
         ensures { MatchOption result (done_at self.now.rows unit.now ≡ None) (λ found. done_at self.now.rows unit.now ≡ Some (record { unit = unit.now; work = found.0.now; versions = found.1 })) }
@@ -68,7 +82,7 @@ impl<A> Works<A> {
         ensures { result ≡ waits_for self.now.rows node.now frame.now }
     {
         match self.find(&Unit::One(*node)) {
-            Some((work, _)) => work.waits.as_slice().contains(frame),
+            Some((work, _)) => waits(work, frame),
             None => false,
         }
     }
