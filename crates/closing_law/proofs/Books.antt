@@ -1,5 +1,5 @@
 -- From a finished book without opens to its closed table, and back to the works that it has.
-use Rattle.std.proofs.Common.{◌≡◌, Option, None, Some, List, [], refl, sym, ◌∙◌, ap, subst}
+use Rattle.std.proofs.Common.{◌≡◌, Option, None, Some, List, refl, subst}
 use Rattle.std.specs.Prelude.{ℕ, Contains}
 use Rattle.std.specs.Map.{values_of}
 use Rattle.std.specs.Option.{option_map}

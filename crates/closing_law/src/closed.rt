@@ -1,13 +1,20 @@
 //! Closed books.
 
-ghost use Rattle.std.specs.Prelude.{◌≡◌};
+ghost use Rattle.std.specs.Prelude.{◌≡◌, ◌==◌, ◌↔◌, ◌||◌, not, length, IsTrue, IsOk, IfOk, IfErr};
+ghost use Rattle.std.specs.List.{list_all};
 ghost use Rattle.std.specs.Map.{values_of};
 ghost use Rattle.closing_law.specs.ClosedBook.{IsClosedBook, table_in};
 ghost use Rattle.closing_law.specs.Covered.{AreCovering, CoversRuns};
+ghost use Rattle.round_core.specs.Kept.{is_live, live_pairs, nodes_of, works_of};
+ghost use Rattle.round_core.specs.Machine.{replay, IsClosed};
 
 use crate::closed_tables_cover_runs;
 use call_context::{Node, Unit};
-use chip_law::{LawfulChip, Work};
+use chip_law::{Chip, LawfulChip, Work};
+use round_core::{
+    Book, closed_book_has_closed_table, finished_book_is_its_table, live_pairs_are_units,
+    nodes_stay,
+};
 use std::marker::Model;
 use std::snapshot::Snapshot;
 
@@ -71,4 +78,43 @@ impl<C: LawfulChip> ClosedBook<C> {
         let _nodes = &self.nodes;
         closed_tables_cover_runs::<C>();
     }
+}
+
+/// Whether no work of the book's units leaves a site open.
+fn has_no_open<C: Chip>(book: &Book<C>) -> bool
+    ensures { (let b = replay (C.analysis book.now.base) book.now.journal in
+        result ≡ list_all (λ p. not (is_live b.done p.0) || (length p.1.opens == 0)) (works_of b)) }
+{
+    book.works().iter().all(|(unit, work)| !book.is_live(unit) || work.opens.as_slice().is_empty())
+}
+
+/// Whether a book is finished, and no work of its units leaves a site open.
+fn is_closed<C: Chip>(book: &Book<C>) -> bool
+    ensures { IsTrue result ↔ IsClosed (replay (C.analysis book.now.base) book.now.journal) }
+{
+    live_pairs_are_units::<C>();
+    let _journal = book.journal();
+    book.finished() && has_no_open(book)
+}
+
+/// The closed book of a book that is finished, where no work of its units leaves a site open. Its works are those of
+/// the book's units: former returns are left out. It takes no memory. Any other book is handed back.
+pub fn read_closed<C: LawfulChip>(book: Book<C>) -> Result<ClosedBook<C>, Book<C>>
+    requires { C.program book.base }
+    ensures exact { IsOk result ↔ IsClosed (replay (C.analysis book.base) book.journal) }
+    ensures closed { IfOk result (λ closed. (let b = replay (C.analysis book.base) book.journal in
+        closed ≡ record { base = book.base; nodes = nodes_of b; works = live_pairs b })) }
+    ensures handed_back { IfErr result (λ same. same ≡ book) }
+{
+    C::laws();
+    nodes_stay::<C>();
+    closed_book_has_closed_table::<C>();
+    finished_book_is_its_table::<C>();
+    live_pairs_are_units::<C>();
+    let _journal = book.journal();
+    if !is_closed(&book) {
+        return Err(book);
+    }
+    let (chip, nodes, works) = book.into_live();
+    Ok(ClosedBook { chip, nodes, works })
 }

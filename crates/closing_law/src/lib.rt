@@ -14,7 +14,7 @@ ghost use Rattle.round_core.specs.Machine.{replay, IsFinished, IsLegalJournal};
 ghost use Rattle.round_core.specs.declared.event.Event.{Event};
 
 use chip_law::LawfulChip;
-pub use closed::ClosedBook;
+pub use closed::{ClosedBook, read_closed};
 use round_core::{
     closed_book_has_closed_table, finished_book_is_its_table, live_works_are_of_units,
 };
