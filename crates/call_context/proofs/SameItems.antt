@@ -39,7 +39,7 @@ cause_eq = (cause_impl.ghosts).eq
 abbrev item_eq : Item → Item → Bool
 item_eq = (item_impl.ghosts).eq
 
-apart : {P : Type 0} → (P → ⊥) → Decides false P
+pub apart : {P : Type 0} → (P → ⊥) → Decides false P
 apart never = (λ e. cc e, λ p. absurd (never p))
 
 pub bytes_same : (a b : List ℕ) → Decides (pointwise eqb a b) (a ≡ b)
@@ -59,11 +59,12 @@ front_same (x ∷ xs) (y ∷ ys) more rest size e =
     let below = front_same xs ys more rest (omega arith) tail in
     cc (head, below)
 
-few_same : (xs ys : List ℕ) → Decides (pointwise eqb (padded 16 xs) (padded 16 ys) && eqb (length xs) (length ys)) (xs ≡ ys)
-few_same xs ys = Decides-like _
+pub few_same : (room : ℕ) (xs ys : List ℕ)
+    → Decides (pointwise eqb (padded room xs) (padded room ys) && eqb (length xs) (length ys)) (xs ≡ ys)
+few_same room xs ys = Decides-like _
     (λ both. front_same xs ys _ _ both.1 both.0)
-    (λ e. (ap (padded 16) e, ap length e))
-    (Decides-and _ _ (bytes_same (padded 16 xs) (padded 16 ys)) (Decides-eqb (length xs) (length ys)))
+    (λ e. (ap (padded room) e, ap length e))
+    (Decides-and _ _ (bytes_same (padded room xs) (padded room ys)) (Decides-eqb (length xs) (length ys)))
 
 run_of : ℕ → ℕ → ℕ → Progression
 run_of base stride count = record { base = base; stride = stride; count = count }
@@ -78,7 +79,7 @@ run_same a b = Decides-like _ (λ parts. runs_same a.base a.stride a.count b.bas
     (Decides-and _ _ (Decides-eqb a.base b.base) (Decides-and _ _ (Decides-eqb a.stride b.stride) (Decides-eqb a.count b.count)))
 
 form_same : (a b : Form) → Decides (form_eq a b) (a ≡ b)
-form_same (Values xs) (Values ys) = Decides-like _ (ap Values) (λ e. cc e) (few_same xs ys)
+form_same (Values xs) (Values ys) = Decides-like _ (ap Values) (λ e. cc e) (few_same 16 xs ys)
 form_same (Run a) (Run b) = Decides-like _ (ap Run) (λ e. cc e) (run_same a b)
 form_same (Values xs) (Run b) = apart (λ e. cc e)
 form_same (Run a) (Values ys) = apart (λ e. cc e)

@@ -12,7 +12,7 @@ mod tests;
 
 pub use calls::{pop_call, push_call};
 pub use few::Few;
-pub use laws::{equal_items_are_one, tests_tell_what_is_one};
+pub use laws::{equal_items_are_one, equal_nodes_are_one};
 pub use node::{Calls, Frame, Node, Unit};
 pub use sequence::Sequence;
 pub use shown::{Cause, InstrBytes, Item, Set, Space};

@@ -1,7 +1,9 @@
 -- From a finished book without opens to its closed table, and back to the works that it has.
-use Rattle.std.proofs.Common.{◌≡◌, Option, None, Some, List, [], refl, sym, ◌∙◌, ap, subst}
+use Rattle.std.proofs.Common.{◌≡◌, Option, None, Some, List, refl, subst}
 use Rattle.std.specs.Prelude.{ℕ, Contains}
+use Rattle.std.specs.Map.{values_of}
 use Rattle.std.specs.Option.{option_map}
+use Rattle.std.proofs.lemmas.Map.Made.{Contains-values_of}
 use Rattle.call_context.specs.declared.node.Node.{Node}
 use Rattle.call_context.specs.declared.node.Node.TheVariants.{At, Exit}
 use Rattle.call_context.specs.declared.node.Unit.{Unit as WorkUnit}
@@ -13,6 +15,7 @@ use Rattle.chip_law.specs.Analysis.{Analysis, AreFormed}
 use Rattle.chip_law.specs.Laws.{Cover, IsLawful, location_of}
 use Rattle.chip_law.specs.Machine.{Machine}
 use Rattle.chip_law.specs.Table.{IsUnitOver}
+use Rattle.closing_law.specs.ClosedBook.{IsClosedBook, table_in}
 use Rattle.closing_law.specs.Covered.{AreCovering, CoversRuns, IsBroken, NoneIsOpen}
 use Rattle.round_core.specs.Kept.{live_works}
 use Rattle.round_core.specs.Machine.{BookState, Held, Done, done_at, held_at, inputs_of, IsUnit, IsFinished, IsClosed}
@@ -41,6 +44,18 @@ are_covering machine m covers b listed known worked runs = record {
         subst (Contains (live_works b)) d.2 (listed shown.unit d.0 (known shown.unit shown.at shown.exit shown.is_unit) d.1),
         shown.shows,
       );
+  stays = runs.stays;
+}
+
+-- the works of a closed book cover the runs that its table covers
+pub works_cover : {S A : Type 0} (machine : Machine S) (m : Analysis A) (covers : Cover S A) (nodes : List (Node × A)) (works : List (WorkUnit × Work A))
+    → IsClosedBook m nodes works → CoversRuns machine m covers (table_in nodes) → AreCovering machine (values_of works)
+works_cover machine m covers nodes works closed runs = record {
+  shows = λ n item met. let shown = runs.shows n item met in (
+    m.work shown.unit shown.at shown.exit,
+    Contains-values_of works shown.unit _ (closed.each shown.unit shown.at shown.exit shown.is_unit),
+    shown.shows,
+  );
   stays = runs.stays;
 }
 

@@ -1,7 +1,7 @@
 -- The closing law: by induction on the number of steps, each state of a run stands under a location of a closed table.
 -- The suspended states are carried as they stand: an instruction changes the state alone, an entry puts one in front,
 -- and a return takes the first one off.
-use Rattle.std.proofs.Common.{◌≡◌, ℕ, zero, suc, Option, None, Some, List, [], ◌∷◌, refl, sym, ◌∙◌, subst, inl, inr}
+use Rattle.std.proofs.Common.{◌≡◌, ℕ, zero, suc, Option, None, Some, List, [], ◌∷◌, refl, sym, ◌∙◌, subst, inl, inr, arith}
 use Rattle.std.specs.Prelude.{◌⊎◌, Contains}
 use Rattle.call_context.specs.declared.node.Frame.{Frame}
 use Rattle.call_context.specs.declared.node.Frame.TheVariants.{Base, Irq}
@@ -9,7 +9,6 @@ use Rattle.call_context.specs.declared.node.Node.{Node}
 use Rattle.call_context.specs.declared.node.Node.TheVariants.{At, Exit}
 use Rattle.call_context.specs.declared.node.Unit.TheVariants.{One, Back}
 use Rattle.call_context.specs.Nodes.{pc_of, frame_of, IsLocation}
-use Rattle.call_context.specs.Members.{in_none}
 use Rattle.chip_law.specs.declared.chip.Work.{Work}
 use Rattle.chip_law.specs.Analysis.{Analysis, AreFormed}
 use Rattle.chip_law.specs.Laws.{Cover, IsLawful, Lands, Resumes, IsWaitedFor, HasEntry}
@@ -22,6 +21,9 @@ use Rattle.chip_law.specs.Outcome.Outcome.{Next}
 use Rattle.chip_law.specs.Table.{IsUnitOver, IsHeldIn, IsClosedTable, IsFormedTable, WaitsFor}
 use Rattle.closing_law.specs.Covered.{StandsSomewhere, IsShown, CoversRuns}
 use Rattle.closing_law.specs.Standing.{IsSuspended, Stands}
+
+none_in : {X : Type 0} (x : X) → Contains [] x → ⊥
+none_in x there = absurd (omega (arith, there.1))
 
 -- a location with its state is a unit, and so is one that waits for the frame of an exit
 unit_of_location : {A : Type 0} (m : Analysis A) (table : Node → Option A) (node : Node) (a : A) → IsLocation node → table node ≡ Some a
@@ -205,6 +207,6 @@ module _ {S A : Type 0} (machine : Machine S) (m : Analysis A) (covered : Cover 
         let work = m.work (One at.node) at.state None in
         let told = laws.wild_is_told at.node at.state wild.0 (first_of at.suspended) wild.1 at.is_location (formed at.node at.state at.is_held)
         (covers_of at.suspended at.node at.state wild.0 at.stands) wild.3 in
-        in_none told.0 (subst (λ os. Contains os told.0)
+        none_in told.0 (subst (λ os. Contains os told.0)
         (closed.no_open (One at.node) at.state None (unit_of_location m table at.node at.state at.is_location at.is_held)) told.1);
   }

@@ -1,2 +1,3 @@
+pub mod ClosedBook
 pub mod Covered
 pub mod Standing

@@ -1,6 +1,8 @@
 //! The closing law: a closed table covers every run of its chip, and so does a finished book without opens.
 #![tactic(auto)]
 
+mod closed;
+
 ghost use Rattle.std.specs.Prelude.{ℕ, Option, List, Contains};
 ghost use Rattle.call_context.specs.declared.node.Node.{Node};
 ghost use Rattle.call_context.specs.declared.shown.Cause.{Cause};
@@ -12,6 +14,7 @@ ghost use Rattle.round_core.specs.Machine.{replay, IsFinished, IsLegalJournal};
 ghost use Rattle.round_core.specs.declared.event.Event.{Event};
 
 use chip_law::LawfulChip;
+pub use closed::{ClosedBook, read_closed};
 use round_core::{
     closed_book_has_closed_table, finished_book_is_its_table, live_works_are_of_units,
 };

@@ -15,7 +15,7 @@ use Rattle.call_context.specs.declared.shown.Cause.TheVariants.{Fetch, Unbuilt}
 use Rattle.call_context.specs.declared.shown.Item.TheVariants as items
 use Rattle.call_context.specs.declared.shown.Set.TheVariants.{W}
 use Rattle.call_context.specs.Nodes.{pc_of, IsLocation}
-use Rattle.call_context.specs.Members.{in_none, in_cons, in_first, in_rest}
+use Rattle.msp430_flow.proofs.Members.{in_none, in_cons, in_first, in_rest}
 use Rattle.chip_law.specs.Analysis.{AreFormed}
 use Rattle.chip_law.specs.Laws.{IsLawful, IsTold, location_of, Lands, Tells}
 use Rattle.chip_law.specs.Laws.Lands.{stays}

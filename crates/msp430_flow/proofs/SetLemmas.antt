@@ -1,7 +1,7 @@
 -- Sets of words, and lists of them position by position: inclusion is an order that keeps values, and joins and widenings
 -- have both.
 use Rattle.std.proofs.Common.{◌≡◌, ℕ, zero, suc, ◌+◌, ◌-◌, ◌*◌, ◌/◌, ◌%◌, ◌<◌, true, List, [], ◌∷◌, length, get_or, replicate, refl, sym, ap, ◌∙◌, subst, inl, inr, arith, All, Contains}
-use Rattle.call_context.specs.Members.{in_none, in_cons}
+use Rattle.msp430_flow.proofs.Members.{in_none, in_cons}
 use Rattle.std.specs.Prelude.{◌↔◌, bit_and}
 use Rattle.std.proofs.lemmas.Bool.{and_from, and_parts, cond_both}
 use Rattle.std.proofs.lemmas.List.Elements.{All-nil, All-cons, All-head, All-tail}

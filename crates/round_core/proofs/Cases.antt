@@ -45,6 +45,11 @@ get-map f [] i y h = absurd (cc)
 get-map f (x ∷ xs) zero y h = let e : y ≡ f x = cc in (x, refl, e)
 get-map f (x ∷ xs) (suc i) y h = get-map f xs i y h
 
+pub map-get : {X Y : Type 0} → (f : X → Y) (xs : List X) (i : ℕ) (x : X) → slice_get xs i ≡ Some x → slice_get (map f xs) i ≡ Some (f x)
+map-get f [] i x h = absurd (cc)
+map-get f (y ∷ xs) zero x h = let e : y ≡ x = cc in ap (λ t. Some (f t)) e
+map-get f (y ∷ xs) (suc i) x h = map-get f xs i x h
+
 pub length-parts : {X Y : Type 0} → (f : X → Y) (xs : List X) → length (map f xs) ≡ length xs
 length-parts f [] = refl
 length-parts f (x ∷ xs) = let e = length-parts f xs in omega arith

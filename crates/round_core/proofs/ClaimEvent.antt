@@ -3,7 +3,7 @@ use Rattle.std.specs.Prelude.{◌≡◌, ℕ, Option, None, Some, List, [], ◌�
 use Rattle.std.proofs.Common.{sym, ◌∙◌, ap, subst}
 use Rattle.std.proofs.Math.Path.{ap₂}
 use Rattle.call_context.specs.declared.node.Unit.{Unit as WorkUnit}
-use Rattle.call_context.specs.SameLaws.{same_unit-refl}
+use Rattle.round_core.proofs.SameLaws.{same_unit-refl}
 use Rattle.chip_law.specs.Analysis.{Analysis}
 use Rattle.round_core.specs.declared.event.Event.{Event}
 use Rattle.round_core.specs.declared.event.Event.TheVariants.{Claim, GiveBack}

@@ -7,8 +7,8 @@ use Rattle.call_context.specs.declared.node.Node.{Node}
 use Rattle.call_context.specs.declared.node.Node.TheVariants.{At, Exit}
 use Rattle.call_context.specs.declared.node.Unit.{Unit as WorkUnit}
 use Rattle.call_context.specs.declared.node.Unit.TheVariants as unit
-use Rattle.call_context.specs.Same.{same_node}
-use Rattle.call_context.specs.SameLaws.{same_node-eq, same_node-refl}
+use Rattle.round_core.specs.Same.{same_node}
+use Rattle.round_core.proofs.SameLaws.{same_node-eq, same_node-refl}
 use Rattle.round_core.specs.declared.place.Place.{Place}
 use Rattle.round_core.specs.declared.place.Place.TheVariants as place
 use Rattle.round_core.specs.declared.versions.Versions.{Versions}

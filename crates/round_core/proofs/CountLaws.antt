@@ -4,10 +4,9 @@ use Rattle.std.proofs.Common.{refl, sym, ◌∙◌, ap, subst, inl, inr, arith}
 use Rattle.std.proofs.lemmas.Bool.{cases_Bool, cases_lt}
 use Rattle.std.proofs.lemmas.Option.{same_Some}
 use Rattle.std.proofs.lemmas.List.Sums.{sum_by-cons}
-use Rattle.call_context.specs.declared.node.Node.{Node}
 use Rattle.call_context.specs.declared.node.Unit.{Unit as WorkUnit}
-use Rattle.call_context.specs.Same.{same_unit}
-use Rattle.call_context.specs.SameLaws.{same_unit-refl, same_unit-eq}
+use Rattle.round_core.specs.Same.{same_unit}
+use Rattle.round_core.proofs.SameLaws.{same_unit-refl, same_unit-eq}
 use Rattle.round_core.specs.declared.versions.Versions.{Versions}
 use Rattle.round_core.specs.declared.event.Event.{Event}
 use Rattle.round_core.specs.declared.event.Event.TheVariants.{Claim, Post, GiveBack}

@@ -1,6 +1,6 @@
 -- The entries of units that were done and of those that are out, and the inputs of units, under events.
 use Rattle.std.specs.Prelude.{◌≡◌, ℕ, ◌<◌, ◌≤◌, true, false, Option, None, Some, List, [], ◌∷◌, ◌++◌, Contains}
-use Rattle.call_context.specs.Members.{in_none, in_cons, in_first, in_rest}
+use Rattle.round_core.proofs.Members.{in_none, in_cons, in_first, in_rest}
 use Rattle.std.specs.List.{AllByRecursion}
 use Rattle.std.specs.Option.{option_map, option_and_then}
 use Rattle.std.proofs.Common.{refl, sym, ◌∙◌, ap, ap₂, subst, inl, inr, arith}
@@ -9,8 +9,8 @@ use Rattle.std.proofs.lemmas.Option.{same_Some}
 use Rattle.call_context.specs.declared.node.Node.{Node}
 use Rattle.call_context.specs.declared.node.Unit.{Unit as WorkUnit}
 use Rattle.call_context.specs.declared.node.Unit.TheVariants.{One, Back}
-use Rattle.call_context.specs.Same.{same_unit}
-use Rattle.call_context.specs.SameLaws.{same_unit-refl, same_unit-eq}
+use Rattle.round_core.specs.Same.{same_unit}
+use Rattle.round_core.proofs.SameLaws.{same_unit-refl, same_unit-eq}
 use Rattle.round_core.specs.declared.versions.Versions.{Versions}
 use Rattle.round_core.proofs.HeldLaws.{AllStay, held_at-later, version_of-later, state-later, option_map-some}
 use Rattle.round_core.specs.Counts.{AreOutOnce}

@@ -5,8 +5,8 @@ use Rattle.std.proofs.Common.{refl, sym, ◌∙◌, ap, subst, inl, inr, arith}
 use Rattle.std.proofs.lemmas.List.{take_more}
 use Rattle.call_context.specs.declared.node.Node.{Node}
 use Rattle.call_context.specs.declared.node.Node.TheVariants.{At, Exit}
-use Rattle.call_context.specs.Same.{same_node}
-use Rattle.call_context.specs.SameLaws.{same_node-eq}
+use Rattle.round_core.specs.Same.{same_node}
+use Rattle.round_core.proofs.SameLaws.{same_node-eq}
 use Rattle.round_core.specs.declared.agenda.Agenda.{Agenda}
 use Rattle.round_core.specs.Agenda.{IsIn}
 use Rattle.round_core.specs.Expected.{Grows, ExpectsNode, ExpectsRows}

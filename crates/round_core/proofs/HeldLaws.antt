@@ -6,8 +6,8 @@ use Rattle.std.proofs.Common.{refl, sym, ◌∙◌, ap, subst, inl, inr, arith, 
 use Rattle.std.proofs.lemmas.Option.{same_Some}
 use Rattle.std.proofs.lemmas.Bool.{cases_Bool, cond-true, cond-false, false_from_ne_true, false≢true}
 use Rattle.call_context.specs.declared.node.Node.{Node}
-use Rattle.call_context.specs.Same.{same_node}
-use Rattle.call_context.specs.SameLaws.{same_node-refl, same_node-eq}
+use Rattle.round_core.specs.Same.{same_node}
+use Rattle.round_core.proofs.SameLaws.{same_node-refl, same_node-eq}
 use Rattle.chip_law.specs.Analysis.{Analysis}
 use Rattle.round_core.specs.Counts.{AreApart}
 use Rattle.round_core.specs.Machine.{Held, held_at, place_of, version_of, risen_state, risen, raised, all_raised}

@@ -1,21 +1,22 @@
 -- The last works of a book's units: each stands in the list of the live ones, and each is the work of a unit over formed states.
-use Rattle.std.specs.Prelude.{◌≡◌, Bool, true, false, Option, None, Some, List, [], ◌∷◌, if◌then◌else◌, cond, Contains, map, filter}
+use Rattle.std.specs.Prelude.{◌≡◌, Bool, true, false, Some, List, [], ◌∷◌, if◌then◌else◌, cond, Contains, map, filter}
 use Rattle.std.specs.List.{AllByRecursion}
 use Rattle.std.proofs.Common.{refl, sym, ◌∙◌, ap, subst, inl, inr}
 use Rattle.std.proofs.lemmas.Option.{same_Some}
 use Rattle.call_context.specs.declared.node.Node.TheVariants.{At, Exit}
 use Rattle.call_context.specs.declared.node.Unit.{Unit as WorkUnit}
 use Rattle.call_context.specs.declared.node.Unit.TheVariants.{One, Back}
-use Rattle.call_context.specs.Members.{in_none, in_cons, in_first, in_rest}
-use Rattle.call_context.specs.Same.{same_unit}
-use Rattle.call_context.specs.SameLaws.{same_unit-eq}
+use Rattle.round_core.proofs.Members.{in_none, in_cons, in_first, in_rest}
+use Rattle.round_core.specs.Same.{same_unit}
+use Rattle.round_core.proofs.SameLaws.{same_unit-eq}
 use Rattle.chip_law.specs.Analysis.{Analysis, AreFormed, KeepsForm, TopIsGreatest}
 use Rattle.chip_law.specs.declared.chip.Work.{Work}
 use Rattle.round_core.specs.declared.event.Event.{Event}
 use Rattle.round_core.specs.declared.event.Event.TheVariants.{Claim, Post, GiveBack}
-use Rattle.round_core.specs.Kept.{is_live, live_works}
+use Rattle.round_core.specs.Kept.{is_live, live_pairs, live_works}
 use Rattle.round_core.specs.Machine.{BookState, Held, Done, Out, done_at, after, all_raised, posted, opening, replay, IsUnit, IsLegal, IsLegalJournal}
 use Rattle.round_core.specs.Table.{IsOfUnit}
+use Rattle.round_core.proofs.Cases.{truth, if_true, if_false}
 use Rattle.round_core.proofs.EntryLaws.{inputs_of-later, out_at-all, all-map, all-with_done}
 use Rattle.round_core.proofs.FormLaws.{IsInForm, IsInForm-opening, IsInForm-after}
 use Rattle.round_core.proofs.HeldLaws.{AllStay, AllStay-all_raised}
@@ -31,6 +32,29 @@ passing {A = A} live done = map (λ (p : WorkUnit × Work A). p.1) (filter (λ (
 abbrev with_first : {A : Type 0} → (WorkUnit → Bool) → Bool → Done A → List (Done A) → List (Work A)
 with_first {A = A} live passes first done =
     map (λ (p : WorkUnit × Work A). p.1) (cond passes ((first.unit, first.work) ∷ filter (λ (p : WorkUnit × Work A). live p.0) (pairs_of done)) (filter (λ (p : WorkUnit × Work A). live p.0) (pairs_of done)))
+
+-- the pair of a live unit is among the live ones
+abbrev passing_pairs : {A : Type 0} → (WorkUnit → Bool) → List (Done A) → List (WorkUnit × Work A)
+passing_pairs {A = A} live done = filter (λ (p : WorkUnit × Work A). live p.0) (pairs_of done)
+
+pair_in : {A : Type 0} (live : WorkUnit → Bool) (done : List (Done A)) (unit : WorkUnit) (d : Done A) → done_at done unit ≡ Some d → live unit ≡ true
+    → Contains (passing_pairs live done) (unit, d.work)
+pair_in live [] unit d found alive = absurd (cc)
+pair_in {A = A} live (first ∷ done) unit d found alive = elim (truth (same_unit unit first.unit)) [
+  | inl s ↦
+      let unit_is : unit ≡ first.unit = same_unit-eq unit first.unit s in
+      let is_d : first ≡ d = same_Some first d (sym (if_true _ _ _ s) ∙ found) in
+      let passes : live first.unit ≡ true = ap live (sym unit_is) ∙ alive in
+      subst (λ (ps : List (WorkUnit × Work A)). Contains ps (unit, d.work)) (sym (if_true _ _ _ passes))
+      (subst (λ (w : Work A). Contains ((first.unit, first.work) ∷ passing_pairs live done) (unit, w)) (ap (λ (x : Done A). x.work) is_d)
+      (subst (λ u. Contains ((first.unit, first.work) ∷ passing_pairs live done) (u, first.work)) (sym unit_is) (in_first (first.unit, first.work) (passing_pairs live done))))
+  | inr s ↦
+      let later = pair_in live done unit d (sym (if_false _ _ _ s) ∙ found) alive in
+      elim (truth (live first.unit)) [
+        | inl t ↦ subst (λ (ps : List (WorkUnit × Work A)). Contains ps (unit, d.work)) (sym (if_true _ _ _ t)) (in_rest (first.unit, first.work) (passing_pairs live done) (unit, d.work) later)
+        | inr t ↦ subst (λ (ps : List (WorkUnit × Work A)). Contains ps (unit, d.work)) (sym (if_false _ _ _ t)) later
+      ]
+]
 
 -- the last work of a live unit is among the live ones
 live_in : {A : Type 0} (live : WorkUnit → Bool) (done : List (Done A)) (unit : WorkUnit) (d : Done A) → done_at done unit ≡ Some d → live unit ≡ true
@@ -61,6 +85,10 @@ unit_is_live b (Back (Exit pc frame) exit) u = absurd u
 pub is_listed : {A : Type 0} (b : BookState A) (unit : WorkUnit) (d : Done A) → IsUnit b unit → done_at b.done unit ≡ Some d
     → Contains (live_works b) d.work
 is_listed b unit d u found = live_in (is_live b.done) b.done unit d found (unit_is_live b unit u)
+
+pub is_paired : {A : Type 0} (b : BookState A) (unit : WorkUnit) (d : Done A) → IsUnit b unit → done_at b.done unit ≡ Some d
+    → Contains (live_pairs b) (unit, d.work)
+is_paired b unit d u found = pair_in (is_live b.done) b.done unit d found (unit_is_live b unit u)
 
 module _ {A : Type 0} (m : Analysis A) (keeps : KeepsForm m) (top : TopIsGreatest m) where
   abbrev AreOfUnits : List (Held A) → List (Done A) → Type 0

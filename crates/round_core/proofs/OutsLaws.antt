@@ -1,15 +1,14 @@
 -- What is out to a seat, through the events of others, and over a turn of one worker.
-use Rattle.std.specs.Prelude.{◌≡◌, ◌≢◌, ℕ, true, false, Option, None, Some, List, [], ◌∷◌, ◌++◌, if◌then◌else◌}
-use Rattle.std.specs.List.{AllByRecursion}
-use Rattle.std.proofs.Common.{refl, sym, ◌∙◌, ap, subst, inl, inr}
+use Rattle.std.specs.Prelude.{◌≡◌, ◌≢◌, ℕ, false, None, Some, List, [], ◌∷◌, ◌++◌, if◌then◌else◌}
+use Rattle.std.proofs.Common.{refl, sym, ◌∙◌, ap, subst}
 use Rattle.std.proofs.lemmas.Bool.{false_from_ne_true}
 use Rattle.std.proofs.lemmas.Option.{same_Some}
 use Rattle.call_context.specs.declared.node.Unit.{Unit as WorkUnit}
-use Rattle.call_context.specs.Same.{same_unit}
-use Rattle.call_context.specs.SameLaws.{same_unit-eq, same_unit-refl}
+use Rattle.round_core.specs.Same.{same_unit}
+use Rattle.round_core.proofs.SameLaws.{same_unit-eq, same_unit-refl}
 use Rattle.chip_law.specs.Analysis.{Analysis}
 use Rattle.round_core.specs.Counts.{seat_of, NoneOfSeat}
-use Rattle.round_core.specs.Machine.{BookState, Out, out_at, without, after, posted, replay_from, replay, IsFirst, IsLegal, AllLegal}
+use Rattle.round_core.specs.Machine.{BookState, Out, out_at, without, after, posted, replay_from, IsFirst, IsLegal, AllLegal}
 use Rattle.round_core.specs.declared.event.Event.{Event}
 use Rattle.round_core.specs.declared.event.Event.TheVariants.{Claim, Post, GiveBack}
 use Rattle.round_core.proofs.EntryLaws.{all-any, out_at-all, out_at-push_found, out_at-without_other}

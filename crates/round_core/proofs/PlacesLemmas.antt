@@ -4,13 +4,13 @@ use Rattle.std.specs.Option.{option_map}
 use Rattle.std.specs.Map.{lookup}
 use Rattle.std.proofs.Common.{refl, sym, ◌∙◌, ap, subst, inl, inr}
 use Rattle.call_context.specs.declared.node.Frame.{Frame}
-use Rattle.call_context.specs.DerivedSame.{frame_eq, frame_eq-same}
-use Rattle.call_context.specs.Same.{same_frame}
-use Rattle.call_context.specs.SameLaws.{same_frame-eq, same_frame-refl}
+use Rattle.round_core.proofs.DerivedTests.{TellsEqual, frame_eq, frame_eq-same}
+use Rattle.round_core.specs.Same.{same_frame}
+use Rattle.round_core.proofs.SameLaws.{same_frame-eq, same_frame-refl}
 use Rattle.round_core.specs.Agenda.{IsIn, places_in, KeepsPlaces}
 use Rattle.round_core.proofs.Cases.{truth, if_true, if_false}
 
-module _ {V : Type 0} (items : V → List ℕ) where
+module _ {V : Type 0} (tells : TellsEqual frame_eq) (items : V → List ℕ) where
   -- what contracts see of the entries
   abbrev pub seen : List (Frame × V) → List (Frame × List ℕ)
   seen es = map (λ e. (e.0, items e.1)) es
@@ -18,8 +18,8 @@ module _ {V : Type 0} (items : V → List ℕ) where
   pub lookup-seen : (f : Frame) (es : List (Frame × V)) → lookup (same_frame f) (seen es) ≡ option_map items (lookup (frame_eq f) es)
   lookup-seen f [] = refl
   lookup-seen f (e ∷ es) = elim (truth (same_frame f e.0)) [
-    | inl s ↦ if_true _ _ _ s ∙ ap (λ o. option_map items o) (sym (if_true _ _ _ (frame_eq-same f e.0 ∙ s)))
-    | inr s ↦ if_false _ _ _ s ∙ lookup-seen f es ∙ ap (λ o. option_map items o) (sym (if_false _ _ _ (frame_eq-same f e.0 ∙ s)))
+    | inl s ↦ if_true _ _ _ s ∙ ap (λ o. option_map items o) (sym (if_true _ _ _ (frame_eq-same tells f e.0 ∙ s)))
+    | inr s ↦ if_false _ _ _ s ∙ lookup-seen f es ∙ ap (λ o. option_map items o) (sym (if_false _ _ _ (frame_eq-same tells f e.0 ∙ s)))
   ]
 
   -- the places of a frame among the entries
@@ -35,7 +35,7 @@ module _ {V : Type 0} (items : V → List ℕ) where
 
   pub writes-added : (old new : List (Frame × V)) (f : Frame) (w : V) → Writes old new f w → (place : ℕ) → IsIn place (items w) → IsIn place (places_in (seen new) f)
   writes-added old new f w e place h =
-      let own : lookup (frame_eq f) new ≡ Some w = e f ∙ if_true _ _ _ (frame_eq-same f f ∙ same_frame-refl f) in
+      let own : lookup (frame_eq f) new ≡ Some w = e f ∙ if_true _ _ _ (frame_eq-same tells f f ∙ same_frame-refl f) in
       subst (λ ps. IsIn place ps) (sym (places-held new f ∙ ap (λ o. unwrap_or (option_map items o) []) own)) h
 
   pub writes-kept : (old new : List (Frame × V)) (f : Frame) (w : V) → Writes old new f w → ((p : ℕ) → IsIn p (held old f) → IsIn p (items w)) → KeepsPlaces (seen old) (seen new)
@@ -43,7 +43,7 @@ module _ {V : Type 0} (items : V → List ℕ) where
       let was : IsIn p (held old q) = subst (λ ps. IsIn p ps) (places-held old q) h in
       elim (truth (frame_eq f q)) [
         | inl s ↦
-            let same : f ≡ q = same_frame-eq f q (sym (frame_eq-same f q) ∙ s) in
+            let same : f ≡ q = same_frame-eq f q (sym (frame_eq-same tells f q) ∙ s) in
             let now : lookup (frame_eq q) new ≡ Some w = e q ∙ if_true _ _ _ s in
             subst (λ ps. IsIn p ps) (sym (places-held new q ∙ ap (λ o. unwrap_or (option_map items o) []) now))
             (more p (subst (λ g. IsIn p (held old g)) (sym same) was))

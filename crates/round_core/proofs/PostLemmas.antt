@@ -9,8 +9,8 @@ use Rattle.call_context.specs.declared.node.Node.{Node}
 use Rattle.call_context.specs.declared.node.Node.TheVariants.{At, Exit}
 use Rattle.call_context.specs.declared.node.Unit.{Unit as WorkUnit}
 use Rattle.call_context.specs.declared.node.Unit.TheVariants as unit
-use Rattle.call_context.specs.Same.{same_frame, same_node, same_unit}
-use Rattle.call_context.specs.SameLaws.{same_node-eq, same_unit-eq, same_unit-refl}
+use Rattle.round_core.specs.Same.{same_frame, same_node, same_unit}
+use Rattle.round_core.proofs.SameLaws.{same_node-eq, same_unit-eq, same_unit-refl}
 use Rattle.round_core.specs.declared.agenda.Agenda.{Agenda}
 use Rattle.round_core.specs.declared.parts.Parts.{Parts}
 use Rattle.round_core.specs.declared.place.Place.{Place}

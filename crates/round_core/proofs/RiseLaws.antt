@@ -4,8 +4,8 @@ use Rattle.std.specs.List.{AllByRecursion}
 use Rattle.std.proofs.Common.{refl, sym, ◌∙◌, ap, subst, inl, inr, arith}
 use Rattle.std.proofs.lemmas.Bool.{cases_Bool, cond-true, cond-false, false≢true, cond_both, cases_lt}
 use Rattle.call_context.specs.declared.node.Node.{Node}
-use Rattle.call_context.specs.Same.{same_node}
-use Rattle.call_context.specs.SameLaws.{same_node-eq}
+use Rattle.round_core.specs.Same.{same_node}
+use Rattle.round_core.proofs.SameLaws.{same_node-eq}
 use Rattle.chip_law.specs.Analysis.{Analysis, KeepsForm, TopIsGreatest, IsOrdered}
 use Rattle.round_core.specs.Table.{IsUnder}
 use Rattle.round_core.specs.Machine.{Held, held_at, risen_state, risen, raised, all_raised}

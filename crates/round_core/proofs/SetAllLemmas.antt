@@ -5,9 +5,9 @@ use Rattle.std.specs.Map.{lookup}
 use Rattle.std.proofs.Common.{refl, sym, ◌∙◌, ap, subst, inl, inr, arith}
 use Rattle.std.proofs.Math.Path.{ap₂}
 use Rattle.call_context.specs.declared.node.Node.{Node}
-use Rattle.call_context.specs.DerivedSame.{node_eq, node_eq-same}
-use Rattle.call_context.specs.Same.{same_node}
-use Rattle.call_context.specs.SameLaws.{same_node-eq, same_node-refl}
+use Rattle.round_core.proofs.DerivedTests.{TellsEqual, node_eq, node_eq-same}
+use Rattle.round_core.specs.Same.{same_node}
+use Rattle.round_core.proofs.SameLaws.{same_node-eq, same_node-refl}
 use Rattle.round_core.specs.Agenda.{IsIn}
 use Rattle.round_core.specs.Machine.{Held, held_at, with_held}
 use Rattle.round_core.specs.Nodes.{small_part, big_part}
@@ -16,11 +16,11 @@ use Rattle.round_core.specs.Shown.{AreDistinct}
 use Rattle.round_core.proofs.Cases.{truth, if_true, if_false}
 
 module _ {A : Type 0} where
-  lookup-small : (n : Node) (hs : List (Held A)) → lookup (node_eq n) (map small_part hs) ≡ option_map (λ h. h.rises) (held_at hs n)
-  lookup-small n [] = refl
-  lookup-small n (h ∷ hs) = elim (truth (same_node n h.node)) [
-    | inl s ↦ if_true _ _ _ (node_eq-same n h.node ∙ s) ∙ ap (λ o. option_map (λ (g : Held A). g.rises) o) (sym (if_true _ _ _ s))
-    | inr s ↦ if_false _ _ _ (node_eq-same n h.node ∙ s) ∙ lookup-small n hs ∙ ap (λ o. option_map (λ (g : Held A). g.rises) o) (sym (if_false _ _ _ s))
+  lookup-small : TellsEqual node_eq → (n : Node) (hs : List (Held A)) → lookup (node_eq n) (map small_part hs) ≡ option_map (λ h. h.rises) (held_at hs n)
+  lookup-small tells n [] = refl
+  lookup-small tells n (h ∷ hs) = elim (truth (same_node n h.node)) [
+    | inl s ↦ if_true _ _ _ (node_eq-same tells n h.node ∙ s) ∙ ap (λ o. option_map (λ (g : Held A). g.rises) o) (sym (if_true _ _ _ s))
+    | inr s ↦ if_false _ _ _ (node_eq-same tells n h.node ∙ s) ∙ lookup-small tells n hs ∙ ap (λ o. option_map (λ (g : Held A). g.rises) o) (sym (if_false _ _ _ s))
   ]
 
   in-other : (hs : List (Held A)) (h g : Held A) → IsIn h hs → held_at hs g.node ≡ None → same_node h.node g.node ≡ true → ⊥
@@ -59,20 +59,20 @@ module _ {A : Type 0} where
   row_of n s r = record { node = n; state = s; rises = r }
 
   -- the next row takes its place
-  pub set-step : (more : List (Held A)) (smalls : List (Node × ℕ)) (now now' goal : List (Held A)) (rest : List (Held A)) (n : Node) (state : A) (rises room room' : ℕ) (ys : List (Node × A))
+  pub set-step : TellsEqual node_eq → (more : List (Held A)) (smalls : List (Node × ℕ)) (now now' goal : List (Held A)) (rest : List (Held A)) (n : Node) (state : A) (rises room room' : ℕ) (ys : List (Node × A))
       → map big_part rest ≡ (n, state) ∷ ys → smalls ≡ map small_part more
       → ((count : ℕ) → lookup (node_eq n) smalls ≡ Some count → rises ≡ count)
       → now' ≡ with_held now (record { node = n; state = state; rises = rises }) → room ≤ room' + 1
       → with_all now rest ≡ goal → length rest ≤ room → ((h : Held A) → IsIn h rest → held_at more h.node ≡ Some h)
       → (rest' : List (Held A)) × (ys ≡ map big_part rest') × (with_all now' rest' ≡ goal) × (length rest' ≤ room') × ((h : Held A) → IsIn h rest' → held_at more h.node ≡ Some h)
-  set-step more smalls now now' goal rest n state rises room room' ys e small counts set one with small_enough found =
+  set-step tells more smalls now now' goal rest n state rises room room' ys e small counts set one with small_enough found =
       let u = uncons rest (n, state) ys e in
       let x = u.0 in
       let node : x.node ≡ n = ap (λ t. t.0) u.3 in
       let st : x.state ≡ state = ap (λ t. t.1) u.3 in
       let at : held_at more x.node ≡ Some x = found x (subst (λ t. IsIn x t) (sym u.2) (inl refl)) in
       let count : rises ≡ x.rises = counts x.rises
-      (ap (λ t. lookup (node_eq n) t) small ∙ lookup-small n more ∙ ap (λ m. option_map (λ (h : Held A). h.rises) (held_at more m)) (sym node)
+      (ap (λ t. lookup (node_eq n) t) small ∙ lookup-small tells n more ∙ ap (λ m. option_map (λ (h : Held A). h.rises) (held_at more m)) (sym node)
       ∙ ap (λ o. option_map (λ (h : Held A). h.rises) o) at) in
       let same : record { node = n; state = state; rises = rises } ≡ x = ap₂ (λ a c. row_of a c rises) (sym node) (sym st) ∙ ap (λ c. row_of x.node x.state c) count in
       let l = ap length u.2 in (

@@ -1,6 +1,6 @@
 -- The table of a closed book is closed.
 use Rattle.std.specs.Prelude.{◌≡◌, true, false, Option, None, Some, List, Contains, unwrap_or}
-use Rattle.std.specs.List.{AllByRecursion, list_any}
+use Rattle.std.specs.List.{list_any}
 use Rattle.std.specs.Option.{option_map}
 use Rattle.std.proofs.Common.{sym, ◌∙◌, ap, subst}
 use Rattle.std.proofs.lemmas.Option.{same_Some}
@@ -8,7 +8,7 @@ use Rattle.call_context.specs.declared.node.Node.{Node}
 use Rattle.call_context.specs.declared.node.Node.TheVariants.{At, Exit}
 use Rattle.call_context.specs.declared.node.Unit.{Unit as WorkUnit}
 use Rattle.call_context.specs.declared.node.Unit.TheVariants.{One, Back}
-use Rattle.call_context.specs.Same.{same_frame}
+use Rattle.round_core.specs.Same.{same_frame}
 use Rattle.round_core.proofs.HeldLaws.{option_map-some}
 use Rattle.round_core.proofs.EntryLaws.{each_of, inputs_of-found}
 use Rattle.round_core.proofs.ReplayLaws.{IsSteady}

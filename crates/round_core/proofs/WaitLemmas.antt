@@ -4,9 +4,9 @@ use Rattle.std.specs.List.{list_any}
 use Rattle.std.specs.Option.{option_map}
 use Rattle.std.proofs.Common.{refl, sym, ◌∙◌, ap, subst, inl, inr}
 use Rattle.call_context.specs.declared.node.Frame.{Frame}
-use Rattle.call_context.specs.Same.{same_frame}
-use Rattle.call_context.specs.SameLaws.{same_frame-eq, same_frame-refl}
-use Rattle.call_context.specs.Members.{in_none, in_cons, in_first, in_rest}
+use Rattle.round_core.specs.Same.{same_frame}
+use Rattle.round_core.proofs.SameLaws.{same_frame-eq, same_frame-refl}
+use Rattle.round_core.proofs.Members.{in_none, in_cons, in_first, in_rest}
 use Rattle.round_core.specs.Machine.{Done}
 use Rattle.round_core.specs.Agenda.{IsIn}
 use Rattle.round_core.proofs.Cases.{truth}

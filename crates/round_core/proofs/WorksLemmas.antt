@@ -1,136 +1,55 @@
--- The two lists of units that were done are the parts of the same rows.
-use Rattle.std.specs.Prelude.{◌≡◌, ℕ, suc, ◌+◌, ◌<◌, Bool, if◌then◌else◌, Option, None, Some, List, [], ◌∷◌, ◌++◌, map, length, slice_get, slice_set, position}
+-- The units of a book that were done in the rows of a table.
+use Rattle.std.specs.Prelude.{◌≡◌, Bool, Option, None, Some, List, [], ◌∷◌, map, MatchOption}
+use Rattle.std.specs.Borrow.{Bor}
 use Rattle.std.specs.Option.{option_map}
-use Rattle.std.specs.Map.{keys_of}
-use Rattle.std.proofs.Common.{refl, sym, ◌∙◌, ap, subst, inl, inr, arith}
-use Rattle.std.proofs.Math.Path.{ap₂}
-use Rattle.std.proofs.lemmas.Bool.Decides.{nat_tests}
+use Rattle.std.specs.Map.{lookup}
+use Rattle.std.proofs.Common.{refl, sym, ◌∙◌, ap, inl, inr}
 use Rattle.indexmap.specs.IndexMap.{insert_entry}
 use Rattle.call_context.specs.declared.node.Unit.{Unit as WorkUnit}
-use Rattle.call_context.specs.Same.{same_unit}
-use Rattle.call_context.specs.SameLaws.{same_unit-eq}
 use Rattle.chip_law.specs.declared.chip.Work.{Work}
 use Rattle.round_core.specs.declared.versions.Versions.{Versions}
+use Rattle.round_core.specs.Same.{same_unit}
 use Rattle.round_core.specs.Machine.{Done, done_at, with_done}
-use Rattle.round_core.specs.Reserved.{with_item}
-use Rattle.round_core.specs.Works.{small_part, big_part, rows_of, AreRowsOf}
-use Rattle.round_core.proofs.Cases.{truth, if_true, if_false, next_place, no_place}
-
-abbrev some_zero : Option ℕ
-some_zero = Some 0
+use Rattle.round_core.specs.Rows.{value_part}
+use Rattle.round_core.specs.Works.{done_of}
+use Rattle.round_core.proofs.Cases.{truth, if_true, if_false}
+use Rattle.round_core.proofs.SameLaws.{same_unit-eq}
 
 module _ {A : Type 0} where
-  -- the place of a unit among those that were done
-  abbrev pub unit_place : List (Done A) → WorkUnit → Option ℕ
-  unit_place [] unit = None
-  unit_place (d ∷ ds) unit = if same_unit unit d.unit then Some 0 else option_map (λ place. place + 1) (unit_place ds unit)
+  pub values-works : (rows : List (WorkUnit × (Work A × Versions))) → map value_part rows ≡ map (λ (d : Done A). (d.unit, d.work)) (map done_of rows)
+  values-works [] = refl
+  values-works (row ∷ rows) = ap (λ t. value_part row ∷ t) (values-works rows)
 
-  -- the rows of two lists of parts
-  rows_of-parts : (hs : List (Done A)) → rows_of (map small_part hs) (map big_part hs) ≡ hs
-  rows_of-parts [] = refl
-  rows_of-parts (h ∷ hs) = ap (λ t. h ∷ t) (rows_of-parts hs)
+  -- a test that is that of the definitions
+  module _ (unit : WorkUnit) (test : WorkUnit → Bool) (t : (k : WorkUnit) → test k ≡ same_unit unit k) where
+    abbrev found_as : Work A × Versions → Done A
+    found_as found = done_of (unit, found)
 
-  pub rows_are : (smalls : List (WorkUnit × Versions)) (bigs : List (WorkUnit × Work A)) (hs : List (Done A)) → smalls ≡ map small_part hs → bigs ≡ map big_part hs → (rows_of smalls bigs ≡ hs) × AreRowsOf smalls bigs
-  rows_are smalls bigs hs s b =
-      let e : rows_of smalls bigs ≡ hs = ap₂ (λ x y. rows_of x y) s b ∙ rows_of-parts hs in
-      (e, record { smalls_are = s ∙ ap (λ t. map small_part t) (sym e); bigs_are = b ∙ ap (λ t. map big_part t) (sym e) })
-
-  abbrev row_of : WorkUnit → Work A → Versions → Done A
-  row_of k b r = record { unit = k; work = b; versions = r }
-
-  some_small : (h : Done A) (k : WorkUnit) (small : Versions) → Some (small_part h) ≡ Some (k, small) → h.versions ≡ small
-  some_small h k small e = let f : small_part h ≡ (k, small) = cc in ap (λ t. t.1) f
-
-  some_big : (h : Done A) (b : WorkUnit × Work A) → Some (big_part h) ≡ Some b → h.work ≡ b.1
-  some_big h b e = let f : big_part h ≡ b = cc in ap (λ t. t.1) f
-
-  module _ (unit : WorkUnit) where
-    -- the index of a key is its place
-    pub position-place : (test : WorkUnit → Bool) → ((k : WorkUnit) → test k ≡ same_unit unit k) → (hs : List (Done A)) → position test (keys_of (map small_part hs)) ≡ unit_place hs unit
-    position-place test t [] = refl
-    position-place test t (h ∷ hs) = elim (truth (same_unit unit h.unit)) [
-      | inl s ↦ let e = t h.unit ∙ s in grind (arith, nat_tests, e, s)
-      | inr s ↦ let e = t h.unit ∙ s in let i = position-place test t hs in grind (arith, nat_tests, e, s, i)
-    ]
-
-    same_row : (h : Done A) (b : WorkUnit × Work A) (small : Versions) → unit ≡ h.unit → h.work ≡ b.1 → h.versions ≡ small → h ≡ record { unit = unit; work = b.1; versions = small }
-    same_row h b small e f r = ap₂ (λ k t. row_of k t h.versions) (sym e) f ∙ ap (λ t. row_of unit b.1 t) r
-
-    pub at-some : (hs : List (Done A)) (i : ℕ) → unit_place hs unit ≡ Some i → (k : WorkUnit) (small : Versions) → slice_get (map small_part hs) i ≡ Some (k, small) → (b : WorkUnit × Work A) → slice_get (map big_part hs) i ≡ Some b
-        → done_at hs unit ≡ Some (record { unit = unit; work = b.1; versions = small })
-    at-some [] i p k small g b h = absurd (cc)
-    at-some (h ∷ hs) i p k small g b q = elim (truth (same_unit unit h.unit)) [
+    pub lookup-done : (rows : List (WorkUnit × (Work A × Versions))) → done_at (map done_of rows) unit ≡ option_map found_as (lookup test rows)
+    lookup-done [] = refl
+    lookup-done (row ∷ rows) = elim (truth (same_unit unit row.0)) [
       | inl s ↦
-          let here : some_zero ≡ Some i = sym (if_true _ _ _ s) ∙ p in
-          let z : i ≡ 0 = cc in
-          let e : unit ≡ h.unit = same_unit-eq unit h.unit s in
-          let g0 : Some (small_part h) ≡ Some (k, small) = subst (λ n. slice_get (map small_part (h ∷ hs)) n ≡ Some (k, small)) z g in
-          let q0 : Some (big_part h) ≡ Some b = subst (λ n. slice_get (map big_part (h ∷ hs)) n ≡ Some b) z q in
-          if_true _ _ _ s ∙ ap (λ r. Some r) (same_row h b small e (some_big h b q0) (some_small h k small g0))
-      | inr s ↦
-          let n = next_place (unit_place hs unit) i (sym (if_false _ _ _ s) ∙ p) in
-          let below : i ≡ suc n.0 = omega arith in
-          if_false _ _ _ s ∙ at-some hs n.0 n.1 k small
-          (subst (λ m. slice_get (map small_part (h ∷ hs)) m ≡ Some (k, small)) below g) b
-          (subst (λ m. slice_get (map big_part (h ∷ hs)) m ≡ Some b) below q)
+          if_true _ _ _ s ∙ ap (λ k. Some (done_of (k, row.1))) (sym (same_unit-eq unit row.0 s))
+          ∙ ap (option_map found_as) (sym (if_true _ _ _ (t row.0 ∙ s)))
+      | inr s ↦ if_false _ _ _ s ∙ lookup-done rows ∙ ap (option_map found_as) (sym (if_false _ _ _ (t row.0 ∙ s)))
     ]
 
-    pub at-none : (hs : List (Done A)) → unit_place hs unit ≡ None → done_at hs unit ≡ None
-    at-none [] p = refl
-    at-none (h ∷ hs) p = elim (truth (same_unit unit h.unit)) [
-      | inl s ↦ let here : some_zero ≡ None = sym (if_true _ _ _ s) ∙ p in absurd (cc)
-      | inr s ↦ if_false _ _ _ s ∙ at-none hs (no_place _ (sym (if_false _ _ _ s) ∙ p))
-    ]
+    -- what a table finds is what the book has done
+    pub found-done : (rows : List (WorkUnit × (Work A × Versions))) (r : Option (Bor (Work A) × Versions))
+        → MatchOption r (lookup test rows ≡ None) (λ found. lookup test rows ≡ Some (found.0.now, found.1))
+        → MatchOption r (done_at (map done_of rows) unit ≡ None) (λ found. done_at (map done_of rows) unit ≡ Some (record { unit = unit; work = found.0.now; versions = found.1 }))
+    found-done rows None h = lookup-done rows ∙ ap (option_map found_as) h
+    found-done rows (Some found) h = lookup-done rows ∙ ap (option_map found_as) h
 
-    pub place-bound : (hs : List (Done A)) (i : ℕ) → unit_place hs unit ≡ Some i → i < length hs
-    place-bound [] i p = absurd (cc)
-    place-bound (h ∷ hs) i p = elim (truth (same_unit unit h.unit)) [
-      | inl s ↦ let here : some_zero ≡ Some i = sym (if_true _ _ _ s) ∙ p in let z : 0 ≡ i = cc in omega arith
-      | inr s ↦
-          let n = next_place (unit_place hs unit) i (sym (if_false _ _ _ s) ∙ p) in
-          let b = place-bound hs n.0 n.1 in omega arith
-    ]
-
-  module _ (x : Done A) where
-    pub set-present : (hs : List (Done A)) (i : ℕ) → unit_place hs x.unit ≡ Some i → slice_set (map big_part hs) i (x.unit, x.work) ≡ map big_part (with_done hs x)
-    set-present [] i p = absurd (cc)
-    set-present (h ∷ hs) i p = elim (truth (same_unit x.unit h.unit)) [
-      | inl s ↦
-          let here : some_zero ≡ Some i = sym (if_true _ _ _ s) ∙ p in
-          let z : 0 ≡ i = cc in
-          subst (λ n. slice_set (map big_part (h ∷ hs)) n (x.unit, x.work) ≡ map big_part (x ∷ hs)) z refl
-          ∙ ap (λ t. map big_part t) (sym (if_true _ _ _ s))
-      | inr s ↦
-          let n = next_place (unit_place hs x.unit) i (sym (if_false _ _ _ s) ∙ p) in
-          let below : suc n.0 ≡ i = omega arith in
-          subst (λ m. slice_set (map big_part (h ∷ hs)) m (x.unit, x.work) ≡ map big_part (h ∷ with_done hs x)) below
-          (ap (λ t. big_part h ∷ t) (set-present hs n.0 n.1))
-          ∙ ap (λ t. map big_part t) (sym (if_false _ _ _ s))
-    ]
-
-    pub set-absent : (hs : List (Done A)) → unit_place hs x.unit ≡ None → map big_part hs ++ (x.unit, x.work) ∷ [] ≡ map big_part (with_done hs x)
-    set-absent [] p = refl
-    set-absent (h ∷ hs) p = elim (truth (same_unit x.unit h.unit)) [
-      | inl s ↦ let here : some_zero ≡ None = sym (if_true _ _ _ s) ∙ p in absurd (cc)
-      | inr s ↦
-          ap (λ t. big_part h ∷ t) (set-absent hs (no_place _ (sym (if_false _ _ _ s) ∙ p)))
-          ∙ ap (λ t. map big_part t) (sym (if_false _ _ _ s))
-    ]
-
-    pub set-parts : (hs : List (Done A)) (o : Option ℕ) → o ≡ unit_place hs x.unit → with_item (map big_part hs) o (x.unit, x.work) ≡ map big_part (with_done hs x)
-    set-parts hs None e = set-absent hs (sym e)
-    set-parts hs (Some i) e = set-present hs i (sym e)
-
-    pub insert-parts : (eq : WorkUnit → WorkUnit → Bool) → ((k : WorkUnit) → eq x.unit k ≡ same_unit x.unit k) → (hs : List (Done A)) → insert_entry eq (map small_part hs) x.unit x.versions ≡ map small_part (with_done hs x)
-    insert-parts eq t [] = refl
-    insert-parts eq t (h ∷ hs) = elim (truth (same_unit x.unit h.unit)) [
-      | inl s ↦
-          let e : x.unit ≡ h.unit = same_unit-eq _ _ s in
-          if_true _ _ _ (t h.unit ∙ s)
-          ∙ ap (λ k. (k, x.versions) ∷ map small_part hs) (sym e)
-          ∙ ap (λ r. map small_part r) (sym (if_true _ _ _ s))
-      | inr s ↦
-          if_false _ _ _ (t h.unit ∙ s)
-          ∙ ap (λ r. small_part h ∷ r) (insert-parts eq t hs)
-          ∙ ap (λ r. map small_part r) (sym (if_false _ _ _ s))
-    ]
+  pub set-works : (eq : WorkUnit → WorkUnit → Bool) (unit : WorkUnit) → ((k : WorkUnit) → eq unit k ≡ same_unit unit k) → (work : Work A) (versions : Versions)
+      → (rows : List (WorkUnit × (Work A × Versions)))
+      → map done_of (insert_entry eq rows unit (work, versions)) ≡ with_done (map done_of rows) (done_of (unit, (work, versions)))
+  set-works eq unit t work versions [] = refl
+  set-works eq unit t work versions (row ∷ rows) = elim (truth (same_unit unit row.0)) [
+    | inl s ↦
+        ap (map done_of) (if_true _ _ _ (t row.0 ∙ s))
+        ∙ ap (λ k. done_of (k, (work, versions)) ∷ map done_of rows) (sym (same_unit-eq unit row.0 s)) ∙ sym (if_true _ _ _ s)
+    | inr s ↦
+        ap (map done_of) (if_false _ _ _ (t row.0 ∙ s))
+        ∙ ap (λ r. done_of row ∷ r) (set-works eq unit t work versions rows) ∙ sym (if_false _ _ _ s)
+  ]

@@ -1,7 +1,7 @@
 -- What a book has once, and how often a unit was claimed, posted and given back.
 use Rattle.std.specs.Prelude.{ℕ, ◌==◌, ◌&&◌, Bool, true, false, cond, Option, None, Some, List, count_by, ◌≡◌, ◌≢◌, [], ◌∷◌}
 use Rattle.call_context.specs.declared.node.Unit.{Unit as WorkUnit}
-use Rattle.call_context.specs.Same.{same_unit}
+use Rattle.round_core.specs.Same.{same_unit}
 use Rattle.round_core.specs.declared.event.Event.{Event}
 use Rattle.round_core.specs.declared.event.Event.TheVariants.{Claim, Post, GiveBack}
 use Rattle.round_core.specs.Machine.{Held, Out, held_at, out_at}

@@ -34,6 +34,10 @@ abbrev pub is_live : {A : Type 0} → List (Done A) → WorkUnit → Bool
 is_live done (One node) = true
 is_live done (Back node exit) = waits_for done node (frame_of exit)
 
+-- the book's units with their last works
+abbrev pub live_pairs : {A : Type 0} → BookState A → List (WorkUnit × Work A)
+live_pairs b = filter (λ p. is_live b.done p.0) (works_of b)
+
 -- the last works of the book's units
 abbrev pub live_works : {A : Type 0} → BookState A → List (Work A)
-live_works b = map (λ p. p.1) (filter (λ p. is_live b.done p.0) (works_of b))
+live_works b = map (λ p. p.1) (live_pairs b)

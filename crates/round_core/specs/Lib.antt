@@ -4,6 +4,7 @@ pub mod Claims
 pub mod Counting
 pub mod Counts
 pub mod Expected
+pub mod Former
 pub mod Kept
 pub mod Machine
 pub mod Nodes
@@ -13,6 +14,7 @@ pub mod Raise
 pub mod Reserved
 pub mod Returns
 pub mod Rows
+pub mod Same
 pub mod Shown
 pub mod Table
 pub mod Tickets

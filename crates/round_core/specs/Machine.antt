@@ -9,7 +9,7 @@ use Rattle.call_context.specs.declared.node.Node.{Node}
 use Rattle.call_context.specs.declared.node.Node.TheVariants.{At, Exit}
 use Rattle.call_context.specs.declared.node.Unit.{Unit as WorkUnit}
 use Rattle.call_context.specs.declared.node.Unit.TheVariants.{One, Back}
-use Rattle.call_context.specs.Same.{same_frame, same_node, same_unit}
+use Rattle.round_core.specs.Same.{same_frame, same_node, same_unit}
 use Rattle.chip_law.specs.Analysis.{Analysis}
 use Rattle.chip_law.specs.declared.chip.Work.{Work}
 use Rattle.round_core.specs.declared.versions.Versions.{Versions}

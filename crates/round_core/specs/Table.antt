@@ -1,5 +1,5 @@
 -- The table of a book, and where its works come from.
-use Rattle.std.specs.Prelude.{◌≡◌, ℕ, true, Option, Some, List}
+use Rattle.std.specs.Prelude.{◌≡◌, true, Option, Some, List}
 use Rattle.std.specs.Option.{option_map}
 use Rattle.call_context.specs.declared.node.Node.{Node}
 use Rattle.call_context.specs.declared.node.Unit.{Unit as WorkUnit}

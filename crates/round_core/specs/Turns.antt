@@ -2,7 +2,7 @@
 use Rattle.std.specs.Prelude.{◌≡◌, ◌+◌, if◌then◌else◌, Option, None, List, length}
 use Rattle.std.specs.Map.{lookup}
 use Rattle.call_context.specs.declared.node.Unit.{Unit as WorkUnit}
-use Rattle.call_context.specs.Same.{same_unit}
+use Rattle.round_core.specs.Same.{same_unit}
 use Rattle.round_core.specs.declared.event.Event.{Event}
 use Rattle.round_core.specs.declared.place.Place.{Place}
 

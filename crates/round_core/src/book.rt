@@ -1,7 +1,7 @@
 //! The book and its readings.
 
 ghost use Rattle.std.specs.Prelude.{◌≡◌, ◌↔◌, [], IsTrue, IfOk};
-ghost use Rattle.round_core.specs.Kept.{nodes_of, works_of, is_live};
+ghost use Rattle.round_core.specs.Kept.{nodes_of, works_of, is_live, live_pairs};
 ghost use Rattle.round_core.specs.Machine.{replay, IsFinished, IsLegalJournal};
 
 use crate::event::Event;
@@ -75,6 +75,18 @@ impl<C: Chip> Book<C> {
         ensures journal { result.2.items ≡ self.journal }
     {
         self.parts.into_vecs()
+    }
+
+    /// What contracts see of the chip, the nodes with their states, and the units of the book with their last works.
+    /// Returns whose location no longer waits for the exit's frame are left out, in place.
+    pub fn into_live(self) -> (Snapshot<C>, Vec<(Node, C::Abs)>, Vec<(Unit, Work<C::Abs>)>)
+        ensures base { C.base result.0.value ≡ self.base }
+        ensures nodes { result.1.items ≡ nodes_of (replay (C.analysis self.base) self.journal) }
+        ensures works { result.2.items ≡ live_pairs (replay (C.analysis self.base) self.journal) }
+    {
+        let Book { chip, parts } = self;
+        let (nodes, works) = parts.into_live();
+        (chip, nodes, works)
     }
 
     /// Whether a unit that was done is still one of the book: a return whose location no longer waits for the frame of

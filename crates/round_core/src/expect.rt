@@ -123,7 +123,7 @@ pub fn expect_raised<A>(
     let mut next = nodes.len();
     for index in 0..raised.len() {
         match raised.at(index) {
-            Some((node, _)) => next = expect_row(agenda, works, nodes, node, next)?,
+            Some(node) => next = expect_row(agenda, works, nodes, node, next)?,
             None => unreachable!(),
         }
     }

@@ -3,7 +3,8 @@
 //! states of the form.
 
 ghost use Rattle.std.specs.Prelude.{◌≡◌, ◌+◌, ◌≤◌, ◌≢◌, ◌==◌, ℕ, Option, List, ◌∷◌, [], ◌++◌, Some, Contains};
-ghost use Rattle.std.specs.List.{AllByRecursion};
+ghost use Rattle.std.specs.List.{AllByRecursion, IsDistinct};
+ghost use Rattle.std.specs.Map.{keys_of};
 ghost use Rattle.call_context.specs.declared.node.Node.{Node as ANode};
 ghost use Rattle.call_context.specs.declared.node.Unit.{Unit as WorkUnit};
 ghost use Rattle.chip_law.specs.Analysis.{KeepsForm, TopIsGreatest, IsOrdered};
@@ -11,8 +12,9 @@ ghost use Rattle.chip_law.specs.Table.{IsUnitOver, IsClosedTable, IsFormedTable}
 ghost use Rattle.chip_law.specs.declared.chip.Work.{Work};
 ghost use Rattle.round_core.specs.declared.event.Event.{Event as AnEvent};
 ghost use Rattle.round_core.specs.declared.event.Event.TheVariants.{Claim, Post, GiveBack};
-ghost use Rattle.round_core.specs.Kept.{live_works};
+ghost use Rattle.round_core.specs.Kept.{live_pairs, live_works};
 ghost use Rattle.round_core.specs.Machine.{BookState, Held, Done, Out, versions_of, HasRisen, IsClaimable, held_at, done_at, out_at, place_of, version_of, IsFirst, IsUnit, IsFinished, IsClosed, IsLegal, IsLegalJournal, replay};
+ghost use Rattle.round_core.specs.Same.{same_unit};
 ghost use Rattle.round_core.specs.Table.{table_of, IsUnder, IsWorkOf, IsOfUnit};
 ghost use Rattle.round_core.specs.Counts.{anyone, outs, claims_of, posts_of, give_backs_of, claims_by, posts_by, give_backs_by, AreApart, AreOutOnce, NoneOfSeat};
 
@@ -167,6 +169,21 @@ pub fn live_works_are_of_units<C: Chip>()
         (journal : List AnEvent) (work : Work C.Abs) → KeepsForm a → TopIsGreatest a
         → IsLegalJournal a journal → Contains (live_works (replay a journal)) work
         → IsOfUnit a (replay a journal).nodes work) }
+{}
+
+/// The pairs of a book's units with their last works: each unit of the book that was done is there, each that is there
+/// is a unit of the book with its last work, and none is there twice.
+pub fn live_pairs_are_units<C: Chip>()
+    ensures listed { (base : C.Base) → (let a = C.analysis base in
+        (b : BookState C.Abs) (unit : WorkUnit) (d : Done C.Abs) → IsUnit b unit
+        → done_at b.done unit ≡ Some d → Contains (live_pairs b) (unit, d.work)) }
+    ensures units { (base : C.Base) → (let a = C.analysis base in
+        (journal : List AnEvent) (unit : WorkUnit) (work : Work C.Abs) → IsLegalJournal a journal
+        → Contains (live_pairs (replay a journal)) (unit, work)
+        → IsUnit (replay a journal) unit × (d : Done C.Abs) × (done_at (replay a journal).done unit ≡ Some d) × (d.work ≡ work)) }
+    ensures once { (base : C.Base) → (let a = C.analysis base in
+        (journal : List AnEvent) → IsLegalJournal a journal
+        → IsDistinct same_unit (keys_of (live_pairs (replay a journal)))) }
 {}
 
 /// A unit that was out can be claimed anew, where it still is a unit of the book: behind a post if an input rose since

@@ -7,6 +7,7 @@ mod candidates;
 mod claim;
 mod event;
 mod expect;
+mod former;
 mod laws;
 mod nodes;
 mod parts;
@@ -15,6 +16,7 @@ mod places;
 mod post;
 mod raise;
 mod reserved;
+mod table;
 mod ticket;
 mod turns;
 mod versions;
@@ -25,8 +27,8 @@ pub use event::Event;
 pub use laws::{
     claims_are_answered, claims_are_bounded, closed_book_has_closed_table,
     finished_book_is_its_table, finished_is_a_fixpoint, finished_is_the_end, first_is_one,
-    journals_grow, live_works_are_of_units, nodes_stay, outs_stay, rises_are_bounded,
-    turns_bring_home, units_come_again,
+    journals_grow, live_pairs_are_units, live_works_are_of_units, nodes_stay, outs_stay,
+    rises_are_bounded, turns_bring_home, units_come_again,
 };
 pub use ticket::{Claimed, Done, Ticket};
 pub use versions::Versions;

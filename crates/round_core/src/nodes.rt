@@ -4,13 +4,12 @@ ghost use Rattle.std.specs.Prelude.{◌≡◌, ◌≤◌, ◌+◌, ◌<◌, [], 
 ghost use Rattle.std.specs.Option.{option_map};
 ghost use Rattle.round_core.specs.Machine.{Held, held_at, with_held, place_of, version_of, versions_of};
 ghost use Rattle.std.specs.Map.{lookup};
-ghost use Rattle.call_context.specs.DerivedSame.{node_eq};
 ghost use Rattle.round_core.specs.Raise.{with_all};
 ghost use Rattle.round_core.specs.Shown.{AreDistinct};
 
-use crate::reserved::put_reserved;
+use crate::table::Table;
 use crate::versions::Versions;
-use call_context::{Node, Unit};
+use call_context::{Node, Unit, equal_nodes_are_one};
 use indexmap::IndexMap;
 use std::alloc::Global;
 use std::marker::Model;
@@ -19,13 +18,12 @@ use vsa_io::Memory;
 /// Nodes with their states and how often those rose, in the order of first posts.
 #[derive(Drop)]
 pub struct Nodes<A> {
-    rises: IndexMap<Node, u32>,
-    states: Vec<(Node, A)>,
+    table: Table<Node, A, u32>,
 }
 
 /// How often a node rose, where that is known.
 fn rises_of(rises: &IndexMap<Node, u32>, node: &Node) -> u32
-    ensures { (count : ℕ) → lookup (node_eq node.now) rises.now.entries ≡ Some count → result ≡ count }
+    ensures { (count : ℕ) → lookup (⟦<Node as PartialEq>⟧.eq node.now) rises.now.entries ≡ Some count → result ≡ count }
 {
     match rises.get(node) {
         Some(count) => *count,
@@ -34,20 +32,14 @@ fn rises_of(rises: &IndexMap<Node, u32>, node: &Node) -> u32
 }
 
 impl<A> Model for Nodes<A> {
-    ghost use Rattle.std.specs.Prelude.{◌-◌, min, vec_len, vec_capacity};
-    ghost use Rattle.indexmap.specs.IndexMap.{spare};
+    ghost use Rattle.std.specs.Prelude.{map};
     ghost use Rattle.round_core.specs.Rows.{Rows};
     ghost use Rattle.round_core.specs.Machine.{Held};
-    ghost use Rattle.round_core.specs.Nodes.{rows_of, AreRowsOf};
+    ghost use Rattle.round_core.specs.Nodes.{held_of};
 
     ghost Value = { Rows (Held A) };
 
-    ghost view = { λ table. record {
-      rows = rows_of table.rises.entries table.states.items;
-      room = min (spare table.rises) (vec_capacity table.states - vec_len table.states);
-    } };
-
-    ghost invariant = { λ table. AreRowsOf table.rises.entries table.states.items };
+    ghost view = { λ nodes. record { rows = map held_of nodes.table.rows; room = nodes.table.room } };
 }
 
 impl<A> Nodes<A> {
@@ -56,8 +48,7 @@ impl<A> Nodes<A> {
         ensures { result.rows ≡ [] }
     {
         Nodes {
-            rises: IndexMap::new(alloc),
-            states: Vec::new(alloc),
+            table: Table::new(alloc),
         }
     }
 
@@ -65,28 +56,28 @@ impl<A> Nodes<A> {
     pub fn as_slice(&self) -> &[(Node, A)]
         ensures { result.now ≡ map (λ row. (row.node, row.state)) self.now.rows }
     {
-        self.states.as_slice()
+        self.table.as_slice()
     }
 
     /// The same as a vector.
     pub fn into_vec(self) -> Vec<(Node, A)>
         ensures { result.items ≡ map (λ row. (row.node, row.state)) self.rows }
     {
-        self.states
+        let (_, states) = self.table.into_parts();
+        states
     }
 
     /// The state of a node, and how often it rose.
     pub fn find(&self, node: &Node) -> Option<(&A, u32)>
         ensures { MatchOption result (held_at self.now.rows node.now ≡ None) (λ found. held_at self.now.rows node.now ≡ Some (record { node = node.now; state = found.0.now; rises = found.1 })) }
     {
-        let (index, _, rises) = self.rises.get_full(node)?;
-        let (_, state) = self.states.get(index)?;
-        Some((state, *rises))
+        equal_nodes_are_one();
+        self.table.find(node)
     }
 
     /// The allocator.
     pub fn allocator(&self) -> Global {
-        *self.states.allocator()
+        self.table.allocator()
     }
 
     /// How many there are.
@@ -94,22 +85,22 @@ impl<A> Nodes<A> {
         ensures len { result ≡ length self.now.rows }
         ensures small { result < 2 ^ 63 }
     {
-        self.rises.len()
+        self.table.len()
     }
 
     /// The place of a node.
     pub fn place(&self, node: &Node) -> Option<usize>
         ensures { result ≡ place_of self.now.rows node.now }
     {
-        self.rises.get_index_of(node)
+        equal_nodes_are_one();
+        self.table.place(node)
     }
 
-    /// The node at a place, with its state.
-    pub fn at(&self, place: usize) -> Option<(&Node, &A)>
-        ensures { MatchOption result (length self.now.rows ≤ place) (λ found. (row : Held A) × (slice_get self.now.rows place ≡ Some row) × (found.0.now ≡ row.node) × (found.1.now ≡ row.state)) }
+    /// The node at a place.
+    pub fn at(&self, place: usize) -> Option<&Node>
+        ensures { MatchOption result (length self.now.rows ≤ place) (λ node. (row : Held A) × (slice_get self.now.rows place ≡ Some row) × (node.now ≡ row.node)) }
     {
-        let (node, state) = self.states.get(place)?;
-        Some((node, state))
+        self.table.key_at(place)
     }
 
     /// How often the state of a node has risen.
@@ -143,9 +134,7 @@ impl<A> Nodes<A> {
         ensures rows { self.new.rows ≡ self.old.rows }
         ensures room { OnOk result (more ≤ self.new.room) }
     {
-        self.rises.reserve(more)?;
-        self.states.reserve(more)?;
-        Ok(())
+        self.table.reserve(more)
     }
 
     /// Puts a row in the place of the one with its node, or last. There is room for it.
@@ -156,12 +145,8 @@ impl<A> Nodes<A> {
         ensures rows { self.new.rows ≡ with_held self.old.rows (record { node = node; state = state; rises = rises }) }
         ensures room { self.old.room ≤ self.new.room + 1 }
     {
-        let index = self.rises.get_index_of(&node);
-        put_reserved(&mut self.states, index, (node, state));
-        match self.rises.insert(node, rises) {
-            Ok(_) => {}
-            Err(_) => unreachable!(),
-        }
+        equal_nodes_are_one();
+        self.table.set(node, state, rises);
     }
 
     /// Puts a row in the place of the one with its node, or last.
@@ -183,7 +168,8 @@ impl<A> Nodes<A> {
         requires distinct { AreDistinct more.rows }
         ensures { self.new.rows ≡ with_all self.old.rows more.rows }
     {
-        let Nodes { rises, states } = more;
+        equal_nodes_are_one();
+        let (rises, states) = more.table.into_parts();
         for (node, state) in states {
             let rises = rises_of(&rises, &node);
             self.set(node, state, rises);

@@ -1,7 +1,9 @@
 //! What a book keeps.
 
-ghost use Rattle.std.specs.Prelude.{◌≡◌, ◌<◌, ◌≤◌, length, ◌++◌, ◌∷◌, [], None, IsSome, OnErr, Some, IfOk, MatchOption, OnOk, IsTrue, is_some, map, not, ◌↔◌};
-ghost use Rattle.std.specs.List.{list_any};
+ghost use Rattle.std.specs.Prelude.{false, filter, ◌≡◌, ◌<◌, ◌≤◌, length, ◌++◌, ◌∷◌, [], None, IsSome, OnErr, Some, IfOk, MatchOption, OnOk, IsTrue, is_some, map, not, ◌↔◌};
+ghost use Rattle.std.specs.List.{AllByRecursion, list_any};
+ghost use Rattle.round_core.specs.Former.{is_no_unit};
+ghost use Rattle.round_core.specs.Kept.{is_live};
 ghost use Rattle.round_core.specs.Claims.{one_of, back_of, unit_at, due_of, claimable_at, placed};
 ghost use Rattle.round_core.specs.Machine.{BookState, Out, done_at, out_at, versions_of, with_done, without, IsClaimable, IsFirst, IsFinished, NoneClaimable};
 ghost use Rattle.round_core.specs.Turns.{place_out, TakesHome};
@@ -89,12 +91,12 @@ impl<A> Parts<A> {
     {
         match place {
             Place::One(node) => {
-                let (node, _) = self.nodes.at(node)?;
+                let node = self.nodes.at(node)?;
                 one_of(node)
             }
             Place::Back(node, exit) => {
-                let (node, _) = self.nodes.at(node)?;
-                let (exit, _) = self.nodes.at(exit)?;
+                let node = self.nodes.at(node)?;
+                let exit = self.nodes.at(exit)?;
                 self.back_of(node, exit)
             }
         }
@@ -209,6 +211,23 @@ impl<A: Drop> Parts<A> {
             agenda: _,
         } = self;
         (nodes.into_vec(), works.into_vec(), turns.into_journal())
+    }
+}
+
+impl<A: Drop> Parts<A> {
+    /// The nodes with their states, and the units that are still units of the book with their last works.
+    pub fn into_live(self) -> (Vec<(Node, A)>, Vec<(Unit, Work<A>)>)
+        requires { AllByRecursion (λ row. is_no_unit row.unit ≡ false) self.works.rows }
+        ensures nodes { result.0.items ≡ map (λ row. (row.node, row.state)) self.nodes.rows }
+        ensures works { result.1.items ≡ filter (λ p. is_live self.works.rows p.0) (map (λ row. (row.unit, row.work)) self.works.rows) }
+    {
+        let Parts {
+            nodes,
+            works,
+            turns: _,
+            agenda: _,
+        } = self;
+        (nodes.into_vec(), works.into_live())
     }
 }
 

@@ -2,10 +2,9 @@
 
 ghost use Rattle.std.specs.Prelude.{◌≡◌, [], OnOk, IsSome, None};
 ghost use Rattle.std.specs.Map.{lookup};
-ghost use Rattle.call_context.specs.DerivedSame.{frame_eq};
 ghost use Rattle.round_core.specs.Agenda.{IsIn, places_in, seen, KeepsPlaces};
 
-use call_context::Frame;
+use call_context::{Frame, equal_nodes_are_one};
 use indexmap::IndexMap;
 use std::alloc::Global;
 use std::marker::Model;
@@ -34,9 +33,10 @@ fn add_to_present(
     frame: &Frame,
     place: usize,
 ) -> Result<(), Memory>
-    ensures added { OnOk result (IsSome (lookup (frame_eq frame.now) by_frame.old.entries) → IsIn place (places_in (seen by_frame.new.entries) frame.now)) }
+    ensures added { OnOk result (IsSome (lookup (⟦<Frame as PartialEq>⟧.eq frame.now) by_frame.old.entries) → IsIn place (places_in (seen by_frame.new.entries) frame.now)) }
     ensures kept { KeepsPlaces (seen by_frame.old.entries) (seen by_frame.new.entries) }
 {
+    equal_nodes_are_one();
     match by_frame.get_mut(frame) {
         Some(places) => {
             places.push(place)?;
@@ -52,10 +52,11 @@ fn add_new(
     frame: &Frame,
     place: usize,
 ) -> Result<(), Memory>
-    requires { lookup (frame_eq frame.now) by_frame.old.entries ≡ None }
+    requires { lookup (⟦<Frame as PartialEq>⟧.eq frame.now) by_frame.old.entries ≡ None }
     ensures added { OnOk result (IsIn place (places_in (seen by_frame.new.entries) frame.now)) }
     ensures kept { KeepsPlaces (seen by_frame.old.entries) (seen by_frame.new.entries) }
 {
+    equal_nodes_are_one();
     let mut places = Vec::new(*by_frame.allocator());
     places.push(place)?;
     by_frame.insert(*frame, places)?;
@@ -76,6 +77,7 @@ impl Places {
     pub fn of(&self, frame: &Frame) -> &[usize]
         ensures { result.now ≡ places_in self.now frame.now }
     {
+        equal_nodes_are_one();
         match self.by_frame.get(frame) {
             Some(places) => places.as_slice(),
             None => &[],

@@ -7,7 +7,7 @@ ghost use Rattle.round_core.specs.declared.place.Place.{Place};
 use crate::event::Event;
 use crate::place::Place;
 use crate::reserved::push_reserved;
-use call_context::Unit;
+use call_context::{Unit, equal_nodes_are_one};
 use indexmap::IndexMap;
 use std::alloc::Global;
 use std::marker::Model;
@@ -41,6 +41,7 @@ fn take_home(out: &mut IndexMap<Unit, Place>, unit: &Unit) -> Place
     ensures place { place_out out.old.entries unit.now ≡ Some result }
     ensures others { TakesHome out.old.entries unit.now out.new.entries }
 {
+    equal_nodes_are_one();
     match out.swap_remove(unit) {
         Some(place) => place,
         None => unreachable!(),
@@ -98,6 +99,7 @@ impl Turns {
     pub fn is_out(&self, unit: &Unit) -> bool
         ensures { result ≡ is_some (place_out self.now.out unit.now) }
     {
+        equal_nodes_are_one();
         self.out.contains_key(unit)
     }
 
@@ -111,6 +113,7 @@ impl Turns {
         }) }
         ensures refused { OnErr result (self.new ≡ self.old) }
     {
+        equal_nodes_are_one();
         let ends = self.out.len() + 1;
         self.returned.reserve(ends)?;
         self.journal.reserve(ends + 1)?;

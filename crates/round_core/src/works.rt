@@ -1,15 +1,17 @@
 //! The units of a book that were done.
 
-ghost use Rattle.std.specs.Prelude.{◌≡◌, ◌≤◌, ◌+◌, ◌<◌, [], map, IfOk, OnOk, IfSome, MatchOption, length, slice_get, Some, None, ◌^◌, ℕ};
+ghost use Rattle.std.specs.Prelude.{false, filter, ◌≡◌, ◌≤◌, ◌+◌, ◌<◌, [], map, IfOk, OnOk, IfSome, MatchOption, length, slice_get, Some, None, ◌^◌, ℕ};
+ghost use Rattle.std.specs.List.{AllByRecursion};
 ghost use Rattle.std.specs.Option.{option_map};
+ghost use Rattle.round_core.specs.Former.{is_no_unit};
 ghost use Rattle.round_core.specs.Kept.{is_live};
 ghost use Rattle.round_core.specs.Machine.{Done, done_at, with_done, waits_for};
 
-use crate::reserved::put_reserved;
+use crate::former::{live_works, waits};
+use crate::table::Table;
 use crate::versions::Versions;
-use call_context::{Frame, Node, Unit};
+use call_context::{Frame, Node, Unit, equal_nodes_are_one};
 use chip_law::Work;
-use indexmap::IndexMap;
 use std::alloc::Global;
 use std::marker::Model;
 use vsa_io::Memory;
@@ -17,25 +19,18 @@ use vsa_io::Memory;
 /// Units with their last works and the versions of their inputs, in the order in which they were first done.
 #[derive(Drop)]
 pub struct Works<A> {
-    versions: IndexMap<Unit, Versions>,
-    works: Vec<(Unit, Work<A>)>,
+    table: Table<Unit, Work<A>, Versions>,
 }
 
 impl<A> Model for Works<A> {
-    ghost use Rattle.std.specs.Prelude.{◌-◌, min, vec_len, vec_capacity};
-    ghost use Rattle.indexmap.specs.IndexMap.{spare};
+    ghost use Rattle.std.specs.Prelude.{map};
     ghost use Rattle.round_core.specs.Rows.{Rows};
     ghost use Rattle.round_core.specs.Machine.{Done};
-    ghost use Rattle.round_core.specs.Works.{rows_of, AreRowsOf};
+    ghost use Rattle.round_core.specs.Works.{done_of};
 
     ghost Value = { Rows (Done A) };
 
-    ghost view = { λ table. record {
-      rows = rows_of table.versions.entries table.works.items;
-      room = min (spare table.versions) (vec_capacity table.works - vec_len table.works);
-    } };
-
-    ghost invariant = { λ table. AreRowsOf table.versions.entries table.works.items };
+    ghost view = { λ works. record { rows = map done_of works.table.rows; room = works.table.room } };
 }
 
 impl<A> Works<A> {
@@ -44,8 +39,7 @@ impl<A> Works<A> {
         ensures { result.rows ≡ [] }
     {
         Works {
-            versions: IndexMap::new(alloc),
-            works: Vec::new(alloc),
+            table: Table::new(alloc),
         }
     }
 
@@ -53,23 +47,34 @@ impl<A> Works<A> {
     pub fn as_slice(&self) -> &[(Unit, Work<A>)]
         ensures { result.now ≡ map (λ row. (row.unit, row.work)) self.now.rows }
     {
-        self.works.as_slice()
+        self.table.as_slice()
     }
 
     /// The same as a vector.
     pub fn into_vec(self) -> Vec<(Unit, Work<A>)>
         ensures { result.items ≡ map (λ row. (row.unit, row.work)) self.rows }
     {
-        self.works
+        let (_, works) = self.table.into_parts();
+        works
+    }
+
+    /// The units that are still units of the book, with their last works.
+    pub fn into_live(self) -> Vec<(Unit, Work<A>)>
+    where
+        A: Drop,
+        requires { AllByRecursion (λ row. is_no_unit row.unit ≡ false) self.rows }
+        ensures { result.items ≡ filter (λ p. is_live self.rows p.0) (map (λ row. (row.unit, row.work)) self.rows) }
+    {
+        let (places, works) = self.table.into_parts();
+        live_works(&places, works)
     }
 
     /// The last work of a unit, and the versions of its inputs.
     pub fn find(&self, unit: &Unit) -> Option<(&Work<A>, Versions)>
         ensures { MatchOption result (done_at self.now.rows unit.now ≡ None) (λ found. done_at self.now.rows unit.now ≡ Some (record { unit = unit.now; work = found.0.now; versions = found.1 })) }
     {
-        let (index, _, versions) = self.versions.get_full(unit)?;
-        let (_, work) = self.works.get(index)?;
-        Some((work, *versions))
+        equal_nodes_are_one();
+        self.table.find(unit)
     }
 
     /// Whether the last work of a location waits for a frame.
@@ -77,7 +82,7 @@ impl<A> Works<A> {
         ensures { result ≡ waits_for self.now.rows node.now frame.now }
     {
         match self.find(&Unit::One(*node)) {
-            Some((work, _)) => work.waits.as_slice().contains(frame),
+            Some((work, _)) => waits(work, frame),
             None => false,
         }
     }
@@ -99,9 +104,7 @@ impl<A> Works<A> {
         ensures rows { self.new.rows ≡ self.old.rows }
         ensures room { OnOk result (more ≤ self.new.room) }
     {
-        self.versions.reserve(more)?;
-        self.works.reserve(more)?;
-        Ok(())
+        self.table.reserve(more)
     }
 
     /// Puts a row in the place of the one with its unit, or last. There is room for it.
@@ -112,11 +115,7 @@ impl<A> Works<A> {
         ensures rows { self.new.rows ≡ with_done self.old.rows (record { unit = unit; work = work; versions = versions }) }
         ensures room { self.old.room ≤ self.new.room + 1 }
     {
-        let index = self.versions.get_index_of(&unit);
-        put_reserved(&mut self.works, index, (unit, work));
-        match self.versions.insert(unit, versions) {
-            Ok(_) => {}
-            Err(_) => unreachable!(),
-        }
+        equal_nodes_are_one();
+        self.table.set(unit, work, versions);
     }
 }

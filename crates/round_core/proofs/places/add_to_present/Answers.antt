@@ -20,21 +20,21 @@ held_of (Some w) v e p h = let same : w ≡ v = cc in subst (λ (u : Vec ℕ Glo
 pub returns-in_err-push-in-Some-clause-kept : goal.returns-in_err-push-in-Some-clause-kept
 returns-in_err-push-in-Some-clause-kept c =
     let w = c.get_mut.follows.holds c.push.new.self in
-    writes-kept (λ (v : Vec ℕ Global). v.items) c.args.by_frame.now.entries _ c.args.frame.now c.push.new.self
+    writes-kept c.equal_nodes_are_one.ensures.frames (λ (v : Vec ℕ Global). v.items) c.args.by_frame.now.entries _ c.args.frame.now c.push.new.self
     ((w.3 (some_value _ _ c.in-Some.ensures.value)).0)
     (λ p h. subst (λ xs. IsIn p xs) (sym c.in_err-push-in-Some.ensures.items) (held_of _ _ c.in-Some.ensures.value p h))
 
 pub returns-in_ok-push-in-Some-clause-added : goal.returns-in_ok-push-in-Some-clause-added
 returns-in_ok-push-in-Some-clause-added c = λ _.
     let w = c.get_mut.follows.holds c.push.new.self in
-    writes-added (λ (v : Vec ℕ Global). v.items) c.args.by_frame.now.entries _ c.args.frame.now c.push.new.self
+    writes-added c.equal_nodes_are_one.ensures.frames (λ (v : Vec ℕ Global). v.items) c.args.by_frame.now.entries _ c.args.frame.now c.push.new.self
     ((w.3 (some_value _ _ c.in-Some.ensures.value)).0) c.args.place
     (subst (λ xs. IsIn c.args.place xs) (sym c.in_ok-push-in-Some.ensures.items) (IsIn-last c.args.place c.in-Some.places.now.items (c.args.place ∷ []) (inl refl)))
 
 pub returns-in_ok-push-in-Some-clause-kept : goal.returns-in_ok-push-in-Some-clause-kept
 returns-in_ok-push-in-Some-clause-kept c =
     let w = c.get_mut.follows.holds c.push.new.self in
-    writes-kept (λ (v : Vec ℕ Global). v.items) c.args.by_frame.now.entries _ c.args.frame.now c.push.new.self
+    writes-kept c.equal_nodes_are_one.ensures.frames (λ (v : Vec ℕ Global). v.items) c.args.by_frame.now.entries _ c.args.frame.now c.push.new.self
     ((w.3 (some_value _ _ c.in-Some.ensures.value)).0)
     (λ p h. subst (λ xs. IsIn p xs) (sym c.in_ok-push-in-Some.ensures.items)
     (IsIn-append p c.in-Some.places.now.items (c.args.place ∷ []) (held_of _ _ c.in-Some.ensures.value p h)))

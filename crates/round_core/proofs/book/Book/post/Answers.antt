@@ -1,9 +1,8 @@
 use Rattle.std.proofs.Common.{◌≡◌, ◌∙◌, ◌++◌, ◌∷◌, [], ap, sym, subst, refl}
 use Rattle.std.proofs.Math.Path.{ap₂}
 use Rattle.round_core.specs.declared.event.Event.TheVariants.{Post}
-use Rattle.round_core.specs.Machine.{replay, all_raised, with_done, IsLegalJournal}
+use Rattle.round_core.specs.Machine.{all_raised, with_done}
 use Rattle.round_core.specs.Raise.{with_all}
-use Rattle.round_core.specs.Shown.{Shows}
 use Rattle.round_core.specs.Turns.{TakesHome}
 use Rattle.round_core.proofs.ClaimEvent.{legal-out, book-stays, legal-more}
 use Rattle.round_core.proofs.PostEvent.{posted-shown}

@@ -1,6 +1,6 @@
 use Rattle.std.proofs.Common.{sym, subst, IsSome}
 use Rattle.std.specs.Map.{lookup}
-use Rattle.call_context.specs.DerivedSame.{frame_eq}
+use Rattle.round_core.proofs.DerivedTests.{frame_eq}
 use Rattle.round_core.specs.Agenda.{seen, KeepsPlaces}
 use Rattle.round_core.proofs.Cases.{on_ok, is_none_of}
 use Rattle.round_core.proofs.places.Places.add.Goals as goal

@@ -16,6 +16,6 @@ returns-clause-claimed c =
     let absent : place_out c.self.inside.out.entries c.args.unit.now ≡ None = ap (λ v. place_out v.out c.args.unit.now) c.self.view_is ∙ c.requires in
     ap₂ (λ j o. standing j o c.reserve.new.self.items)
     (c.push_reserved.ensures.items ∙ ap (λ j. j ++ Claim c.args.seat c.args.unit.now ∷ []) (c.reserve-2.ensures.items))
-    (c.in_ok-insert.ensures.entries ∙ insert-absent c.args.unit.now c.args.place _ absent)
+    (c.in_ok-insert.ensures.entries ∙ insert-absent c.equal_nodes_are_one.ensures.units c.args.unit.now c.args.place _ absent)
     ∙ ap (λ r. standing (c.self.inside.journal.items ++ Claim c.args.seat c.args.unit.now ∷ []) (c.self.inside.out.entries ++ (c.args.unit.now, c.args.place) ∷ []) r) c.reserve.ensures.items
     ∙ ap (λ v. standing (v.journal ++ Claim c.args.seat c.args.unit.now ∷ []) (v.out ++ (c.args.unit.now, c.args.place) ∷ []) v.returned) c.self.view_is

@@ -5,4 +5,4 @@ use Rattle.round_core.proofs.turns.Turns.is_out.Goals as goal
 
 pub returns : goal.returns
 returns c =
-    c.contains_key.ensures ∙ ap (λ o. is_some o) (lookup-same c.args.unit.now c.self.inside.out.entries) ∙ ap (λ v. is_some (place_out v.out c.args.unit.now)) c.self.view_is
+    c.contains_key.ensures ∙ ap (λ o. is_some o) (lookup-same c.equal_nodes_are_one.ensures.units c.args.unit.now c.self.inside.out.entries) ∙ ap (λ v. is_some (place_out v.out c.args.unit.now)) c.self.view_is

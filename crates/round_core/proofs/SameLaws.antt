@@ -8,7 +8,7 @@ use Rattle.call_context.specs.declared.node.Node.{Node}
 use Rattle.call_context.specs.declared.node.Node.TheVariants.{At, Exit}
 use Rattle.call_context.specs.declared.node.Unit.{Unit as WorkUnit}
 use Rattle.call_context.specs.declared.node.Unit.TheVariants.{One, Back}
-use Rattle.call_context.specs.Same.{same_numbers, same_sp, same_frame, same_node, same_unit}
+use Rattle.round_core.specs.Same.{same_numbers, same_sp, same_frame, same_node, same_unit}
 
 -- both tests hold where the test of both does
 both : (x y : Bool) → (x && y) ≡ true → (x ≡ true) × (y ≡ true)

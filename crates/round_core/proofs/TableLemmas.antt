@@ -1,0 +1,154 @@
+-- The two lists of a table are the parts of the same rows.
+use Rattle.std.specs.Prelude.{◌≡◌, ℕ, zero, suc, ◌+◌, ◌<◌, Bool, cond, Option, None, Some, List, [], ◌∷◌, ◌++◌, map, length, slice_get, slice_index_or, slice_set, position}
+use Rattle.std.specs.Option.{option_map}
+use Rattle.std.specs.Map.{keys_of, lookup}
+use Rattle.std.proofs.Common.{refl, sym, ◌∙◌, ap, subst, inl, inr, arith}
+use Rattle.std.proofs.Math.Path.{ap₂}
+use Rattle.std.proofs.lemmas.Bool.Decides.{nat_tests}
+use Rattle.indexmap.specs.IndexMap.{insert_entry}
+use Rattle.round_core.specs.Rows.{mark_part, value_part, rows_of, AreRowsOf, with_value, with_entry}
+use Rattle.round_core.proofs.Cases.{truth, if_true, if_false, next_place, no_place}
+
+abbrev some_zero : Option ℕ
+some_zero = Some 0
+
+-- the position of the first key that passes, by recursion
+abbrev place_by : {K X : Type 0} → (K → Bool) → List (K × X) → Option ℕ
+place_by test [] = None
+place_by test (e ∷ es) = cond (test e.0) (Some 0) (option_map (λ place. place + 1) (place_by test es))
+
+pub position-place : {K X : Type 0} → (test : K → Bool) (es : List (K × X)) → position test (keys_of es) ≡ place_by test es
+position-place test [] = refl
+position-place test (e ∷ es) = elim (truth (test e.0)) [
+  | inl s ↦ grind (arith, nat_tests, s)
+  | inr s ↦ let i = position-place test es in grind (arith, nat_tests, s, i)
+]
+
+-- a value in a place, whose key stays
+pub set-value : {K V : Type 0} → (xs : List (K × V)) (i : ℕ) (x : K × V) (value : V) → i < length xs → x ≡ slice_index_or xs i x
+    → slice_set xs i (x.0, value) ≡ with_value xs i value
+set-value [] i x value h e = absurd (omega arith)
+set-value (y ∷ xs) zero x value h e = ap (λ t. (t.0, value) ∷ xs) e
+set-value (y ∷ xs) (suc i) x value h e = let below : i < length xs = omega arith in ap (λ t. y ∷ t) (set-value xs i x value below e)
+
+module _ {K V M : Type 0} where
+  rows_of-parts : (rows : List (K × (V × M))) → rows_of (map mark_part rows) (map value_part rows) ≡ rows
+  rows_of-parts [] = refl
+  rows_of-parts (row ∷ rows) = ap (λ t. row ∷ t) (rows_of-parts rows)
+
+  pub rows_are : (marks : List (K × M)) (values : List (K × V)) (rows : List (K × (V × M))) → marks ≡ map mark_part rows
+      → values ≡ map value_part rows → (rows_of marks values ≡ rows) × AreRowsOf marks values
+  rows_are marks values rows m v =
+      let e : rows_of marks values ≡ rows = ap₂ (λ x y. rows_of x y) m v ∙ rows_of-parts rows in
+      (e, record { marks_are = m ∙ ap (λ t. map mark_part t) (sym e); values_are = v ∙ ap (λ t. map value_part t) (sym e) })
+
+  pub keys-marks : (rows : List (K × (V × M))) → keys_of (map mark_part rows) ≡ keys_of rows
+  keys-marks [] = refl
+  keys-marks (row ∷ rows) = ap (λ t. row.0 ∷ t) (keys-marks rows)
+
+  pub keys-values : (rows : List (K × (V × M))) → keys_of (map value_part rows) ≡ keys_of rows
+  keys-values [] = refl
+  keys-values (row ∷ rows) = ap (λ t. row.0 ∷ t) (keys-values rows)
+
+  module _ (test : K → Bool) where
+    -- the row at the place of a key
+    at-place : (rows : List (K × (V × M))) (i : ℕ) → place_by test rows ≡ Some i → (k : K) (m : M)
+        → slice_get (map mark_part rows) i ≡ Some (k, m) → (b : K × V) → slice_get (map value_part rows) i ≡ Some b
+        → lookup test rows ≡ Some (b.1, m)
+    at-place [] i p k m g b q = absurd (cc)
+    at-place (row ∷ rows) i p k m g b q = elim (truth (test row.0)) [
+      | inl s ↦
+          let here : some_zero ≡ Some i = sym (if_true _ _ _ s) ∙ p in
+          let z : i ≡ 0 = cc in
+          let g0 : Some (mark_part row) ≡ Some (k, m) = subst (λ n. slice_get (map mark_part (row ∷ rows)) n ≡ Some (k, m)) z g in
+          let q0 : Some (value_part row) ≡ Some b = subst (λ n. slice_get (map value_part (row ∷ rows)) n ≡ Some b) z q in
+          let g1 : mark_part row ≡ (k, m) = cc in
+          let q1 : value_part row ≡ b = cc in
+          if_true _ _ _ s ∙ ap₂ (λ v t. Some (v, t)) (ap (λ t. t.1) q1) (ap (λ t. t.1) g1)
+      | inr s ↦
+          let n = next_place (place_by test rows) i (sym (if_false _ _ _ s) ∙ p) in
+          let below : i ≡ suc n.0 = omega arith in
+          if_false _ _ _ s ∙ at-place rows n.0 n.1 k m
+          (subst (λ j. slice_get (map mark_part (row ∷ rows)) j ≡ Some (k, m)) below g) b
+          (subst (λ j. slice_get (map value_part (row ∷ rows)) j ≡ Some b) below q)
+    ]
+
+    -- the row whose key passes first
+    row-there : (rows : List (K × (V × M))) (i : ℕ) → place_by test rows ≡ Some i
+        → (row : K × (V × M)) × (slice_get rows i ≡ Some row) × (lookup test rows ≡ Some row.1)
+    row-there [] i p = absurd (cc)
+    row-there (row ∷ rows) i p = elim (truth (test row.0)) [
+      | inl s ↦
+          let here : some_zero ≡ Some i = sym (if_true _ _ _ s) ∙ p in
+          let z : 0 ≡ i = cc in
+          (row, subst (λ n. slice_get (row ∷ rows) n ≡ Some row) z refl, if_true _ _ _ s)
+      | inr s ↦
+          let n = next_place (place_by test rows) i (sym (if_false _ _ _ s) ∙ p) in
+          let below : suc n.0 ≡ i = omega arith in
+          let there = row-there rows n.0 n.1 in
+          (there.0, subst (λ j. slice_get (row ∷ rows) j ≡ Some there.0) below there.1, if_false _ _ _ s ∙ there.2)
+    ]
+
+    pub row-at : (rows : List (K × (V × M))) (i : ℕ) → position test (keys_of rows) ≡ Some i
+        → (row : K × (V × M)) × (slice_get rows i ≡ Some row) × (lookup test rows ≡ Some row.1)
+    row-at rows i p = row-there rows i (sym (position-place test rows) ∙ p)
+
+    no-row : (rows : List (K × (V × M))) → place_by test rows ≡ None → lookup test rows ≡ None
+    no-row [] p = refl
+    no-row (row ∷ rows) p = elim (truth (test row.0)) [
+      | inl s ↦ let here : some_zero ≡ None = sym (if_true _ _ _ s) ∙ p in absurd (cc)
+      | inr s ↦ if_false _ _ _ s ∙ no-row rows (no_place _ (sym (if_false _ _ _ s) ∙ p))
+    ]
+
+    pub at-some : (rows : List (K × (V × M))) (i : ℕ) → position test (keys_of rows) ≡ Some i → (k : K) (m : M)
+        → slice_get (map mark_part rows) i ≡ Some (k, m) → (b : K × V) → slice_get (map value_part rows) i ≡ Some b
+        → lookup test rows ≡ Some (b.1, m)
+    at-some rows i p = at-place rows i (sym (position-place test rows) ∙ p)
+
+    pub at-none : (rows : List (K × (V × M))) → position test (keys_of rows) ≡ None → lookup test rows ≡ None
+    at-none rows p = no-row rows (sym (position-place test rows) ∙ p)
+
+  module _ (eq : K → K → Bool) (key : K) (value : V) (mark : M) where
+    pub marks-set : (rows : List (K × (V × M)))
+        → insert_entry eq (map mark_part rows) key mark ≡ map mark_part (insert_entry eq rows key (value, mark))
+    marks-set [] = refl
+    marks-set (row ∷ rows) = elim (truth (eq key row.0)) [
+      | inl s ↦ if_true _ _ _ s ∙ ap (λ r. map mark_part r) (sym (if_true _ _ _ s))
+      | inr s ↦ if_false _ _ _ s ∙ ap (λ r. mark_part row ∷ r) (marks-set rows) ∙ ap (λ r. map mark_part r) (sym (if_false _ _ _ s))
+    ]
+
+    value-there : (rows : List (K × (V × M))) (i : ℕ) → place_by (eq key) rows ≡ Some i
+        → with_value (map value_part rows) i value ≡ map value_part (insert_entry eq rows key (value, mark))
+    value-there [] i p = absurd (cc)
+    value-there (row ∷ rows) i p = elim (truth (eq key row.0)) [
+      | inl s ↦
+          let here : some_zero ≡ Some i = sym (if_true _ _ _ s) ∙ p in
+          let z : 0 ≡ i = cc in
+          subst (λ n. with_value (map value_part (row ∷ rows)) n value ≡ (row.0, value) ∷ map value_part rows) z refl
+          ∙ ap (λ t. map value_part t) (sym (if_true _ _ _ s))
+      | inr s ↦
+          let n = next_place (place_by (eq key) rows) i (sym (if_false _ _ _ s) ∙ p) in
+          let below : suc n.0 ≡ i = omega arith in
+          subst (λ m. with_value (map value_part (row ∷ rows)) m value ≡ value_part row ∷ map value_part (insert_entry eq rows key (value, mark))) below
+          (ap (λ t. value_part row ∷ t) (value-there rows n.0 n.1))
+          ∙ ap (λ t. map value_part t) (sym (if_false _ _ _ s))
+    ]
+
+    value-new : (rows : List (K × (V × M))) → place_by (eq key) rows ≡ None
+        → map value_part rows ++ (key, value) ∷ [] ≡ map value_part (insert_entry eq rows key (value, mark))
+    value-new [] p = refl
+    value-new (row ∷ rows) p = elim (truth (eq key row.0)) [
+      | inl s ↦ let here : some_zero ≡ None = sym (if_true _ _ _ s) ∙ p in absurd (cc)
+      | inr s ↦
+          ap (λ t. value_part row ∷ t) (value-new rows (no_place _ (sym (if_false _ _ _ s) ∙ p)))
+          ∙ ap (λ t. map value_part t) (sym (if_false _ _ _ s))
+    ]
+
+    value-set : (rows : List (K × (V × M))) (o : Option ℕ) → o ≡ place_by (eq key) rows
+        → with_entry (map value_part rows) o key value ≡ map value_part (insert_entry eq rows key (value, mark))
+    value-set rows None e = value-new rows (sym e)
+    value-set rows (Some i) e = value-there rows i (sym e)
+
+    pub values-set : (rows : List (K × (V × M))) (o : Option ℕ) → o ≡ position (eq key) (keys_of rows)
+        → with_entry (map value_part rows) o key value ≡ map value_part (insert_entry eq rows key (value, mark))
+    values-set rows o e = value-set rows o (e ∙ position-place (eq key) rows)

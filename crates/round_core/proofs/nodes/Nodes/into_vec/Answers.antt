@@ -1,0 +1,7 @@
+use Rattle.std.proofs.Common.{◌∙◌, ap, map}
+use Rattle.round_core.specs.Nodes.{big_part}
+use Rattle.round_core.proofs.NodesLemmas.{values-nodes}
+use Rattle.round_core.proofs.nodes.Nodes.into_vec.Goals as goal
+
+pub returns : goal.returns
+returns g c = c.into_parts-states.ensures.values ∙ values-nodes c.self.inside.table.rows ∙ ap (λ v. map big_part v.rows) c.self.view_is

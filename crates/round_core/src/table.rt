@@ -1,0 +1,140 @@
+//! Tables of rows in the order of their first entries, which are found by their keys.
+
+ghost use Rattle.std.specs.Prelude.{◌≡◌, ◌≤◌, ◌+◌, ◌<◌, [], map, OnOk, MatchOption, length, position, slice_get, Some, None, ◌^◌, vec_len, vec_capacity};
+ghost use Rattle.std.specs.Map.{keys_of, lookup};
+ghost use Rattle.indexmap.specs.IndexMap.{insert_entry};
+ghost use Rattle.round_core.specs.Reserved.{HasPlace};
+ghost use Rattle.round_core.specs.Rows.{mark_part, value_part, with_entry};
+
+use crate::reserved::push_reserved;
+use indexmap::IndexMap;
+use std::alloc::Global;
+use std::hash::Hash;
+use std::marker::Model;
+use vsa_io::Memory;
+
+/// Keys with their values and marks, in the order in which the keys came.
+#[derive(Drop)]
+pub struct Table<K: Eq + Hash, V, M> {
+    marks: IndexMap<K, M>,
+    values: Vec<(K, V)>,
+}
+
+impl<K: Eq + Hash, V, M> Model for Table<K, V, M> {
+    ghost use Rattle.std.specs.Prelude.{◌-◌, min, vec_len, vec_capacity};
+    ghost use Rattle.indexmap.specs.IndexMap.{spare};
+    ghost use Rattle.round_core.specs.Rows.{Rows, rows_of, AreRowsOf};
+
+    ghost Value = { Rows (K × (V × M)) };
+
+    ghost view = { λ table. record {
+      rows = rows_of table.marks.entries table.values.items;
+      room = min (spare table.marks) (vec_capacity table.values - vec_len table.values);
+    } };
+
+    ghost invariant = { λ table. AreRowsOf table.marks.entries table.values.items };
+}
+
+/// Puts a value in the place of its key, or last where there is room.
+fn put_value<K: Drop, V: Drop>(values: &mut Vec<(K, V)>, place: Option<usize>, key: K, value: V)
+    requires { HasPlace (vec_len values.old) (vec_capacity values.old) place }
+    ensures items { values.new.items ≡ with_entry values.old.items place key value }
+    ensures len { vec_len values.new ≤ vec_len values.old + 1 }
+    ensures capacity { vec_capacity values.old ≤ vec_capacity values.new }
+{
+    match place {
+        Some(place) => values[place].1 = value,
+        None => push_reserved(values, (key, value)),
+    }
+}
+
+impl<K: Copy + Eq + Hash + Drop, V, M: Copy> Table<K, V, M> {
+    /// No rows.
+    pub fn new(alloc: Global) -> Self
+        ensures { result.rows ≡ [] }
+    {
+        Table {
+            marks: IndexMap::new(alloc),
+            values: Vec::new(alloc),
+        }
+    }
+
+    /// The keys with their values.
+    pub fn as_slice(&self) -> &[(K, V)]
+        ensures { result.now ≡ map value_part self.now.rows }
+    {
+        self.values.as_slice()
+    }
+
+    /// The keys with their marks, and the keys with their values.
+    pub fn into_parts(self) -> (IndexMap<K, M>, Vec<(K, V)>)
+        ensures marks { result.0.entries ≡ map mark_part self.rows }
+        ensures values { result.1.items ≡ map value_part self.rows }
+    {
+        let Table { marks, values } = self;
+        (marks, values)
+    }
+
+    /// The value of a key, and its mark.
+    pub fn find(&self, key: &K) -> Option<(&V, M)>
+        ensures { MatchOption result (lookup (K.eq key.now) self.now.rows ≡ None) (λ found. lookup (K.eq key.now) self.now.rows ≡ Some (found.0.now, found.1)) }
+    {
+        let (index, _, mark) = self.marks.get_full(key)?;
+        let (_, value) = self.values.get(index)?;
+        Some((value, *mark))
+    }
+
+    /// The allocator.
+    pub fn allocator(&self) -> Global {
+        *self.values.allocator()
+    }
+
+    /// How many rows there are.
+    pub fn len(&self) -> usize
+        ensures len { result ≡ length self.now.rows }
+        ensures small { result < 2 ^ 63 }
+    {
+        self.marks.len()
+    }
+
+    /// The place of a key.
+    pub fn place(&self, key: &K) -> Option<usize>
+        ensures { result ≡ position (K.eq key.now) (keys_of self.now.rows) }
+    {
+        self.marks.get_index_of(key)
+    }
+
+    /// The key at a place.
+    pub fn key_at(&self, place: usize) -> Option<&K>
+        ensures { MatchOption result (length self.now.rows ≤ place) (λ key. slice_get (keys_of self.now.rows) place ≡ Some key.now) }
+    {
+        let (key, _) = self.values.get(place)?;
+        Some(key)
+    }
+
+    /// Room for more rows. They stay as they are.
+    pub fn reserve(&mut self, more: usize) -> Result<(), Memory>
+        ensures rows { self.new.rows ≡ self.old.rows }
+        ensures room { OnOk result (more ≤ self.new.room) }
+    {
+        self.marks.reserve(more)?;
+        self.values.reserve(more)?;
+        Ok(())
+    }
+
+    /// Gives a key a value and a mark, in its place or last. There is room for it.
+    pub fn set(&mut self, key: K, value: V, mark: M)
+    where
+        V: Drop,
+        requires { 0 < self.old.room }
+        ensures rows { self.new.rows ≡ insert_entry K.eq self.old.rows key (value, mark) }
+        ensures room { self.old.room ≤ self.new.room + 1 }
+    {
+        let place = self.marks.get_index_of(&key);
+        put_value(&mut self.values, place, key, value);
+        match self.marks.insert(key, mark) {
+            Ok(_) => {}
+            Err(_) => unreachable!(),
+        }
+    }
+}
