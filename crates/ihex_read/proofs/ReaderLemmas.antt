@@ -1,5 +1,5 @@
 -- What a reader that has used a text tells of it.
-use Rattle.std.proofs.Common.{◌≡◌, ℕ, ◌+◌, ◌-◌, ◌<◌, ◌≤◌, Bool, true, false, List, [], ◌∷◌, ◌++◌, length, take, drop, refl, sym, ◌∙◌, ap, subst, append_assoc, length-append, length-drop, arith}
+use Rattle.std.proofs.Common.{◌≡◌, ℕ, ◌+◌, ◌-◌, ◌<◌, ◌≤◌, Bool, true, false, List, [], ◌∷◌, ◌++◌, length, get_or, take, drop, refl, sym, ◌∙◌, ap, subst, append_assoc, length-append, length-drop, arith}
 use Rattle.std.specs.Prelude.{map, flat_map, Option, Some, All, ◌↔◌}
 use Rattle.std.proofs.lemmas.List.{append-nil, take-append-drop, take_rest, take_all, length-map, map-append, flat_map_more}
 use Rattle.std.proofs.lemmas.List.Elements.{All-push}
@@ -264,6 +264,14 @@ tells_piece rules tail text piece at error feed tells =
     subst (λ t. TellsFront rules tail t error) whole
     (tells_more rules tail (text ++ take (at + 1) piece) (drop (at + 1) piece) error
     (subst (λ t. TellsFront rules tail t error) (front_text text piece at feed) tells))
+
+-- the piece begins with the line feed
+pub tells_line : (rules : Rules) (tail : Tail) (text piece : List ℕ) (error : HexError) → 0 < length piece → get_or piece 0 0 ≡ 10
+    → TellsFront rules tail (text ++ 10 ∷ []) error → TellsFront rules tail (text ++ piece) error
+tells_line rules tail text [] error h is tells = absurd (omega arith)
+tells_line rules tail text (byte ∷ piece) error h is tells =
+    let whole : (text ++ 10 ∷ []) ++ piece ≡ text ++ byte ∷ piece = append_assoc text (10 ∷ []) piece ∙ ap (λ b. text ++ b ∷ piece) (sym is) in
+    subst (λ t. TellsFront rules tail t error) whole (tells_more rules tail (text ++ 10 ∷ []) piece error tells)
 
 pub count_lines : {A : Type 0} (line_of : A → List ℕ) (items : List A) (n size : ℕ) → n ≡ size → size ≡ length items → n ≡ length (map line_of items)
 count_lines line_of items n size count is = count ∙ is ∙ sym (length-map items line_of)

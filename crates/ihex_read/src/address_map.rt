@@ -1,7 +1,7 @@
 //! A memory image: a byte or none at each of the 65,536 addresses.
 
-ghost use Rattle.std.specs.Prelude.{◌≡◌, ◌↔◌, length, IfOk, IsTrue};
-ghost use Rattle.ihex_read.specs.Image.{byte_at, Meets};
+ghost use Rattle.std.specs.Prelude.{◌≡◌, ◌↔◌, length, replicate, IfOk, IsTrue};
+ghost use Rattle.ihex_read.specs.Image.{byte_at, placed, Meets};
 
 use std::alloc::Global;
 use std::marker::Model;
@@ -30,6 +30,19 @@ impl Image {
         ensures { result ≡ bytes.items }
     {
         Image { bytes }
+    }
+
+    /// Of these bytes from an address on, and no others. They go on at 0 behind FFFFh.
+    pub fn with_bytes(alloc: Global, at: u16, bytes: &[u8]) -> Result<Image, Memory>
+        ensures { IfOk result (λ image. image ≡ placed at bytes.now (replicate 65536 None)) }
+    {
+        let mut places = vec![in alloc; None; 65536]?;
+        let mut at = at;
+        for byte in bytes {
+            places[usize::from(at)] = Some(*byte);
+            at = at.wrapping_add(1);
+        }
+        Ok(Image { bytes: places })
     }
 
     /// An equal image.

@@ -199,6 +199,10 @@ impl Reader {
         ensures err { OnErr result ((used : ℕ) × (self.new ≡ record self.old { text = self.old.text ++ take used piece.now })) }
         ensures bad { IfErr result (TellsFront self.old.rules self.old.tail (self.old.text ++ piece.now)) }
     {
+        if piece[0] == b'\n' {
+            self.end_line()?;
+            return Ok(1);
+        }
         match line_feed(piece) {
             Some(at) => {
                 self.begin(&piece[..at])?;

@@ -34,6 +34,7 @@ pub use feeding::{MOST_BYTES, Reader};
 pub use law::{
     ended_texts_stay, image_or_fault, images_have_bytes, images_keep_rules, whole_faults_stay,
 };
+pub use lines::without_return;
 pub use rule_set::{Rules, Tail};
 
 #[cfg(test)]

@@ -42,7 +42,7 @@ use Rattle.mcs51_decode.specs.declared.instr.External.TheVariants as external
 use Rattle.mcs51_decode.specs.declared.instr.Instr.{Instr}
 use Rattle.mcs51_decode.specs.declared.instr.Instr.TheVariants.{Nop, AbsoluteJump, AbsoluteCall, LongJump, LongCall, Return, ReturnFromInterrupt, JumpIndirect, JumpOn, JumpOnBit, CompareJump, DecrementJump, ChangeAccumulator, Increment, Decrement, IncrementDataPointer, Accumulate, DirectLogic, Multiply, Divide, ChangeCarry, CarryBit, ChangeBit, MoveImmediate, MoveToDirect, MoveFromDirect, LoadDataPointer, Load, Store, MoveCode, ReadExternal, WriteExternal, Push, Pop, Exchange, ExchangeDigit}
 use Rattle.mcs51_decode.specs.Targets.{target_of}
-use Rattle.mcs51_text.specs.Digits.{hex}
+use Rattle.hex_digits.specs.Digits.{byte_text, word_text}
 
 abbrev pub register_text : Register → List ℕ
 register_text register.R0 = codes "R0"
@@ -122,12 +122,6 @@ base_text base.ProgramCounter = codes "MOVC A,@A+PC"
 base_text base.DataPointer = codes "MOVC A,@A+DPTR"
 
 -- a byte: a direct address, a bit's address, or a number
-abbrev pub byte_text : ℕ → List ℕ
-byte_text byte = hex 2 byte ++ codes "h"
-
-abbrev pub word_text : ℕ → List ℕ
-word_text word = hex 4 word ++ codes "h"
-
 abbrev pub immediate_text : ℕ → List ℕ
 immediate_text value = codes "#" ++ byte_text value
 

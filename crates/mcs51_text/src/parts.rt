@@ -1,50 +1,12 @@
 //! Numbers and operands.
 
-ghost use Rattle.std.specs.Prelude.{◌≡◌, ◌≤◌, ◌<◌, ◌+◌, ◌++◌, ◌∷◌, [], length};
-ghost use Rattle.mcs51_text.specs.Digits.{hex_digit};
-ghost use Rattle.mcs51_text.specs.Text.{byte_text, word_text, immediate_text, working_text, memory_text, source_text, place_text, mask_text, comparison_text, counter_text, external_text, target_text};
+ghost use Rattle.std.specs.Prelude.{◌≡◌, ◌≤◌, ◌+◌, ◌++◌, length};
+ghost use Rattle.mcs51_text.specs.Text.{immediate_text, working_text, memory_text, source_text, place_text, mask_text, comparison_text, counter_text, external_text, target_text};
 
 use crate::names::{pointer_name, register_name};
 use arrayvec::ArrayString;
+use hex_digits::{push_byte, push_word};
 use mcs51_decode::{Comparison, Counter, External, Instr, Mask, Memory, Place, Source, Working};
-
-/// Adds a digit below 16.
-fn push_digit(text: &mut ArrayString<40>, value: u16)
-    requires digit { value < 16 }
-    requires room { length text.old.bytes < 40 }
-    ensures { text.new.bytes ≡ text.old.bytes ++ hex_digit value ∷ [] }
-{
-    let character = if value < 10 {
-        b'0' + value as u8
-    } else {
-        b'A' - 10 + value as u8
-    };
-    text.push(char::from(character));
-}
-
-/// Adds the two digits of a byte, and an h.
-pub fn push_byte(text: &mut ArrayString<40>, byte: u8)
-    requires { length text.old.bytes + 3 ≤ 40 }
-    ensures bytes { text.new.bytes ≡ text.old.bytes ++ byte_text byte }
-    ensures len { length text.new.bytes ≡ length text.old.bytes + 3 }
-{
-    push_digit(text, (byte / 16 % 16) as u16);
-    push_digit(text, (byte % 16) as u16);
-    text.push_str("h");
-}
-
-/// Adds the four digits of a word, and an h.
-pub fn push_word(text: &mut ArrayString<40>, word: u16)
-    requires { length text.old.bytes + 5 ≤ 40 }
-    ensures bytes { text.new.bytes ≡ text.old.bytes ++ word_text word }
-    ensures len { length text.new.bytes ≡ length text.old.bytes + 5 }
-{
-    push_digit(text, word / 16 / 16 / 16 % 16);
-    push_digit(text, word / 16 / 16 % 16);
-    push_digit(text, word / 16 % 16);
-    push_digit(text, word % 16);
-    text.push_str("h");
-}
 
 /// Adds an immediate byte.
 pub fn push_immediate(text: &mut ArrayString<40>, value: u8)

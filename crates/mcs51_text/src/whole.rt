@@ -8,10 +8,11 @@ use crate::names::{
     logic_name, operation_name, pointer_name, test_name,
 };
 use crate::parts::{
-    push_byte, push_comparison, push_counter, push_external, push_immediate, push_mask,
-    push_memory, push_place, push_source, push_target, push_word, push_working,
+    push_comparison, push_counter, push_external, push_immediate, push_mask,
+    push_memory, push_place, push_source, push_target, push_working,
 };
 use arrayvec::ArrayString;
+use hex_digits::{push_byte, push_word};
 use mcs51_decode::Instr;
 
 /// The text of an instruction at an address, as an assembly programmer writes it.

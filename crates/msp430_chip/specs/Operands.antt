@@ -7,13 +7,12 @@ use Rattle.msp430_decode.specs.declared.instr.Register.{Register}
 use Rattle.msp430_decode.specs.declared.instr.Register.TheVariants.{Pc, Sp, Sr, R3}
 use Rattle.msp430_decode.specs.declared.instr.Width.{Width}
 use Rattle.msp430_decode.specs.declared.instr.Width.TheVariants.{Word, Byte}
-use Rattle.msp430_decode.specs.declared.instr.Constant.{Constant}
-use Rattle.msp430_decode.specs.declared.instr.Constant.TheVariants.{Zero, One, Two, Four, Eight, MinusOne}
 use Rattle.msp430_decode.specs.declared.instr.Source.{Source}
 use Rattle.msp430_decode.specs.declared.instr.Source.TheVariants as source
 use Rattle.msp430_decode.specs.declared.instr.Destination.{Destination}
 use Rattle.msp430_decode.specs.declared.instr.Destination.TheVariants as destination
 use Rattle.msp430_decode.specs.Codes.{number}
+use Rattle.msp430_decode.specs.Operands.{constant_value}
 use Rattle.msp430_chip.specs.declared.device.Device.{Device}
 use Rattle.msp430_chip.specs.declared.place.Place.{Place}
 use Rattle.msp430_chip.specs.declared.place.Place.TheVariants.{InRegister, InMemory, Fixed}
@@ -48,14 +47,6 @@ grown registers width (source.IndirectIncrement register) =
 grown registers width other = registers
 
 -- PLACES
-
-abbrev pub constant_value : Constant → ℕ
-constant_value Zero = 0
-constant_value One = 1
-constant_value Two = 2
-constant_value Four = 4
-constant_value Eight = 8
-constant_value MinusOne = 65535
 
 -- a source; a symbolic one counts from its own extension word
 abbrev pub source_place : ℕ → List ℕ → Source → Place

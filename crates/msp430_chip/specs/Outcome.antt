@@ -8,7 +8,7 @@ use Rattle.msp430_chip.specs.declared.state.Wild.TheVariants.{Store}
 
 -- the next state, with what the step did in its order, or out of what the model says
 abbrev pub Outcome : Type 0 → Type 0
-Outcome S = OutcomeBy S Wild
+Outcome S = OutcomeBy Single S Wild
 
 -- where a store hits the program, the state leaves the model
 abbrev pub unless_hit : {S : Type 0} → Option ℕ → List Single → S → Outcome S

@@ -32,6 +32,15 @@ IsSource (source.Symbolic offset) = offset < 65536
 IsSource (source.Absolute address) = address < 65536
 IsSource (source.Constant constant) = Unit {0}
 
+-- the number that is generated
+abbrev pub constant_value : Constant → ℕ
+constant_value Zero = 0
+constant_value One = 1
+constant_value Two = 2
+constant_value Four = 4
+constant_value Eight = 8
+constant_value MinusOne = 65535
+
 -- the register of a generated constant
 abbrev pub constant_register : Constant → Register
 constant_register Zero = R3

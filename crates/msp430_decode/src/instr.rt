@@ -2,6 +2,7 @@
 
 ghost use Rattle.std.specs.Prelude.{◌≡◌, ◌<◌};
 ghost use Rattle.msp430_decode.specs.Codes.{number};
+ghost use Rattle.msp430_decode.specs.Operands.{constant_value};
 
 /// The sixteen registers. R0 is the program counter, R1 the stack pointer, R2 the status register.
 #[derive(Clone, Copy, Debug, PartialEq, Eq)]
@@ -68,6 +69,22 @@ pub enum Constant {
     Eight,
     /// All bits set.
     MinusOne,
+}
+
+impl Constant {
+    /// The number that is generated.
+    pub fn value(self) -> u16
+        ensures { result ≡ constant_value self }
+    {
+        match self {
+            Constant::Zero => 0,
+            Constant::One => 1,
+            Constant::Two => 2,
+            Constant::Four => 4,
+            Constant::Eight => 8,
+            Constant::MinusOne => 0xFFFF,
+        }
+    }
 }
 
 /// A source operand, or the operand of a single operand instruction. A number is an extension word.

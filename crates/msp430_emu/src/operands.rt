@@ -11,7 +11,7 @@ ghost use Rattle.msp430_emu.specs.Registers.{AreRegisters};
 use crate::memory::{Layout, even, read};
 use choosing::Unused;
 use msp430_chip::{ChipState, Place, Ram};
-use msp430_decode::{Constant, Destination, Register, Source, Width};
+use msp430_decode::{Destination, Register, Source, Width};
 
 /// The address behind an instruction of so many bytes.
 pub(crate) fn behind(s: &ChipState, len: u8) -> u16
@@ -69,20 +69,6 @@ pub(crate) fn grown(registers: &[u16; 16], width: Width, source: Source) -> [u16
     }
 }
 
-/// The number that a generator of constants gives.
-fn constant_value(constant: Constant) -> u16
-    ensures { result ≡ operands.constant_value constant }
-{
-    match constant {
-        Constant::Zero => 0,
-        Constant::One => 1,
-        Constant::Two => 2,
-        Constant::Four => 4,
-        Constant::Eight => 8,
-        Constant::MinusOne => 0xFFFF,
-    }
-}
-
 /// Where a source stands, for an instruction at an address.
 pub(crate) fn source_place(pc: u16, registers: &[u16; 16], source: Source) -> Place
     ensures { result ≡ operands.source_place pc registers.now source }
@@ -98,7 +84,7 @@ pub(crate) fn source_place(pc: u16, registers: &[u16; 16], source: Source) -> Pl
         Source::Immediate(value) => Place::Fixed(value),
         Source::Symbolic(offset) => Place::InMemory(pc.wrapping_add(2).wrapping_add(offset)),
         Source::Absolute(address) => Place::InMemory(address),
-        Source::Constant(constant) => Place::Fixed(constant_value(constant)),
+        Source::Constant(constant) => Place::Fixed(constant.value()),
     }
 }
 

@@ -12,7 +12,7 @@ use Rattle.msp430_decode.specs.declared.instr.Width.TheVariants.{Word, Byte}
 use Rattle.msp430_decode.specs.declared.refusal.NoInstr.{NoInstr}
 use Rattle.msp430_decode.specs.Decoding.{decoded}
 use Rattle.msp430_chip.specs.declared.device.Device.{Device}
-use Rattle.msp430_chip.specs.Operands.{constant_value}
+use Rattle.msp430_decode.specs.Operands.{constant_value}
 
 -- a number below 65536
 abbrev pub mark : ℕ → List ℕ

@@ -1,13 +1,12 @@
 //! The numbers that widening stops at.
 
 ghost use Rattle.std.specs.Prelude.{◌≡◌, ◌++◌, ◌+◌, ◌<◌, ◌*◌, IfOk, OnOk};
-ghost use Rattle.msp430_chip.specs.Operands.{constant_value};
 ghost use Rattle.msp430_decode.specs.Decoding.{decoded};
 ghost use Rattle.msp430_flow.specs.Marks.{mark, marks_by, constant_of as the_constant, in_width, is_comparison, marks_with, marks_in, marks_found, marks_from, marks_of as the_marks};
 
 use ihex_read::Image;
 use msp430_chip::Device;
-use msp430_decode::{Constant, Instr, Operation, Source, Width, decode};
+use msp430_decode::{Instr, Operation, Source, Width, decode};
 use std::alloc::{AllocError, Global};
 
 /// How many words there are.
@@ -23,27 +22,13 @@ fn push_mark(marks: &mut Vec<u16>, value: u32) -> Result<(), AllocError>
     Ok(())
 }
 
-/// The number of a generated constant.
-fn number_of(constant: Constant) -> u16
-    ensures { result ≡ constant_value constant }
-{
-    match constant {
-        Constant::Zero => 0,
-        Constant::One => 1,
-        Constant::Two => 2,
-        Constant::Four => 4,
-        Constant::Eight => 8,
-        Constant::MinusOne => 0xFFFF,
-    }
-}
-
 /// The number that a source is, if it is one.
 fn constant_of(operand: Source) -> Option<u16>
     ensures { result ≡ the_constant operand }
 {
     match operand {
         Source::Immediate(value) => Some(value),
-        Source::Constant(constant) => Some(number_of(constant)),
+        Source::Constant(constant) => Some(constant.value()),
         _ => None,
     }
 }

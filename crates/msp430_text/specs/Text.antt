@@ -21,7 +21,7 @@ use Rattle.msp430_decode.specs.declared.instr.Instr.{Instr}
 use Rattle.msp430_decode.specs.declared.instr.Instr.TheVariants.{Double, Single, Jump, ReturnFromInterrupt}
 use Rattle.msp430_decode.specs.Operands.{source_words}
 use Rattle.msp430_decode.specs.Table.{target_of}
-use Rattle.msp430_text.specs.Digits.{hex}
+use Rattle.hex_digits.specs.Digits.{word_text}
 
 abbrev pub register_text : Register → List ℕ
 register_text Pc = codes "PC"
@@ -86,9 +86,6 @@ constant_text Two = codes "#2"
 constant_text Four = codes "#4"
 constant_text Eight = codes "#8"
 constant_text MinusOne = codes "#-1"
-
-abbrev pub word_text : ℕ → List ℕ
-word_text word = hex 4 word ++ codes "h"
 
 -- memory at a register plus a number
 abbrev pub indexed_text : Register → ℕ → List ℕ

@@ -1,39 +1,12 @@
 //! Numbers and operands.
 
-ghost use Rattle.std.specs.Prelude.{◌≡◌, ◌≤◌, ◌<◌, ◌+◌, ◌++◌, ◌∷◌, [], length};
-ghost use Rattle.msp430_text.specs.Digits.{hex_digit};
-ghost use Rattle.msp430_text.specs.Text.{register_text, word_text, indexed_text, source_text, destination_text};
+ghost use Rattle.std.specs.Prelude.{◌≡◌, ◌≤◌, ◌+◌, ◌++◌, length};
+ghost use Rattle.msp430_text.specs.Text.{indexed_text, source_text, destination_text};
 
 use crate::names::{constant_name, register_name};
 use arrayvec::ArrayString;
+use hex_digits::push_word;
 use msp430_decode::{Destination, Register, Source};
-
-/// Adds a digit below 16.
-fn push_digit(text: &mut ArrayString<40>, value: u16)
-    requires digit { value < 16 }
-    requires room { length text.old.bytes < 40 }
-    ensures { text.new.bytes ≡ text.old.bytes ++ hex_digit value ∷ [] }
-{
-    let character = if value < 10 {
-        b'0' + value as u8
-    } else {
-        b'A' - 10 + value as u8
-    };
-    text.push(char::from(character));
-}
-
-/// Adds the four digits of a word, and an h.
-pub fn push_word(text: &mut ArrayString<40>, word: u16)
-    requires { length text.old.bytes + 5 ≤ 40 }
-    ensures bytes { text.new.bytes ≡ text.old.bytes ++ word_text word }
-    ensures len { length text.new.bytes ≡ length text.old.bytes + 5 }
-{
-    push_digit(text, word / 16 / 16 / 16 % 16);
-    push_digit(text, word / 16 / 16 % 16);
-    push_digit(text, word / 16 % 16);
-    push_digit(text, word % 16);
-    text.push_str("h");
-}
 
 /// Adds an operand at a register plus a number.
 fn push_indexed(text: &mut ArrayString<40>, register: Register, offset: u16)

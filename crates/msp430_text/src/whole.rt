@@ -5,8 +5,9 @@ ghost use Rattle.msp430_decode.specs.Table.{IsInstr};
 ghost use Rattle.msp430_text.specs.Text.{text_of};
 
 use crate::names::{condition_name, operation_name, single_name, width_suffix};
-use crate::parts::{push_destination, push_source, push_word};
+use crate::parts::{push_destination, push_source};
 use arrayvec::ArrayString;
+use hex_digits::push_word;
 use msp430_decode::{Instr, offset_target};
 
 /// The text of an instruction at an address, as an assembly programmer writes it.

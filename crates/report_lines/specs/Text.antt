@@ -1,6 +1,6 @@
 -- The text of a report, line by line.
 use Rattle.std.specs.Prelude.{ℕ, List, [], ◌∷◌, ◌++◌, codes, flat_map, Bool, if◌then◌else◌}
-use Rattle.report_lines.specs.Digits.{hex}
+use Rattle.hex_digits.specs.Digits.{hex}
 use Rattle.report_lines.specs.declared.line.Edge.{Edge}
 use Rattle.report_lines.specs.declared.line.Instr.{Instr}
 use Rattle.report_lines.specs.declared.line.Access.{Access}

@@ -10,7 +10,7 @@ mod refusal;
 mod report;
 mod set;
 
-pub use digits::{address, cut, hex_byte, hex_word};
+pub use digits::cut;
 pub use line::{Access, Cause, Edge, Instr, Kind, Line, Open, Space, Stack};
 pub use refusal::{ReadError, Refusal, Why};
 pub use report::{Report, Summary, read};

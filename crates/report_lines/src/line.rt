@@ -3,9 +3,10 @@
 ghost use Rattle.std.specs.Prelude.{◌≡◌, IfSome, IfOk};
 ghost use Rattle.report_lines.specs.Text as lines;
 
-use crate::digits::{address, bytes_of, cut};
+use crate::digits::{bytes_of, cut};
 use crate::refusal::Why;
 use crate::set::{Set, Width};
+use hex_digits::word;
 
 /// Control can go from one address to the other.
 #[derive(Clone, Copy, Debug, PartialEq, Eq)]
@@ -120,8 +121,8 @@ fn edge_of(rest: &[u8]) -> Option<Edge>
 {
     let (from, to) = cut(rest, b' ')?;
     Some(Edge {
-        from: address(from)?,
-        to: address(to)?,
+        from: word(from)?,
+        to: word(to)?,
     })
 }
 
@@ -134,7 +135,7 @@ fn instr_of(rest: &[u8]) -> Option<Instr<'_>>
         return None;
     }
     Some(Instr {
-        pc: address(pc)?,
+        pc: word(pc)?,
         bytes,
         len: bytes_of(bytes)?,
         text,
@@ -182,15 +183,15 @@ fn access_of(rest: &[u8]) -> Option<Access<'_>>
     ensures { IfSome result (λ access. lines.access_text access ≡ rest.now) }
 {
     let (pc, rest) = cut(rest, b' ')?;
-    let (word, rest) = cut(rest, b' ')?;
+    let (space, rest) = cut(rest, b' ')?;
     let (sort, set) = cut(rest, b' ')?;
-    let space = space_of(word)?;
+    let space = space_of(space)?;
     let at = Set::read(set)?;
     if !fits(space, &at) {
         return None;
     }
     Some(Access {
-        pc: address(pc)?,
+        pc: word(pc)?,
         space,
         kind: kind_of(sort)?,
         at,
@@ -238,7 +239,7 @@ fn open_of(rest: &[u8]) -> Option<Open<'_>>
 {
     let (pc, rest) = cut(rest, b' ')?;
     Some(Open {
-        pc: address(pc)?,
+        pc: word(pc)?,
         cause: cause_of(rest)?,
     })
 }
@@ -248,7 +249,7 @@ fn stack_of(rest: &[u8]) -> Option<Stack<'_>>
 {
     let (pc, set) = cut(rest, b' ')?;
     Some(Stack {
-        pc: address(pc)?,
+        pc: word(pc)?,
         at: Set::read(set)?,
     })
 }

@@ -3,10 +3,11 @@
 ghost use Rattle.std.specs.Prelude.{◌≡◌, ◌++◌, ◌∷◌, [], IfSome, IfOk, OnOk};
 ghost use Rattle.report_lines.specs.Text.{front_text, report_text, verdict_text};
 
-use crate::digits::{address, byte, cut, decimal};
+use crate::digits::{cut, decimal};
 use crate::line::Line;
 use crate::refusal::{ReadError, Refusal, Why};
 use crate::set::{Set, Width};
+use hex_digits::{byte, word};
 use std::alloc::Global;
 
 /// The T line: the extreme of the stack pointers, if there is one, and how many S lines say nothing of them.
@@ -168,7 +169,7 @@ fn extreme_of(text: &[u8]) -> Option<Option<u16>> {
     }
     match byte(text) {
         Some(value) => Some(Some(value)),
-        None => Some(Some(address(text)?)),
+        None => Some(Some(word(text)?)),
     }
 }
 

@@ -2,7 +2,8 @@
 
 ghost use Rattle.std.specs.Prelude.{◌≡◌, IfSome};
 
-use crate::digits::{address, byte, count, cut};
+use crate::digits::{count, cut};
+use hex_digits::{byte, word};
 
 /// How many digits the numbers of a set have.
 #[derive(Clone, Copy, Debug, PartialEq, Eq)]
@@ -68,7 +69,7 @@ impl<'a> Set<'a> {
 fn number(text: &[u8]) -> Option<(u16, Width)> {
     match byte(text) {
         Some(value) => Some((value, Width::Byte)),
-        None => Some((address(text)?, Width::Word)),
+        None => Some((word(text)?, Width::Word)),
     }
 }
 

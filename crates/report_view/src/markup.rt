@@ -1,10 +1,10 @@
 //! Text that is written piece by piece.
 
 ghost use Rattle.std.specs.Prelude.{◌≡◌, ◌<◌, ◌++◌, decimal, OnOk};
-ghost use Rattle.report_lines.specs.Digits.{hex};
+ghost use Rattle.hex_digits.specs.Digits.{hex};
 ghost use Rattle.report_view.specs.Escape.{escape, escape_byte};
 
-use report_lines::{hex_byte, hex_word};
+use hex_digits::{hex_byte, hex_word};
 use std::alloc::Global;
 use vsa_io::Memory;
 

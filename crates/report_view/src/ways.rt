@@ -1,6 +1,7 @@
 //! How control goes from an instruction to another one, as far as a report lets one tell.
 
-use report_lines::{Instr, address, cut};
+use hex_digits::word;
+use report_lines::{Instr, cut};
 
 /// How control goes along an edge.
 #[derive(Clone, Copy, Debug, PartialEq, Eq)]
@@ -37,7 +38,7 @@ pub enum Flow {
 /// The address that an operand such as `F004h` names.
 fn named(operand: &[u8]) -> Option<u16> {
     match operand {
-        [digits @ .., b'h'] => address(digits),
+        [digits @ .., b'h'] => word(digits),
         _ => None,
     }
 }

@@ -6,7 +6,8 @@ ghost use Rattle.script_text.specs.Script.{script_of};
 ghost use Rattle.script_text.specs.Reading.{IsRefusedWithin, TellsFront, TellsWhole};
 
 use crate::fault::ScriptError;
-use crate::line::{push_line, without_return};
+use crate::line::push_line;
+use ihex_read::without_return;
 use std::alloc::Global;
 use std::marker::Model;
 use std::snapshot::Snapshot;

@@ -1,24 +1,12 @@
 //! Lines of a script.
 
-ghost use Rattle.std.specs.Prelude.{◌≡◌, ◌≤◌, ◌<◌, ◌^◌, ◌∷◌, suc, ℕ, List, length, IfErr, OnOk, OnErr, IsTrue};
+ghost use Rattle.std.specs.Prelude.{◌≡◌, ◌<◌, ◌^◌, ◌∷◌, suc, ℕ, List, length, IfErr, OnOk, OnErr, IsTrue};
 ghost use Rattle.std.specs.List.{list_all};
-ghost use Rattle.ihex_read.specs.Lines as lines;
 ghost use Rattle.script_text.specs.declared.fault.ScriptError.{ScriptError};
 ghost use Rattle.script_text.specs.Script as script;
 ghost use Rattle.script_text.specs.Reading.{TellsLine};
 
 use crate::fault::ScriptError;
-
-/// A line without the carriage return at its end.
-pub fn without_return(line: &[u8]) -> &[u8]
-    ensures { result.now ≡ lines.without_return line.now }
-{
-    if !line.is_empty() && line[line.len() - 1] == b'\r' {
-        &line[..line.len() - 1]
-    } else {
-        line
-    }
-}
 
 fn is_digit(byte: u8) -> bool
     ensures { result ≡ script.is_digit byte }

@@ -85,7 +85,7 @@ pub Ascends-rest : (m : ℕ) (xs : List ℕ) → 1 ≤ length xs → Ascends 0 m
 Ascends-rest m [] h a = tt
 Ascends-rest m (x ∷ xs) h a = Ascends-lower (x + 1) x m xs (omega arith) a.2
 
-drop_at : (xs : List ℕ) (i : ℕ) → i < length xs → drop i xs ≡ get_or xs i 0 ∷ drop (i + 1) xs
+pub drop_at : (xs : List ℕ) (i : ℕ) → i < length xs → drop i xs ≡ get_or xs i 0 ∷ drop (i + 1) xs
 drop_at xs i h = drop-cons xs i 0 h ∙ ap (λ (n : ℕ). get_or xs i 0 ∷ drop n xs) (let e : suc i ≡ i + 1 = omega arith in e)
 
 pub Ascends-next : (low m i : ℕ) (xs : List ℕ) → i < length xs → Ascends low m (drop i xs) → (low ≤ get_or xs i 0) × (get_or xs i 0 < m) × Ascends (get_or xs i 0) m (drop (i + 1) xs)

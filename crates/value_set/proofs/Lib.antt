@@ -11,6 +11,7 @@ pub mod Widens
 pub mod Cuts
 pub mod Sums
 pub mod Equal
+pub mod Gaps
 pub mod Collects
 pub mod Singles
 pub mod Promises

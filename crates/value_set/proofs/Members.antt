@@ -24,15 +24,15 @@ Contains_from_in (x ∷ xs) v (inr h) = let rest = Contains_from_in xs v h in (s
 
 -- ---- put
 
-put-below : (v x : ℕ) (xs : List ℕ) → v < x → put v (x ∷ xs) ≡ v ∷ x ∷ xs
+pub put-below : (v x : ℕ) (xs : List ℕ) → v < x → put v (x ∷ xs) ≡ v ∷ x ∷ xs
 unfolding put
 put-below v x xs h = rw (lt-ltb v x h) refl
 
-put-same : (v x : ℕ) (xs : List ℕ) → v ≡ x → put v (x ∷ xs) ≡ x ∷ xs
+pub put-same : (v x : ℕ) (xs : List ℕ) → v ≡ x → put v (x ∷ xs) ≡ x ∷ xs
 unfolding put
 put-same v x xs h = let not_below : x ≤ v = omega arith in rw (le-ltb v x not_below, eq-eqb v x h) refl
 
-put-above : (v x : ℕ) (xs : List ℕ) → x < v → put v (x ∷ xs) ≡ x ∷ put v xs
+pub put-above : (v x : ℕ) (xs : List ℕ) → x < v → put v (x ∷ xs) ≡ x ∷ put v xs
 unfolding put
 put-above v x xs h =
     let not_below : x ≤ v = omega arith in

@@ -53,7 +53,7 @@ strides_divide : (m b g : ℕ) (xs : List ℕ) → fold (λ g v. gcd g (above m 
 strides_divide m b g [] = dvd_refl g
 strides_divide m b g (x ∷ xs) = dvd_trans _ (strides_divide m b (gcd g (above m b x)) xs) (gcd_left g (above m b x))
 
-stride_divides : (m b g v : ℕ) (xs : List ℕ) → IsIn v xs → fold (λ g v. gcd g (above m b v)) g xs ∣ above m b v
+pub stride_divides : (m b g v : ℕ) (xs : List ℕ) → IsIn v xs → fold (λ g v. gcd g (above m b v)) g xs ∣ above m b v
 stride_divides m b g v [] h = absurd h
 stride_divides m b g v (x ∷ xs) (inl e) = subst (λ (w : ℕ). fold (λ g v. gcd g (above m b v)) g (x ∷ xs) ∣ above m b w) e
     (dvd_trans _ (strides_divide m b (gcd g (above m b x)) xs) (gcd_right g (above m b x)))
@@ -63,7 +63,7 @@ farthest_kept : (m b r : ℕ) (xs : List ℕ) → r ≤ fold (λ most v. greater
 farthest_kept m b r [] = omega arith
 farthest_kept m b r (x ∷ xs) = omega (arith, farthest_kept m b (greater r (above m b x)) xs, greater_left r (above m b x))
 
-farthest_has : (m b r v : ℕ) (xs : List ℕ) → IsIn v xs → above m b v ≤ fold (λ most v. greater most (above m b v)) r xs
+pub farthest_has : (m b r v : ℕ) (xs : List ℕ) → IsIn v xs → above m b v ≤ fold (λ most v. greater most (above m b v)) r xs
 farthest_has m b r v [] h = absurd h
 farthest_has m b r v (x ∷ xs) (inl e) = subst (λ (w : ℕ). above m b w ≤ fold (λ most v. greater most (above m b v)) r (x ∷ xs)) e
     (omega (arith, farthest_kept m b (greater r (above m b x)) xs, greater_right r (above m b x)))

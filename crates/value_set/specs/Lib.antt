@@ -1,6 +1,7 @@
 pub mod Collecting
 pub mod Few
 pub mod Form
+pub mod Gaps
 pub mod Gcd
 pub mod Joining
 pub mod Operations

@@ -1,17 +1,15 @@
 //! Sets from lists of any length, and from runs.
 
-ghost use Rattle.std.specs.Prelude.{◌≡◌, ℕ, ◌+◌, ◌-◌, ◌*◌, ◌<◌, ◌≤◌, ◌↔◌, [], true, false, length, map, All, IsNone, IfSome, slice_index_or};
+ghost use Rattle.std.specs.Prelude.{◌≡◌, ℕ, ◌+◌, ◌-◌, ◌*◌, ◌<◌, ◌≤◌, ◌↔◌, length, map, All, IsNone, IfSome};
 ghost use Rattle.value_set.specs.Form as forms;
-ghost use Rattle.value_set.specs.Form.{Ascends, IsNormal};
-ghost use Rattle.value_set.specs.Collecting.{IsNoRun, Marks, HasMarked};
+ghost use Rattle.value_set.specs.Form.{IsNormal};
+ghost use Rattle.value_set.specs.Collecting.{IsNoRun};
 
 use crate::form::Form;
 use crate::gathering::{ROOM, make, put, set_of};
+use crate::long::gather_long;
 use crate::number::Number;
 use arrayvec::ArrayVec;
-
-/// How many numbers of 16 bits there are.
-const NUMBERS: usize = 65536;
 
 /// The set of some numbers. There is none of an empty list.
 pub fn gather<N: Number>(modulus: u32, list: &[N]) -> Option<Form>
@@ -42,42 +40,6 @@ fn gather_short<N: Number>(modulus: u32, list: &[N]) -> Form
         put(&mut values, number.number());
     }
     set_of(modulus, values.as_slice())
-}
-
-/// The numbers of a long list are marked, and the marked ones collected.
-fn gather_long<N: Number>(modulus: u32, list: &[N]) -> Form
-    requires small { modulus ≤ 65536 }
-    requires below { All (λ n. N.number n < modulus) list.now }
-    requires some { 1 ≤ length list.now }
-    ensures { result ≡ forms.gather modulus (map N.number list.now) }
-{
-    let mut marked = [false; NUMBERS];
-    mark(list, &mut marked);
-    let mut values: ArrayVec<u16, NUMBERS> = ArrayVec::new();
-    collect(modulus, &marked, &mut values);
-    set_of(modulus, values.as_slice())
-}
-
-/// Marks each number of a list.
-fn mark<N: Number>(list: &[N], marked: &mut [bool; NUMBERS])
-    ensures { Marks (map N.number list.now) marked.old marked.new }
-{
-    for number in list {
-        marked[number.number() as usize] = true;
-    }
-}
-
-/// Collects the marked numbers in ascending order.
-fn collect(modulus: u32, marked: &[bool; NUMBERS], values: &mut ArrayVec<u16, NUMBERS>)
-    requires small { modulus ≤ 65536 }
-    requires empty { values.old.items ≡ [] }
-    ensures { HasMarked modulus marked.now values.new.items }
-{
-    for number in 0..modulus {
-        if marked[number as usize] {
-            values.push(number as u16);
-        }
-    }
 }
 
 /// The set of `base + i * stride` modulo the modulus, for each `i` below the count. There is none without numbers, of

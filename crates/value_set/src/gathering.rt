@@ -1,7 +1,7 @@
 //! Sets from numbers: lists where they are few, else runs that they are drawn from.
 
 ghost use Rattle.std.specs.Prelude.{◌≡◌, ℕ, ◌+◌, ◌-◌, ◌*◌, ◌/◌, ◌%◌, ◌<◌, ◌≤◌, [], ◌∷◌, length, take};
-ghost use Rattle.std.specs.Prelude.{slice_index};
+ghost use Rattle.std.specs.Prelude.{List, All, map};
 ghost use Rattle.value_set.specs.Form as forms;
 ghost use Rattle.value_set.specs.Form.{Ascends, Fits, IsNormal, IsSpan};
 
@@ -9,6 +9,8 @@ use crate::circle::above;
 use crate::divisor::greatest_common_divisor;
 use crate::few::{Few, LONGEST};
 use crate::form::{Form, Progression};
+use crate::gap::Gap;
+use crate::number::Number;
 use arrayvec::ArrayVec;
 
 /// How many numbers are gathered at once.
@@ -79,45 +81,41 @@ fn hull_base(modulus: u32, values: &[u16]) -> u16
     ensures value { result ≡ forms.hull_base modulus values.now }
     ensures below { result < modulus }
 {
-    let mut base = values[0];
-    let mut width = values[0] as u32 + modulus - values[values.len() - 1] as u32;
-    let mut previous = values[0];
+    let mut gap = Gap::around(modulus, values[0], values[values.len() - 1]);
     for value in &values[1..] {
-        let gap = (*value - previous) as u32;
-        previous = *value;
-        if width < gap {
-            base = *value;
-            width = gap;
-        }
+        gap = gap.past(*value);
     }
-    base
+    gap.base
 }
 
 /// The greatest common divisor of the distances from a number up to others.
-fn common_stride(modulus: u32, from: u16, values: &[u16]) -> u16
+pub fn common_stride<N: Number>(modulus: u32, from: u16, list: &[N]) -> u16
     requires small { modulus ≤ 65536 }
     requires from_below { from < modulus }
-    requires ascending { Ascends 0 modulus values.now }
-    ensures { result ≡ forms.common_stride modulus from values.now }
+    requires below { All (λ n. N.number n < modulus) list.now }
+    ensures { result ≡ forms.common_stride modulus from (map N.number list.now) }
 {
     let mut stride = 0;
-    for value in values {
-        stride = greatest_common_divisor(stride, above(modulus, from as u32, *value as u32));
+    for number in list {
+        stride = greatest_common_divisor(
+            stride,
+            above(modulus, from as u32, number.number() as u32),
+        );
     }
     stride as u16
 }
 
 /// The greatest of the distances from a number up to others.
-fn farthest(modulus: u32, from: u16, values: &[u16]) -> u32
+pub fn farthest<N: Number>(modulus: u32, from: u16, list: &[N]) -> u32
     requires small { modulus ≤ 65536 }
     requires from_below { from < modulus }
-    requires ascending { Ascends 0 modulus values.now }
-    ensures value { result ≡ forms.farthest modulus from values.now }
+    requires below { All (λ n. N.number n < modulus) list.now }
+    ensures value { result ≡ forms.farthest modulus from (map N.number list.now) }
     ensures around { result < modulus }
 {
     let mut most = 0;
-    for value in values {
-        let distance = above(modulus, from as u32, *value as u32);
+    for number in list {
+        let distance = above(modulus, from as u32, number.number() as u32);
         if most < distance {
             most = distance;
         }

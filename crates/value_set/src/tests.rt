@@ -70,6 +70,17 @@ fn no_such_sets(rt: HostRuntime) {
     }
 }
 
+#[test]
+fn long_lists(rt: HostRuntime) -> Result<(), Fail> {
+    let mut list = [0x1000; 300];
+    assert_eq!(rt; Vs16::gather(list.as_slice()), Some(Vs16::one(0x1000)));
+    for i in 0..300u16 {
+        list[i as usize] = 0x2000 - 8 * i;
+    }
+    assert_eq!(rt; Vs16::gather(list.as_slice()), Some(run16(0x16A8, 8, 300)?));
+    Ok(())
+}
+
 /// Answers the first number.
 struct First {
     modulus: u32,

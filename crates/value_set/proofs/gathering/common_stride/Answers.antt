@@ -1,16 +1,12 @@
 use Rattle.std.proofs.Common.{arith}
-use Rattle.std.proofs.lemmas.List.Sums.{fold_more}
-use Rattle.value_set.specs.Gcd.{gcd}
-use Rattle.value_set.specs.Form.{above}
-use Rattle.value_set.proofs.Members.{Ascends-at}
+use Rattle.std.proofs.lemmas.Grind.{common_steps}
 use Rattle.value_set.proofs.Gathers.{gcd_below}
+use Rattle.value_set.proofs.Gaps.{pushed}
 use Rattle.value_set.proofs.gathering.common_stride.Goals as goal
 
-pub above-requires-clause-below : goal.above-requires-clause-below
-above-requires-clause-below c = (Ascends-at 0 c.args.modulus c.loop-value.value-index c.args.values.now c.requires.ascending (omega arith)).1
-
-pub loop-value-preserved : goal.loop-value-preserved
-loop-value-preserved c = record {
-  so_far = rw (fold_more (λ g v. gcd g (above c.args.modulus c.args.from v)) 0 c.args.values.now c.loop-value.value-index 0 (omega arith)) (cc);
-  below = let low = gcd_below c.loop-value.stride c.above.result c.args.modulus c.loop-value.invariant.below c.above.ensures.around in omega (arith, low, c.greatest_common_divisor-stride.ensures);
+pub loop-number-preserved : goal.loop-number-preserved
+loop-number-preserved g c = record {
+  so_far = let more = pushed g.N.Number.number c.args.list.now c.loop-number.number-index c.number.result c.number-item.result c.loop-number-test.true c.number-item.is c.number.ensures in
+      rw more (grind (arith, common_steps));
+  below = let low = gcd_below c.loop-number.stride c.above.result c.args.modulus c.loop-number.invariant.below c.above.ensures.around in omega (arith, low, c.greatest_common_divisor-stride.ensures);
 }
