@@ -1,7 +1,6 @@
 -- The memories of the MCS-51 (Intel, MCS-51 Programmer's Guide and Instruction Set, "Memory Organization" and "Addressing
 -- Modes"): internal RAM and the special function registers, and the stack, which lies in RAM; external RAM; the program.
-use Rattle.std.specs.Prelude.{ℕ, ◌+◌, ◌*◌, ◌/◌, ◌%◌, nat_lt, if◌then◌else◌, Bool, true, false, Option, None, Some, List, [], ◌∷◌, slice_index, slice_set}
-use Rattle.call_context.specs.declared.shown.Space.TheVariants as space
+use Rattle.std.specs.Prelude.{ℕ, ◌+◌, ◌*◌, ◌/◌, ◌%◌, nat_lt, if◌then◌else◌, true, false, Option, None, Some, List, [], ◌∷◌, ◌++◌, slice_index, slice_set}
 use Rattle.mcs51_decode.specs.declared.instr.Memory.{Memory}
 use Rattle.mcs51_decode.specs.declared.instr.Memory.TheVariants.{Direct, Working as InWorking}
 use Rattle.mcs51_decode.specs.declared.instr.Working.{Working}
@@ -9,6 +8,7 @@ use Rattle.mcs51_decode.specs.declared.instr.Working.TheVariants.{Indirect, Regi
 use Rattle.mcs51_decode.specs.declared.instr.Pointer.{Pointer}
 use Rattle.mcs51_decode.specs.Encoding.{pointer_number, register_number}
 use Rattle.mcs51_chip.specs.declared.place.Access.{Access}
+use Rattle.mcs51_chip.specs.declared.place.Access.TheVariants.{Internal}
 use Rattle.mcs51_chip.specs.declared.place.Address.{Address}
 use Rattle.mcs51_chip.specs.declared.place.Address.TheVariants.{InRam, InSfr}
 use Rattle.mcs51_chip.specs.declared.state.ChipState.{ChipState}
@@ -78,15 +78,11 @@ popped_address s = 256 * top_of s + top_of (popped s)
 
 -- ACCESSES
 
-abbrev pub access_to : Bool → Address → Access
-access_to write (InRam at) = record { space = space.Ram; write = write; at = at }
-access_to write (InSfr at) = record { space = space.Sfr; write = write; at = at }
-
 abbrev pub reads : Address → List Access
-reads address = access_to false address ∷ []
+reads address = Internal false address ∷ []
 
 abbrev pub writes : Address → List Access
-writes address = access_to true address ∷ []
+writes address = Internal true address ∷ []
 
 -- @Ri reads the register
 abbrev pub pointer_reads : ChipState → Working → List Access
@@ -99,14 +95,7 @@ address_reads s (InWorking w) = pointer_reads s w
 
 -- what a push of two bytes writes, and what a pop of two bytes reads
 abbrev pub push_writes : ChipState → List Access
-push_writes s = access_to true (InRam ((s.sp + 1) % 256)) ∷ access_to true (InRam ((s.sp + 2) % 256)) ∷ []
+push_writes s = writes (InRam ((s.sp + 1) % 256)) ++ writes (InRam ((s.sp + 2) % 256))
 
 abbrev pub pop_reads : ChipState → List Access
-pop_reads s = access_to false (InRam s.sp) ∷ access_to false (InRam ((s.sp + 255) % 256)) ∷ []
-
--- a byte of external RAM, and of the program
-abbrev pub external_access : Bool → ℕ → Access
-external_access write at = record { space = space.Xram; write = write; at = at }
-
-abbrev pub code_read : ℕ → Access
-code_read at = record { space = space.Code; write = false; at = at }
+pop_reads s = reads (InRam s.sp) ++ reads (InRam ((s.sp + 255) % 256))

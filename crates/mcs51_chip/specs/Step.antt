@@ -5,6 +5,7 @@
 use Rattle.std.specs.Prelude.{◌≡◌, ℕ, ◌+◌, ◌-◌, ◌*◌, ◌/◌, ◌%◌, ◌==◌, not, nat_lt, if◌then◌else◌, Bool, true, false, Option, Some, Result, Ok, Err, List, [], ◌∷◌, ◌++◌, length, map, slice_index}
 use Rattle.std.specs.Int.{bit_at}
 use Rattle.ihex_read.specs.Image.{byte_at}
+use Rattle.call_context.specs.declared.shown.Space.TheVariants as space
 use Rattle.call_context.specs.Single.{Single}
 use Rattle.call_context.specs.Single.Single.{Instr as Ran, Edge, Access as Accessed, Stack}
 use Rattle.mcs51_decode.specs.declared.instr.Working.TheVariants.{Indirect as At, Register as InRegister}
@@ -19,7 +20,7 @@ use Rattle.mcs51_decode.specs.declared.instr.BitTest.TheVariants.{SetAndClear, S
 use Rattle.mcs51_decode.specs.declared.instr.Comparison.TheVariants.{AccumulatorImmediate, AccumulatorDirect, WorkingImmediate}
 use Rattle.mcs51_decode.specs.declared.instr.Counter.TheVariants as counter
 use Rattle.mcs51_decode.specs.declared.instr.CodeBase.TheVariants.{ProgramCounter, DataPointer as AtDataPointer}
-use Rattle.mcs51_decode.specs.declared.instr.External.{External}
+use Rattle.mcs51_decode.specs.declared.instr.External.{External as AnExternal}
 use Rattle.mcs51_decode.specs.declared.instr.External.TheVariants.{DataPointer, Indirect}
 use Rattle.mcs51_decode.specs.declared.instr.Instr.{Instr}
 use Rattle.mcs51_decode.specs.declared.instr.Instr.TheVariants.{Nop, AbsoluteJump, AbsoluteCall, LongJump, LongCall, Return, ReturnFromInterrupt, JumpIndirect, JumpOn, JumpOnBit, CompareJump, DecrementJump, ChangeAccumulator, Increment, Decrement, IncrementDataPointer, Accumulate, DirectLogic, Multiply, Divide, ChangeCarry, CarryBit, ChangeBit, MoveImmediate, MoveToDirect, MoveFromDirect, LoadDataPointer, Load, Store, MoveCode, ReadExternal, WriteExternal, Push, Pop, Exchange, ExchangeDigit}
@@ -28,12 +29,13 @@ use Rattle.mcs51_decode.specs.Decoding.{decoded}
 use Rattle.mcs51_decode.specs.Encoding.{bytes_of}
 use Rattle.mcs51_decode.specs.Targets.{following, relative_target, absolute_target}
 use Rattle.mcs51_chip.specs.declared.place.Access.{Access}
+use Rattle.mcs51_chip.specs.declared.place.Access.TheVariants.{Internal, External, Code}
 use Rattle.mcs51_chip.specs.declared.place.Address.{Address}
-use Rattle.mcs51_chip.specs.declared.place.Address.TheVariants.{InRam}
+use Rattle.mcs51_chip.specs.declared.place.Address.TheVariants.{InRam, InSfr}
 use Rattle.mcs51_chip.specs.declared.state.ChipState.{ChipState}
 use Rattle.mcs51_chip.specs.Arithmetic.{accumulated, masked, changed, multiplied, divided, divided_by_zero, carry_after, carry_with, bit_after}
 use Rattle.mcs51_chip.specs.Interrupts.{coming, vector_of, is_high, serving, level_ended}
-use Rattle.mcs51_chip.specs.Memory.{direct_address, bit_address, pointed_by, working_address, address_of, read, write, read_code, pushed, top_of, popped, with_pushed_address, popped_address, reads, writes, pointer_reads, address_reads, push_writes, pop_reads, external_access, code_read}
+use Rattle.mcs51_chip.specs.Memory.{direct_address, bit_address, pointed_by, working_address, address_of, read, write, read_code, pushed, top_of, popped, with_pushed_address, popped_address, reads, writes, pointer_reads, address_reads, push_writes, pop_reads}
 use Rattle.mcs51_chip.specs.Registers.{bit_of, with_bit, carry_of, with_carry, data_pointer, with_data_pointer, with_accumulator}
 use Rattle.choosing.specs.Asking.{Asking, answer, ask, ask_if, and_then, ◌>>=◌}
 use Rattle.choosing.specs.Outcome.{Outcome as OutcomeBy}
@@ -143,28 +145,28 @@ popping s direct = do
 unfoldable pub reading_code : List (Option ℕ) → ChipState → (at : ℕ) → Asking Effect
 reading_code image s at = do
   x ← read_code (byte_at image at)
-  answer (code_read at ∷ [], with_accumulator x s)
+  answer (Code at ∷ [], with_accumulator x s)
 
 -- the high byte of the address of MOVX @Ri is any
-unfoldable pub external_address : ChipState → External → Asking ℕ
+unfoldable pub external_address : ChipState → AnExternal → Asking ℕ
 external_address s DataPointer = answer (data_pointer s)
 external_address s (Indirect i) = and_then (ask 256) (λ high. answer (pointed_by s i + 256 * high))
 
-abbrev pub external_reads : ChipState → External → List Access
+abbrev pub external_reads : ChipState → AnExternal → List Access
 external_reads s DataPointer = []
 external_reads s (Indirect i) = pointer_reads s (At i)
 
 -- external RAM reads as any byte
-unfoldable pub reading_external : ChipState → External → Asking Effect
+unfoldable pub reading_external : ChipState → AnExternal → Asking Effect
 reading_external s external = do
   at ← external_address s external
   x ← ask 256
-  answer (external_reads s external ++ external_access false at ∷ [], with_accumulator x s)
+  answer (external_reads s external ++ External false at ∷ [], with_accumulator x s)
 
-unfoldable pub writing_external : ChipState → External → Asking Effect
+unfoldable pub writing_external : ChipState → AnExternal → Asking Effect
 writing_external s external = do
   at ← external_address s external
-  answer (external_reads s external ++ external_access true at ∷ [], s)
+  answer (external_reads s external ++ External true at ∷ [], s)
 
 -- OTHER FORMS
 
@@ -237,7 +239,10 @@ effect_of image s (ExchangeDigit i) = updating s (pointer_reads s (At i)) (worki
 -- STEPS
 
 abbrev pub accessed : ℕ → Access → Single
-accessed pc access = Accessed pc access.space access.write 1 access.at
+accessed pc (Internal write (InRam at)) = Accessed pc space.Ram write 1 at
+accessed pc (Internal write (InSfr at)) = Accessed pc space.Sfr write 1 at
+accessed pc (External write at) = Accessed pc space.Xram write 1 at
+accessed pc (Code at) = Accessed pc space.Code false 1 at
 
 -- what a step did: SP before it, the instruction, if it is one, the accesses, and where control goes
 abbrev pub stepped : ChipState → List Single → Effect → Outcome

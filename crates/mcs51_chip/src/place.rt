@@ -1,7 +1,5 @@
 //! Where bytes stand.
 
-use call_context::Space;
-
 /// The special function registers that hold something, and the others.
 #[derive(Clone, Copy, Debug, PartialEq, Eq)]
 pub enum Sfr {
@@ -17,7 +15,7 @@ pub enum Sfr {
     Other,
 }
 
-/// A byte that an instruction can reach by its address.
+/// A byte of RAM or a special function register.
 #[derive(Clone, Copy, Debug, PartialEq, Eq)]
 pub enum Address {
     InRam(u8),
@@ -27,8 +25,11 @@ pub enum Address {
 
 /// A read or a write of one byte.
 #[derive(Clone, Copy, Debug, PartialEq, Eq)]
-pub struct Access {
-    pub space: Space,
-    pub write: bool,
-    pub at: u16,
+pub enum Access {
+    /// Of RAM or of a special function register.
+    Internal { write: bool, address: Address },
+    /// Of external RAM.
+    External { write: bool, at: u16 },
+    /// A read of the program.
+    Code { at: u16 },
 }
