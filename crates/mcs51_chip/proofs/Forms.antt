@@ -1,0 +1,494 @@
+-- A step keeps the form of states.
+use Rattle.std.proofs.Common.{◌≡◌, ℕ, ◌+◌, ◌-◌, ◌*◌, ◌/◌, ◌%◌, ◌<◌, ◌==◌, Bool, true, false, cond, ltb, nat_lt, List, [], length, slice_index, slice_set, Option, None, Some, Result, Ok, Err, refl, arith}
+use Rattle.std.specs.Prelude.{All}
+use Rattle.std.specs.List.{range_with_len}
+use Rattle.std.specs.Int.{bit_at}
+use Rattle.std.proofs.lemmas.Grind.{common_steps}
+use Rattle.std.proofs.lemmas.Bool.Decides.{nat_tests}
+use Rattle.std.proofs.lemmas.List.Elements.{All-set, All-get_or, All-replicate, All-filter, All-cons, All-nil}
+use Rattle.std.proofs.lemmas.List.{get_or_past}
+use borrow.Author.Tests.{ltb-true, ltb-false}
+use Rattle.std.proofs.lemmas.Nat.Bits.{bit_at-lt}
+use Rattle.ihex_read.specs.Image.{IsByte, byte_at}
+use Rattle.call_context.specs.Single.{Single}
+use Rattle.mcs51_decode.specs.declared.instr.Memory.{Memory}
+use Rattle.mcs51_decode.specs.declared.instr.Memory.TheVariants.{Direct, Working as InWorking}
+use Rattle.mcs51_decode.specs.declared.instr.Working.{Working}
+use Rattle.mcs51_decode.specs.declared.instr.Working.TheVariants.{Indirect as At, Register as InRegister}
+use Rattle.mcs51_decode.specs.declared.instr.Source.TheVariants as source
+use Rattle.mcs51_decode.specs.declared.instr.Place.TheVariants.{Accumulator, Memory as InMemory}
+use Rattle.mcs51_decode.specs.declared.instr.Mask.TheVariants as mask
+use Rattle.mcs51_decode.specs.declared.instr.BitTest.{BitTest}
+use Rattle.mcs51_decode.specs.declared.instr.BitTest.TheVariants.{SetAndClear, Set, Clear}
+use Rattle.mcs51_decode.specs.declared.instr.Comparison.TheVariants.{AccumulatorImmediate, AccumulatorDirect, WorkingImmediate}
+use Rattle.mcs51_decode.specs.declared.instr.Counter.TheVariants as counter
+use Rattle.mcs51_decode.specs.declared.instr.CodeBase.TheVariants.{ProgramCounter, DataPointer as AtDataPointer}
+use Rattle.mcs51_decode.specs.declared.instr.External.{External}
+use Rattle.mcs51_decode.specs.declared.instr.External.TheVariants.{DataPointer, Indirect}
+use Rattle.mcs51_decode.specs.declared.instr.Pointer.{Pointer}
+use Rattle.mcs51_decode.specs.declared.instr.Pointer.TheVariants as pointer
+use Rattle.mcs51_decode.specs.declared.instr.Register.{Register}
+use Rattle.mcs51_decode.specs.declared.instr.Register.TheVariants as register
+use Rattle.mcs51_decode.specs.declared.instr.Instr.{Instr}
+use Rattle.mcs51_decode.specs.declared.instr.Instr.TheVariants.{Nop, AbsoluteJump, AbsoluteCall, LongJump, LongCall, Return, ReturnFromInterrupt, JumpIndirect, JumpOn, JumpOnBit, CompareJump, DecrementJump, ChangeAccumulator, Increment, Decrement, IncrementDataPointer, Accumulate, DirectLogic, Multiply, Divide, ChangeCarry, CarryBit, ChangeBit, MoveImmediate, MoveToDirect, MoveFromDirect, LoadDataPointer, Load, Store, MoveCode, ReadExternal, WriteExternal, Push, Pop, Exchange, ExchangeDigit}
+use Rattle.mcs51_decode.specs.declared.refusal.NoInstr.{NoInstr}
+use Rattle.mcs51_decode.specs.Decoding.{decoded}
+use Rattle.mcs51_decode.specs.Encoding.{bytes_of, pointer_number, register_number}
+use Rattle.mcs51_decode.specs.Targets.{following}
+use Rattle.mcs51_chip.specs.declared.place.Access.{Access}
+use Rattle.mcs51_chip.specs.declared.place.Address.{Address}
+use Rattle.mcs51_chip.specs.declared.place.Address.TheVariants.{InRam, InSfr}
+use Rattle.mcs51_chip.specs.declared.place.Sfr.{Sfr}
+use Rattle.mcs51_chip.specs.declared.place.Sfr.TheVariants.{Sp, Dpl, Dph, Ie, Ip, Psw, Acc, B, Other}
+use Rattle.mcs51_chip.specs.declared.state.ChipState.{ChipState}
+use Rattle.mcs51_decode.specs.declared.instr.Operation.{Operation}
+use Rattle.mcs51_decode.specs.declared.instr.Operation.TheVariants.{Add, Addc, Orl, Anl, Xrl, Subb}
+use Rattle.mcs51_decode.specs.declared.instr.AccumulatorOperation.{AccumulatorOperation}
+use Rattle.mcs51_decode.specs.declared.instr.AccumulatorOperation.TheVariants.{Rr, Rrc, Rl, Rlc, Swap, Da, Clr, Cpl}
+use Rattle.mcs51_decode.specs.Table.{Row}
+use Rattle.mcs51_chip.proofs.Operands.{AreFitting, operands_fit}
+use Rattle.mcs51_chip.specs.Arithmetic.{added, subtracted, accumulated, masked, changed, multiplied, divided, divided_by_zero, bit_after}
+use Rattle.mcs51_chip.specs.Interrupts.{coming, may_come, is_high, serving, vector_of, level_ended}
+use Rattle.mcs51_chip.specs.Memory.{direct_address, bit_address, pointer_address, pointed_by, working_address, address_of, read, write, read_code, pushed, top_of, popped, with_pushed_address, popped_address}
+use Rattle.mcs51_chip.specs.Registers.{parity, with_bit, carry_of, half_carry_of, sfr_at, read_sfr, write_sfr, with_accumulator, with_carry, with_flags, with_data_pointer}
+use Rattle.mcs51_chip.specs.State.{IsChipState, IsReset, first_state}
+use Rattle.mcs51_chip.specs.Step.{Effect, Outcome, implied, reading, writing, updating, changing, moving, going_to, branched, cleared, jumping_on_bit, compared, counting, called, returned, push_value, pushing, popping, reading_code, external_address, reading_external, writing_external, dividing, exchanged_with, digit_exchanged_with, effect_of, executed, entered, run, taken, step_of}
+use Rattle.choosing.specs.Asking.{answer, and_then}
+use Rattle.choosing.specs.Outcome.Outcome.{Next, Wild}
+use Rattle.choosing.specs.Gives.{Gives, answer_gives, ask_gives, ask_if_gives, if_gives, then_gives}
+use Rattle.mcs51_chip.proofs.Results.{or_below, xor_below, and_below, masked_below, flag_below, parity_below, carry_after_below, carry_with_below, bit_after_below, with_bit_below, right_below, left_below, exchanged_below, adjusted_below, product_below, quotient_below, remainder_below, target_below, absolute_below}
+
+-- ---- registers
+
+set_pc : (s : ChipState) (x : ℕ) → IsChipState s → x < 65536 → IsChipState (going_to x s)
+set_pc s x is h = record { pc = h; a = is.a; b = is.b; sp = is.sp; dpl = is.dpl; dph = is.dph; psw = is.psw; psw_held = is.psw_held; ie = is.ie; ie_held = is.ie_held; ip = is.ip; ram = is.ram; bytes = is.bytes }
+
+set_a : (s : ChipState) (x : ℕ) → IsChipState s → x < 256 → IsChipState (with_accumulator x s)
+set_a s x is h = record { pc = is.pc; a = h; b = is.b; sp = is.sp; dpl = is.dpl; dph = is.dph; psw = is.psw; psw_held = is.psw_held; ie = is.ie; ie_held = is.ie_held; ip = is.ip; ram = is.ram; bytes = is.bytes }
+
+set_ab : (s : ChipState) (x y : ℕ) → IsChipState s → x < 256 → y < 256 → IsChipState (record s { a = x; b = y })
+set_ab s x y is h g = record { pc = is.pc; a = h; b = g; sp = is.sp; dpl = is.dpl; dph = is.dph; psw = is.psw; psw_held = is.psw_held; ie = is.ie; ie_held = is.ie_held; ip = is.ip; ram = is.ram; bytes = is.bytes }
+
+set_pointer : (s : ChipState) (x : ℕ) → IsChipState s → x < 65536 → IsChipState (with_data_pointer x s)
+set_pointer s x is h = record { pc = is.pc; a = is.a; b = is.b; sp = is.sp; dpl = omega arith; dph = omega (arith, h); psw = is.psw; psw_held = is.psw_held; ie = is.ie; ie_held = is.ie_held; ip = is.ip; ram = is.ram; bytes = is.bytes }
+
+carry_kept : (s : ChipState) (c : ℕ) → IsChipState s → c < 2 → IsChipState (with_carry c s)
+carry_kept s c is h = record { pc = is.pc; a = is.a; b = is.b; sp = is.sp; dpl = is.dpl; dph = is.dph; psw = omega (arith, h); psw_held = omega (arith, is.psw_held); ie = is.ie; ie_held = is.ie_held; ip = is.ip; ram = is.ram; bytes = is.bytes }
+
+flags_kept : (s : ChipState) (c half overflow : ℕ) → IsChipState s → c < 2 → half < 2 → overflow < 2 → IsChipState (with_flags c half overflow s)
+flags_kept s c half overflow is h g o = record { pc = is.pc; a = is.a; b = is.b; sp = is.sp; dpl = is.dpl; dph = is.dph; psw = omega (arith, h, g, o); psw_held = omega arith; ie = is.ie; ie_held = is.ie_held; ip = is.ip; ram = is.ram; bytes = is.bytes }
+
+ended_by : (b : Bool) (s t : ChipState) → IsChipState s → IsChipState t → IsChipState (cond b s t)
+ended_by true s t is be = is
+ended_by false s t is be = be
+
+level_kept : (s : ChipState) → IsChipState s → IsChipState (level_ended s)
+level_kept s is = ended_by s.serves_high _ _ (record { pc = is.pc; a = is.a; b = is.b; sp = is.sp; dpl = is.dpl; dph = is.dph; psw = is.psw; psw_held = is.psw_held; ie = is.ie; ie_held = is.ie_held; ip = is.ip; ram = is.ram; bytes = is.bytes }) (record { pc = is.pc; a = is.a; b = is.b; sp = is.sp; dpl = is.dpl; dph = is.dph; psw = is.psw; psw_held = is.psw_held; ie = is.ie; ie_held = is.ie_held; ip = is.ip; ram = is.ram; bytes = is.bytes })
+
+serving_kept : (high : Bool) (s : ChipState) → IsChipState s → IsChipState (serving high s)
+serving_kept true s is = record { pc = is.pc; a = is.a; b = is.b; sp = is.sp; dpl = is.dpl; dph = is.dph; psw = is.psw; psw_held = is.psw_held; ie = is.ie; ie_held = is.ie_held; ip = is.ip; ram = is.ram; bytes = is.bytes }
+serving_kept false s is = record { pc = is.pc; a = is.a; b = is.b; sp = is.sp; dpl = is.dpl; dph = is.dph; psw = is.psw; psw_held = is.psw_held; ie = is.ie; ie_held = is.ie_held; ip = is.ip; ram = is.ram; bytes = is.bytes }
+
+-- ---- bytes
+
+ram_byte : (s : ChipState) (at : ℕ) → IsChipState s → at < 256 → slice_index s.ram at < 256
+ram_byte s at is h = All-get_or (λ b. b < 256) s.ram at _ (omega (arith, is.ram, h)) is.bytes
+
+status_below : (psw bit parity : ℕ) → psw < 256 → psw % 4 ≡ 0 → bit < 2 → parity < 2 → psw + 2 * bit + parity < 256
+status_below psw bit parity h held b p = omega (arith, h, held, b, p)
+
+sfr_gives : (s : ChipState) (sfr : Sfr) → IsChipState s → Gives (λ (x : ℕ). x < 256) (read_sfr s sfr)
+sfr_gives s Sp is = answer_gives (λ (x : ℕ). x < 256) _ is.sp
+sfr_gives s Dpl is = answer_gives (λ (x : ℕ). x < 256) _ is.dpl
+sfr_gives s Dph is = answer_gives (λ (x : ℕ). x < 256) _ is.dph
+sfr_gives s Ie is = then_gives (λ (bit : ℕ). bit < 2) (λ (x : ℕ). x < 256) _ _ (ask_gives 2 (omega arith)) (λ bit h.
+    answer_gives (λ (x : ℕ). x < 256) _ (omega (arith, is.ie, is.ie_held, h)))
+sfr_gives s Ip is = then_gives (λ (bits : ℕ). bits < 4) (λ (x : ℕ). x < 256) _ _ (ask_gives 4 (omega arith)) (λ bits h.
+    answer_gives (λ (x : ℕ). x < 256) _ (omega (arith, is.ip, h)))
+sfr_gives s Psw is = then_gives (λ (bit : ℕ). bit < 2) (λ (x : ℕ). x < 256) _ _ (ask_gives 2 (omega arith)) (λ bit h.
+    let p = parity_below s.a in answer_gives (λ (x : ℕ). x < 256) _ (status_below s.psw bit (parity s.a) is.psw is.psw_held h p))
+sfr_gives s Acc is = answer_gives (λ (x : ℕ). x < 256) _ is.a
+sfr_gives s B is = answer_gives (λ (x : ℕ). x < 256) _ is.b
+sfr_gives s Other is = ask_gives 256 (omega arith)
+
+-- a place in RAM is one of 256
+abbrev pub IsAddress : Address → Type 0
+IsAddress (InRam at) = at < 256
+IsAddress (InSfr at) = Unit {0}
+
+read_gives : (s : ChipState) (address : Address) → IsChipState s → IsAddress address → Gives (λ (x : ℕ). x < 256) (read s address)
+unfolding read
+read_gives s (InRam at) is h = answer_gives (λ (x : ℕ). x < 256) _ (ram_byte s at is h)
+read_gives s (InSfr at) is h = sfr_gives s (sfr_at at) is
+
+sfr_kept : (s : ChipState) (sfr : Sfr) (x : ℕ) → IsChipState s → x < 256 → IsChipState (write_sfr sfr x s)
+sfr_kept s Sp x is h = record { pc = is.pc; a = is.a; b = is.b; sp = h; dpl = is.dpl; dph = is.dph; psw = is.psw; psw_held = is.psw_held; ie = is.ie; ie_held = is.ie_held; ip = is.ip; ram = is.ram; bytes = is.bytes }
+sfr_kept s Dpl x is h = record { pc = is.pc; a = is.a; b = is.b; sp = is.sp; dpl = h; dph = is.dph; psw = is.psw; psw_held = is.psw_held; ie = is.ie; ie_held = is.ie_held; ip = is.ip; ram = is.ram; bytes = is.bytes }
+sfr_kept s Dph x is h = record { pc = is.pc; a = is.a; b = is.b; sp = is.sp; dpl = is.dpl; dph = h; psw = is.psw; psw_held = is.psw_held; ie = is.ie; ie_held = is.ie_held; ip = is.ip; ram = is.ram; bytes = is.bytes }
+sfr_kept s Ie x is h = record { pc = is.pc; a = is.a; b = is.b; sp = is.sp; dpl = is.dpl; dph = is.dph; psw = is.psw; psw_held = is.psw_held; ie = omega (arith, h); ie_held = omega (arith, h); ip = is.ip; ram = is.ram; bytes = is.bytes }
+sfr_kept s Ip x is h = record { pc = is.pc; a = is.a; b = is.b; sp = is.sp; dpl = is.dpl; dph = is.dph; psw = is.psw; psw_held = is.psw_held; ie = is.ie; ie_held = is.ie_held; ip = omega arith; ram = is.ram; bytes = is.bytes }
+sfr_kept s Psw x is h = record { pc = is.pc; a = is.a; b = is.b; sp = is.sp; dpl = is.dpl; dph = is.dph; psw = omega (arith, h); psw_held = omega arith; ie = is.ie; ie_held = is.ie_held; ip = is.ip; ram = is.ram; bytes = is.bytes }
+sfr_kept s Acc x is h = record { pc = is.pc; a = h; b = is.b; sp = is.sp; dpl = is.dpl; dph = is.dph; psw = is.psw; psw_held = is.psw_held; ie = is.ie; ie_held = is.ie_held; ip = is.ip; ram = is.ram; bytes = is.bytes }
+sfr_kept s B x is h = record { pc = is.pc; a = is.a; b = h; sp = is.sp; dpl = is.dpl; dph = is.dph; psw = is.psw; psw_held = is.psw_held; ie = is.ie; ie_held = is.ie_held; ip = is.ip; ram = is.ram; bytes = is.bytes }
+sfr_kept s Other x is h = is
+
+ram_kept : (s : ChipState) (at x : ℕ) → IsChipState s → x < 256 → IsChipState (record s { ram = slice_set s.ram at x })
+ram_kept s at x is h = record { pc = is.pc; a = is.a; b = is.b; sp = is.sp; dpl = is.dpl; dph = is.dph; psw = is.psw; psw_held = is.psw_held; ie = is.ie; ie_held = is.ie_held; ip = is.ip; ram = grind (arith, common_steps, is.ram); bytes = All-set (λ b. b < 256) s.ram at x h is.bytes }
+
+write_kept : (s : ChipState) (address : Address) (x : ℕ) → IsChipState s → x < 256 → IsChipState (write address x s)
+unfolding write
+write_kept s (InRam at) x is h = ram_kept s at x is h
+write_kept s (InSfr at) x is h = sfr_kept s (sfr_at at) x is h
+
+code_gives : (byte : Option ℕ) → IsByte byte → Gives (λ (x : ℕ). x < 256) (read_code byte)
+unfolding read_code
+code_gives (Some byte) is = answer_gives (λ (x : ℕ). x < 256) byte is
+code_gives None is = ask_gives 256 (omega arith)
+
+-- ---- addresses
+
+direct_by : (low : Bool) (direct : ℕ) → nat_lt direct 128 ≡ low → IsAddress (cond low (InRam direct) (InSfr direct))
+direct_by true direct e = grind (arith, nat_tests, e)
+direct_by false direct e = tt
+
+direct_is : (direct : ℕ) → IsAddress (direct_address direct)
+direct_is direct = direct_by (nat_lt direct 128) direct refl
+
+bit_by : (low : Bool) (bit : ℕ) → nat_lt bit 128 ≡ low → IsAddress (cond low (InRam (32 + bit / 8)) (InSfr (bit / 8 * 8)))
+bit_by true bit e = grind (arith, nat_tests, e)
+bit_by false bit e = tt
+
+bit_is : (bit : ℕ) → IsAddress (bit_address bit)
+bit_is bit = bit_by (nat_lt bit 128) bit refl
+
+pointer_below : (i : Pointer) → pointer_number i < 8
+pointer_below pointer.R0 = omega arith
+pointer_below pointer.R1 = omega arith
+
+number_below : (n : Register) → register_number n < 8
+number_below register.R0 = omega arith
+number_below register.R1 = omega arith
+number_below register.R2 = omega arith
+number_below register.R3 = omega arith
+number_below register.R4 = omega arith
+number_below register.R5 = omega arith
+number_below register.R6 = omega arith
+number_below register.R7 = omega arith
+
+pointed_below : (s : ChipState) (i : Pointer) → IsChipState s → pointed_by s i < 256
+pointed_below s i is = ram_byte s (pointer_address s i) is (omega (arith, pointer_below i))
+
+working_is : (s : ChipState) (w : Working) → IsChipState s → IsAddress (working_address s w)
+working_is s (At i) is = pointed_below s i is
+working_is s (InRegister n) is = omega (arith, number_below n)
+
+address_is : (s : ChipState) (m : Memory) → IsChipState s → IsAddress (address_of s m)
+address_is s (Direct direct) is = direct_is direct
+address_is s (InWorking w) is = working_is s w is
+
+-- ---- the stack
+
+pushed_kept : (s : ChipState) (byte : ℕ) → IsChipState s → byte < 256 → IsChipState (pushed byte s)
+pushed_kept s byte is h = record { pc = is.pc; a = is.a; b = is.b; sp = omega arith; dpl = is.dpl; dph = is.dph; psw = is.psw; psw_held = is.psw_held; ie = is.ie; ie_held = is.ie_held; ip = is.ip; ram = grind (arith, common_steps, is.ram); bytes = All-set (λ b. b < 256) s.ram ((s.sp + 1) % 256) byte h is.bytes }
+
+popped_kept : (s : ChipState) → IsChipState s → IsChipState (popped s)
+popped_kept s is = record { pc = is.pc; a = is.a; b = is.b; sp = omega arith; dpl = is.dpl; dph = is.dph; psw = is.psw; psw_held = is.psw_held; ie = is.ie; ie_held = is.ie_held; ip = is.ip; ram = is.ram; bytes = is.bytes }
+
+called_kept : (s : ChipState) (target : ℕ) → IsChipState s → target < 65536 → IsChipState (called target s)
+called_kept s target is h = let pc = is.pc in
+    set_pc (with_pushed_address s.pc s) target (pushed_kept (pushed (s.pc % 256) s) (s.pc / 256) (pushed_kept s (s.pc % 256) is (omega arith)) (omega (arith, pc))) h
+
+top_below : (s : ChipState) → IsChipState s → top_of s < 256
+top_below s is = ram_byte s s.sp is is.sp
+
+returned_kept : (s : ChipState) → IsChipState s → IsChipState (returned s)
+returned_kept s is = set_pc (popped (popped s)) (popped_address s) (popped_kept (popped s) (popped_kept s is))
+    (omega (arith, top_below s is, top_below (popped s) (popped_kept s is)))
+
+-- ---- results
+
+carry_below : (s : ChipState) → carry_of s < 2
+carry_below s = bit_at-lt s.psw 7
+
+added_kept : (s : ChipState) (x c : ℕ) → IsChipState s → IsChipState (added x c s)
+added_kept s x c is = set_a _ _ (flags_kept s _ _ _ is (flag_below _) (flag_below _) (flag_below _)) (omega arith)
+
+subtracted_kept : (s : ChipState) (x c : ℕ) → IsChipState s → IsChipState (subtracted x c s)
+subtracted_kept s x c is = set_a _ _ (flags_kept s _ _ _ is (flag_below _) (flag_below _) (flag_below _)) (omega arith)
+
+accumulated_kept : (s : ChipState) (operation : Operation) (x : ℕ) → IsChipState s → x < 256 → IsChipState (accumulated operation x s)
+accumulated_kept s Add x is h = added_kept s x 0 is
+accumulated_kept s Addc x is h = added_kept s x (carry_of s) is
+accumulated_kept s Subb x is h = subtracted_kept s x (carry_of s) is
+accumulated_kept s Orl x is h = set_a s _ is (or_below s.a x is.a h)
+accumulated_kept s Anl x is h = set_a s _ is (and_below s.a x 256 is.a)
+accumulated_kept s Xrl x is h = set_a s _ is (xor_below s.a x is.a h)
+
+low_bit : (x : ℕ) → x % 2 < 2
+low_bit x = omega arith
+
+top_bit : (x : ℕ) → x < 256 → x / 128 < 2
+top_bit x h = omega (arith, h)
+
+changed_kept : (s : ChipState) (operation : AccumulatorOperation) → IsChipState s → IsChipState (changed operation s)
+changed_kept s Rr is = set_a s _ is (right_below s.a (s.a % 2) is.a (low_bit s.a))
+changed_kept s Rrc is = set_a _ _ (carry_kept s _ is (low_bit s.a)) (right_below s.a (carry_of s) is.a (carry_below s))
+changed_kept s Rl is = set_a s _ is (left_below s.a (s.a / 128) (top_bit s.a is.a))
+changed_kept s Rlc is = set_a _ _ (carry_kept s _ is (top_bit s.a is.a)) (left_below s.a (carry_of s) (carry_below s))
+changed_kept s Swap is = set_a s _ is (exchanged_below s.a is.a)
+changed_kept s Da is = set_a _ _ (carry_kept s _ is (flag_below _)) (adjusted_below s.a (carry_of s) (half_carry_of s))
+changed_kept s Clr is = set_a s 0 is (omega arith)
+changed_kept s Cpl is = set_a s (255 - s.a) is (omega arith)
+
+cleared_flags : (s : ChipState) (overflow : ℕ) → IsChipState s → overflow < 2 → IsChipState (with_flags 0 (half_carry_of s) overflow s)
+cleared_flags s overflow is h = flags_kept s 0 (half_carry_of s) overflow is (omega arith) (bit_at-lt s.psw 6) h
+
+multiplied_kept : (s : ChipState) → IsChipState s → IsChipState (multiplied s)
+multiplied_kept s is = set_ab _ _ _ (cleared_flags s _ is (flag_below _)) (omega arith) (product_below s.a s.b is.a is.b)
+
+divided_kept : (s : ChipState) → IsChipState s → (s.b == 0) ≡ false → IsChipState (divided s)
+divided_kept s is some = set_ab _ _ _ (cleared_flags s 0 is (omega arith)) (quotient_below s.a s.b is.a some) (remainder_below s.a s.b is.a)
+
+-- ---- forms of instructions
+
+abbrev pub Keeps : Effect → Type 0
+Keeps effect = IsChipState effect.1
+
+implied_keeps : (t : ChipState) → IsChipState t → Gives Keeps (implied t)
+implied_keeps t is = answer_gives Keeps _ is
+
+byte_leads : (s : ChipState) (address : Address) (leads : ℕ → Effect) → IsChipState s → IsAddress address
+    → ((x : ℕ) → x < 256 → Keeps (leads x)) → Gives Keeps (and_then (read s address) (λ x. answer (leads x)))
+byte_leads s address leads is there h =
+    then_gives (λ (x : ℕ). x < 256) Keeps _ _ (read_gives s address is there) (λ x below. answer_gives Keeps _ (h x below))
+
+reading_keeps : (s : ChipState) (before : List Access) (address : Address) (leads : ℕ → ChipState) → IsChipState s → IsAddress address
+    → ((x : ℕ) → x < 256 → IsChipState (leads x)) → Gives Keeps (reading s before address leads)
+unfolding reading
+reading_keeps s before address leads is there h = byte_leads s address _ is there h
+
+updating_keeps : (s : ChipState) (before : List Access) (address : Address) (leads : ℕ → ChipState) → IsChipState s → IsAddress address
+    → ((x : ℕ) → x < 256 → IsChipState (leads x)) → Gives Keeps (updating s before address leads)
+unfolding updating
+updating_keeps s before address leads is there h = byte_leads s address _ is there h
+
+changing_keeps : (s : ChipState) (before : List Access) (address : Address) (change : ℕ → ℕ) → IsChipState s → IsAddress address
+    → ((x : ℕ) → x < 256 → change x < 256) → Gives Keeps (changing s before address change)
+changing_keeps s before address change is there h = updating_keeps s before address _ is there (λ x below. write_kept s address (change x) is (h x below))
+
+moving_keeps : (s : ChipState) (before : List Access) (from to : Address) → IsChipState s → IsAddress from → Gives Keeps (moving s before from to)
+unfolding moving
+moving_keeps s before from to is there = byte_leads s from _ is there (λ x below. write_kept s to x is below)
+
+writing_keeps : (s : ChipState) (before : List Access) (address : Address) (x : ℕ) → IsChipState s → x < 256 → Gives Keeps (writing s before address x)
+writing_keeps s before address x is h = answer_gives Keeps _ (write_kept s address x is h)
+
+place_taken : (b : Bool) (x y : ℕ) → x < 65536 → y < 65536 → cond b x y < 65536
+place_taken true x y h g = h
+place_taken false x y h g = g
+
+branched_kept : (s : ChipState) (taken : Bool) (rel : ℕ) → IsChipState s → IsChipState (branched taken rel s)
+branched_kept s taken rel is = set_pc s _ is (place_taken taken _ _ (target_below s.pc rel) is.pc)
+
+compared_kept : (s : ChipState) (x y rel : ℕ) → IsChipState s → IsChipState (compared x y rel s)
+compared_kept s x y rel is = branched_kept _ _ rel (carry_kept s _ is (flag_below _))
+
+cleared_by : (b : Bool) (e f : Effect) → Keeps e → Keeps f → Keeps (cond b e f)
+cleared_by true e f h g = h
+cleared_by false e f h g = g
+
+cleared_keeps : (s : ChipState) (address : Address) (bit rel x : ℕ) → IsChipState s → x < 256 → Keeps (cleared s address (bit % 8) rel x)
+cleared_keeps s address bit rel x is h = cleared_by (bit_at x (bit % 8) == 1) _ _
+    (branched_kept _ true rel (write_kept s address _ is (with_bit_below x bit 0 h (omega arith)))) (branched_kept s false rel is)
+
+on_bit_keeps : (s : ChipState) (test : BitTest) (address : Address) (bit rel : ℕ) → IsChipState s → IsAddress address → Gives Keeps (jumping_on_bit s test address (bit % 8) rel)
+unfolding jumping_on_bit
+on_bit_keeps s SetAndClear address bit rel is there = byte_leads s address _ is there (λ x h. cleared_keeps s address bit rel x is h)
+on_bit_keeps s Set address bit rel is there = reading_keeps s _ address _ is there (λ x h. branched_kept s _ rel is)
+on_bit_keeps s Clear address bit rel is there = reading_keeps s _ address _ is there (λ x h. branched_kept s _ rel is)
+
+counting_keeps : (s : ChipState) (address : Address) (rel : ℕ) → IsChipState s → IsAddress address → Gives Keeps (counting s address rel)
+counting_keeps s address rel is there = updating_keeps s _ address _ is there (λ x h. branched_kept _ _ rel (write_kept s address _ is (omega arith)))
+
+value_gives : (s : ChipState) (direct : ℕ) → IsChipState s → Gives (λ (x : ℕ). x < 256) (push_value s direct)
+unfolding push_value
+value_gives s direct is = if_gives (λ (x : ℕ). x < 256) (direct == 0x81) _ _
+    (λ _. then_gives (λ (option : ℕ). option < 2) (λ (x : ℕ). x < 256) _ _ (ask_gives 2 (omega arith)) (λ option o. answer_gives (λ (x : ℕ). x < 256) _ (omega arith)))
+    (λ _. read_gives s (direct_address direct) is (direct_is direct))
+
+pushing_keeps : (s : ChipState) (direct : ℕ) → IsChipState s → Gives Keeps (pushing s direct)
+unfolding pushing
+pushing_keeps s direct is = then_gives (λ (x : ℕ). x < 256) Keeps _ _ (value_gives s direct is) (λ x h. answer_gives Keeps _ (pushed_kept s x is h))
+
+popping_keeps : (s : ChipState) (direct : ℕ) → IsChipState s → Gives Keeps (popping s direct)
+unfolding popping
+popping_keeps s direct is = then_gives (λ (option : ℕ). option < 2) Keeps _ _ (ask_if_gives (direct == 0x81) 2 (omega arith)) (λ option o.
+    answer_gives Keeps _ (write_kept (popped s) (direct_address direct) _ (popped_kept s is) (omega arith)))
+
+byte_by : (image : List (Option ℕ)) (at : ℕ) → All IsByte image → (within : Bool) → ltb at (length image) ≡ within → IsByte (byte_at image at)
+byte_by image at bytes true test = All-get_or IsByte image at None (ltb-true at (length image) test) bytes
+byte_by image at bytes false test = let past : byte_at image at ≡ None = get_or_past image at None (ltb-false at (length image) test) in rw past tt
+
+code_keeps : (image : List (Option ℕ)) (s : ChipState) (at : ℕ) → All IsByte image → IsChipState s → Gives Keeps (reading_code image s at)
+unfolding reading_code
+code_keeps image s at bytes is = then_gives (λ (x : ℕ). x < 256) Keeps _ _ (code_gives (byte_at image at) (byte_by image at bytes (ltb at (length image)) refl))
+    (λ x h. answer_gives Keeps _ (set_a s x is h))
+
+-- any address
+at_gives : (s : ChipState) (external : External) → Gives (λ (at : ℕ). Unit {0}) (external_address s external)
+unfolding external_address
+at_gives s DataPointer = answer_gives (λ (at : ℕ). Unit {0}) _ tt
+at_gives s (Indirect i) = then_gives (λ (high : ℕ). high < 256) (λ (at : ℕ). Unit {0}) _ _ (ask_gives 256 (omega arith)) (λ high h. answer_gives (λ (at : ℕ). Unit {0}) _ tt)
+
+external_reads_keep : (s : ChipState) (external : External) → IsChipState s → Gives Keeps (reading_external s external)
+unfolding reading_external
+external_reads_keep s external is = then_gives (λ (at : ℕ). Unit {0}) Keeps _ _ (at_gives s external) (λ at _.
+    then_gives (λ (x : ℕ). x < 256) Keeps _ _ (ask_gives 256 (omega arith)) (λ x h. answer_gives Keeps _ (set_a s x is h)))
+
+external_writes_keep : (s : ChipState) (external : External) → IsChipState s → Gives Keeps (writing_external s external)
+unfolding writing_external
+external_writes_keep s external is = then_gives (λ (at : ℕ). Unit {0}) Keeps _ _ (at_gives s external) (λ at _. answer_gives Keeps _ is)
+
+zero_kept : (s : ChipState) (a b : ℕ) → IsChipState s → a < 256 → b < 256 → IsChipState (divided_by_zero a b s)
+zero_kept s a b is h g = set_ab _ a b (cleared_flags s 1 is (omega arith)) h g
+
+dividing_keeps : (s : ChipState) → IsChipState s → Gives Keeps (dividing s)
+unfolding dividing
+dividing_keeps s is = if_gives Keeps (s.b == 0) _ _
+    (λ _. then_gives (λ (a : ℕ). a < 256) Keeps _ _ (ask_gives 256 (omega arith)) (λ a h.
+    then_gives (λ (b : ℕ). b < 256) Keeps _ _ (ask_gives 256 (omega arith)) (λ b g. answer_gives Keeps _ (zero_kept s a b is h g))))
+    (λ some. answer_gives Keeps ([], divided s) (divided_kept s is some))
+
+exchanged_kept : (s : ChipState) (address : Address) (x : ℕ) → IsChipState s → x < 256 → IsChipState (exchanged_with s address x)
+exchanged_kept s address x is h = set_a (write address s.a s) x (write_kept s address s.a is is.a) h
+
+digits_kept : (s : ChipState) (address : Address) (x : ℕ) → IsChipState s → x < 256 → IsChipState (digit_exchanged_with s address x)
+digits_kept s address x is h = let a = is.a in
+    set_a (write address _ s) _ (write_kept s address (x / 16 * 16 + s.a % 16) is (omega (arith, h))) (omega (arith, a))
+
+-- ---- instructions
+
+effect_keeps : (image : List (Option ℕ)) (s : ChipState) (instr : Instr) → All IsByte image → AreFitting instr → IsChipState s → Gives Keeps (effect_of image s instr)
+unfolding effect_of
+effect_keeps image s Nop bytes fits is = implied_keeps s is
+effect_keeps image s (AbsoluteJump target) bytes fits is = implied_keeps _ (set_pc s _ is (absolute_below s.pc target is.pc))
+effect_keeps image s (LongJump target) bytes fits is = implied_keeps _ (set_pc s target is fits)
+effect_keeps image s JumpIndirect bytes fits is = implied_keeps _ (set_pc s _ is (omega arith))
+effect_keeps image s (JumpOn condition rel) bytes fits is = implied_keeps _ (branched_kept s _ rel is)
+effect_keeps image s (JumpOnBit test bit rel) bytes fits is = on_bit_keeps s test (bit_address bit) bit rel is (bit_is bit)
+effect_keeps image s (CompareJump (AccumulatorImmediate value) rel) bytes fits is = implied_keeps _ (compared_kept s s.a value rel is)
+effect_keeps image s (CompareJump (AccumulatorDirect direct) rel) bytes fits is = reading_keeps s _ _ _ is (direct_is direct) (λ x h. compared_kept s s.a x rel is)
+effect_keeps image s (CompareJump (WorkingImmediate w value) rel) bytes fits is = reading_keeps s _ _ _ is (working_is s w is) (λ x h. compared_kept s x value rel is)
+effect_keeps image s (DecrementJump (counter.Direct direct) rel) bytes fits is = counting_keeps s _ rel is (direct_is direct)
+effect_keeps image s (DecrementJump (counter.Register n) rel) bytes fits is = counting_keeps s _ rel is (working_is s (InRegister n) is)
+effect_keeps image s (AbsoluteCall target) bytes fits is = answer_gives Keeps _ (called_kept s _ is (absolute_below s.pc target is.pc))
+effect_keeps image s (LongCall target) bytes fits is = answer_gives Keeps _ (called_kept s target is fits)
+effect_keeps image s Return bytes fits is = answer_gives Keeps _ (returned_kept s is)
+effect_keeps image s ReturnFromInterrupt bytes fits is = answer_gives Keeps _ (level_kept (returned s) (returned_kept s is))
+effect_keeps image s (ChangeAccumulator operation) bytes fits is = implied_keeps _ (changed_kept s operation is)
+effect_keeps image s (Increment Accumulator) bytes fits is = implied_keeps _ (set_a s _ is (omega arith))
+effect_keeps image s (Increment (InMemory m)) bytes fits is = changing_keeps s _ _ (λ x. (x + 1) % 256) is (address_is s m is) (λ x h. omega arith)
+effect_keeps image s (Decrement Accumulator) bytes fits is = implied_keeps _ (set_a s _ is (omega arith))
+effect_keeps image s (Decrement (InMemory m)) bytes fits is = changing_keeps s _ _ (λ x. (x + 255) % 256) is (address_is s m is) (λ x h. omega arith)
+effect_keeps image s IncrementDataPointer bytes fits is = implied_keeps _ (set_pointer s _ is (omega arith))
+effect_keeps image s (Accumulate operation (source.Immediate value)) bytes fits is = implied_keeps _ (accumulated_kept s operation value is fits)
+effect_keeps image s (Accumulate operation (source.Memory m)) bytes fits is = reading_keeps s _ _ _ is (address_is s m is) (λ x h. accumulated_kept s operation x is h)
+effect_keeps image s (DirectLogic operation direct mask.Accumulator) bytes fits is =
+    changing_keeps s _ _ (λ x. masked operation x s.a) is (direct_is direct) (λ x h. masked_below operation x s.a h is.a)
+effect_keeps image s (DirectLogic operation direct (mask.Immediate value)) bytes fits is =
+    changing_keeps s _ _ (λ x. masked operation x value) is (direct_is direct) (λ x h. masked_below operation x value h fits)
+effect_keeps image s Multiply bytes fits is = implied_keeps _ (multiplied_kept s is)
+effect_keeps image s Divide bytes fits is = dividing_keeps s is
+effect_keeps image s (ChangeCarry operation) bytes fits is = implied_keeps _ (carry_kept s _ is (carry_after_below operation _))
+effect_keeps image s (CarryBit operation bit) bytes fits is =
+    reading_keeps s _ _ _ is (bit_is bit) (λ x h. carry_kept s _ is (carry_with_below operation _ _ (carry_below s) (bit_at-lt x (bit % 8))))
+effect_keeps image s (ChangeBit operation bit) bytes fits is =
+    changing_keeps s _ _ (λ x. with_bit x (bit % 8) (bit_after operation (carry_of s) (bit_at x (bit % 8)))) is (bit_is bit)
+    (λ x h. with_bit_below x bit _ h (bit_after_below operation _ _ (carry_below s)))
+effect_keeps image s (MoveImmediate Accumulator value) bytes fits is = implied_keeps _ (set_a s value is fits)
+effect_keeps image s (MoveImmediate (InMemory m) value) bytes fits is = writing_keeps s _ _ value is fits
+effect_keeps image s (MoveToDirect to from) bytes fits is = moving_keeps s _ _ _ is (address_is s from is)
+effect_keeps image s (MoveFromDirect to from) bytes fits is = moving_keeps s _ _ _ is (direct_is from)
+effect_keeps image s (LoadDataPointer value) bytes fits is = implied_keeps _ (set_pointer s value is fits)
+effect_keeps image s (Load m) bytes fits is = reading_keeps s _ _ _ is (address_is s m is) (λ x h. set_a s x is h)
+effect_keeps image s (Store m) bytes fits is = writing_keeps s _ _ s.a is is.a
+effect_keeps image s (MoveCode ProgramCounter) bytes fits is = code_keeps image s _ bytes is
+effect_keeps image s (MoveCode AtDataPointer) bytes fits is = code_keeps image s _ bytes is
+effect_keeps image s (ReadExternal external) bytes fits is = external_reads_keep s external is
+effect_keeps image s (WriteExternal external) bytes fits is = external_writes_keep s external is
+effect_keeps image s (Push direct) bytes fits is = pushing_keeps s direct is
+effect_keeps image s (Pop direct) bytes fits is = popping_keeps s direct is
+effect_keeps image s (Exchange m) bytes fits is = updating_keeps s _ _ _ is (address_is s m is) (λ x h. exchanged_kept s _ x is h)
+effect_keeps image s (ExchangeDigit i) bytes fits is = updating_keeps s _ _ _ is (working_is s (At i) is) (λ x h. digits_kept s _ x is h)
+
+-- ---- steps
+
+abbrev pub KeepsForm : Outcome → Type 0
+KeepsForm (Next items t) = IsChipState t
+KeepsForm (Wild none) = Unit {0}
+
+-- the instructions of an image are of the table
+abbrev pub AreOfTable : List (Option ℕ) → ℕ → Type 0
+AreOfTable image pc = (instr : Instr) (len : ℕ) → decoded image pc ≡ Ok (instr, len) → Row (bytes_of instr) instr
+
+executed_keeps : (image : List (Option ℕ)) (s : ChipState) (instr : Instr) → All IsByte image → Row (bytes_of instr) instr → IsChipState s
+    → Gives KeepsForm (executed image s instr)
+unfolding executed
+executed_keeps image s instr bytes row is = let next : IsChipState (going_to (following s.pc instr) s) = set_pc s (following s.pc instr) is (omega arith) in
+    then_gives Keeps KeepsForm _ _ (effect_keeps image (going_to (following s.pc instr) s) instr bytes (operands_fit instr row) next) (λ effect h. answer_gives KeepsForm _ h)
+
+run_keeps : (image : List (Option ℕ)) (s : ChipState) (found : Result (Instr × ℕ) NoInstr) → ((instr : Instr) (len : ℕ) → found ≡ Ok (instr, len) → Row (bytes_of instr) instr)
+    → All IsByte image → IsChipState s → Gives KeepsForm (run image s found)
+run_keeps image s (Ok (instr, len)) rows bytes is = executed_keeps image s instr bytes (rows instr len refl) is
+run_keeps image s (Err none) rows bytes is = answer_gives KeepsForm _ tt
+
+ranged : All (λ source. source < 6) (range_with_len 0 6)
+ranged = All-cons (λ source. source < 6) 0 (range_with_len 1 5) (omega arith) (All-cons (λ source. source < 6) 1 (range_with_len 2 4) (omega arith)
+    (All-cons (λ source. source < 6) 2 (range_with_len 3 3) (omega arith) (All-cons (λ source. source < 6) 3 (range_with_len 4 2) (omega arith)
+    (All-cons (λ source. source < 6) 4 (range_with_len 5 1) (omega arith) (All-cons (λ source. source < 6) 5 (range_with_len 6 0) (omega arith) (All-nil (λ source. source < 6)))))))
+
+all_six : (s : ChipState) → All (λ source. source < 6) (coming s)
+unfolding coming
+all_six s = All-filter (may_come s) (λ source. source < 6) (range_with_len 0 6) ranged
+
+entered_keeps : (s : ChipState) (source : ℕ) → IsChipState s → source < 6 → KeepsForm (entered s source)
+unfolding entered
+entered_keeps s source is h = serving_kept (is_high s source) (called (vector_of source) s) (called_kept s (vector_of source) is (omega (arith, h)))
+
+choose_keeps : (image : List (Option ℕ)) (s : ChipState) (option : ℕ) (none : Bool) → (option == 0) ≡ none → AreOfTable image s.pc → All IsByte image → IsChipState s
+    → option < 1 + length (coming s) → Gives KeepsForm (cond none (run image s (decoded image s.pc)) (answer (entered s (slice_index (coming s) (option - 1)))))
+choose_keeps image s option true e rows bytes is few = run_keeps image s (decoded image s.pc) rows bytes is
+choose_keeps image s option false e rows bytes is few = answer_gives KeepsForm _ (entered_keeps s _ is
+    (All-get_or (λ source. source < 6) (coming s) (option - 1) _ (grind (arith, nat_tests, e, few)) (all_six s)))
+
+taken_keeps : (image : List (Option ℕ)) (s : ChipState) (option : ℕ) → AreOfTable image s.pc → All IsByte image → IsChipState s → option < 1 + length (coming s)
+    → Gives KeepsForm (taken image s option)
+taken_keeps image s option rows bytes is few = choose_keeps image s option (option == 0) refl rows bytes is few
+
+pub step_keeps : (image : List (Option ℕ)) (s t : ChipState) (choices : List ℕ) (items : List Single) → All IsByte image → AreOfTable image s.pc → IsChipState s
+    → step_of image s choices ≡ Some (Next items t, []) → IsChipState t
+unfolding step_of
+step_keeps image s t choices items bytes rows is e = (then_gives (λ (option : ℕ). option < 1 + length (coming s)) KeepsForm _ _
+    (ask_if_gives (nat_lt 0 (length (coming s))) (1 + length (coming s)) (omega arith)) (λ option few. taken_keeps image s option rows bytes is few)).each choices [] (Next items t) e
+
+-- ---- reset
+
+first_is_state : IsChipState first_state
+first_is_state = record {
+  pc = omega arith;
+  a = omega arith;
+  b = omega arith;
+  sp = omega arith;
+  dpl = omega arith;
+  dph = omega arith;
+  psw = omega arith;
+  psw_held = refl;
+  ie = omega arith;
+  ie_held = refl;
+  ip = omega arith;
+  ram = grind (arith, common_steps);
+  bytes = All-replicate (λ b. b < 256) 256 0 (omega arith);
+}
+
+pub first_is_reset : IsReset first_state
+first_is_reset = record { state = first_is_state; registers = refl }

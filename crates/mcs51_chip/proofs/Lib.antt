@@ -1,0 +1,5 @@
+pub mod Deciding
+pub mod Forms
+pub mod Fronts
+pub mod Operands
+pub mod Results

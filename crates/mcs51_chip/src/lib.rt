@@ -1,0 +1,24 @@
+//! The MCS-51 as it runs: single states, and what one step makes of them (Intel, MCS-51 Programmer's Guide and Instruction
+//! Set), as an 8052: 256 bytes of RAM, and the interrupt of timer 2.
+//!
+//! What the chip leaves free, as the byte that a port reads as, is asked from a list of choices
+//! (`choosing/specs/Asking.antt`). What an instruction does stands in `specs/Step.antt`, one line an operation, by the
+//! kinds of operands; `specs/State.antt` is a state, `specs/Registers.antt` and `specs/Memory.antt` are its places,
+//! `specs/Arithmetic.antt` is results and flags, and `specs/Interrupts.antt` is which interrupt may come.
+//!
+//! Of all states and choices:
+//!
+//! - [`one_front`]: each list of choices has at most one front with a step.
+//! - [`steps_are_taken`]: three choices are enough for a step, and choices of 16 bits take each step.
+//! - [`a_reset_exists`]: there is a state behind a reset.
+//! - [`the_table_decides`]: the instruction that stands at PC by the instruction table is the one that runs.
+//! - [`steps_keep_form`]: steps keep the form of states.
+#![tactic(auto)]
+
+mod law;
+mod place;
+mod state;
+
+pub use law::{a_reset_exists, one_front, steps_are_taken, steps_keep_form, the_table_decides};
+pub use place::{Access, Address, Sfr};
+pub use state::ChipState;
