@@ -1,5 +1,5 @@
 -- Ranges: how one is put among others, and what they have then.
-use Rattle.std.proofs.Common.{◌≡◌, ℕ, zero, suc, min, max, ◌+◌, ◌-◌, ◌<◌, ◌≤◌, ◌&&◌, ◌||◌, ◌++◌, Bool, true, false, List, [], ◌∷◌, length, get_or, take, drop, cond, refl, sym, ap, ◌∙◌, subst, inl, inr, arith}
+use Rattle.std.proofs.Common.{◌≡◌, ℕ, zero, suc, min, max, ◌+◌, ◌-◌, ◌<◌, ◌≤◌, ◌||◌, ◌++◌, Bool, true, false, List, [], ◌∷◌, length, get_or, take, drop, cond, refl, sym, ap, ◌∙◌, subst, inl, inr, arith}
 use Rattle.std.specs.Prelude.{nat_le, nat_lt}
 use Rattle.std.proofs.lemmas.Bool.{and_from, and_parts, or_left, or_right, or_cases, cond_both, cond-true, cond-false, cases_Bool, cases_lt, leb-true, leb-false, ltb-true, ltb-false, lt-ltb, le-ltb, le-leb, lt-leb, and_left, and_right}
 use Rattle.std.proofs.lemmas.Bool.Decides.{nat_tests}
@@ -298,9 +298,8 @@ put_step items removed index low high range lt is gone reaches near =
     let first : nat_lt (range.1 + 1) low ≡ false = le-ltb (range.1 + 1) low heads.0 in
     let second : nat_lt (high + 1) range.0 ≡ false = le-ltb (high + 1) range.0 near in
     let taken : with_range low high (range ∷ rest) ≡ with_range (min low range.0) (max high range.1) rest =
-        cond-false (nat_lt (range.1 + 1) low) (range ∷ with_range low high rest) (cond (nat_lt (high + 1) range.0) ((low, high) ∷ range ∷ rest) (with_range (min low range.0) (max high range.1) rest)) first
-        ∙ cond-false (nat_lt (high + 1) range.0) ((low, high) ∷ range ∷ rest) (with_range (min low range.0) (max high range.1) rest) second in
-    (
+    cond-false (nat_lt (range.1 + 1) low) (range ∷ with_range low high rest) (cond (nat_lt (high + 1) range.0) ((low, high) ∷ range ∷ rest) (with_range (min low range.0) (max high range.1) rest)) first
+    ∙ cond-false (nat_lt (high + 1) range.0) ((low, high) ∷ range ∷ rest) (with_range (min low range.0) (max high range.1) rest) second in (
       ap (take index) gone ∙ take_front index items rest (omega arith),
       subst (EachReaches (min low range.0)) (sym left) (reaches_less low (min low range.0) rest (omega arith) heads.1),
       ap (with_range (min low range.0) (max high range.1)) left ∙ sym taken ∙ ap (with_range low high) (sym these),
@@ -318,7 +317,7 @@ skipped lo hi (range ∷ ranges) = elim (cases_Bool (nat_lt range.1 (lo - 1))) [
       ap (λ i. take i (range ∷ ranges) ++ with_range lo hi (drop i (range ∷ ranges))) next
       ∙ ap (λ rest. range ∷ rest) (skipped lo hi ranges)
       ∙ sym (cond-true (nat_lt (range.1 + 1) lo) (range ∷ with_range lo hi ranges)
-        (cond (nat_lt (hi + 1) range.0) ((lo, hi) ∷ range ∷ ranges) (with_range (min lo range.0) (max hi range.1) ranges)) past)
+      (cond (nat_lt (hi + 1) range.0) ((lo, hi) ∷ range ∷ ranges) (with_range (min lo range.0) (max hi range.1) ranges)) past)
   | inr reaches ↦
       let first : ends_below (range ∷ ranges) (lo - 1) ≡ 0 = cond-false (nat_lt range.1 (lo - 1)) (suc (ends_below ranges (lo - 1))) 0 reaches in
       ap (λ i. take i (range ∷ ranges) ++ with_range lo hi (drop i (range ∷ ranges))) first

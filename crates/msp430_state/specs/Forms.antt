@@ -1,6 +1,6 @@
 -- The form of what is known of a state: sets in their one form, even stack pointers, cells that lie in RAM, and relations in
 -- interrupt frames alone.
-use Rattle.std.specs.Prelude.{◌≡◌, ℕ, ◌%◌, ◌<◌, ◌≤◌, ◌==◌, ◌||◌, ◌&&◌, nat_lt, Bool, true, false, Option, None, Some, List, [], length, bit_and, All, Contains}
+use Rattle.std.specs.Prelude.{◌≡◌, ℕ, ◌%◌, ◌<◌, ◌≤◌, ◌==◌, ◌||◌, ◌&&◌, nat_lt, Bool, true, false, Option, None, Some, [], length, bit_and, All, Contains}
 use Rattle.call_context.specs.declared.node.Frame.{Frame}
 use Rattle.call_context.specs.declared.node.Frame.TheVariants.{Base, Irq}
 use Rattle.call_context.specs.declared.node.Node.{Node}

@@ -1,7 +1,7 @@
 -- What an analysis of the MSP430 says of a single state, and of the one that an interrupt suspended first (G. Balakrishnan
 -- and T. Reps, "WYSINWYX: What You See Is Not What You eXecute", 2010: value sets under call strings; the interrupts of
 -- SLAU049, chapter 2).
-use Rattle.std.specs.Prelude.{◌≡◌, ℕ, ◌+◌, ◌-◌, ◌%◌, ◌<◌, ◌==◌, if◌then◌else◌, Bool, true, false, Option, option_map, None, Some, List, slice_index}
+use Rattle.std.specs.Prelude.{◌≡◌, ℕ, ◌+◌, ◌-◌, ◌%◌, ◌<◌, ◌==◌, if◌then◌else◌, false, Option, option_map, None, Some, List, slice_index}
 use Rattle.call_context.specs.declared.node.Frame.{Frame}
 use Rattle.call_context.specs.declared.node.Frame.TheVariants.{Base, Irq}
 use Rattle.call_context.specs.declared.node.Node.{Node}

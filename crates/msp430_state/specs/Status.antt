@@ -1,5 +1,5 @@
 -- What is known of bits, and of the bits 8 to 0 of SR (SLAU049, chapter 3, "Status Register").
-use Rattle.std.specs.Prelude.{ℕ, Bool, true, false, ◌&&◌, Option, None, List, replicate}
+use Rattle.std.specs.Prelude.{Bool, true, false, ◌&&◌, None, replicate}
 use Rattle.entry_value.specs.Words.{common_entry, is_entry_within}
 use Rattle.value_bits.specs.declared.tri.Tri.{Tri}
 use Rattle.value_bits.specs.declared.tri.Tri.TheVariants.{Zero, One, Either}

@@ -1,5 +1,5 @@
 use Rattle.std.proofs.Common.{◌≡◌, drop}
-use Rattle.msp430_state.specs.Ranges.{AreRanges, united}
+use Rattle.msp430_state.specs.Ranges.{united}
 use Rattle.msp430_state.proofs.ranges.Ranges.united.Given as goal
 
 abbrev pub invariant-loop-range : goal.invariant-loop-range
