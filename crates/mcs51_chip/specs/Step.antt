@@ -43,7 +43,7 @@ use Rattle.choosing.specs.Outcome.Outcome.{Next, Wild}
 
 -- the next state, with what the step did in its order, or that no instruction stands at PC
 abbrev pub Outcome : Type 0
-Outcome = OutcomeBy ChipState NoInstr
+Outcome = OutcomeBy Single ChipState NoInstr
 
 -- THE FORMS OF INSTRUCTIONS. In the state s that an instruction works on, PC is already the address behind the instruction.
 -- What it comes to is its accesses in their order, and the state behind it.

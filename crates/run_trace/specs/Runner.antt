@@ -10,7 +10,7 @@ use Rattle.run_trace.specs.declared.emulator.Ran.TheVariants.{Met, Wild, NeedCho
 -- the step from a state by choices, with those that are left; the address of a state; and the item with sets of one value
 -- that shows what was met
 pub record Runner (S W : Type 0) : Type 0 where
-  pub step : S → List ℕ → Option (Outcome S W × List ℕ)
+  pub step : S → List ℕ → Option (Outcome Single S W × List ℕ)
   pub pc : S → ℕ
   pub item : Single → Item
 

@@ -34,7 +34,7 @@ module _ {S W : Type 0} (runner : Runner S W) (text_of : ℕ → List ℕ → Li
   met_lines singles = flat_map (λ single. item_line_of text_of (runner.item single) ++ codes "\n") singles
 
   -- the end of a run after so many steps, by the next step from a state, and by what follows that
-  abbrev pub ended_by : ℕ → S → (S → List ℕ → Ended) → Option (Outcome S W × List ℕ) → Ended
+  abbrev pub ended_by : ℕ → S → (S → List ℕ → Ended) → Option (Outcome Single S W × List ℕ) → Ended
   ended_by steps s go None = (NeedChoice, need_line (steps + 1))
   ended_by steps s go (Some (Leaves cause, choices)) = (Wild, wild_line (steps + 1) (runner.pc s))
   ended_by steps s go (Some (Next singles t, choices)) = after (met_lines singles) (go t choices)

@@ -1,0 +1,3 @@
+pub mod FlagLemmas
+pub mod Carries
+pub mod Rows

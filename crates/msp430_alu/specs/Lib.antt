@@ -1,0 +1,3 @@
+pub mod FlagSets
+pub mod Results
+pub mod Premises

@@ -1,0 +1,8 @@
+//! What the instructions of the MSP430 make of sets of values.
+#![tactic(auto)]
+
+mod flag_bits;
+mod laws;
+
+pub use flag_bits::FlagBits;
+pub use laws::operations_hold;

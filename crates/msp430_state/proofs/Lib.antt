@@ -1,0 +1,9 @@
+pub mod Pointwise
+pub mod RangeLemmas
+pub mod BitLemmas
+pub mod FactLemmas
+pub mod EvenWords
+pub mod Orders
+pub mod CellForms
+pub mod StateForms
+pub mod Covering

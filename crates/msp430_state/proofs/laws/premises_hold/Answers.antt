@@ -1,0 +1,61 @@
+use Rattle.msp430_state.proofs.laws.premises_hold.Goals as goal
+
+pub returns : goal.returns
+returns c =
+    let singles = c.single_and_whole_sets.ensures in
+    let joins = c.joins_include_both.ensures in
+    let widens = c.widenings_include_both.ensures in
+    let rests = c.remainders_stay.ensures in
+    let holding = c.words_hold.ensures in
+    let ordered = c.words_are_ordered.ensures in
+    let relations = c.relations_hold.ensures in
+    let cells = c.cells_are_ordered.ensures in
+    let unions = c.unions_keep_form.ensures in
+    let ram = c.cells_speak_of_ram.ensures in
+    record {
+      sets = record {
+        below = c.members_are_below.ensures;
+        whole = singles.whole;
+        whole_normal = singles.whole_normal;
+        tested = c.inclusion_is_tested.ensures;
+        join_normal = joins.normal;
+        join_first = joins.first;
+        join_second = joins.second;
+        widen_normal = widens.normal;
+        widen_held = widens.held;
+        widen_new = widens.new;
+        join_rest = rests.join;
+        widen_rest = rests.widen;
+      };
+      words = record {
+        join_normal = holding.join_normal;
+        widen_normal = holding.widen_normal;
+        holds = holding.within;
+        itself = ordered.itself;
+        along = ordered.along;
+        join_first = ordered.join_first;
+        join_second = ordered.join_second;
+        widen_held = ordered.widen_held;
+        widen_new = ordered.widen_new;
+        whole = ordered.whole;
+      };
+      entries = record {
+        holds = relations.within;
+        itself = relations.itself;
+        along = relations.along;
+        join_first = relations.within_first;
+        join_second = relations.within_second;
+      };
+      cells = record {
+        holds = c.inclusion_covers.ensures;
+        none = ram.none;
+        join_form = unions.join;
+        widen_form = unions.widen;
+        itself = cells.itself;
+        along = cells.along;
+        join_held = cells.join_held;
+        join_new = cells.join_new;
+        widen_held = cells.widen_held;
+        widen_new = cells.widen_new;
+      };
+    }

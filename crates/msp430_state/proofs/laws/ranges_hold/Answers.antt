@@ -1,0 +1,13 @@
+use Rattle.std.proofs.Common.{arith}
+use Rattle.msp430_state.proofs.RangeLemmas.{with_range_form, added_has, united_form, within_united_first, within_united_second, within_one}
+use Rattle.msp430_state.proofs.laws.ranges_hold.Goals as goal
+
+pub returns : goal.returns
+returns c = record {
+  add_form = with_range_form;
+  add = added_has;
+  unite_form = λ lo hi ranges others are these. united_form lo hi ranges others are lo (omega arith) these;
+  unite_first = within_united_first;
+  unite_second = within_united_second;
+  within = λ at ranges others h k. within_one (at, at) ranges others h k;
+}

@@ -1,0 +1,11 @@
+use Rattle.std.proofs.Common.{◌≡◌, ◌++◌, take, drop, length}
+use Rattle.entry_value.specs.Words.{word_widen}
+use Rattle.msp430_state.specs.Pointwise.{each_with}
+use Rattle.msp430_state.proofs.words.widen_all.Given as goal
+
+abbrev pub invariant-loop-i : goal.invariant-loop-i
+invariant-loop-i l = record {
+  made : take l.i l.words ++ each_with (λ h n. word_widen h n l.marks) (drop l.i l.held) (drop l.i l.new) ≡ each_with (λ h n. word_widen h n l.marks) l.held l.new;
+  count : length l.words ≡ 12;
+  held : length l.held ≡ 12;
+}

@@ -1,0 +1,8 @@
+pub mod Pointwise
+pub mod Ranges
+pub mod Status
+pub mod Facts
+pub mod Known
+pub mod Holding
+pub mod Forms
+pub mod Premises

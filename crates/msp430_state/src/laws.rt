@@ -1,0 +1,93 @@
+//! What holds of all that is known of states. The chip's laws call these.
+
+ghost use Rattle.std.specs.Prelude.{◌≡◌, ◌≤◌, ◌||◌, ℕ, Bool, true, [], List, None, Option};
+ghost use Rattle.call_context.specs.declared.node.Frame.TheVariants.{Base};
+ghost use Rattle.call_context.specs.declared.node.Node.{Node as ANode};
+ghost use Rattle.call_context.specs.declared.node.Node.TheVariants.{At};
+ghost use Rattle.msp430_chip.specs.declared.device.Device.{Device as ADevice};
+ghost use Rattle.msp430_chip.specs.declared.state.ChipState.{ChipState as AState};
+ghost use Rattle.msp430_chip.specs.State.{reset_address, IsResetOf};
+ghost use Rattle.msp430_state.specs.Forms.{IsKnown};
+ghost use Rattle.msp430_state.specs.Holding.{Covers, HoldsOfParts};
+ghost use Rattle.msp430_state.specs.Known.{Known, first_known, top_known, known_joined, known_widened, known_within};
+ghost use Rattle.msp430_state.specs.Premises.{AreMarks, Premises};
+ghost use Rattle.msp430_state.specs.Ranges.{AreRanges, has_address, lies_in, ranges_within, united, with_range};
+
+use entry_value::{
+    cells_are_ordered, cells_speak_of_ram, inclusion_covers, relations_hold, unions_keep_form,
+    words_are_ordered, words_hold,
+};
+use value_set::{
+    inclusion_is_tested, joins_include_both, members_are_below, remainders_stay,
+    single_and_whole_sets, widenings_include_both,
+};
+
+/// The laws of sets, words and cells that those below rest on.
+fn premises_hold()
+    ensures { Premises }
+{
+    members_are_below();
+    single_and_whole_sets();
+    inclusion_is_tested();
+    joins_include_both();
+    widenings_include_both();
+    remainders_stay();
+    words_hold();
+    words_are_ordered();
+    relations_hold();
+    cells_are_ordered();
+    cells_speak_of_ram();
+    inclusion_covers();
+    unions_keep_form();
+}
+
+/// Being within another is an order, in which two states are within their join, within the first one widened by the
+/// second, and within the greatest.
+pub fn states_are_ordered()
+    ensures itself { (lo hi : ℕ) (framed : Bool) (a : Known) → IsKnown lo hi framed a → known_within a a ≡ true }
+    ensures along { (a b c : Known) → known_within a b ≡ true → known_within b c ≡ true → known_within a c ≡ true }
+    ensures join_held { (lo hi : ℕ) (framed : Bool) (a b : Known) → IsKnown lo hi framed a → IsKnown lo hi framed b → known_within a (known_joined a b) ≡ true }
+    ensures join_new { (lo hi : ℕ) (framed : Bool) (a b : Known) → IsKnown lo hi framed a → IsKnown lo hi framed b → known_within b (known_joined a b) ≡ true }
+    ensures widen_held { (lo hi : ℕ) (framed : Bool) (marks : List ℕ) → AreMarks marks → (a b : Known) → IsKnown lo hi framed a → IsKnown lo hi framed b
+        → known_within a (known_widened marks a b) ≡ true }
+    ensures widen_new { (lo hi : ℕ) (framed : Bool) (marks : List ℕ) → AreMarks marks → (a b : Known) → IsKnown lo hi framed a → IsKnown lo hi framed b
+        → known_within b (known_widened marks a b) ≡ true }
+    ensures greatest { (lo hi : ℕ) (framed : Bool) (a : Known) → IsKnown lo hi framed a → known_within a (top_known lo hi framed) ≡ true }
+{
+    premises_hold();
+}
+
+/// The first state and the greatest have the form, and joins and widenings keep it.
+pub fn states_keep_form()
+    ensures first { (lo hi : ℕ) (framed : Bool) → IsKnown lo hi framed (first_known lo hi) }
+    ensures greatest { (lo hi : ℕ) (framed : Bool) → lo ≤ hi → IsKnown lo hi framed (top_known lo hi framed) }
+    ensures join { (lo hi : ℕ) (framed : Bool) (a b : Known) → IsKnown lo hi framed a → IsKnown lo hi framed b → IsKnown lo hi framed (known_joined a b) }
+    ensures widen { (lo hi : ℕ) (framed : Bool) (marks : List ℕ) → AreMarks marks → (a b : Known) → IsKnown lo hi framed a → IsKnown lo hi framed b
+        → IsKnown lo hi framed (known_widened marks a b) }
+{
+    premises_hold();
+}
+
+/// What stands under a state stands under all that this is within, and each state of the chip behind a reset under the
+/// first one.
+pub fn states_cover()
+    ensures parts { (device : ADevice) (lo hi : ℕ) (framed : Bool) (a b : Known) (first : Option AState) (registers ram : List ℕ) → IsKnown lo hi framed a
+        → known_within a b ≡ true → HoldsOfParts device a first registers ram → HoldsOfParts device b first registers ram }
+    ensures more { (device : ADevice) (lo hi : ℕ) (framed : Bool) (node : ANode) (a b : Known) (s : AState) (first : Option AState) → IsKnown lo hi framed a
+        → known_within a b ≡ true → Covers device node a s first → Covers device node b s first }
+    ensures reset { (device : ADevice) (s : AState) → IsResetOf device s → Covers device (At (reset_address device) [] Base) (first_known device.lo device.hi) s None }
+{
+    premises_hold();
+}
+
+/// A range that is added, and two lists of ranges that are united, give ascending ranges with the addresses of both. Ranges
+/// within others have no address that these lack.
+pub fn ranges_hold()
+    ensures add_form { (from hi low high : ℕ) (ranges : List (ℕ × ℕ)) → from ≤ low → low ≤ high → high ≤ hi → AreRanges from hi ranges → AreRanges from hi (with_range low high ranges) }
+    ensures add { (from hi at low high : ℕ) (ranges : List (ℕ × ℕ)) → low ≤ high → AreRanges from hi ranges
+        → has_address (with_range low high ranges) at ≡ (has_address ranges at || lies_in (at, at) (low, high)) }
+    ensures unite_form { (lo hi : ℕ) (ranges others : List (ℕ × ℕ)) → AreRanges lo hi ranges → AreRanges lo hi others → AreRanges lo hi (united ranges others) }
+    ensures unite_first { (ranges others : List (ℕ × ℕ)) → ranges_within ranges (united ranges others) ≡ true }
+    ensures unite_second { (ranges others : List (ℕ × ℕ)) → ranges_within others (united ranges others) ≡ true }
+    ensures within { (at : ℕ) (ranges others : List (ℕ × ℕ)) → ranges_within ranges others ≡ true → has_address ranges at ≡ true → has_address others at ≡ true }
+{}
