@@ -16,7 +16,7 @@ ghost use Rattle.vsa_top.specs.Words.{Reads, rules_of};
 
 use crate::headline::reports_hold;
 use crate::outcome::{Outcome, Status};
-use crate::reply::{NoReply, input_reply};
+use crate::reply::{NoReply, Reply, input_reply};
 use crate::words::{Reading, reading_of};
 use round_core::Event;
 use std::alloc::Global;
@@ -56,7 +56,13 @@ fn answer<S: Source, K: Sink>(
     ensures quiet_sink { ¬ IsCutShort result.status → K.faults sink.new ≡ K.faults sink.old }
 {
     let status = match input_reply(alloc, reading, source) {
-        Ok(reply) => return written(sink, reply.text.as_slice(), reply.status, reply.journal),
+        Ok(
+            Reply {
+                status,
+                text,
+                journal,
+            },
+        ) => return written(sink, text.as_slice(), status, journal),
         Err(NoReply::ReadFault) => Status::ReadFault,
         Err(NoReply::Memory) => Status::Memory,
     };
