@@ -17,11 +17,11 @@ use Rattle.msp430_chip.specs.State.{register_of}
 use Rattle.choosing.specs.Asking.{Asking, answer, and_then}
 use Rattle.msp430_chip.specs.Step.{Left, done, double_accesses, double_left}
 use Rattle.msp430_emu.specs.declared.double.Operands.{Operands}
-use Rattle.msp430_emu.specs.declared.draft.Store.{Store}
-use Rattle.msp430_emu.specs.declared.draft.Access.{Access}
-use Rattle.msp430_emu.specs.declared.draft.Accesses.{Accesses}
-use Rattle.msp430_emu.specs.declared.draft.Effect.{Effect}
-use Rattle.msp430_emu.specs.declared.draft.Draft.{Draft}
+use Rattle.msp430_emu.specs.declared.effect.Store.{Store}
+use Rattle.msp430_emu.specs.declared.effect.Access.{Access}
+use Rattle.msp430_emu.specs.declared.effect.Accesses.{Accesses}
+use Rattle.msp430_emu.specs.declared.effect.Effect.{Effect}
+use Rattle.msp430_emu.specs.declared.effect.Draft.{Draft}
 
 -- RAM behind a store, and the lowest byte of the program that it would write
 abbrev pub stored : Device → List ℕ → Option Store → List ℕ

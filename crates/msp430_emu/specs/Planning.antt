@@ -15,7 +15,7 @@ use Rattle.msp430_chip.specs.Outcome.{Outcome, unless_hit}
 use Rattle.choosing.specs.Outcome.Outcome.{Wild}
 use Rattle.msp430_chip.specs.State.{register_of}
 use Rattle.value_set.specs.Summing.{single}
-use Rattle.msp430_emu.specs.declared.plan.Plan.{Plan}
+use Rattle.msp430_emu.specs.declared.effect.Plan.{Plan}
 use Rattle.msp430_emu.specs.Drafting.{stored, hit_of, all_shown}
 
 abbrev pub ran : ℕ → Option (ArrayVec ℕ) → List Single

@@ -13,13 +13,13 @@ ghost use Rattle.msp430_emu.specs.Drafting.{all_shown, double_behind, drafted, l
 ghost use Rattle.msp430_emu.specs.Registers.{AreRegisters};
 
 use crate::arithmetic::{reads_destination, result_of, sets_flags, writes_result};
-use crate::draft::{Access, Accesses, Draft, Effect};
-use crate::effects::{access_to, free_status, put_if, with_status};
+use crate::effect::{Access, Accesses, Draft, Effect};
 use crate::memory::Layout;
 use crate::operands::{
     behind, destination_place, grown, has_free_bits, is_status, source_place, value_at,
     with_free_bits,
 };
+use crate::put::{access_to, free_status, put_if, with_status};
 use choosing::Unused;
 use msp430_chip::{ChipState, Place, Ram};
 use msp430_decode::{Destination, Operation, Register, Source, Width};

@@ -10,9 +10,8 @@ ghost use Rattle.choosing.specs.Choosing.{asked_as};
 ghost use Rattle.msp430_emu.specs.Planning.{planned};
 ghost use Rattle.msp430_emu.specs.Registers.{AreRegisters};
 
-use crate::draft::{Access, Accesses, Store};
+use crate::effect::{Access, Accesses, Plan, Store};
 use crate::memory::{Layout, even};
-use crate::plan::Plan;
 use arrayvec::ArrayVec;
 use choosing::Unused;
 use ihex_read::Image;

@@ -5,9 +5,8 @@ ghost use Rattle.arrayvec.specs.ArrayVec.{array_vec_len};
 ghost use Rattle.msp430_emu.specs.Drafting.{shown};
 ghost use Rattle.msp430_emu.specs.Planning.{item_of, ran, singles_of};
 
-use crate::draft::Access;
+use crate::effect::{Access, Plan};
 use crate::memory::size_of;
-use crate::plan::Plan;
 use arrayvec::ArrayVec;
 use call_context::{InstrBytes, Item, Set, Space};
 use msp430_chip::ChipState;

@@ -9,7 +9,7 @@ ghost use Rattle.choosing.specs.Choosing.{asked_as};
 ghost use Rattle.msp430_emu.specs.Drafting.{drafted};
 ghost use Rattle.msp430_emu.specs.Registers.{AreRegisters};
 
-use crate::draft::{Access, Accesses, Draft, Effect};
+use crate::effect::{Access, Accesses, Draft, Effect};
 use crate::memory::{Layout, even, read_word};
 use crate::operands::behind;
 use choosing::Unused;

@@ -16,26 +16,24 @@
 //! A step takes no memory, and touches no more of RAM than it reads and writes.
 #![tactic(auto)]
 
-mod advance;
 mod arithmetic;
+mod commit;
 mod decimal;
 mod double;
-mod draft;
-mod effects;
+mod effect;
 mod interrupt;
 mod items;
 mod jump;
 mod machine;
 mod memory;
 mod operands;
-mod plan;
 mod push;
+mod put;
 mod results;
-mod run;
 mod single;
 mod state;
+mod step;
 mod stepped;
-mod writing;
 
 pub use choosing::Choices;
 pub use msp430_chip::Wild;
@@ -44,6 +42,8 @@ pub use state::Machine;
 pub use stepped::Stepped;
 
 #[cfg(test)]
-mod arithmetic_rows;
+mod result_rows;
+#[cfg(test)]
+mod rows;
 #[cfg(test)]
 mod tests;

@@ -4,10 +4,10 @@ ghost use Rattle.std.specs.Prelude.{◌≡◌, ◌≤◌, IfOk};
 ghost use Rattle.msp430_chip.specs.State.{IsChipState, IsResetOf, first_state};
 ghost use Rattle.msp430_emu.specs.Stepping.{IsMsp430, IsStill, Steps, device_of, device_under};
 
-use crate::advance::advance;
 use crate::interrupt::image_word;
 use crate::memory::{Layout, even};
 use crate::state::Machine;
+use crate::step::advance;
 use crate::stepped::Stepped;
 use choosing::Choices;
 use ihex_read::{Image, Rules};

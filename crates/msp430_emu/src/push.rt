@@ -13,10 +13,10 @@ ghost use Rattle.choosing.specs.Choosing.{asked, asked_as};
 ghost use Rattle.msp430_emu.specs.Drafting.{all_shown, drafted, left_by};
 ghost use Rattle.msp430_emu.specs.Registers.{AreRegisters};
 
-use crate::draft::{Accesses, Draft, Effect};
-use crate::effects::{access_to, put};
+use crate::effect::{Accesses, Draft, Effect};
 use crate::memory::{Layout, even};
 use crate::operands::{behind, grown, has_free_bits, source_place, value_at, with_free_bits};
+use crate::put::{access_to, put};
 use choosing::Unused;
 use msp430_chip::{ChipState, Place};
 use msp430_decode::{Register, SingleOperation, Source, Width};

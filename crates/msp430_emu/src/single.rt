@@ -14,12 +14,12 @@ ghost use Rattle.msp430_emu.specs.Drafting.{all_shown, drafted, left_by};
 ghost use Rattle.msp430_emu.specs.Registers.{AreRegisters};
 
 use crate::arithmetic::{single_result, single_sets_flags};
-use crate::draft::{Accesses, Draft, Effect};
-use crate::effects::{access_to, free_status, put, with_status};
+use crate::effect::{Accesses, Draft, Effect};
 use crate::memory::Layout;
 use crate::operands::{
     behind, grown, has_free_bits, is_status, source_place, value_at, with_free_bits,
 };
+use crate::put::{access_to, free_status, put, with_status};
 use choosing::Unused;
 use msp430_chip::{ChipState, Place};
 use msp430_decode::{SingleOperation, Source, Width};

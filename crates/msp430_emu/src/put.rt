@@ -11,7 +11,7 @@ ghost use Rattle.msp430_emu.specs.Drafting.{left_by, shown};
 ghost use Rattle.msp430_emu.specs.Registers.{AreRegisters};
 
 use crate::arithmetic::with_made_flags;
-use crate::draft::{Access, Effect, Store};
+use crate::effect::{Access, Effect, Store};
 use crate::memory::aligned;
 use crate::operands::with_register;
 use choosing::Unused;

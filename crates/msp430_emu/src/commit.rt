@@ -5,9 +5,8 @@ ghost use Rattle.msp430_chip.specs.State as states;
 ghost use Rattle.msp430_emu.specs.Drafting as drafting;
 ghost use Rattle.msp430_emu.specs.Planning as planning;
 
-use crate::draft::Store;
+use crate::effect::{Plan, Store};
 use crate::memory::{Layout, program_hit, store};
-use crate::plan::Plan;
 use msp430_chip::{ChipState, Ram};
 
 /// The lowest byte of the program that a store would write, if there is a store.

@@ -1,6 +1,6 @@
-//! What a step does: an instruction, or the entry of an interrupt.
+//! A step: an instruction, or the entry of an interrupt.
 
-ghost use Rattle.std.specs.Prelude.{◌≡◌, ◌≤◌, ◌%◌, ℕ, IfSome, IfOk, Result, length, nat_lt};
+ghost use Rattle.std.specs.Prelude.{◌≡◌, ◌<◌, ◌≤◌, ◌%◌, ℕ, All, IfSome, IfOk, Result, length, nat_lt};
 ghost use Rattle.msp430_decode.specs.declared.instr.Instr.TheVariants as instr;
 ghost use Rattle.msp430_decode.specs.declared.instr.SingleOperation.TheVariants.{Push, Call};
 ghost use Rattle.msp430_decode.specs.Decoding.{decoded};
@@ -12,17 +12,20 @@ ghost use Rattle.choosing.specs.Choosing.{asked_as};
 ghost use Rattle.msp430_emu.specs.Drafting.{drafted};
 ghost use Rattle.msp430_emu.specs.Planning.{outcome_of, planned};
 ghost use Rattle.msp430_emu.specs.Registers.{AreRegisters};
+ghost use Rattle.msp430_emu.specs.Stepping.{Ends, IsStill, Steps};
 
+use crate::commit::{commit, plan_hit};
 use crate::double::double;
-use crate::draft::Draft;
+use crate::effect::{Draft, Plan};
 use crate::interrupt::{allows_interrupts, coming, enter};
+use crate::items::items_of;
 use crate::jump::{jump, return_from_interrupt};
 use crate::memory::Layout;
-use crate::plan::Plan;
 use crate::push::push;
 use crate::single::single;
+use crate::stepped::Stepped;
 use choosing::Unused;
-use msp430_chip::ChipState;
+use msp430_chip::{ChipState, Wild};
 use msp430_decode::{Instr, NoInstr, SingleOperation, Source, Width, decode, encode};
 
 /// An instruction on one operand, of so many bytes.
@@ -133,11 +136,7 @@ fn run(layout: &Layout, s: &ChipState, choices: &mut Unused) -> Option<Result<Pl
 
 /// What a step does, or why no instruction stands at PC.
 #[tactic(auto, unfolding(msp430_chip::specs::Step::step_of))]
-pub(crate) fn course(
-    layout: &Layout,
-    s: &ChipState,
-    choices: &mut Unused,
-) -> Option<Result<Plan, NoInstr>>
+fn course(layout: &Layout, s: &ChipState, choices: &mut Unused) -> Option<Result<Plan, NoInstr>>
     requires size { length s.now.ram ≡ states.ram_size layout.now }
     requires registers { AreRegisters s.now.registers }
     ensures exact { asked_as (outcome_of layout.now s.now) result choices.new ≡ steps.step_of layout.now s.now choices.old }
@@ -152,4 +151,45 @@ pub(crate) fn course(
     let vector = vectors.as_slice()[option as usize - 1];
     let plan = enter(layout, s, vector, choices)?;
     Some(Ok(plan))
+}
+
+/// Does what a step came to, unless it is to write the program or no instruction stands there.
+fn finish(layout: &Layout, state: &mut ChipState, found: Result<Plan, NoInstr>) -> Stepped
+    requires size { length state.old.ram ≡ states.ram_size layout.now }
+    requires form { IfOk found (λ plan. AreRegisters plan.registers) }
+    requires registers { AreRegisters state.old.registers }
+    ensures ends { Ends (outcome_of layout.now state.old found) result state.new }
+    ensures still { IsStill result → state.new ≡ state.old }
+    ensures registers { AreRegisters state.new.registers }
+    ensures length { length state.new.ram ≡ length state.old.ram }
+    ensures bytes { All (λ b. b < 256) state.old.ram → All (λ b. b < 256) state.new.ram }
+{
+    let plan = match found {
+        Ok(plan) => plan,
+        Err(none) => return Stepped::Wild(Wild::NoInstr(none)),
+    };
+    match plan_hit(layout, &plan) {
+        Some(at) => Stepped::Wild(Wild::Store(at)),
+        None => {
+            let items = items_of(state, &plan);
+            commit(layout, state, &plan);
+            Stepped::Met(items)
+        }
+    }
+}
+
+/// A step of a state.
+pub(crate) fn advance(layout: &Layout, state: &mut ChipState, choices: &mut Unused) -> Stepped
+    requires size { length state.old.ram ≡ states.ram_size layout.now }
+    requires registers { AreRegisters state.old.registers }
+    ensures steps { Steps layout.now state.old choices.old result state.new choices.new }
+    ensures still { IsStill result → state.new ≡ state.old }
+    ensures registers { AreRegisters state.new.registers }
+    ensures length { length state.new.ram ≡ length state.old.ram }
+    ensures bytes { All (λ b. b < 256) state.old.ram → All (λ b. b < 256) state.new.ram }
+{
+    match course(layout, state, choices) {
+        None => Stepped::NeedChoice,
+        Some(found) => finish(layout, state, found),
+    }
 }

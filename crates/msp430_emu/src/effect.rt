@@ -1,8 +1,9 @@
-//! What an instruction does, before anything is written.
+//! What a step does, before anything is written.
 
 ghost use Rattle.std.specs.Prelude.{◌<◌};
 ghost use Rattle.msp430_chip.specs.Arithmetic.{modulus};
 
+use arrayvec::ArrayVec;
 use msp430_decode::Width;
 
 /// A word or a byte to be stored at an address.
@@ -42,4 +43,16 @@ pub(crate) struct Effect {
 pub(crate) struct Draft {
     pub accesses: Accesses,
     pub effect: Effect,
+}
+
+/// What a whole step does.
+#[derive(Drop)]
+pub(crate) struct Plan {
+    /// The instruction that runs, if one does.
+    pub bytes: Option<ArrayVec<u8, 6>>,
+    pub accesses: Accesses,
+    pub registers: [u16; 16],
+    pub first: Option<Store>,
+    pub second: Option<Store>,
+    pub late: bool,
 }
