@@ -30,6 +30,7 @@ returns-in_ok-text-in-Err-Bad-clause-reply g c =
     let input = g.S.Source.left c.args.source.now in
     let refused = subst (λ (t : Tail). IfSome input (λ text. LacksImage (rules_of reading) t text c.in-Err-Bad.field-0)) c.tail.ensures
     (subst (λ (rules : Rules). IfSome input (λ text. LacksImage rules c.tail.result text c.in-Err-Bad.field-0)) c.rules.ensures c.in-Err-Bad.ensures.refused) in
+    let line_is = rw (c.in-Err-Bad.line-is, c.in-Err-Bad.fault-is) at (c.text_reply.ensures.text ∙ c.in_ok-text-in-Err-Bad.ensures) in
     of_bad c.in-Err-Bad.line c.in-Err-Bad.fault
     (subst (λ e. IfSome input (λ text. LacksImage (rules_of reading) (tail_of reading.mode) text e)) c.in-Err-Bad.field-0-is refused)
-    c.text_reply.ensures.status (c.text_reply.ensures.text ∙ c.in_ok-text-in-Err-Bad.ensures) c.text_reply.ensures.journal
+    c.text_reply.ensures.status line_is c.text_reply.ensures.journal
