@@ -1,7 +1,8 @@
--- Three chips of the tests: one that counts at its only node, one that counts and never comes to rest, and one with a
--- chain of nodes.
-use Rattle.std.specs.Prelude.{ℕ, ◌+◌, ◌≤◌, false, nat_le, nat_lt, if◌then◌else◌, List, [], ◌∷◌, max, min}
-use Rattle.call_context.specs.declared.node.Frame.TheVariants.{Base}
+-- Four chips of the tests: one that counts at its only node, one that counts and never comes to rest, one with a chain
+-- of nodes, and one with an interrupt.
+use Rattle.std.specs.Prelude.{ℕ, ◌+◌, ◌≤◌, ◌==◌, false, Some, nat_le, nat_lt, if◌then◌else◌, List, [], ◌∷◌, max, min}
+use Rattle.call_context.specs.declared.node.Frame.{Frame}
+use Rattle.call_context.specs.declared.node.Frame.TheVariants.{Base, Irq}
 use Rattle.call_context.specs.declared.node.Node.{Node}
 use Rattle.call_context.specs.declared.node.Node.TheVariants.{At, Exit}
 use Rattle.call_context.specs.declared.node.Unit.{Unit as WorkUnit}
@@ -43,3 +44,22 @@ abbrev pub next_node : ℕ → WorkUnit → ℕ → Work ℕ
 next_node end (One (At pc calls frame)) at = if nat_lt pc end then posting ((node_at (pc + 1), 0) ∷ []) else posting []
 next_node end (One (Exit pc frame)) at = posting []
 next_node end (Back node exit) at = posting []
+
+abbrev pub handler_frame : Frame
+handler_frame = Irq 1 (Some 640) 0
+
+-- what the first location does: it posts twice to location 4, enters the handler at 8, and waits for its frame
+abbrev pub entering : Work ℕ
+entering = record {
+  items = [];
+  posts = (node_at 4, 1) ∷ (node_at 4, 2) ∷ (At 8 [] handler_frame, 0) ∷ [];
+  waits = handler_frame ∷ [];
+  opens = [];
+}
+
+-- Location 0 enters, the handler leaves its frame, and the return goes on at location 4.
+abbrev pub interrupted : WorkUnit → ℕ → Work ℕ
+interrupted (One (At pc calls Base)) at = if pc == 0 then entering else posting []
+interrupted (One (At pc calls (Irq vector sp level))) at = posting ((Exit 8 handler_frame, 0) ∷ [])
+interrupted (One (Exit pc frame)) at = posting []
+interrupted (Back node exit) at = posting ((node_at 4, 3) ∷ [])

@@ -1,7 +1,7 @@
-//! A chip that counts, one that never comes to rest, and one with a chain of nodes.
+//! A chip that counts, one that never comes to rest, one with a chain of nodes, and one with an interrupt.
 
 ghost use Rattle.std.specs.Prelude.{◌≡◌, IfOk, option_to_list};
-ghost use Rattle.round_core.specs.Counting.{node_at, posting};
+ghost use Rattle.round_core.specs.Counting.{entering, node_at, posting};
 
 use crate::book::Book;
 use crate::event::Event;
@@ -212,8 +212,91 @@ impl Chip for Chain {
     }
 }
 
+/// The frame of the handler.
+const HANDLER: Frame = Frame::Irq {
+    vector: 1,
+    sp: Some(640),
+    level: 0,
+};
+
+/// The work that posts twice to location 4, enters the handler at 8, and waits for its frame.
+fn entering(alloc: Global) -> Result<Work<u32>, Memory>
+    ensures { IfOk result (λ work. work ≡ entering) }
+{
+    let mut work = posting(alloc, Some((node_at(4), 1)))?;
+    work.posts.push((node_at(4), 2))?;
+    work.posts.push((Node::At(8, Calls::new(), HANDLER), 0))?;
+    work.waits.push(HANDLER)?;
+    Ok(work)
+}
+
+/// Location 0 enters a handler, which leaves its frame, and the return goes on at location 4.
+#[derive(Drop)]
+struct Interrupted;
+
+impl Chip for Interrupted {
+    type Base = ();
+
+    type Abs = u32;
+
+    ghost use Rattle.round_core.specs.Counting.{counts_by, interrupted};
+
+    ghost base = { λ _. tt };
+
+    ghost analysis = { λ _. counts_by interrupted };
+
+    fn start(&self, _alloc: Global) -> Result<(Node, u32), Memory> {
+        Ok((node_at(0), 0))
+    }
+
+    fn work(
+        &self,
+        alloc: Global,
+        unit: &Unit,
+        _at: &u32,
+        _exit: Option<&u32>,
+    ) -> Result<Work<u32>, Memory> {
+        match unit {
+            Unit::One(Node::At(pc, _, Frame::Base)) => {
+                if *pc == 0 {
+                    entering(alloc)
+                } else {
+                    posting(alloc, None)
+                }
+            }
+            Unit::One(Node::At(_, _, Frame::Irq { .. })) => {
+                posting(alloc, Some((Node::Exit(8, HANDLER), 0)))
+            }
+            Unit::One(Node::Exit(..)) => posting(alloc, None),
+            Unit::Back(..) => posting(alloc, Some((node_at(4), 3))),
+        }
+    }
+
+    fn copy(&self, _alloc: Global, a: &u32) -> Result<u32, Memory> {
+        Ok(*a)
+    }
+
+    fn join(&self, _alloc: Global, held: &u32, new: &u32) -> Result<u32, Memory> {
+        Ok((*held).max(*new))
+    }
+
+    fn widen(&self, _alloc: Global, held: &u32, new: &u32, _coarse: bool) -> Result<u32, Memory> {
+        Ok((*held).max(*new))
+    }
+
+    fn top(&self, _alloc: Global, _node: &Node) -> Result<u32, Memory> {
+        Ok(u32::MAX)
+    }
+
+    fn within(&self, new: &u32, held: &u32) -> bool {
+        *new <= *held
+    }
+}
+
 /// Claims, works and posts until the book is finished, or for a number of turns.
-fn run_for<C: Chip>(alloc: Global, chip: &C, most: u64) -> Result<Book<C>, Memory> {
+fn run_for<C: Chip>(alloc: Global, chip: &C, most: u64) -> Result<Book<C>, Memory>
+    ensures { IfOk result (λ book. C.base chip.now ≡ book.base) }
+{
     let mut book = Book::open(alloc, chip)?;
     for _ in 0..most {
         match book.claim(chip, 0)? {
@@ -299,5 +382,64 @@ fn a_unit_that_is_given_back_comes_again(rt: HostRuntime) -> Result<(), Fail> {
         Event::GiveBack { seat: 2, unit },
     ];
     assert_eq!(rt; book.journal(), events.as_slice());
+    Ok(())
+}
+
+/// Claims a unit, and answers whether there was one.
+fn claim_one<C: Chip>(book: &mut Book<C>, chip: &C, seat: u32) -> Result<bool, Memory>
+    requires { C.base chip.now ≡ book.old.base }
+    ensures { book.new.base ≡ book.old.base }
+{
+    match book.claim(chip, seat)? {
+        Claimed::Ticket(_) => Ok(true),
+        Claimed::Idle | Claimed::Finished => Ok(false),
+    }
+}
+
+#[test]
+fn two_seats_claim_at_once(rt: HostRuntime) -> Result<(), Fail> {
+    let mut book = run_for(rt.alloc(), &Interrupted, 1)?;
+    assert!(rt; claim_one(&mut book, &Interrupted, 1)?);
+    assert!(rt; claim_one(&mut book, &Interrupted, 2)?);
+    assert!(rt; !claim_one(&mut book, &Interrupted, 3)?);
+    let first = Unit::One(node_at(0));
+    let handler = Unit::One(Node::At(8, Calls::new(), HANDLER));
+    let events = [
+        Event::Claim {
+            seat: 0,
+            unit: first,
+        },
+        Event::Post {
+            seat: 0,
+            unit: first,
+        },
+        Event::Claim {
+            seat: 1,
+            unit: Unit::One(node_at(4)),
+        },
+        Event::Claim {
+            seat: 2,
+            unit: handler,
+        },
+    ];
+    assert_eq!(rt; book.journal(), events.as_slice());
+    Ok(())
+}
+
+#[test]
+fn a_handler_is_entered_and_left(rt: HostRuntime) -> Result<(), Fail> {
+    let book = run_for(rt.alloc(), &Interrupted, 100)?;
+    assert!(rt; book.finished());
+    let nodes = [
+        (node_at(0), 0),
+        (node_at(4), 3),
+        (Node::At(8, Calls::new(), HANDLER), 0),
+        (Node::Exit(8, HANDLER), 0),
+    ];
+    assert_eq!(rt; book.nodes(), nodes.as_slice());
+    assert_eq!(rt; book.journal().len(), 10);
+    let (_, nodes, works) = book.into_live();
+    assert_eq!(rt; nodes.len(), 4);
+    assert_eq!(rt; works.len(), 4);
     Ok(())
 }
