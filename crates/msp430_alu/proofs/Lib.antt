@@ -1,3 +1,5 @@
 pub mod FlagLemmas
 pub mod Carries
 pub mod Rows
+pub mod Parts
+pub mod StatusWord

@@ -1,16 +1,20 @@
 -- What the laws of results rest on: laws of sets and of their bits.
-use Rattle.std.specs.Prelude.{◌≡◌, ℕ, ◌+◌, ◌-◌, ◌*◌, ◌%◌, ◌^◌, ◌<◌, ◌≤◌, ◌&&◌, Bool, IsFalse, List, length}
+use Rattle.std.specs.Prelude.{◌≡◌, ℕ, ◌+◌, ◌-◌, ◌*◌, ◌%◌, ◌^◌, ◌<◌, ◌≤◌, ◌&&◌, ◌↔◌, Bool, true, IsFalse, List, length}
 use Rattle.value_set.specs.declared.form.Form.{Form}
-use Rattle.value_set.specs.Form.{Has, IsNormal, members}
+use Rattle.value_set.specs.Form.{Has, Includes, IsNormal, members}
+use Rattle.value_set.specs.Joining.{is_within}
+use Rattle.value_set.specs.Remainders.{HasRemainder}
 use Rattle.value_set.specs.Operations.{HasResultsBelow}
 use Rattle.value_set.specs.Summing.{add, combine, single, sub, twice}
 use Rattle.value_bits.specs.declared.tri.Logic.{Logic}
+use Rattle.value_bits.specs.declared.tri.Logic.TheVariants.{And}
 use Rattle.value_bits.specs.declared.tri.Top.{Top}
 use Rattle.value_bits.specs.declared.tri.Tri.{Tri}
 use Rattle.value_bits.specs.Bits.{IsBit, Agrees, known_bits, from_bits, logic_of}
 use Rattle.value_bits.specs.Flags.{IsFlag, agreed}
 use Rattle.value_bits.specs.Numbers.{shifted_right, exchanged, sign_extended, is_decimal, decimal_sum}
 use Rattle.value_bits.specs.Sets.{IsTop, logic_set, shift_set, exchange_set, sign_extend_set, decimal_add_set}
+use Rattle.msp430_state.specs.Known.{even_words}
 
 pub record Premises : Type 0 where
   pub below : (m v : ℕ) (set : Form) → IsNormal m set → Has m set v → v < m
@@ -46,3 +50,7 @@ pub record Premises : Type 0 where
   pub from_normal : (width : ℕ) (bits : List Tri) → length bits ≡ width → IsNormal (2 ^ width) (from_bits width bits)
   pub from : (width v : ℕ) (bits : List Tri) → length bits ≡ width → Agrees bits v → Has (2 ^ width) (from_bits width bits) v
   pub flags : (m x y z : ℕ) (flag : ℕ → ℕ → ℕ → Bool) (a b c : Form) → Has m a x → Has m b y → Has m c z → IsFlag (agreed m flag a b c) (flag x y z)
+  pub tested : (m : ℕ) (smaller larger : Form) → (is_within m smaller larger ≡ true) ↔ Includes m larger smaller
+  pub even_and : (width : ℕ) (a b : Form) → 1 ≤ width → IsNormal (2 ^ width) a → IsNormal (2 ^ width) b
+      → HasRemainder (2 ^ width) 2 0 b → HasRemainder (2 ^ width) 2 0 (logic_set width And a b)
+  pub even_words : (v : ℕ) → Has 65536 even_words v → v % 2 ≡ 0

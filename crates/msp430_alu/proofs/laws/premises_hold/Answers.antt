@@ -1,3 +1,4 @@
+use Rattle.std.proofs.Common.{refl}
 use Rattle.msp430_alu.proofs.laws.premises_hold.Goals as goal
 
 pub returns : goal.returns
@@ -35,4 +36,7 @@ returns c =
       from_normal = bits.from_normal;
       from = bits.from;
       flags = c.flags_agree.ensures.holds;
+      tested = c.inclusion_is_tested.ensures;
+      even_and = c.evens_stay.ensures.and;
+      even_words = c.made_of_one_remainder.ensures.run 65536 2 0 2 32768 refl refl;
     }
