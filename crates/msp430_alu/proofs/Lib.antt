@@ -3,3 +3,4 @@ pub mod Carries
 pub mod Rows
 pub mod Parts
 pub mod StatusWord
+pub mod Reading

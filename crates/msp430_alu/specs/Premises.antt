@@ -1,8 +1,8 @@
 -- What the laws of results rest on: laws of sets and of their bits.
-use Rattle.std.specs.Prelude.{◌≡◌, ℕ, ◌+◌, ◌-◌, ◌*◌, ◌%◌, ◌^◌, ◌<◌, ◌≤◌, ◌&&◌, ◌↔◌, Bool, true, IsFalse, List, length}
+use Rattle.std.specs.Prelude.{◌≡◌, ℕ, ◌+◌, ◌-◌, ◌*◌, ◌%◌, ◌^◌, ◌<◌, ◌≤◌, ◌&&◌, ◌↔◌, ◌⊎◌, Bool, true, IsFalse, Option, List, length}
 use Rattle.value_set.specs.declared.form.Form.{Form}
-use Rattle.value_set.specs.Form.{Has, Includes, IsNormal, members}
-use Rattle.value_set.specs.Joining.{is_within}
+use Rattle.value_set.specs.Form.{Has, Includes, IsNormal, make, members}
+use Rattle.value_set.specs.Joining.{is_within, join}
 use Rattle.value_set.specs.Remainders.{HasRemainder}
 use Rattle.value_set.specs.Operations.{HasResultsBelow}
 use Rattle.value_set.specs.Summing.{add, combine, single, sub, twice}
@@ -12,8 +12,11 @@ use Rattle.value_bits.specs.declared.tri.Top.{Top}
 use Rattle.value_bits.specs.declared.tri.Tri.{Tri}
 use Rattle.value_bits.specs.Bits.{IsBit, Agrees, known_bits, from_bits, logic_of}
 use Rattle.value_bits.specs.Flags.{IsFlag, agreed}
-use Rattle.value_bits.specs.Numbers.{shifted_right, exchanged, sign_extended, is_decimal, decimal_sum}
-use Rattle.value_bits.specs.Sets.{IsTop, logic_set, shift_set, exchange_set, sign_extend_set, decimal_add_set}
+use Rattle.value_bits.specs.Numbers.{low_byte, shifted_right, exchanged, sign_extended, is_decimal, decimal_sum}
+use Rattle.value_bits.specs.Sets.{IsTop, low_set, logic_set, shift_set, exchange_set, sign_extend_set, decimal_add_set}
+use Rattle.entry_value.specs.declared.cells.Cell.{Cell}
+use Rattle.entry_value.specs.Cells.{AreCells, StandsUnder, number_at, read}
+use Rattle.entry_value.specs.Words.{Suspended, HoldsOfWord}
 use Rattle.msp430_state.specs.Known.{even_words}
 
 pub record Premises : Type 0 where
@@ -54,3 +57,13 @@ pub record Premises : Type 0 where
   pub even_and : (width : ℕ) (a b : Form) → 1 ≤ width → IsNormal (2 ^ width) a → IsNormal (2 ^ width) b
       → HasRemainder (2 ^ width) 2 0 b → HasRemainder (2 ^ width) 2 0 (logic_set width And a b)
   pub even_words : (v : ℕ) → Has 65536 even_words v → v % 2 ≡ 0
+  pub join_normal : (m : ℕ) (a b : Form) → IsNormal m a → IsNormal m b → IsNormal m (join m a b)
+  pub join_first : (m : ℕ) (a b : Form) → IsNormal m a → IsNormal m b → Includes m (join m a b) a
+  pub join_second : (m : ℕ) (a b : Form) → IsNormal m a → IsNormal m b → Includes m (join m a b) b
+  pub whole : (m v : ℕ) → v < m → Has m (make m 0 1 m) v
+  pub whole_normal : (m : ℕ) → 0 < m → IsNormal m (make m 0 1 m)
+  pub low_normal : (a : Form) → IsNormal 65536 a → IsNormal 256 (low_set a)
+  pub low : (v : ℕ) (a : Form) → IsNormal 65536 a → Has 65536 a v → Has 256 (low_set a) (low_byte v)
+  pub reads : (first : Option Suspended) (ram : ℕ → ℕ) (lo hi from at size : ℕ) (cells : List Cell) → AreCells lo hi from cells → at < 65536 → (size ≡ 1) ⊎ (size ≡ 2)
+      → StandsUnder first cells ram → HoldsOfWord first (read cells at size) (number_at ram at size)
+  pub read_normal : (lo hi from at size : ℕ) (cells : List Cell) → AreCells lo hi from cells → IsNormal 65536 (read cells at size).set

@@ -39,4 +39,13 @@ returns c =
       tested = c.inclusion_is_tested.ensures;
       even_and = c.evens_stay.ensures.and;
       even_words = c.made_of_one_remainder.ensures.run 65536 2 0 2 32768 refl refl;
+      join_normal = c.joins_include_both.ensures.normal;
+      join_first = c.joins_include_both.ensures.first;
+      join_second = c.joins_include_both.ensures.second;
+      whole = c.single_and_whole_sets.ensures.whole;
+      whole_normal = c.single_and_whole_sets.ensures.whole_normal;
+      low_normal = c.halves_hold.ensures.low_normal;
+      low = c.halves_hold.ensures.low;
+      reads = c.reads_hold.ensures;
+      read_normal = c.reads_keep_form.ensures.normal;
     }
