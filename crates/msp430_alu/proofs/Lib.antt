@@ -4,3 +4,4 @@ pub mod Rows
 pub mod Parts
 pub mod StatusWord
 pub mod Reading
+pub mod Storing

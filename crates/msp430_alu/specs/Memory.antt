@@ -1,5 +1,5 @@
 -- Memory in what is known of a state: what may be read, and what is known behind a store.
-use Rattle.std.specs.Prelude.{◌≡◌, ℕ, ◌+◌, ◌-◌, ◌*◌, ◌%◌, ◌<◌, ◌≤◌, ◌==◌, ◌&&◌, nat_lt, nat_le, if◌then◌else◌, Bool, true, false, Option, None, Some, List, [], ◌∷◌, length, All}
+use Rattle.std.specs.Prelude.{◌≡◌, ℕ, ◌+◌, ◌-◌, ◌*◌, ◌%◌, ◌<◌, ◌≤◌, ◌==◌, ◌&&◌, ◌||◌, nat_lt, nat_le, if◌then◌else◌, Bool, true, false, Option, None, Some, List, [], ◌∷◌, length, All}
 use Rattle.std.specs.List.{fold}
 use Prim.Native.Nat.{min, max}
 use Rattle.ihex_read.specs.Image.{byte_at, IsByte}
@@ -69,3 +69,32 @@ read_list device a width (at ∷ next ∷ rest) =
 
 abbrev pub read_known : Device → Known → Width → Form → Word
 read_known device a width at = read_list device a width (members 65536 at)
+
+-- STORES
+
+-- the part of a range that lies in RAM is touched
+abbrev pub touch : (lo hi first last : ℕ) → List (ℕ × ℕ) → List (ℕ × ℕ)
+touch lo hi first last touched = if nat_lt last lo || nat_lt hi first then touched else with_range (max lo first) (min hi last) touched
+
+abbrev pub touch_each : (lo hi size : ℕ) → List ℕ → List (ℕ × ℕ) → List (ℕ × ℕ)
+touch_each lo hi size [] touched = touched
+touch_each lo hi size (at ∷ rest) touched = touch_each lo hi size rest (touch lo hi at (at + size - 1) touched)
+
+-- each written byte, of a run all from the first one to the last, and all RAM where the run goes round
+abbrev pub touched_behind : (lo hi size : ℕ) → Form → List (ℕ × ℕ) → List (ℕ × ℕ)
+touched_behind lo hi size (Values xs) touched = touch_each lo hi size xs touched
+touched_behind lo hi size (Run p) touched =
+    if nat_le 65536 (p.base + reach p) then with_range lo hi touched
+    else touch lo hi p.base (p.base + reach p + size - 1) touched
+
+-- a value stored at one of the addresses of a set; touched bytes are kept in an interrupt's frame alone
+abbrev pub with_store : Device → (framed : Bool) → Known → Width → Form → Word → Known
+with_store device framed a width at word = record {
+  sp = a.sp;
+  status = a.status;
+  late = a.late;
+  registers = a.registers;
+  fact = a.fact;
+  cells = write_any a.cells at (size_of width) word;
+  touched = if framed then touched_behind device.lo device.hi (size_of width) at a.touched else a.touched;
+}

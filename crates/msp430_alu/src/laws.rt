@@ -14,7 +14,10 @@ ghost use Rattle.msp430_alu.specs.FlagSets.{IsResult, HoldsOfMade};
 ghost use Rattle.msp430_alu.specs.Premises.{Premises};
 ghost use Rattle.msp430_alu.specs.Results.{HasWidth, double_made, single_made, twice_flags};
 
-use entry_value::{reads_hold, reads_keep_form};
+use entry_value::{
+    cells_speak_of_ram, reads_hold, reads_keep_form, writes_cover, writes_keep_form,
+};
+use msp430_state::ranges_hold;
 use value_bits::{
     bits_hold, decimals_hold, evens_stay, flags_agree, halves_hold, logic_holds, moves_hold,
 };
@@ -44,6 +47,10 @@ fn premises_hold()
     halves_hold();
     reads_hold();
     reads_keep_form();
+    writes_cover();
+    writes_keep_form();
+    cells_speak_of_ram();
+    ranges_hold();
 }
 
 /// Each operation: where the operands' sets have the values, the set of results has the result that the chip may make, and

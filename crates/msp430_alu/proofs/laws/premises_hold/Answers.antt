@@ -48,4 +48,11 @@ returns c =
       low = c.halves_hold.ensures.low;
       reads = c.reads_hold.ensures;
       read_normal = c.reads_keep_form.ensures.normal;
+      store = c.writes_cover.ensures.any;
+      store_form = c.writes_keep_form.ensures.any;
+      store_lo = c.writes_keep_form.ensures.any_lo;
+      store_hi = c.writes_keep_form.ensures.any_hi;
+      agree = c.cells_speak_of_ram.ensures.agree;
+      range_form = c.ranges_hold.ensures.add_form;
+      range = c.ranges_hold.ensures.add;
     }
