@@ -1,3 +1,5 @@
 pub mod FlagSets
 pub mod Results
+pub mod Registers
+pub mod Memory
 pub mod Premises

@@ -1,16 +1,25 @@
 -- What the laws of results rest on: laws of sets and of their bits.
-use Rattle.std.specs.Prelude.{◌≡◌, ℕ, ◌+◌, ◌-◌, ◌*◌, ◌%◌, ◌^◌, ◌<◌, ◌≤◌, ◌&&◌, Bool, IsFalse, List, length}
+use Rattle.std.specs.Prelude.{◌≡◌, ℕ, ◌+◌, ◌-◌, ◌*◌, ◌%◌, ◌^◌, ◌<◌, ◌≤◌, ◌&&◌, ◌||◌, ◌↔◌, ◌⊎◌, Bool, true, IsFalse, Option, List, length}
 use Rattle.value_set.specs.declared.form.Form.{Form}
-use Rattle.value_set.specs.Form.{Has, IsNormal, members}
+use Rattle.value_set.specs.Form.{Has, Includes, IsNormal, make, members}
+use Rattle.value_set.specs.Joining.{is_within, join}
+use Rattle.value_set.specs.Remainders.{HasRemainder}
 use Rattle.value_set.specs.Operations.{HasResultsBelow}
 use Rattle.value_set.specs.Summing.{add, combine, single, sub, twice}
 use Rattle.value_bits.specs.declared.tri.Logic.{Logic}
+use Rattle.value_bits.specs.declared.tri.Logic.TheVariants.{And}
 use Rattle.value_bits.specs.declared.tri.Top.{Top}
 use Rattle.value_bits.specs.declared.tri.Tri.{Tri}
 use Rattle.value_bits.specs.Bits.{IsBit, Agrees, known_bits, from_bits, logic_of}
 use Rattle.value_bits.specs.Flags.{IsFlag, agreed}
-use Rattle.value_bits.specs.Numbers.{shifted_right, exchanged, sign_extended, is_decimal, decimal_sum}
-use Rattle.value_bits.specs.Sets.{IsTop, logic_set, shift_set, exchange_set, sign_extend_set, decimal_add_set}
+use Rattle.value_bits.specs.Numbers.{low_byte, shifted_right, exchanged, sign_extended, is_decimal, decimal_sum}
+use Rattle.value_bits.specs.Sets.{IsTop, low_set, logic_set, shift_set, exchange_set, sign_extend_set, decimal_add_set}
+use Rattle.entry_value.specs.declared.cells.Cell.{Cell}
+use Rattle.entry_value.specs.Cells.{CellMap, AreCells, StandsUnder, number_at, read, write_any, written}
+use Rattle.entry_value.specs.declared.word.Word.{Word}
+use Rattle.msp430_state.specs.Ranges.{AreRanges, has_address, lies_in, with_range}
+use Rattle.entry_value.specs.Words.{Suspended, HoldsOfWord}
+use Rattle.msp430_state.specs.Known.{even_words}
 
 pub record Premises : Type 0 where
   pub below : (m v : ℕ) (set : Form) → IsNormal m set → Has m set v → v < m
@@ -46,3 +55,30 @@ pub record Premises : Type 0 where
   pub from_normal : (width : ℕ) (bits : List Tri) → length bits ≡ width → IsNormal (2 ^ width) (from_bits width bits)
   pub from : (width v : ℕ) (bits : List Tri) → length bits ≡ width → Agrees bits v → Has (2 ^ width) (from_bits width bits) v
   pub flags : (m x y z : ℕ) (flag : ℕ → ℕ → ℕ → Bool) (a b c : Form) → Has m a x → Has m b y → Has m c z → IsFlag (agreed m flag a b c) (flag x y z)
+  pub tested : (m : ℕ) (smaller larger : Form) → (is_within m smaller larger ≡ true) ↔ Includes m larger smaller
+  pub even_and : (width : ℕ) (a b : Form) → 1 ≤ width → IsNormal (2 ^ width) a → IsNormal (2 ^ width) b
+      → HasRemainder (2 ^ width) 2 0 b → HasRemainder (2 ^ width) 2 0 (logic_set width And a b)
+  pub even_words : (v : ℕ) → Has 65536 even_words v → v % 2 ≡ 0
+  pub join_normal : (m : ℕ) (a b : Form) → IsNormal m a → IsNormal m b → IsNormal m (join m a b)
+  pub join_first : (m : ℕ) (a b : Form) → IsNormal m a → IsNormal m b → Includes m (join m a b) a
+  pub join_second : (m : ℕ) (a b : Form) → IsNormal m a → IsNormal m b → Includes m (join m a b) b
+  pub whole : (m v : ℕ) → v < m → Has m (make m 0 1 m) v
+  pub whole_normal : (m : ℕ) → 0 < m → IsNormal m (make m 0 1 m)
+  pub low_normal : (a : Form) → IsNormal 65536 a → IsNormal 256 (low_set a)
+  pub low : (v : ℕ) (a : Form) → IsNormal 65536 a → Has 65536 a v → Has 256 (low_set a) (low_byte v)
+  pub reads : (first : Option Suspended) (ram : ℕ → ℕ) (lo hi from at size : ℕ) (cells : List Cell) → AreCells lo hi from cells → at < 65536 → (size ≡ 1) ⊎ (size ≡ 2)
+      → StandsUnder first cells ram → HoldsOfWord first (read cells at size) (number_at ram at size)
+  pub read_normal : (lo hi from at size : ℕ) (cells : List Cell) → AreCells lo hi from cells → IsNormal 65536 (read cells at size).set
+  pub store : (first : Option Suspended) (ram : ℕ → ℕ) (from size address v : ℕ) (map : CellMap) (at : Form) (word : Word)
+      → map.hi < 65536 → AreCells map.lo map.hi from map.cells → IsNormal 65536 at → (size ≡ 1) ⊎ (size ≡ 2)
+      → IsNormal 65536 word.set → (size ≡ 1 → (n : ℕ) → Has 65536 word.set n → n < 256)
+      → StandsUnder first map.cells ram → Has 65536 at address → HoldsOfWord first word v → StandsUnder first (write_any map at size word).cells (written ram address size v)
+  pub store_form : (from size : ℕ) (map : CellMap) (at : Form) (word : Word) → map.hi < 65536 → from ≤ map.lo → AreCells map.lo map.hi from map.cells → (size ≡ 1) ⊎ (size ≡ 2)
+      → IsNormal 65536 word.set → (size ≡ 1 → (n : ℕ) → Has 65536 word.set n → n < 256) → AreCells map.lo map.hi from (write_any map at size word).cells
+  pub store_lo : (size : ℕ) (map : CellMap) (at : Form) (word : Word) → (write_any map at size word).lo ≡ map.lo
+  pub store_hi : (size : ℕ) (map : CellMap) (at : Form) (word : Word) → (write_any map at size word).hi ≡ map.hi
+  pub agree : (first : Option Suspended) (one other : ℕ → ℕ) (lo hi from : ℕ) (cells : List Cell) → hi < 65536 → AreCells lo hi from cells → ((at : ℕ) → other at < 256)
+      → ((at : ℕ) → lo ≤ at → at ≤ hi → one at ≡ other at) → StandsUnder first cells one → StandsUnder first cells other
+  pub range_form : (from hi low high : ℕ) (ranges : List (ℕ × ℕ)) → from ≤ low → low ≤ high → high ≤ hi → AreRanges from hi ranges → AreRanges from hi (with_range low high ranges)
+  pub range : (from hi at low high : ℕ) (ranges : List (ℕ × ℕ)) → low ≤ high → AreRanges from hi ranges
+      → has_address (with_range low high ranges) at ≡ (has_address ranges at || lies_in (at, at) (low, high))

@@ -14,9 +14,16 @@ ghost use Rattle.msp430_alu.specs.FlagSets.{IsResult, HoldsOfMade};
 ghost use Rattle.msp430_alu.specs.Premises.{Premises};
 ghost use Rattle.msp430_alu.specs.Results.{HasWidth, double_made, single_made, twice_flags};
 
-use value_bits::{bits_hold, decimals_hold, flags_agree, logic_holds, moves_hold};
+use entry_value::{
+    cells_speak_of_ram, reads_hold, reads_keep_form, writes_cover, writes_keep_form,
+};
+use msp430_state::ranges_hold;
+use value_bits::{
+    bits_hold, decimals_hold, evens_stay, flags_agree, halves_hold, logic_holds, moves_hold,
+};
 use value_set::{
-    members_are_below, results_hold, sets_have_members, single_and_whole_sets, sums_hold,
+    inclusion_is_tested, joins_include_both, made_of_one_remainder, members_are_below,
+    results_hold, sets_have_members, single_and_whole_sets, sums_hold,
 };
 
 /// The laws of sets that those below rest on.
@@ -33,6 +40,17 @@ fn premises_hold()
     decimals_hold();
     bits_hold();
     flags_agree();
+    evens_stay();
+    inclusion_is_tested();
+    made_of_one_remainder();
+    joins_include_both();
+    halves_hold();
+    reads_hold();
+    reads_keep_form();
+    writes_cover();
+    writes_keep_form();
+    cells_speak_of_ram();
+    ranges_hold();
 }
 
 /// Each operation: where the operands' sets have the values, the set of results has the result that the chip may make, and

@@ -1,3 +1,4 @@
+use Rattle.std.proofs.Common.{refl}
 use Rattle.msp430_alu.proofs.laws.premises_hold.Goals as goal
 
 pub returns : goal.returns
@@ -35,4 +36,23 @@ returns c =
       from_normal = bits.from_normal;
       from = bits.from;
       flags = c.flags_agree.ensures.holds;
+      tested = c.inclusion_is_tested.ensures;
+      even_and = c.evens_stay.ensures.and;
+      even_words = c.made_of_one_remainder.ensures.run 65536 2 0 2 32768 refl refl;
+      join_normal = c.joins_include_both.ensures.normal;
+      join_first = c.joins_include_both.ensures.first;
+      join_second = c.joins_include_both.ensures.second;
+      whole = c.single_and_whole_sets.ensures.whole;
+      whole_normal = c.single_and_whole_sets.ensures.whole_normal;
+      low_normal = c.halves_hold.ensures.low_normal;
+      low = c.halves_hold.ensures.low;
+      reads = c.reads_hold.ensures;
+      read_normal = c.reads_keep_form.ensures.normal;
+      store = c.writes_cover.ensures.any;
+      store_form = c.writes_keep_form.ensures.any;
+      store_lo = c.writes_keep_form.ensures.any_lo;
+      store_hi = c.writes_keep_form.ensures.any_hi;
+      agree = c.cells_speak_of_ram.ensures.agree;
+      range_form = c.ranges_hold.ensures.add_form;
+      range = c.ranges_hold.ensures.add;
     }
