@@ -8,8 +8,8 @@ use crate::names::{
     logic_name, operation_name, pointer_name, test_name,
 };
 use crate::parts::{
-    push_comparison, push_counter, push_external, push_immediate, push_mask,
-    push_memory, push_place, push_source, push_target, push_working,
+    push_comparison, push_counter, push_external, push_immediate, push_mask, push_memory,
+    push_place, push_source, push_target, push_working,
 };
 use arrayvec::ArrayString;
 use hex_digits::{push_byte, push_word};
