@@ -1,5 +1,6 @@
 pub mod Deciding
 pub mod Forms
 pub mod Fronts
+pub mod Leads
 pub mod Operands
 pub mod Results

@@ -13,6 +13,8 @@
 //! - [`a_reset_exists`]: there is a state behind a reset.
 //! - [`the_table_decides`]: the instruction that stands at PC by the instruction table is the one that runs.
 //! - [`steps_keep_form`]: steps keep the form of states.
+//! - [`forms_lead`], [`steps_lead`]: what the forms of instructions and steps lead to, without choices
+//!   (`specs/Leading.antt`).
 #![tactic(auto)]
 
 mod law;

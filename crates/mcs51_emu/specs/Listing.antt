@@ -1,5 +1,5 @@
 -- What a step of the emulator gives, and what that stands for.
-use Rattle.std.specs.Prelude.{ℕ, Option, None, Some, Result, Ok, Err, List, [], ◌∷◌, ◌++◌}
+use Rattle.std.specs.Prelude.{◌≡◌, ℕ, Option, None, Some, Result, Ok, Err, List, [], ◌∷◌, ◌++◌}
 use Rattle.arrayvec.specs.ArrayVec.{ArrayVec}
 use Rattle.call_context.specs.declared.shown.Item.{Item}
 use Rattle.call_context.specs.declared.shown.Item.TheVariants as items
@@ -8,12 +8,14 @@ use Rattle.call_context.specs.declared.shown.Set.TheVariants.{B, W}
 use Rattle.call_context.specs.declared.shown.Space.{Space}
 use Rattle.call_context.specs.declared.shown.Space.TheVariants.{Mem, Ram, Sfr, Xram, Code}
 use Rattle.call_context.specs.Single.{Single}
-use Rattle.call_context.specs.Single.Single.{Instr, Edge, Access as Accessed, Stack}
+use Rattle.call_context.specs.Single.Single.{Instr as Ran, Edge, Access as Accessed, Stack}
 use Rattle.choosing.specs.Outcome.Outcome.{Wild}
+use Rattle.choosing.specs.Choosing.{asked_as}
+use Rattle.mcs51_decode.specs.declared.instr.Instr.{Instr}
 use Rattle.mcs51_decode.specs.declared.refusal.NoInstr.{NoInstr}
 use Rattle.mcs51_chip.specs.declared.place.Access.{Access}
 use Rattle.mcs51_chip.specs.declared.state.ChipState.{ChipState}
-use Rattle.mcs51_chip.specs.Step.{Effect, Outcome, stepped}
+use Rattle.mcs51_chip.specs.Step.{Effect, Outcome, effect_of, stepped}
 use Rattle.value_set.specs.Summing.{single}
 use Rattle.mcs51_emu.specs.declared.done.Accesses.{Accesses}
 use Rattle.mcs51_emu.specs.declared.done.Done.{Done}
@@ -30,9 +32,14 @@ listed accesses = shown accesses.first ++ shown accesses.second ++ shown accesse
 abbrev pub effected : ChipState → Accesses → Effect
 effected t accesses = (listed accesses, t)
 
+-- an instruction leads from s to t, and of these choices those are left; with no answer they end before a question
+abbrev pub Performs : Instr → ChipState → List ℕ → Option Accesses → ChipState → List ℕ → Type 0
+Performs instr s choices result t left =
+    (image : List (Option ℕ)) → asked_as (effected t) result left ≡ effect_of image s instr choices
+
 abbrev pub ran : ℕ → Option (ArrayVec ℕ) → List Single
 ran pc None = []
-ran pc (Some bytes) = Instr pc bytes.items ∷ []
+ran pc (Some bytes) = Ran pc bytes.items ∷ []
 
 -- what a step from s to t that is done comes to
 abbrev pub finished : (s t : ChipState) → Done → Outcome
@@ -53,7 +60,7 @@ set_of Code at = W (single at)
 
 -- the item that shows one single item, with sets of one value
 abbrev pub item_of : Single → Item
-item_of (Instr pc bytes) = items.Instr pc bytes
+item_of (Ran pc bytes) = items.Instr pc bytes
 item_of (Edge origin target) = items.Edge origin target
 item_of (Accessed pc space write size address) = items.Access pc space write size (set_of space address)
 item_of (Stack pc sp) = items.Stack pc (B (single sp))

@@ -24,7 +24,8 @@ use mcs51_decode::{Image, Instr, NoInstr, decode, encode};
 #[tactic(auto, using(crate::proofs::StateLemmas::pc_kept), unfolding(mcs51_chip::specs::Step::executed))]
 fn execute(image: &Image, s: &mut ChipState, instr: Instr, choices: &mut Unused) -> Option<Done>
     requires { IsChipState s.old }
-    ensures exact { asked_as (finished s.old s.new) result choices.new ≡ steps.executed image.now s.old instr choices.old }
+    ensures exact { asked_as (finished s.old s.new) result choices.new ≡
+        steps.executed image.now s.old instr choices.old }
     ensures kept { result ≡ None → s.new ≡ s.old }
     ensures unheld { unheld s.new ≤ unheld s.old }
 {
@@ -45,7 +46,8 @@ fn execute(image: &Image, s: &mut ChipState, instr: Instr, choices: &mut Unused)
 /// The instruction at PC, where one stands there.
 fn run(image: &Image, s: &mut ChipState, choices: &mut Unused) -> Option<Result<Done, NoInstr>>
     requires { IsChipState s.old }
-    ensures exact { asked_as (outcome_of s.old s.new) result choices.new ≡ steps.run image.now s.old (decoded image.now s.old.pc) choices.old }
+    ensures exact { asked_as (outcome_of s.old s.new) result choices.new ≡
+        steps.run image.now s.old (decoded image.now s.old.pc) choices.old }
     ensures kept { result ≡ None → s.new ≡ s.old }
     ensures wild { (none : ANoInstr) → result ≡ Some (Err none) → s.new ≡ s.old }
     ensures unheld { unheld s.new ≤ unheld s.old }
@@ -60,7 +62,8 @@ fn run(image: &Image, s: &mut ChipState, choices: &mut Unused) -> Option<Result<
 #[tactic(auto, unfolding(mcs51_chip::specs::Step::step_of))]
 fn course(image: &Image, s: &mut ChipState, choices: &mut Unused) -> Option<Result<Done, NoInstr>>
     requires { IsChipState s.old }
-    ensures exact { asked_as (outcome_of s.old s.new) result choices.new ≡ steps.step_of image.now s.old choices.old }
+    ensures exact { asked_as (outcome_of s.old s.new) result choices.new ≡
+        steps.step_of image.now s.old choices.old }
     ensures kept { result ≡ None → s.new ≡ s.old }
     ensures wild { (none : ANoInstr) → result ≡ Some (Err none) → s.new ≡ s.old }
     ensures unheld { unheld s.new ≤ unheld s.old }

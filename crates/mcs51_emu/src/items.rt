@@ -64,7 +64,8 @@ fn push_instr(items: &mut ArrayVec<Item, ROOM>, pc: u16, bytes: &Option<ArrayVec
 /// Adds an access, if there is one.
 fn push_access(items: &mut ArrayVec<Item, ROOM>, pc: u16, access: Option<Access>)
     requires { array_vec_len items.old < 12 }
-    ensures items { items.new.items ≡ items.old.items ++ map item_of (map (accessed pc) (shown access)) }
+    ensures items { items.new.items ≡
+        items.old.items ++ map item_of (map (accessed pc) (shown access)) }
     ensures len { array_vec_len items.new ≤ array_vec_len items.old + 1 }
 {
     if let Some(access) = access {
@@ -75,7 +76,8 @@ fn push_access(items: &mut ArrayVec<Item, ROOM>, pc: u16, access: Option<Access>
 /// Adds accesses.
 fn push_accesses(items: &mut ArrayVec<Item, ROOM>, pc: u16, accesses: Accesses)
     requires { array_vec_len items.old < 10 }
-    ensures items { items.new.items ≡ items.old.items ++ map item_of (map (accessed pc) (listed accesses)) }
+    ensures items { items.new.items ≡
+        items.old.items ++ map item_of (map (accessed pc) (listed accesses)) }
     ensures len { array_vec_len items.new ≤ array_vec_len items.old + 3 }
 {
     push_access(items, pc, accesses.first);
@@ -85,7 +87,9 @@ fn push_accesses(items: &mut ArrayVec<Item, ROOM>, pc: u16, accesses: Accesses)
 
 /// What a step did, in order.
 pub(crate) fn items_of(pc: u16, sp: u8, done: &Done, target: u16) -> ArrayVec<Item, ROOM>
-    ensures { result.items ≡ map item_of (Stack pc sp ∷ ran pc done.now.bytes ++ map (accessed pc) (listed done.now.accesses) ++ Edge pc target ∷ []) }
+    ensures { result.items ≡
+        map item_of (Stack pc sp ∷ ran pc done.now.bytes
+        ++ map (accessed pc) (listed done.now.accesses) ++ Edge pc target ∷ []) }
 {
     let mut items = ArrayVec::new();
     items.push(Item::Stack {

@@ -6,8 +6,7 @@ ghost use Rattle.mcs51_decode.specs.declared.instr.Instr.TheVariants as instr;
 ghost use Rattle.mcs51_decode.specs.Targets as targets;
 ghost use Rattle.mcs51_chip.specs.State.{IsChipState};
 ghost use Rattle.mcs51_chip.specs.Step as steps;
-ghost use Rattle.mcs51_chip.specs.Step.{effect_of};
-ghost use Rattle.mcs51_emu.specs.Listing.{effected};
+ghost use Rattle.mcs51_emu.specs.Listing.{Performs};
 ghost use Rattle.mcs51_emu.specs.Form.{unheld};
 
 use crate::bits::{bit_at, bit_of, with_bit};
@@ -79,7 +78,8 @@ pub(crate) fn jump_on_bit(
     choices: &mut Unused,
 ) -> Option<Accesses>
     requires { IsChipState s.old }
-    ensures exact { (image : List (Option ℕ)) → asked_as (effected s.new) result choices.new ≡ effect_of image s.old (instr.JumpOnBit test bit rel) choices.old }
+    ensures exact { Performs (instr.JumpOnBit test bit rel) s.old choices.old
+        result s.new choices.new }
     ensures kept { result ≡ None → s.new ≡ s.old }
     ensures unheld { unheld s.new ≤ unheld s.old }
 {
@@ -114,7 +114,8 @@ pub(crate) fn compare_jump(
     choices: &mut Unused,
 ) -> Option<Accesses>
     requires { IsChipState s.old }
-    ensures exact { (image : List (Option ℕ)) → asked_as (effected s.new) result choices.new ≡ effect_of image s.old (instr.CompareJump comparison rel) choices.old }
+    ensures exact { Performs (instr.CompareJump comparison rel) s.old choices.old
+        result s.new choices.new }
     ensures kept { result ≡ None → s.new ≡ s.old }
     ensures unheld { unheld s.new ≤ unheld s.old }
 {
@@ -147,7 +148,8 @@ pub(crate) fn decrement_jump(
     choices: &mut Unused,
 ) -> Option<Accesses>
     requires { IsChipState s.old }
-    ensures exact { (image : List (Option ℕ)) → asked_as (effected s.new) result choices.new ≡ effect_of image s.old (instr.DecrementJump counter rel) choices.old }
+    ensures exact { Performs (instr.DecrementJump counter rel) s.old choices.old
+        result s.new choices.new }
     ensures kept { result ≡ None → s.new ≡ s.old }
     ensures unheld { unheld s.new ≤ unheld s.old }
 {

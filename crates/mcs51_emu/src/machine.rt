@@ -44,7 +44,8 @@ impl Machine {
 
     /// One step under an image, by the next choices. Where no step is done, machine and choices are as before.
     pub fn step(&mut self, image: &Image, choices: &mut Choices) -> Stepped
-        ensures steps { Steps image.now self.old.state choices.old result self.new.state choices.new }
+        ensures steps { Steps image.now self.old.state choices.old
+            result self.new.state choices.new }
         ensures form { IsChipState self.new.state }
         ensures still { IsStill result → self.new ≡ self.old }
         ensures unused { IsStill result → choices.new ≡ choices.old }

@@ -4,8 +4,7 @@ ghost use Rattle.std.specs.Prelude.{◌≡◌, ℕ, List, None, Option, Some, �
 ghost use Rattle.choosing.specs.Choosing.{asked_as};
 ghost use Rattle.mcs51_decode.specs.declared.instr.Instr.TheVariants as instr;
 ghost use Rattle.mcs51_chip.specs.State.{IsChipState};
-ghost use Rattle.mcs51_chip.specs.Step.{effect_of};
-ghost use Rattle.mcs51_emu.specs.Listing.{effected};
+ghost use Rattle.mcs51_emu.specs.Listing.{Performs};
 ghost use Rattle.mcs51_emu.specs.Form.{unheld};
 
 use crate::arithmetic::{
@@ -28,7 +27,7 @@ use mcs51_decode::{
 #[tactic(auto, unfolding(mcs51_chip::specs::Step::effect_of, mcs51_chip::specs::Step::updating))]
 pub(crate) fn increment(s: &mut ChipState, place: Place, choices: &mut Unused) -> Option<Accesses>
     requires { IsChipState s.old }
-    ensures exact { (image : List (Option ℕ)) → asked_as (effected s.new) result choices.new ≡ effect_of image s.old (instr.Increment place) choices.old }
+    ensures exact { Performs (instr.Increment place) s.old choices.old result s.new choices.new }
     ensures kept { result ≡ None → s.new ≡ s.old }
     ensures unheld { unheld s.new ≤ unheld s.old }
 {
@@ -51,7 +50,7 @@ pub(crate) fn increment(s: &mut ChipState, place: Place, choices: &mut Unused) -
 #[tactic(auto, unfolding(mcs51_chip::specs::Step::effect_of, mcs51_chip::specs::Step::updating))]
 pub(crate) fn decrement(s: &mut ChipState, place: Place, choices: &mut Unused) -> Option<Accesses>
     requires { IsChipState s.old }
-    ensures exact { (image : List (Option ℕ)) → asked_as (effected s.new) result choices.new ≡ effect_of image s.old (instr.Decrement place) choices.old }
+    ensures exact { Performs (instr.Decrement place) s.old choices.old result s.new choices.new }
     ensures kept { result ≡ None → s.new ≡ s.old }
     ensures unheld { unheld s.new ≤ unheld s.old }
 {
@@ -79,7 +78,8 @@ pub(crate) fn accumulate(
     choices: &mut Unused,
 ) -> Option<Accesses>
     requires { IsChipState s.old }
-    ensures exact { (image : List (Option ℕ)) → asked_as (effected s.new) result choices.new ≡ effect_of image s.old (instr.Accumulate operation source) choices.old }
+    ensures exact { Performs (instr.Accumulate operation source) s.old choices.old
+        result s.new choices.new }
     ensures kept { result ≡ None → s.new ≡ s.old }
     ensures unheld { unheld s.new ≤ unheld s.old }
 {
@@ -107,7 +107,8 @@ pub(crate) fn direct_logic(
     choices: &mut Unused,
 ) -> Option<Accesses>
     requires { IsChipState s.old }
-    ensures exact { (image : List (Option ℕ)) → asked_as (effected s.new) result choices.new ≡ effect_of image s.old (instr.DirectLogic operation direct mask) choices.old }
+    ensures exact { Performs (instr.DirectLogic operation direct mask) s.old choices.old
+        result s.new choices.new }
     ensures kept { result ≡ None → s.new ≡ s.old }
     ensures unheld { unheld s.new ≤ unheld s.old }
 {
@@ -125,7 +126,7 @@ pub(crate) fn direct_logic(
 #[tactic(auto, unfolding(mcs51_chip::specs::Step::effect_of, mcs51_chip::specs::Step::dividing))]
 pub(crate) fn divide(s: &mut ChipState, choices: &mut Unused) -> Option<Accesses>
     requires { IsChipState s.old }
-    ensures exact { (image : List (Option ℕ)) → asked_as (effected s.new) result choices.new ≡ effect_of image s.old instr.Divide choices.old }
+    ensures exact { Performs instr.Divide s.old choices.old result s.new choices.new }
     ensures kept { result ≡ None → s.new ≡ s.old }
     ensures unheld { unheld s.new ≤ unheld s.old }
 {
@@ -148,7 +149,8 @@ pub(crate) fn carry_bit(
     choices: &mut Unused,
 ) -> Option<Accesses>
     requires { IsChipState s.old }
-    ensures exact { (image : List (Option ℕ)) → asked_as (effected s.new) result choices.new ≡ effect_of image s.old (instr.CarryBit operation bit) choices.old }
+    ensures exact { Performs (instr.CarryBit operation bit) s.old choices.old
+        result s.new choices.new }
     ensures kept { result ≡ None → s.new ≡ s.old }
     ensures unheld { unheld s.new ≤ unheld s.old }
 {
@@ -168,7 +170,8 @@ pub(crate) fn change_bit(
     choices: &mut Unused,
 ) -> Option<Accesses>
     requires { IsChipState s.old }
-    ensures exact { (image : List (Option ℕ)) → asked_as (effected s.new) result choices.new ≡ effect_of image s.old (instr.ChangeBit operation bit) choices.old }
+    ensures exact { Performs (instr.ChangeBit operation bit) s.old choices.old
+        result s.new choices.new }
     ensures kept { result ≡ None → s.new ≡ s.old }
     ensures unheld { unheld s.new ≤ unheld s.old }
 {
@@ -183,7 +186,8 @@ pub(crate) fn change_bit(
 /// MOV of a byte to memory or A.
 #[tactic(auto, unfolding(mcs51_chip::specs::Step::effect_of))]
 pub(crate) fn move_immediate(s: &mut ChipState, place: Place, value: u8) -> Accesses
-    ensures exact { (image : List (Option ℕ)) (choices : List ℕ) → asked_as (effected s.new) (Some result) choices ≡ effect_of image s.old (instr.MoveImmediate place value) choices }
+    ensures exact { (choices : List ℕ) →
+        Performs (instr.MoveImmediate place value) s.old choices (Some result) s.new choices }
     ensures unheld { unheld s.new ≤ unheld s.old }
 {
     match place {
@@ -209,7 +213,8 @@ pub(crate) fn move_to_direct(
     choices: &mut Unused,
 ) -> Option<Accesses>
     requires { IsChipState s.old }
-    ensures exact { (image : List (Option ℕ)) → asked_as (effected s.new) result choices.new ≡ effect_of image s.old (instr.MoveToDirect to from) choices.old }
+    ensures exact { Performs (instr.MoveToDirect to from) s.old choices.old
+        result s.new choices.new }
     ensures kept { result ≡ None → s.new ≡ s.old }
     ensures unheld { unheld s.new ≤ unheld s.old }
 {
@@ -230,7 +235,8 @@ pub(crate) fn move_from_direct(
     choices: &mut Unused,
 ) -> Option<Accesses>
     requires { IsChipState s.old }
-    ensures exact { (image : List (Option ℕ)) → asked_as (effected s.new) result choices.new ≡ effect_of image s.old (instr.MoveFromDirect to from) choices.old }
+    ensures exact { Performs (instr.MoveFromDirect to from) s.old choices.old
+        result s.new choices.new }
     ensures kept { result ≡ None → s.new ≡ s.old }
     ensures unheld { unheld s.new ≤ unheld s.old }
 {
@@ -246,7 +252,7 @@ pub(crate) fn move_from_direct(
 #[tactic(auto, unfolding(mcs51_chip::specs::Step::effect_of, mcs51_chip::specs::Step::reading))]
 pub(crate) fn load(s: &mut ChipState, from: Memory, choices: &mut Unused) -> Option<Accesses>
     requires { IsChipState s.old }
-    ensures exact { (image : List (Option ℕ)) → asked_as (effected s.new) result choices.new ≡ effect_of image s.old (instr.Load from) choices.old }
+    ensures exact { Performs (instr.Load from) s.old choices.old result s.new choices.new }
     ensures kept { result ≡ None → s.new ≡ s.old }
     ensures unheld { unheld s.new ≤ unheld s.old }
 {
@@ -259,7 +265,8 @@ pub(crate) fn load(s: &mut ChipState, from: Memory, choices: &mut Unused) -> Opt
 /// MOV of A.
 #[tactic(auto, unfolding(mcs51_chip::specs::Step::effect_of))]
 pub(crate) fn store(s: &mut ChipState, to: Memory) -> Accesses
-    ensures exact { (image : List (Option ℕ)) (choices : List ℕ) → asked_as (effected s.new) (Some result) choices ≡ effect_of image s.old (instr.Store to) choices }
+    ensures exact { (choices : List ℕ) →
+        Performs (instr.Store to) s.old choices (Some result) s.new choices }
     ensures unheld { unheld s.new ≤ unheld s.old }
 {
     let before = address_read(s, to);
@@ -272,7 +279,7 @@ pub(crate) fn store(s: &mut ChipState, to: Memory) -> Accesses
 #[tactic(auto, unfolding(mcs51_chip::specs::Step::effect_of, mcs51_chip::specs::Step::updating))]
 pub(crate) fn exchange(s: &mut ChipState, with: Memory, choices: &mut Unused) -> Option<Accesses>
     requires { IsChipState s.old }
-    ensures exact { (image : List (Option ℕ)) → asked_as (effected s.new) result choices.new ≡ effect_of image s.old (instr.Exchange with) choices.old }
+    ensures exact { Performs (instr.Exchange with) s.old choices.old result s.new choices.new }
     ensures kept { result ≡ None → s.new ≡ s.old }
     ensures unheld { unheld s.new ≤ unheld s.old }
 {
@@ -292,7 +299,7 @@ pub(crate) fn exchange_digit(
     choices: &mut Unused,
 ) -> Option<Accesses>
     requires { IsChipState s.old }
-    ensures exact { (image : List (Option ℕ)) → asked_as (effected s.new) result choices.new ≡ effect_of image s.old (instr.ExchangeDigit with) choices.old }
+    ensures exact { Performs (instr.ExchangeDigit with) s.old choices.old result s.new choices.new }
     ensures kept { result ≡ None → s.new ≡ s.old }
     ensures unheld { unheld s.new ≤ unheld s.old }
 {

@@ -42,7 +42,8 @@ pub(crate) fn perform(
     choices: &mut Unused,
 ) -> Option<Accesses>
     requires { IsChipState s.old }
-    ensures exact { asked_as (effected s.new) result choices.new ≡ effect_of image.now s.old instr choices.old }
+    ensures exact { asked_as (effected s.new) result choices.new ≡
+        effect_of image.now s.old instr choices.old }
     ensures kept { result ≡ None → s.new ≡ s.old }
     ensures unheld { unheld s.new ≤ unheld s.old }
 {

@@ -7,7 +7,7 @@ ghost use Rattle.mcs51_chip.specs.Memory as memories;
 ghost use Rattle.mcs51_chip.specs.State.{IsChipState};
 ghost use Rattle.mcs51_chip.specs.Step as steps;
 ghost use Rattle.mcs51_chip.specs.Step.{effect_of};
-ghost use Rattle.mcs51_emu.specs.Listing.{effected, listed, shown};
+ghost use Rattle.mcs51_emu.specs.Listing.{Performs, effected, listed, shown};
 ghost use Rattle.mcs51_emu.specs.Form.{unheld};
 
 use crate::done::{Accesses, one_more, one_read, pointer_read, read_and_write};
@@ -97,7 +97,7 @@ fn push_value(s: &ChipState, direct: u8, choices: &mut Unused) -> Option<u8>
 #[tactic(auto, unfolding(mcs51_chip::specs::Step::effect_of, mcs51_chip::specs::Step::pushing))]
 pub(crate) fn push(s: &mut ChipState, direct: u8, choices: &mut Unused) -> Option<Accesses>
     requires { IsChipState s.old }
-    ensures exact { (image : List (Option ℕ)) → asked_as (effected s.new) result choices.new ≡ effect_of image s.old (instr.Push direct) choices.old }
+    ensures exact { Performs (instr.Push direct) s.old choices.old result s.new choices.new }
     ensures kept { result ≡ None → s.new ≡ s.old }
     ensures unheld { unheld s.new ≤ unheld s.old }
 {
@@ -111,7 +111,7 @@ pub(crate) fn push(s: &mut ChipState, direct: u8, choices: &mut Unused) -> Optio
 #[tactic(auto, unfolding(mcs51_chip::specs::Step::effect_of, mcs51_chip::specs::Step::popping))]
 pub(crate) fn pop(s: &mut ChipState, direct: u8, choices: &mut Unused) -> Option<Accesses>
     requires { IsChipState s.old }
-    ensures exact { (image : List (Option ℕ)) → asked_as (effected s.new) result choices.new ≡ effect_of image s.old (instr.Pop direct) choices.old }
+    ensures exact { Performs (instr.Pop direct) s.old choices.old result s.new choices.new }
     ensures kept { result ≡ None → s.new ≡ s.old }
     ensures unheld { unheld s.new ≤ unheld s.old }
 {
@@ -133,7 +133,8 @@ pub(crate) fn move_code(
     choices: &mut Unused,
 ) -> Option<Accesses>
     requires { IsChipState s.old }
-    ensures exact { asked_as (effected s.new) result choices.new ≡ effect_of image.now s.old (instr.MoveCode base) choices.old }
+    ensures exact { asked_as (effected s.new) result choices.new ≡
+        effect_of image.now s.old (instr.MoveCode base) choices.old }
     ensures kept { result ≡ None → s.new ≡ s.old }
     ensures unheld { unheld s.new ≤ unheld s.old }
 {
@@ -179,7 +180,8 @@ pub(crate) fn read_external(
     choices: &mut Unused,
 ) -> Option<Accesses>
     requires { IsChipState s.old }
-    ensures exact { (image : List (Option ℕ)) → asked_as (effected s.new) result choices.new ≡ effect_of image s.old (instr.ReadExternal external) choices.old }
+    ensures exact { Performs (instr.ReadExternal external) s.old choices.old
+        result s.new choices.new }
     ensures kept { result ≡ None → s.new ≡ s.old }
     ensures unheld { unheld s.new ≤ unheld s.old }
 {
@@ -198,7 +200,8 @@ pub(crate) fn write_external(
     choices: &mut Unused,
 ) -> Option<Accesses>
     requires { IsChipState s.now }
-    ensures exact { (image : List (Option ℕ)) → asked_as (effected s.now) result choices.new ≡ effect_of image s.now (instr.WriteExternal external) choices.old }
+    ensures exact { Performs (instr.WriteExternal external) s.now choices.old
+        result s.now choices.new }
 {
     let before = external_read(s, external);
     let at = external_address(s, external, choices)?;

@@ -31,7 +31,7 @@ pub returns-in-ChangeBit-clause-exact : goal.returns-in-ChangeBit-clause-exact
 returns-in-ChangeBit-clause-exact c = rw c.in-ChangeBit.is (c.change_bit.ensures.exact c.args.image.now)
 
 pub returns-in-MoveImmediate-clause-exact : goal.returns-in-MoveImmediate-clause-exact
-returns-in-MoveImmediate-clause-exact c = rw c.in-MoveImmediate.is (c.move_immediate.ensures.exact c.args.image.now c.args.choices.now)
+returns-in-MoveImmediate-clause-exact c = rw c.in-MoveImmediate.is (c.move_immediate.ensures.exact c.args.choices.now c.args.image.now)
 
 pub returns-in-MoveToDirect-clause-exact : goal.returns-in-MoveToDirect-clause-exact
 returns-in-MoveToDirect-clause-exact c = rw c.in-MoveToDirect.is (c.move_to_direct.ensures.exact c.args.image.now)
@@ -43,7 +43,7 @@ pub returns-in-Load-clause-exact : goal.returns-in-Load-clause-exact
 returns-in-Load-clause-exact c = rw c.in-Load.is (c.load.ensures.exact c.args.image.now)
 
 pub returns-in-Store-clause-exact : goal.returns-in-Store-clause-exact
-returns-in-Store-clause-exact c = rw c.in-Store.is (c.store.ensures.exact c.args.image.now c.args.choices.now)
+returns-in-Store-clause-exact c = rw c.in-Store.is (c.store.ensures.exact c.args.choices.now c.args.image.now)
 
 pub returns-in-ReadExternal-clause-exact : goal.returns-in-ReadExternal-clause-exact
 returns-in-ReadExternal-clause-exact c = rw c.in-ReadExternal.is (c.read_external.ensures.exact c.args.image.now)
