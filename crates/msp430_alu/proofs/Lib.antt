@@ -5,3 +5,4 @@ pub mod Parts
 pub mod StatusWord
 pub mod Reading
 pub mod Storing
+pub mod OperandLemmas

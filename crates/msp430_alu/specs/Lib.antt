@@ -2,4 +2,5 @@ pub mod FlagSets
 pub mod Results
 pub mod Registers
 pub mod Memory
+pub mod Operands
 pub mod Premises
