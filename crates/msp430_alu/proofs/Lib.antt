@@ -6,3 +6,4 @@ pub mod StatusWord
 pub mod Reading
 pub mod Storing
 pub mod OperandLemmas
+pub mod Putting

@@ -270,7 +270,7 @@ read_below device is ram small Words address x reads =
     let high = read_small device is ram small (even address + 1) reads.high reads.reads_high in
     omega (arith, low, high, reads.word_is)
 
-located_is : (laws : Premises) (width : Width) (set : Form) (address : ℕ) → IsResult 65536 set address → IsResult 65536 (located width set) (aligned width address)
+pub located_is : (laws : Premises) (width : Width) (set : Form) (address : ℕ) → IsResult 65536 set address → IsResult 65536 (located width set) (aligned width address)
 located_is laws Words set address is = even_parts_is laws set address is
 located_is laws Byte set address is = is
 

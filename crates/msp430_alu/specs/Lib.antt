@@ -3,4 +3,5 @@ pub mod Results
 pub mod Registers
 pub mod Memory
 pub mod Operands
+pub mod Formats
 pub mod Premises

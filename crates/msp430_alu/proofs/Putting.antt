@@ -1,0 +1,133 @@
+-- What is known behind a write to a place holds behind it.
+use Rattle.std.proofs.Common.{◌≡◌, ℕ, ◌+◌, ◌-◌, ◌*◌, ◌/◌, ◌%◌, ◌<◌, ◌≤◌, ◌==◌, Bool, true, false, Option, None, Some, List, [], ◌∷◌, length, get_or, set, refl, sym, ap, ◌∙◌, subst, inl, inr, arith, All}
+use Rattle.std.proofs.Common.{get_or-set_same, get_or-set_other}
+use Rattle.std.specs.Option.{option_map}
+use Rattle.std.proofs.Math.Nat.{mod-lt, mod-eq_of_lt}
+use Rattle.std.proofs.lemmas.Bool.{cond_both, cases_eq}
+use Rattle.std.proofs.lemmas.List.{length-set}
+use Rattle.std.proofs.lemmas.List.Elements.{All-set}
+use Rattle.entry_value.specs.declared.word.Word.{Word}
+use Rattle.entry_value.specs.Words.{Suspended, HoldsOfWord}
+use Rattle.value_set.specs.declared.form.Form.{Form}
+use Rattle.value_set.specs.Form.{Has, IsNormal}
+use Rattle.value_set.specs.Summing.{single}
+use Rattle.msp430_decode.specs.declared.instr.Register.{Register}
+use Rattle.msp430_decode.specs.declared.instr.Register.TheVariants.{Pc, Sp, Sr, R3}
+use Rattle.msp430_decode.specs.declared.instr.Width.{Width}
+use Rattle.msp430_decode.specs.declared.instr.Width.TheVariants.{Word as Words, Byte}
+use Rattle.msp430_decode.specs.Codes.{number}
+use Rattle.msp430_chip.specs.declared.device.Device.{Device}
+use Rattle.msp430_chip.specs.declared.place.Place.{Place}
+use Rattle.msp430_chip.specs.declared.place.Place.TheVariants as place
+use Rattle.msp430_chip.specs.declared.state.ChipState.{ChipState}
+use Rattle.msp430_chip.specs.Arithmetic.{modulus}
+use Rattle.msp430_chip.specs.Kinds.{Kind, IsGeneral}
+use Rattle.msp430_chip.specs.Kinds.Kind.{Counter, Stack, Status, Empty, General}
+use Rattle.msp430_chip.specs.Memory.{size_of, with_stored, program_hit}
+use Rattle.msp430_chip.specs.Operands.{is_status, with_register}
+use Rattle.msp430_chip.specs.State.{even}
+use Rattle.msp430_chip.specs.Step.{Left, put, put_if}
+use Rattle.msp430_state.specs.Forms.{IsKnown}
+use Rattle.msp430_state.specs.Holding.{suspended_of, HoldsOfParts}
+use Rattle.msp430_state.specs.Known.{Known}
+use Rattle.msp430_alu.specs.declared.reach.Reach.{Reach}
+use Rattle.msp430_alu.specs.declared.reach.Reach.TheVariants.{InRegister, InMemory, Fixed}
+use Rattle.msp430_alu.specs.FlagSets.{IsResult}
+use Rattle.msp430_alu.specs.Formats.{put_register, put_known, put_known_if, next_by, next_if}
+use Rattle.msp430_alu.specs.Memory.{IsDevice, located, with_store}
+use Rattle.msp430_alu.specs.Operands.{IsReached}
+use Rattle.msp430_alu.specs.Premises.{Premises}
+use Rattle.msp430_alu.specs.Registers.{AreRegisters, even_parts, with_word, with_sp}
+use Rattle.msp430_alu.proofs.Carries.{single_is}
+use Rattle.msp430_alu.proofs.Parts.{parts_alike, parts_counted, word_written, sp_written, even_parts_is}
+use Rattle.msp430_alu.proofs.Reading.{IsHeld, located_is}
+use Rattle.msp430_alu.proofs.Storing.{IsRam, IsStorable, store_holds}
+
+-- THE REGISTERS BEHIND A WRITE
+
+general_put : (a : Known) (register : Register) (word : Word) → 3 < number register → put_register a register word ≡ with_word a (number register) word
+general_put a Pc word low = absurd (omega (arith, low))
+general_put a Sp word low = absurd (omega (arith, low))
+general_put a Sr word low = absurd (omega (arith, low))
+general_put a R3 word low = absurd (omega (arith, low))
+general_put a other word low = refl
+
+even_small : (v : ℕ) → v < 65536 → even v < 65536
+even_small v small = omega (arith, small)
+
+-- another register leaves a property of each one that it isn't
+set_kept : (P : ℕ → Type 0) (registers : List ℕ) (register value at : ℕ) → (at ≡ register → ⊥) → P (get_or registers at 0) → P (get_or (set registers register value) at 0)
+set_kept P registers register value at other h = subst P (sym (get_or-set_other registers register at value 0 other)) h
+
+pub counted_are : (registers : List ℕ) (pc : ℕ) → pc < 65536 → AreRegisters registers → AreRegisters (set registers 0 pc)
+counted_are registers pc small are = record {
+  count = length-set registers 0 pc ∙ are.count;
+  words = All-set (λ r. r < 65536) registers 0 pc small are.words;
+  even_sp = set_kept (λ r. r % 2 ≡ 0) registers 0 pc 1 (λ e. omega (arith, e)) are.even_sp;
+  status = set_kept (λ r. r < 512) registers 0 pc 2 (λ e. omega (arith, e)) are.status;
+  nothing = set_kept (λ r. r ≡ 0) registers 0 pc 3 (λ e. omega (arith, e)) are.nothing;
+}
+
+general_are : (registers : List ℕ) (register value : ℕ) → 3 < register → value < 65536 → AreRegisters registers → AreRegisters (set registers register value)
+general_are registers register value low small are = record {
+  count = length-set registers register value ∙ are.count;
+  words = All-set (λ r. r < 65536) registers register value small are.words;
+  even_sp = set_kept (λ r. r % 2 ≡ 0) registers register value 1 (λ e. omega (arith, e, low)) are.even_sp;
+  status = set_kept (λ r. r < 512) registers register value 2 (λ e. omega (arith, e, low)) are.status;
+  nothing = set_kept (λ r. r ≡ 0) registers register value 3 (λ e. omega (arith, e, low)) are.nothing;
+}
+
+sp_are : (registers : List ℕ) (value : ℕ) → value < 65536 → AreRegisters registers → AreRegisters (set registers 1 (even value))
+sp_are registers value small are =
+    let stored : get_or (set registers 1 (even value)) 1 0 ≡ even value = get_or-set_same registers 1 (even value) 0 (omega (arith, are.count)) in
+    let no_bit : even value % 2 ≡ 0 = omega arith in
+    record {
+      count = length-set registers 1 (even value) ∙ are.count;
+      words = All-set (λ r. r < 65536) registers 1 (even value) (even_small value small) are.words;
+      even_sp = subst (λ r. r % 2 ≡ 0) (sym stored) no_bit;
+      status = set_kept (λ r. r < 512) registers 1 (even value) 2 (λ e. omega (arith, e)) are.status;
+      nothing = set_kept (λ r. r ≡ 0) registers 1 (even value) 3 (λ e. omega (arith, e)) are.nothing;
+    }
+
+status_are : (registers : List ℕ) (value : ℕ) → AreRegisters registers → AreRegisters (set registers 2 (value % 512))
+status_are registers value are =
+    let stored : get_or (set registers 2 (value % 512)) 2 0 ≡ value % 512 = get_or-set_same registers 2 (value % 512) 0 (omega (arith, are.count)) in
+    let few : value % 512 < 512 = omega arith in
+    record {
+      count = length-set registers 2 (value % 512) ∙ are.count;
+      words = All-set (λ r. r < 65536) registers 2 (value % 512) (omega arith) are.words;
+      even_sp = set_kept (λ r. r % 2 ≡ 0) registers 2 (value % 512) 1 (λ e. omega (arith, e)) are.even_sp;
+      status = subst (λ r. r < 512) (sym stored) few;
+      nothing = set_kept (λ r. r ≡ 0) registers 2 (value % 512) 3 (λ e. omega (arith, e)) are.nothing;
+    }
+
+pub written_are : (registers : List ℕ) (register : Register) (value : ℕ) → value < 65536 → Kind register → AreRegisters registers → AreRegisters (with_register registers register value)
+written_are registers register value small (Counter e) are = subst (λ r. AreRegisters (with_register registers r value)) (sym e) (counted_are registers (even value) (even_small value small) are)
+written_are registers register value small (Stack e) are = subst (λ r. AreRegisters (with_register registers r value)) (sym e) (sp_are registers value small are)
+written_are registers register value small (Status e) are = subst (λ r. AreRegisters (with_register registers r value)) (sym e) (status_are registers value are)
+written_are registers register value small (Empty e) are = subst (λ r. AreRegisters (with_register registers r value)) (sym e) are
+written_are registers register value small (General is) are = subst AreRegisters (sym (is.set registers value)) (general_are registers (number register) value is.above small are)
+
+-- WRITES TO A PLACE
+
+-- a word that may be written: it holds of the value, and of bytes it is a byte
+pub record IsWritten (first : Option Suspended) (width : Width) (word : Word) (value : ℕ) : Type 0 where
+  pub held : IsHeld first word value
+  pub byte : size_of width ≡ 1 → (n : ℕ) → Has 65536 word.set n → n < 256
+
+pub register_put : (laws : Premises) (device : Device) (framed : Bool) (a : Known) (first : Option ChipState) (registers ram : List ℕ) (register : Register) (word : Word) (value : ℕ) → IsKnown device.lo device.hi framed a
+    → AreRegisters registers → is_status (place.InRegister register) ≡ false → Kind register → IsHeld (option_map suspended_of first) word value
+    → HoldsOfParts device a first registers ram → HoldsOfParts device (put_register a register word) first (with_register registers register value) ram
+register_put laws device framed a first registers ram register word value form are no_status (Counter e) held holds =
+    subst (λ r. HoldsOfParts device (put_register a r word) first (with_register registers r value) ram) (sym e) (parts_counted device a first registers ram (even value) form.fact holds)
+register_put laws device framed a first registers ram register word value form are no_status (Stack e) held holds =
+    let parts = even_parts_is laws word.set value (record { normal = held.normal; has = held.holds.0 }) in
+    subst (λ r. HoldsOfParts device (put_register a r word) first (with_register registers r value) ram) (sym e) (sp_written device a first registers ram value word.set are.count form.fact parts.has holds)
+register_put laws device framed a first registers ram register word value form are no_status (Status e) held holds =
+    let yes : is_status (place.InRegister register) ≡ true = ap (λ r. is_status (place.InRegister r)) e in absurd (cc)
+register_put laws device framed a first registers ram register word value form are no_status (Empty e) held holds =
+    subst (λ r. HoldsOfParts device (put_register a r word) first (with_register registers r value) ram) (sym e) holds
+register_put laws device framed a first registers ram register word value form are no_status (General is) held holds =
+    subst (λ b. HoldsOfParts device b first (with_register registers register value) ram) (sym (general_put a register word is.above))
+    (subst (λ list. HoldsOfParts device (with_word a (number register) word) first list ram) (sym (is.set registers value))
+    (word_written device a first registers ram (number register) value word are.count form.count is.above is.below held.holds holds))
