@@ -7,3 +7,4 @@ pub mod Reading
 pub mod Storing
 pub mod OperandLemmas
 pub mod Putting
+pub mod Shapes

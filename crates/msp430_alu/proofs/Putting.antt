@@ -33,11 +33,11 @@ use Rattle.msp430_state.specs.Known.{Known}
 use Rattle.msp430_alu.specs.declared.reach.Reach.{Reach}
 use Rattle.msp430_alu.specs.declared.reach.Reach.TheVariants.{InRegister, InMemory, Fixed}
 use Rattle.msp430_alu.specs.FlagSets.{IsResult}
-use Rattle.msp430_alu.specs.Formats.{put_register, put_known, put_known_if, next_by, next_if}
+use Rattle.msp430_alu.specs.Formats.{put_known, put_known_if, next_by, next_if}
 use Rattle.msp430_alu.specs.Memory.{IsDevice, located, with_store}
 use Rattle.msp430_alu.specs.Operands.{IsReached}
 use Rattle.msp430_alu.specs.Premises.{Premises}
-use Rattle.msp430_alu.specs.Registers.{AreRegisters, even_parts, with_word, with_sp}
+use Rattle.msp430_alu.specs.Registers.{AreRegisters, even_parts, put_register, with_word, with_sp}
 use Rattle.msp430_alu.proofs.Carries.{single_is}
 use Rattle.msp430_alu.proofs.Parts.{parts_alike, parts_counted, word_written, sp_written, even_parts_is}
 use Rattle.msp430_alu.proofs.Reading.{IsHeld, located_is}
@@ -45,7 +45,7 @@ use Rattle.msp430_alu.proofs.Storing.{IsRam, IsStorable, store_holds}
 
 -- THE REGISTERS BEHIND A WRITE
 
-general_put : (a : Known) (register : Register) (word : Word) → 3 < number register → put_register a register word ≡ with_word a (number register) word
+pub general_put : (a : Known) (register : Register) (word : Word) → 3 < number register → put_register a register word ≡ with_word a (number register) word
 general_put a Pc word low = absurd (omega (arith, low))
 general_put a Sp word low = absurd (omega (arith, low))
 general_put a Sr word low = absurd (omega (arith, low))

@@ -36,18 +36,10 @@ use Rattle.msp430_alu.specs.declared.reach.Reach.TheVariants.{InRegister, InMemo
 use Rattle.msp430_alu.specs.FlagSets.{MadeSet}
 use Rattle.msp430_alu.specs.Memory.{located, with_store}
 use Rattle.msp430_alu.specs.Operands.{source_reach, destination_reach, grown_known, operand_word, values_of}
-use Rattle.msp430_alu.specs.Registers.{even_parts, with_word, with_sp, with_flag_bits}
+use Rattle.msp430_alu.specs.Registers.{even_parts, put_register, with_flag_bits}
 use Rattle.msp430_alu.specs.Results.{double_made, twice_flags}
 
 -- WRITES TO A PLACE
-
--- a write to PC is a jump, and R3 holds nothing
-abbrev pub put_register : Known → Register → Word → Known
-put_register a Pc word = a
-put_register a Sp word = with_sp a word.set
-put_register a Sr word = a
-put_register a R3 word = a
-put_register a register word = with_word a (number register) word
 
 abbrev pub put_known : Device → (framed : Bool) → Known → Width → Reach → Word → Known
 put_known device framed a width (InRegister register) word = put_register a register word

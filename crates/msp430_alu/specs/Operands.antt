@@ -23,7 +23,7 @@ use Rattle.msp430_alu.specs.declared.reach.Reach.{Reach}
 use Rattle.msp430_alu.specs.declared.reach.Reach.TheVariants.{InRegister, InMemory, Fixed}
 use Rattle.msp430_alu.specs.FlagSets.{IsResult}
 use Rattle.msp430_alu.specs.Memory.{located, read_known}
-use Rattle.msp430_alu.specs.Registers.{register_word, with_word, with_sp}
+use Rattle.msp430_alu.specs.Registers.{put_register, register_word}
 
 -- WHERE THEY STAND
 
@@ -61,17 +61,10 @@ IsReached (Fixed value) (place.InMemory address) = ⊥
 
 -- GROWTH
 
-abbrev pub with_register_set : Known → Register → Form → Known
-with_register_set a Pc set = a
-with_register_set a Sp set = with_sp a set
-with_register_set a Sr set = a
-with_register_set a R3 set = a
-with_register_set a register set = with_word a (number register) (record { set = set; entry = None })
-
 -- behind @Rn+ the register has grown, and its relation goes
 abbrev pub grown_known : Known → (counted : Form) → Width → Source → Known
 grown_known a counted width (source.IndirectIncrement register) =
-    with_register_set a register (add 65536 (register_word a counted register).set (single (growth width register)))
+    put_register a register (record { set = add 65536 (register_word a counted register).set (single (growth width register)); entry = None })
 grown_known a counted width other = a
 
 -- WHAT THEY MAY HOLD
