@@ -8,3 +8,4 @@ pub mod Storing
 pub mod OperandLemmas
 pub mod Putting
 pub mod Shapes
+pub mod Growth

@@ -50,7 +50,7 @@ use Rattle.msp430_alu.proofs.StatusWord.{status_set_is}
 
 -- REGISTERS
 
-pub AreKinds : Type 0
+abbrev pub AreKinds : Type 0
 AreKinds = (register : Register) → Kind register
 
 general_word : (a : Known) (counted : Form) (register : Register) → 3 < number register → register_word a counted register ≡ word_of a (number register)
@@ -109,9 +109,8 @@ register_held laws device framed a counted first registers ram on register bits 
 
 -- WHERE OPERANDS STAND
 
-pointer_held : (laws : Premises) (device : Device) (framed : Bool) (a : Known) (counted : Form) (first : Option ChipState) (registers ram : List ℕ) → IsOnTheWay device framed a counted first registers ram
+pub pointer_held : (laws : Premises) (device : Device) (framed : Bool) (a : Known) (counted : Form) (first : Option ChipState) (registers ram : List ℕ) → IsOnTheWay device framed a counted first registers ram
     → AreKinds → (register : Register) → IsPointer register → IsResult 65536 (register_word a counted register).set (value_in registers register)
-unfolding AreKinds
 pointer_held laws device framed a counted first registers ram on kinds register pointer =
     let held = register_held laws device framed a counted first registers ram on register 0 (omega arith) (λ e. refl) (kinds register) in
     let same : value_in registers register + 512 * 0 ≡ value_in registers register = omega arith in
@@ -198,7 +197,6 @@ register_small registers register are =
 pub operand_held : (laws : Premises) (device : Device) (framed : Bool) (a : Known) (counted : Form) (first : Option ChipState) (registers ram : List ℕ) → IsOnTheWay device framed a counted first registers ram
     → AreKinds → IsDevice device → (width : Width) (reach : Reach) (stands : Place) (x bits : ℕ) → IsReached reach stands → MayStandAt device ram registers width stands x → bits < 128
     → IsOperand (option_map suspended_of first) width (operand_word device a counted width reach) (with_free_bits width stands bits x)
-unfolding AreKinds
 operand_held laws device framed a counted first registers ram on kinds is Words (InRegister register) (place.InRegister other) x bits reached stands few =
     let under = option_map suspended_of first in
     let value = value_in registers register in

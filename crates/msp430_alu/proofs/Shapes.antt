@@ -4,7 +4,8 @@ use Rattle.std.specs.Prelude.{nat_lt, nat_le, not, ◌||◌, if◌then◌else◌
 use Rattle.std.specs.List.{filter}
 use Rattle.std.proofs.lemmas.Bool.{cond_both, cases_Bool, eqb-true}
 use Rattle.std.proofs.lemmas.List.{length-set}
-use Rattle.std.proofs.lemmas.List.Elements.{All-set}
+use Rattle.std.proofs.lemmas.List.Elements.{All-set, Contains-get_or}
+use Rattle.value_set.specs.Remainders.{HasRemainder}
 use Rattle.std.proofs.lemmas.Option.{same_Some}
 use Rattle.call_context.specs.Members.{in_none, in_cons, in_first, in_rest}
 use Rattle.entry_value.specs.declared.cells.Cell.{Cell}
@@ -191,3 +192,55 @@ several_form framed at size word (cell ∷ cells) forms c h =
     with_some_from (cell_behind at size word cell) (kept (cell_behind at size word) cells) c h (IsChipCell framed c)
     (λ made. behind_form framed at size word cell c (forms cell (in_first cell cells)) made)
     (λ later. several_form framed at size word cells (λ d inside. forms d (in_rest cell cells d inside)) c later)
+
+-- a word that may be stored in cells
+pub record IsCellWord (framed : Bool) (width : Width) (word : Word) : Type 0 where
+  pub storable : IsStorable width word
+  pub byte : size_of width ≡ 1 → word.entry ≡ None
+  pub entry : IsRelation framed word.entry
+
+any_cell_form : (framed : Bool) (map : CellMap) (at : Form) (width : Width) (word : Word) → 1 ≤ length (members 65536 at) → (size_of width ≡ 2 → HasRemainder 65536 2 0 at) → IsCellWord framed width word
+    → ((c : Cell) → Contains map.cells c → IsChipCell framed c) → (c : Cell) → Contains (write_any map at (size_of width) word).cells c → IsChipCell framed c
+unfolding write_any write_several
+any_cell_form framed map at width word some even_so is forms c h =
+    let size = size_of width in
+    let place = get_or (members 65536 at) 0 0 in
+    let member : Has 65536 at place = Contains-get_or (members 65536 at) 0 0 (omega (arith, some)) in
+    let stored : IsChipCell framed (record { place = place; size = size; word = word }) = record { even = λ two. even_so two place member; byte = is.byte; entry = is.entry } in
+    cond_both (count_of 65536 at == 1) (write_one map place size word) (write_several map at size word) (λ (after : CellMap). Contains after.cells c → IsChipCell framed c)
+    (λ e there. one_form framed map place size word stored forms c there)
+    (λ e there. several_form framed at size word map.cells forms c there) h
+
+store_touched : (laws : Premises) (device : Device) (framed : Bool) (width : Width) (at : Form) (touched : List (ℕ × ℕ)) → device.lo ≤ device.hi → AreRanges device.lo device.hi touched
+    → AreRanges device.lo device.hi (if framed then touched_behind device.lo device.hi (size_of width) at touched else touched)
+store_touched laws device true width at touched le are = (behind_grows laws device.lo device.hi (size_of width) at touched le (some_size width) are).form
+store_touched laws device false width at touched le are = are
+
+store_none : (device : Device) (framed : Bool) (width : Width) (at : Form) (touched : List (ℕ × ℕ)) → (framed ≡ false → touched ≡ []) → framed ≡ false
+    → (if framed then touched_behind device.lo device.hi (size_of width) at touched else touched) ≡ []
+store_none device true width at touched none base = absurd (cc)
+store_none device false width at touched none base = none base
+
+pub store_form : (laws : Premises) (device : Device) (framed : Bool) (a : Known) (width : Width) (at : Form) (word : Word) → IsDevice device → 1 ≤ length (members 65536 at)
+    → (size_of width ≡ 2 → HasRemainder 65536 2 0 at) → IsCellWord framed width word → IsKnown device.lo device.hi framed a → IsKnown device.lo device.hi framed (with_store device framed a width at word)
+store_form laws device framed a width at word is some even_so cell form =
+    let map = a.cells in
+    let size = size_of width in
+    let top : map.hi < 65536 = subst (λ n. n < 65536) (sym form.up_to) is.top in
+    let are : AreCells map.lo map.hi map.lo map.cells =
+    subst (λ lo. AreCells lo map.hi lo map.cells) (sym form.from) (subst (λ hi. AreCells device.lo hi device.lo map.cells) (sym form.up_to) form.cells) in
+    let after = laws.store_form map.lo size map at word top (omega arith) are (size_is width) cell.storable.normal cell.storable.byte in
+    record {
+      sp = form.sp;
+      bits = form.bits;
+      status = form.status;
+      count = form.count;
+      registers = form.registers;
+      fact = form.fact;
+      from = laws.store_lo size map at word ∙ form.from;
+      up_to = laws.store_hi size map at word ∙ form.up_to;
+      cells = subst (λ lo. AreCells lo device.hi lo (write_any map at size word).cells) form.from (subst (λ hi. AreCells map.lo hi map.lo (write_any map at size word).cells) form.up_to after);
+      each_cell = any_cell_form framed map at width word some even_so cell form.each_cell;
+      touched = store_touched laws device framed width at a.touched (omega (arith, is.some)) form.touched;
+      none_touched = store_none device framed width at a.touched form.none_touched;
+    }
