@@ -9,3 +9,4 @@ pub mod OperandLemmas
 pub mod Putting
 pub mod Shapes
 pub mod Growth
+pub mod Doubles

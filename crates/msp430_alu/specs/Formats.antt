@@ -122,3 +122,46 @@ abbrev pub made_of : Operation → Width → Source → Destination → (s d : W
 made_of operation width origin target s d carry =
     if is_doubled operation origin target then twice_flags width (values_of width d)
     else double_made operation width (values_of width s) (values_of width d) carry
+
+-- what an instruction makes of what is known: the state behind it, the next addresses, its accesses, and the addresses of
+-- a store, if it stores
+pub record Worked : Type 0 where
+  pub after : Known
+  pub next : Form
+  pub accesses : List Item
+  pub store : Option Form
+
+abbrev pub access_of : (pc : ℕ) → (write : Bool) → Width → Reach → List Item
+access_of pc write width (InMemory set) = Access pc Mem write (size_of width) (W (located width set)) ∷ []
+access_of pc write width (InRegister register) = []
+access_of pc write width (Fixed value) = []
+
+abbrev pub access_if : Bool → (pc : ℕ) → (write : Bool) → Width → Reach → List Item
+access_if true pc write width reach = access_of pc write width reach
+access_if false pc write width reach = []
+
+abbrev pub store_of : Bool → Width → Reach → Option Form
+store_of true width (InMemory set) = Some (located width set)
+store_of true width (InRegister register) = None
+store_of true width (Fixed value) = None
+store_of false width reach = None
+
+-- by the stages: where the operands stand, what they hold, the result, and what it leaves
+abbrev pub double_behind : Device → (framed : Bool) → (pc len : ℕ) → Operation → Width → Source → Destination → (counted : Form) → (grown_so : Known) → (origin target_so : Reach) → (s d : Word) → (carry : Tri) → Worked
+double_behind device framed pc len done width origin target counted grown_so from to s d carry =
+    let made_so = made_of done width origin target s d carry in
+    let word = written_word width made_so.0 (relation_of done (constant_of origin) s.entry d.entry) in
+    record {
+      after = with_flag_bits (put_known_if (writes_result done) device framed grown_so width to word) made_so.1;
+      next = next_if (writes_result done) to word ((pc + len) % 65536);
+      accesses = access_of pc false width from ++ access_if (reads_destination done) pc false width to ++ access_if (writes_result done) pc true width to;
+      store = store_of (writes_result done) width to;
+    }
+
+unfoldable pub double_worked : Device → (framed : Bool) → Known → (pc len : ℕ) → Operation → Width → Source → Destination → Worked
+double_worked device framed a pc len done width origin target =
+    let counted = counter_set pc len origin target in
+    let from = source_reach pc a counted origin in
+    let grown_so = grown_known a counted width origin in
+    let to = destination_reach pc len grown_so counted target in
+    double_behind device framed pc len done width origin target counted grown_so from to (operand_word device a counted width from) (destination_word device grown_so counted done width to) (carry_of a)
