@@ -131,3 +131,97 @@ register_put laws device framed a first registers ram register word value form a
     subst (λ b. HoldsOfParts device b first (with_register registers register value) ram) (sym (general_put a register word is.above))
     (subst (λ list. HoldsOfParts device (with_word a (number register) word) first list ram) (sym (is.set registers value))
     (word_written device a first registers ram (number register) value word are.count form.count is.above is.below held.holds holds))
+
+value_below : (laws : Premises) (first : Option Suspended) (width : Width) (word : Word) (value : ℕ) → IsWritten first width word value → value < modulus width
+value_below laws first Words word value is = laws.below 65536 value word.set is.held.normal is.held.holds.0
+value_below laws first Byte word value is = is.byte refl value is.held.holds.0
+
+storable_is : (first : Option Suspended) (width : Width) (word : Word) (value : ℕ) → IsWritten first width word value → IsStorable width word
+storable_is first width word value is = record { normal = is.held.normal; byte = is.byte }
+
+-- what a write leaves
+pub record IsPut (laws : Premises) (device : Device) (after : Known) (first : Option ChipState) (next : Form) (left : Left) : Type 0 where
+  pub are : AreRegisters left.registers
+  pub next_is : IsResult 65536 next (get_or left.registers 0 0)
+  pub parts : HoldsOfParts device after first left.registers left.ram
+
+general_next : (register : Register) (word : Word) (behind_so : ℕ) → 3 < number register → next_by (InRegister register) word behind_so ≡ single behind_so
+general_next Pc word behind_so low = absurd (omega (arith, low))
+general_next Sp word behind_so low = refl
+general_next Sr word behind_so low = refl
+general_next R3 word behind_so low = refl
+general_next other word behind_so low = refl
+
+register_next : (laws : Premises) (first : Option Suspended) (registers : List ℕ) (register : Register) (word : Word) (value behind_so : ℕ) → AreRegisters registers → get_or registers 0 0 ≡ behind_so → behind_so < 65536
+    → Kind register → IsHeld first word value → IsResult 65536 (next_by (InRegister register) word behind_so) (get_or (with_register registers register value) 0 0)
+register_next laws first registers register word value behind_so are pc small (Counter e) held =
+    let parts = even_parts_is laws word.set value (record { normal = held.normal; has = held.holds.0 }) in
+    subst (λ r. IsResult 65536 (next_by (InRegister r) word behind_so) (get_or (with_register registers r value) 0 0)) (sym e)
+    (subst (IsResult 65536 (even_parts word.set)) (sym (get_or-set_same registers 0 (even value) 0 (omega (arith, are.count)))) parts)
+register_next laws first registers register word value behind_so are pc small (Stack e) held =
+    subst (λ r. IsResult 65536 (next_by (InRegister r) word behind_so) (get_or (with_register registers r value) 0 0)) (sym e)
+    (subst (IsResult 65536 (single behind_so)) (sym (get_or-set_other registers 1 0 (even value) 0 (λ f. omega (arith, f)) ∙ pc)) (single_is laws 65536 behind_so small))
+register_next laws first registers register word value behind_so are pc small (Status e) held =
+    subst (λ r. IsResult 65536 (next_by (InRegister r) word behind_so) (get_or (with_register registers r value) 0 0)) (sym e)
+    (subst (IsResult 65536 (single behind_so)) (sym (get_or-set_other registers 2 0 (value % 512) 0 (λ f. omega (arith, f)) ∙ pc)) (single_is laws 65536 behind_so small))
+register_next laws first registers register word value behind_so are pc small (Empty e) held =
+    subst (λ r. IsResult 65536 (next_by (InRegister r) word behind_so) (get_or (with_register registers r value) 0 0)) (sym e)
+    (subst (IsResult 65536 (single behind_so)) (sym pc) (single_is laws 65536 behind_so small))
+register_next laws first registers register word value behind_so are pc small (General is) held =
+    let kept : get_or (with_register registers register value) 0 0 ≡ behind_so =
+    ap (λ list. get_or list 0 0) (is.set registers value) ∙ get_or-set_other registers (number register) 0 value 0 (λ f. let low = is.above in omega (arith, f, low)) ∙ pc in
+    subst (λ set_so. IsResult 65536 set_so (get_or (with_register registers register value) 0 0)) (sym (general_next register word behind_so is.above))
+    (subst (IsResult 65536 (single behind_so)) (sym kept) (single_is laws 65536 behind_so small))
+
+-- the state in which a write is done
+pub record IsReady (device : Device) (framed : Bool) (a : Known) (first : Option ChipState) (registers ram : List ℕ) (behind_so : ℕ) : Type 0 where
+  pub device_so : IsDevice device
+  pub base : framed ≡ false → first ≡ None
+  pub form : IsKnown device.lo device.hi framed a
+  pub are : AreRegisters registers
+  pub ram_is : IsRam device ram
+  pub pc : get_or registers 0 0 ≡ behind_so
+  pub small : behind_so < 65536
+  pub parts : HoldsOfParts device a first registers ram
+
+pub put_is : (laws : Premises) (device : Device) (framed : Bool) (a : Known) (first : Option ChipState) (registers ram : List ℕ) (behind_so : ℕ) → IsReady device framed a first registers ram behind_so
+    → ((register : Register) → Kind register) → (width : Width) (reach : Reach) (stands : Place) (word : Word) (value : ℕ) → IsReached reach stands → is_status stands ≡ false
+    → IsWritten (option_map suspended_of first) width word value
+    → IsPut laws device (put_known device framed a width reach word) first (next_by reach word behind_so) (put device registers ram width stands value)
+put_is laws device framed a first registers ram behind_so ready kinds width (InRegister register) (place.InRegister other) word value reached no_status is =
+    subst (λ r. IsPut laws device (put_register a register word) first (next_by (InRegister register) word behind_so) (put device registers ram width (place.InRegister r) value)) reached record {
+      are = written_are registers register value (laws.below 65536 value word.set is.held.normal is.held.holds.0) (kinds register) ready.are;
+      next_is = register_next laws (option_map suspended_of first) registers register word value behind_so ready.are ready.pc ready.small (kinds register) is.held;
+      parts = register_put laws device framed a first registers ram register word value ready.form ready.are (ap (λ r. is_status (place.InRegister r)) reached ∙ no_status) (kinds register) is.held ready.parts;
+    }
+put_is laws device framed a first registers ram behind_so ready kinds width (InMemory set_so) (place.InMemory address) word value reached no_status is = record {
+  are = ready.are;
+  next_is = subst (IsResult 65536 (single behind_so)) (sym ready.pc) (single_is laws 65536 behind_so ready.small);
+  parts = store_holds laws device framed a first registers ram width address value (located width set_so) word ready.device_so ready.ram_is ready.base ready.form
+      (laws.below 65536 address set_so reached.normal reached.has) (located_is laws width set_so address reached) (value_below laws (option_map suspended_of first) width word value is)
+      (storable_is (option_map suspended_of first) width word value is) is.held.holds ready.parts;
+}
+put_is laws device framed a first registers ram behind_so ready kinds width (Fixed fixed) (place.Fixed other) word value reached no_status is = record {
+  are = ready.are;
+  next_is = subst (IsResult 65536 (single behind_so)) (sym ready.pc) (single_is laws 65536 behind_so ready.small);
+  parts = ready.parts;
+}
+put_is laws device framed a first registers ram behind_so ready kinds width (InRegister register) (place.InMemory address) word value reached no_status is = absurd reached
+put_is laws device framed a first registers ram behind_so ready kinds width (InRegister register) (place.Fixed other) word value reached no_status is = absurd reached
+put_is laws device framed a first registers ram behind_so ready kinds width (InMemory set_so) (place.InRegister other) word value reached no_status is = absurd reached
+put_is laws device framed a first registers ram behind_so ready kinds width (InMemory set_so) (place.Fixed other) word value reached no_status is = absurd reached
+put_is laws device framed a first registers ram behind_so ready kinds width (Fixed fixed) (place.InRegister other) word value reached no_status is = absurd reached
+put_is laws device framed a first registers ram behind_so ready kinds width (Fixed fixed) (place.InMemory address) word value reached no_status is = absurd reached
+
+-- the same, where the result is written
+pub put_if_is : (laws : Premises) (device : Device) (framed : Bool) (a : Known) (first : Option ChipState) (registers ram : List ℕ) (behind_so : ℕ) → IsReady device framed a first registers ram behind_so
+    → ((register : Register) → Kind register) → (writes : Bool) (width : Width) (reach : Reach) (stands : Place) (word : Word) (value : ℕ) → IsReached reach stands → is_status stands ≡ false
+    → IsWritten (option_map suspended_of first) width word value
+    → IsPut laws device (put_known_if writes device framed a width reach word) first (next_if writes reach word behind_so) (put_if writes device registers ram width stands value)
+put_if_is laws device framed a first registers ram behind_so ready kinds true width reach stands word value reached no_status is =
+    put_is laws device framed a first registers ram behind_so ready kinds width reach stands word value reached no_status is
+put_if_is laws device framed a first registers ram behind_so ready kinds false width reach stands word value reached no_status is = record {
+  are = ready.are;
+  next_is = subst (IsResult 65536 (single behind_so)) (sym ready.pc) (single_is laws 65536 behind_so ready.small);
+  parts = ready.parts;
+}

@@ -165,3 +165,8 @@ double_worked device framed a pc len done width origin target =
     let grown_so = grown_known a counted width origin in
     let to = destination_reach pc len grown_so counted target in
     double_behind device framed pc len done width origin target counted grown_so from to (operand_word device a counted width from) (destination_word device grown_so counted done width to) (carry_of a)
+
+-- SR isn't the destination
+abbrev pub LeavesStatus : Destination → Type 0
+LeavesStatus (destination.Register Sr) = ⊥
+LeavesStatus other = Unit {0}
