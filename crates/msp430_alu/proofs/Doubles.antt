@@ -120,7 +120,7 @@ or_related laws first (Some m) entry s d is holds = subst (λ n. IsFromEntry fir
 result_of_made : (one other : Made) → one ≡ other → one.0 ≡ other.0
 result_of_made one other e = ap (λ (made_so : Made). made_so.0) e
 
-related : (laws : Premises) (first : Option Suspended) (done : Operation) (constant : Option ℕ) (one other : Option Entry) (s d carry : ℕ) (made_so : Made) → MayMake done Words s d carry made_so
+pub related : (laws : Premises) (first : Option Suspended) (done : Operation) (constant : Option ℕ) (one other : Option Entry) (s d carry : ℕ) (made_so : Made) → MayMake done Words s d carry made_so
     → ((m : ℕ) → constant ≡ Some m → s ≡ m) → IsFromEntry first one s → IsFromEntry first other d → IsFromEntry first (relation_of done constant one other) made_so.0
 related laws first operation.Mov constant one other s d carry made_so may is h k =
     subst (IsFromEntry first one) (result_of_made (s, None) made_so (same_Some (s, None) made_so may)) h
@@ -149,7 +149,7 @@ constant_plain Eight = refl
 constant_plain MinusOne = refl
 
 -- a source that is a constant has its value
-constant_value_is : (device : Device) (ram registers : List ℕ) (pc : ℕ) (origin : Source) (x bits m : ℕ) → IsSource origin → constant_of origin ≡ Some m
+pub constant_value_is : (device : Device) (ram registers : List ℕ) (pc : ℕ) (origin : Source) (x bits m : ℕ) → IsSource origin → constant_of origin ≡ Some m
     → MayStandAt device ram registers Words (source_place pc registers origin) x → with_free_bits Words (source_place pc registers origin) bits x ≡ m
 constant_value_is device ram registers pc (source.Immediate value) x bits m is e stands =
     stands ∙ mod-eq_of_lt {n = value} {m = 65536} is ∙ same_Some value m e
@@ -205,5 +205,5 @@ by_number R13 = refl
 by_number R14 = refl
 by_number R15 = refl
 
-one_register : (a b : Register) → is_one_register a b ≡ true → a ≡ b
+pub one_register : (a b : Register) → is_one_register a b ≡ true → a ≡ b
 one_register a b e = sym (by_number a) ∙ ap (λ n. get_or all_registers n Pc) (eqb-true (number a) (number b) e) ∙ by_number b

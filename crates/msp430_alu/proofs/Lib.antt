@@ -10,3 +10,4 @@ pub mod Putting
 pub mod Shapes
 pub mod Growth
 pub mod Doubles
+pub mod DoubleLaw
