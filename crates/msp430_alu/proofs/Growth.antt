@@ -53,7 +53,7 @@ on_the_way device framed a counted_so first s counted form holds small is =
       parts = parts_counted device a first s.registers s.ram counted form.fact holds.parts;
     }
 
-growth_small : (width : Width) (register : Register) → Kind register → growth width register < 65536
+pub growth_small : (width : Width) (register : Register) → Kind register → growth width register < 65536
 growth_small Words register kind = omega arith
 growth_small Byte register (Counter e) = subst (λ r. growth Byte r < 65536) (sym e) (omega arith)
 growth_small Byte register (Stack e) = subst (λ r. growth Byte r < 65536) (sym e) (omega arith)

@@ -11,3 +11,4 @@ pub mod Shapes
 pub mod Growth
 pub mod Doubles
 pub mod DoubleLaw
+pub mod WorkedForms

@@ -53,7 +53,7 @@ use Rattle.msp430_alu.proofs.StatusWord.{status_set_is}
 abbrev pub AreKinds : Type 0
 AreKinds = (register : Register) → Kind register
 
-general_word : (a : Known) (counted : Form) (register : Register) → 3 < number register → register_word a counted register ≡ word_of a (number register)
+pub general_word : (a : Known) (counted : Form) (register : Register) → 3 < number register → register_word a counted register ≡ word_of a (number register)
 general_word a counted Pc low = absurd (omega (arith, low))
 general_word a counted Sp low = absurd (omega (arith, low))
 general_word a counted Sr low = absurd (omega (arith, low))
@@ -122,7 +122,7 @@ beside_held laws device framed a counted first registers ram on kinds register o
     add_is laws 65536 (value_in registers register) offset (register_word a counted register).set (single offset)
     (pointer_held laws device framed a counted first registers ram on kinds register pointer) (single_is laws 65536 offset small)
 
-constant_small : (constant : Constant) → constant_value constant < 65536
+pub constant_small : (constant : Constant) → constant_value constant < 65536
 constant_small Zero = omega arith
 constant_small One = omega arith
 constant_small Two = omega arith
