@@ -5,3 +5,10 @@ pub mod Parts
 pub mod StatusWord
 pub mod Reading
 pub mod Storing
+pub mod OperandLemmas
+pub mod Putting
+pub mod Shapes
+pub mod Growth
+pub mod Doubles
+pub mod DoubleLaw
+pub mod WorkedForms

@@ -263,14 +263,14 @@ list_normal laws device a is cells width (one ∷ next ∷ rest) =
 pub read_known_normal : (laws : Premises) (device : Device) (a : Known) → IsDevice device → AreCells device.lo device.hi device.lo a.cells.cells → (width : Width) (set : Form) → IsNormal 65536 (read_known device a width set).set
 read_known_normal laws device a is cells width set = list_normal laws device a is cells width (members 65536 set)
 
-read_below : (device : Device) → IsDevice device → (ram : List ℕ) → ((at : ℕ) → ram_byte device ram at < 256) → (width : Width) (address x : ℕ) → MayRead device ram width address x → x < modulus width
+pub read_below : (device : Device) → IsDevice device → (ram : List ℕ) → ((at : ℕ) → ram_byte device ram at < 256) → (width : Width) (address x : ℕ) → MayRead device ram width address x → x < modulus width
 read_below device is ram small Byte address x reads = read_small device is ram small address x reads
 read_below device is ram small Words address x reads =
     let low = read_small device is ram small (even address) reads.low reads.reads_low in
     let high = read_small device is ram small (even address + 1) reads.high reads.reads_high in
     omega (arith, low, high, reads.word_is)
 
-located_is : (laws : Premises) (width : Width) (set : Form) (address : ℕ) → IsResult 65536 set address → IsResult 65536 (located width set) (aligned width address)
+pub located_is : (laws : Premises) (width : Width) (set : Form) (address : ℕ) → IsResult 65536 set address → IsResult 65536 (located width set) (aligned width address)
 located_is laws Words set address is = even_parts_is laws set address is
 located_is laws Byte set address is = is
 

@@ -140,7 +140,7 @@ agrees_there device ram Words address value below small is b low high =
 
 -- CELLS
 
-size_is : (width : Width) → (size_of width ≡ 1) ⊎ (size_of width ≡ 2)
+pub size_is : (width : Width) → (size_of width ≡ 1) ⊎ (size_of width ≡ 2)
 size_is Words = inr refl
 size_is Byte = inl refl
 
@@ -174,9 +174,9 @@ has_new from hi b low high ranges laws are h k = laws.range from hi b low high r
     ∙ or_right (has_address ranges b) (lies_in (b, b) (low, high)) (and_from (nat_le low b) (nat_le b high) (le-leb low b h) (le-leb b high k))
 
 -- ranges in RAM that have what was touched before
-record Grows (lo hi : ℕ) (before after : List (ℕ × ℕ)) : Type 0 where
-  form : AreRanges lo hi after
-  keeps : (b : ℕ) → has_address before b ≡ true → has_address after b ≡ true
+pub record Grows (lo hi : ℕ) (before after : List (ℕ × ℕ)) : Type 0 where
+  pub form : AreRanges lo hi after
+  pub keeps : (b : ℕ) → has_address before b ≡ true → has_address after b ≡ true
 
 grows_on : (lo hi : ℕ) (one two three : List (ℕ × ℕ)) → Grows lo hi one two → Grows lo hi two three → Grows lo hi one three
 grows_on lo hi one two three h k = record { form = k.form; keeps = λ b has. k.keeps b (h.keeps b has) }
@@ -227,7 +227,7 @@ each_touched laws lo hi size at b (first ∷ rest) touched some are there low hi
       | inr later ↦ each_touched laws lo hi size at b rest next some one.form later low high after before
     ]
 
-behind_grows : (laws : Premises) (lo hi size : ℕ) (set_so : Form) (touched : List (ℕ × ℕ)) → lo ≤ hi → 1 ≤ size → AreRanges lo hi touched → Grows lo hi touched (touched_behind lo hi size set_so touched)
+pub behind_grows : (laws : Premises) (lo hi size : ℕ) (set_so : Form) (touched : List (ℕ × ℕ)) → lo ≤ hi → 1 ≤ size → AreRanges lo hi touched → Grows lo hi touched (touched_behind lo hi size set_so touched)
 behind_grows laws lo hi size (Values xs) touched le some are = each_grows laws lo hi size xs touched le some are
 behind_grows laws lo hi size (Run p) touched le some are =
     cond_both (nat_le 65536 (p.base + reach p)) (with_range lo hi touched) (touch lo hi p.base (p.base + reach p + size - 1) touched) (Grows lo hi touched)
@@ -265,7 +265,7 @@ outside_same : (device : Device) (one other : List ℕ) (b : ℕ) → is_ram dev
 outside_same device one other b outside =
     cond-false (is_ram device b) (get_or one (b - device.lo) 0) 0 outside ∙ sym (cond-false (is_ram device b) (get_or other (b - device.lo) 0) 0 outside)
 
-some_size : (width : Width) → 1 ≤ size_of width
+pub some_size : (width : Width) → 1 ≤ size_of width
 some_size Words = omega arith
 some_size Byte = omega arith
 

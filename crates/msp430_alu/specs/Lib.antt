@@ -2,4 +2,6 @@ pub mod FlagSets
 pub mod Results
 pub mod Registers
 pub mod Memory
+pub mod Operands
+pub mod Formats
 pub mod Premises

@@ -1,24 +1,25 @@
 -- What the laws of results rest on: laws of sets and of their bits.
-use Rattle.std.specs.Prelude.{◌≡◌, ℕ, ◌+◌, ◌-◌, ◌*◌, ◌%◌, ◌^◌, ◌<◌, ◌≤◌, ◌&&◌, ◌||◌, ◌↔◌, ◌⊎◌, Bool, true, IsFalse, Option, List, length}
+use Rattle.std.specs.Prelude.{◌≡◌, ℕ, ◌+◌, ◌-◌, ◌*◌, ◌%◌, ◌^◌, ◌<◌, ◌≤◌, ◌&&◌, ◌||◌, ◌↔◌, ◌⊎◌, Bool, true, IsFalse, Option, option_map, List, length, bit_and, bit_or}
 use Rattle.value_set.specs.declared.form.Form.{Form}
 use Rattle.value_set.specs.Form.{Has, Includes, IsNormal, make, members}
 use Rattle.value_set.specs.Joining.{is_within, join}
 use Rattle.value_set.specs.Remainders.{HasRemainder}
 use Rattle.value_set.specs.Operations.{HasResultsBelow}
-use Rattle.value_set.specs.Summing.{add, combine, single, sub, twice}
+use Rattle.value_set.specs.Summing.{add, combine, single, single as one_number, sub, twice}
 use Rattle.value_bits.specs.declared.tri.Logic.{Logic}
 use Rattle.value_bits.specs.declared.tri.Logic.TheVariants.{And}
 use Rattle.value_bits.specs.declared.tri.Top.{Top}
 use Rattle.value_bits.specs.declared.tri.Tri.{Tri}
 use Rattle.value_bits.specs.Bits.{IsBit, Agrees, known_bits, from_bits, logic_of}
 use Rattle.value_bits.specs.Flags.{IsFlag, agreed}
-use Rattle.value_bits.specs.Numbers.{low_byte, shifted_right, exchanged, sign_extended, is_decimal, decimal_sum}
-use Rattle.value_bits.specs.Sets.{IsTop, low_set, logic_set, shift_set, exchange_set, sign_extend_set, decimal_add_set}
+use Rattle.value_bits.specs.Numbers.{low_byte, word_of, shifted_right, exchanged, sign_extended, is_decimal, decimal_sum}
+use Rattle.value_bits.specs.Sets.{IsTop, low_set, pair_set, logic_set, shift_set, exchange_set, sign_extend_set, decimal_add_set}
 use Rattle.entry_value.specs.declared.cells.Cell.{Cell}
 use Rattle.entry_value.specs.Cells.{CellMap, AreCells, StandsUnder, number_at, read, write_any, written}
 use Rattle.entry_value.specs.declared.word.Word.{Word}
 use Rattle.msp430_state.specs.Ranges.{AreRanges, has_address, lies_in, with_range}
-use Rattle.entry_value.specs.Words.{Suspended, HoldsOfWord}
+use Rattle.entry_value.specs.Words.{Suspended, IsFromEntry, HoldsOfWord, entry_and, entry_or}
+use Rattle.entry_value.specs.declared.word.Entry.{Entry}
 use Rattle.msp430_state.specs.Known.{even_words}
 
 pub record Premises : Type 0 where
@@ -82,3 +83,8 @@ pub record Premises : Type 0 where
   pub range_form : (from hi low high : ℕ) (ranges : List (ℕ × ℕ)) → from ≤ low → low ≤ high → high ≤ hi → AreRanges from hi ranges → AreRanges from hi (with_range low high ranges)
   pub range : (from hi at low high : ℕ) (ranges : List (ℕ × ℕ)) → low ≤ high → AreRanges from hi ranges
       → has_address (with_range low high ranges) at ≡ (has_address ranges at || lies_in (at, at) (low, high))
+  pub entry_and : (first : Option Suspended) (entry : Option Entry) (v m : ℕ) → IsFromEntry first entry v → IsFromEntry first (option_map (entry_and m) entry) (bit_and v m)
+  pub entry_or : (first : Option Suspended) (entry : Option Entry) (v m : ℕ) → IsFromEntry first entry v → IsFromEntry first (option_map (entry_or m) entry) (bit_or v m)
+  pub pair_normal : (low high : Form) → IsNormal 256 low → IsNormal 256 high → IsNormal 65536 (pair_set low high)
+  pub pair : (x y : ℕ) (low high : Form) → IsNormal 256 low → IsNormal 256 high → Has 256 low x → Has 256 high y → Has 65536 (pair_set low high) (word_of x y)
+  pub pair_byte : (low : Form) (v : ℕ) → IsNormal 256 low → Has 65536 (pair_set low (one_number 0)) v → v < 256

@@ -79,6 +79,14 @@ with_sp a set = record {
   touched = a.touched;
 }
 
+-- a write to PC is a jump, and R3 holds nothing
+abbrev pub put_register : Known → Register → Word → Known
+put_register a Pc word = a
+put_register a Sp word = with_sp a word.set
+put_register a Sr word = a
+put_register a R3 word = a
+put_register a register word = with_word a (number register) word
+
 -- C, Z, N and V are the bits 0, 1, 2 and 8 of SR
 abbrev pub put_flags : List Tri → FlagBits → List Tri
 put_flags bits flags = slice_set (slice_set (slice_set (slice_set bits 0 flags.carry) 1 flags.zero) 2 flags.negative) 8 flags.overflow

@@ -15,7 +15,8 @@ ghost use Rattle.msp430_alu.specs.Premises.{Premises};
 ghost use Rattle.msp430_alu.specs.Results.{HasWidth, double_made, single_made, twice_flags};
 
 use entry_value::{
-    cells_speak_of_ram, reads_hold, reads_keep_form, writes_cover, writes_keep_form,
+    bytes_stay_bytes, cells_speak_of_ram, reads_hold, reads_keep_form, relations_hold,
+    writes_cover, writes_keep_form,
 };
 use msp430_state::ranges_hold;
 use value_bits::{
@@ -51,6 +52,8 @@ fn premises_hold()
     writes_keep_form();
     cells_speak_of_ram();
     ranges_hold();
+    relations_hold();
+    bytes_stay_bytes();
 }
 
 /// Each operation: where the operands' sets have the values, the set of results has the result that the chip may make, and

@@ -3,6 +3,8 @@
 
 mod flag_bits;
 mod laws;
+mod reach;
 
 pub use flag_bits::FlagBits;
 pub use laws::operations_hold;
+pub use reach::Reach;

@@ -55,4 +55,9 @@ returns c =
       agree = c.cells_speak_of_ram.ensures.agree;
       range_form = c.ranges_hold.ensures.add_form;
       range = c.ranges_hold.ensures.add;
+      entry_and = c.relations_hold.ensures.and;
+      entry_or = c.relations_hold.ensures.or;
+      pair_normal = c.halves_hold.ensures.pair_normal;
+      pair = c.halves_hold.ensures.pair;
+      pair_byte = c.bytes_stay_bytes.ensures.pair;
     }

@@ -1,0 +1,227 @@
+-- What is known behind a write to a place holds behind it.
+use Rattle.std.proofs.Common.{◌≡◌, ℕ, ◌+◌, ◌-◌, ◌*◌, ◌/◌, ◌%◌, ◌<◌, ◌≤◌, ◌==◌, Bool, true, false, Option, None, Some, List, [], ◌∷◌, length, get_or, set, refl, sym, ap, ◌∙◌, subst, inl, inr, arith, All}
+use Rattle.std.proofs.Common.{get_or-set_same, get_or-set_other}
+use Rattle.std.specs.Option.{option_map}
+use Rattle.std.proofs.Math.Nat.{mod-lt, mod-eq_of_lt}
+use Rattle.std.proofs.lemmas.Bool.{cond_both, cases_eq}
+use Rattle.std.proofs.lemmas.List.{length-set}
+use Rattle.std.proofs.lemmas.List.Elements.{All-set}
+use Rattle.entry_value.specs.declared.word.Word.{Word}
+use Rattle.entry_value.specs.Words.{Suspended, HoldsOfWord}
+use Rattle.value_set.specs.declared.form.Form.{Form}
+use Rattle.value_set.specs.Form.{Has, IsNormal}
+use Rattle.value_set.specs.Summing.{single}
+use Rattle.msp430_decode.specs.declared.instr.Register.{Register}
+use Rattle.msp430_decode.specs.declared.instr.Register.TheVariants.{Pc, Sp, Sr, R3}
+use Rattle.msp430_decode.specs.declared.instr.Width.{Width}
+use Rattle.msp430_decode.specs.declared.instr.Width.TheVariants.{Word as Words, Byte}
+use Rattle.msp430_decode.specs.Codes.{number}
+use Rattle.msp430_chip.specs.declared.device.Device.{Device}
+use Rattle.msp430_chip.specs.declared.place.Place.{Place}
+use Rattle.msp430_chip.specs.declared.place.Place.TheVariants as place
+use Rattle.msp430_chip.specs.declared.state.ChipState.{ChipState}
+use Rattle.msp430_chip.specs.Arithmetic.{modulus}
+use Rattle.msp430_chip.specs.Kinds.{Kind, IsGeneral}
+use Rattle.msp430_chip.specs.Kinds.Kind.{Counter, Stack, Status, Empty, General}
+use Rattle.msp430_chip.specs.Memory.{size_of, with_stored, program_hit}
+use Rattle.msp430_chip.specs.Operands.{is_status, with_register}
+use Rattle.msp430_chip.specs.State.{even}
+use Rattle.msp430_chip.specs.Step.{Left, put, put_if}
+use Rattle.msp430_state.specs.Forms.{IsKnown}
+use Rattle.msp430_state.specs.Holding.{suspended_of, HoldsOfParts}
+use Rattle.msp430_state.specs.Known.{Known}
+use Rattle.msp430_alu.specs.declared.reach.Reach.{Reach}
+use Rattle.msp430_alu.specs.declared.reach.Reach.TheVariants.{InRegister, InMemory, Fixed}
+use Rattle.msp430_alu.specs.FlagSets.{IsResult}
+use Rattle.msp430_alu.specs.Formats.{put_known, put_known_if, next_by, next_if}
+use Rattle.msp430_alu.specs.Memory.{IsDevice, located, with_store}
+use Rattle.msp430_alu.specs.Operands.{IsReached}
+use Rattle.msp430_alu.specs.Premises.{Premises}
+use Rattle.msp430_alu.specs.Registers.{AreRegisters, even_parts, put_register, with_word, with_sp}
+use Rattle.msp430_alu.proofs.Carries.{single_is}
+use Rattle.msp430_alu.proofs.Parts.{parts_alike, parts_counted, word_written, sp_written, even_parts_is}
+use Rattle.msp430_alu.proofs.Reading.{IsHeld, located_is}
+use Rattle.msp430_alu.proofs.Storing.{IsRam, IsStorable, store_holds}
+
+-- THE REGISTERS BEHIND A WRITE
+
+pub general_put : (a : Known) (register : Register) (word : Word) → 3 < number register → put_register a register word ≡ with_word a (number register) word
+general_put a Pc word low = absurd (omega (arith, low))
+general_put a Sp word low = absurd (omega (arith, low))
+general_put a Sr word low = absurd (omega (arith, low))
+general_put a R3 word low = absurd (omega (arith, low))
+general_put a other word low = refl
+
+even_small : (v : ℕ) → v < 65536 → even v < 65536
+even_small v small = omega (arith, small)
+
+-- another register leaves a property of each one that it isn't
+set_kept : (P : ℕ → Type 0) (registers : List ℕ) (register value at : ℕ) → (at ≡ register → ⊥) → P (get_or registers at 0) → P (get_or (set registers register value) at 0)
+set_kept P registers register value at other h = subst P (sym (get_or-set_other registers register at value 0 other)) h
+
+pub counted_are : (registers : List ℕ) (pc : ℕ) → pc < 65536 → AreRegisters registers → AreRegisters (set registers 0 pc)
+counted_are registers pc small are = record {
+  count = length-set registers 0 pc ∙ are.count;
+  words = All-set (λ r. r < 65536) registers 0 pc small are.words;
+  even_sp = set_kept (λ r. r % 2 ≡ 0) registers 0 pc 1 (λ e. omega (arith, e)) are.even_sp;
+  status = set_kept (λ r. r < 512) registers 0 pc 2 (λ e. omega (arith, e)) are.status;
+  nothing = set_kept (λ r. r ≡ 0) registers 0 pc 3 (λ e. omega (arith, e)) are.nothing;
+}
+
+general_are : (registers : List ℕ) (register value : ℕ) → 3 < register → value < 65536 → AreRegisters registers → AreRegisters (set registers register value)
+general_are registers register value low small are = record {
+  count = length-set registers register value ∙ are.count;
+  words = All-set (λ r. r < 65536) registers register value small are.words;
+  even_sp = set_kept (λ r. r % 2 ≡ 0) registers register value 1 (λ e. omega (arith, e, low)) are.even_sp;
+  status = set_kept (λ r. r < 512) registers register value 2 (λ e. omega (arith, e, low)) are.status;
+  nothing = set_kept (λ r. r ≡ 0) registers register value 3 (λ e. omega (arith, e, low)) are.nothing;
+}
+
+sp_are : (registers : List ℕ) (value : ℕ) → value < 65536 → AreRegisters registers → AreRegisters (set registers 1 (even value))
+sp_are registers value small are =
+    let stored : get_or (set registers 1 (even value)) 1 0 ≡ even value = get_or-set_same registers 1 (even value) 0 (omega (arith, are.count)) in
+    let no_bit : even value % 2 ≡ 0 = omega arith in
+    record {
+      count = length-set registers 1 (even value) ∙ are.count;
+      words = All-set (λ r. r < 65536) registers 1 (even value) (even_small value small) are.words;
+      even_sp = subst (λ r. r % 2 ≡ 0) (sym stored) no_bit;
+      status = set_kept (λ r. r < 512) registers 1 (even value) 2 (λ e. omega (arith, e)) are.status;
+      nothing = set_kept (λ r. r ≡ 0) registers 1 (even value) 3 (λ e. omega (arith, e)) are.nothing;
+    }
+
+status_are : (registers : List ℕ) (value : ℕ) → AreRegisters registers → AreRegisters (set registers 2 (value % 512))
+status_are registers value are =
+    let stored : get_or (set registers 2 (value % 512)) 2 0 ≡ value % 512 = get_or-set_same registers 2 (value % 512) 0 (omega (arith, are.count)) in
+    let few : value % 512 < 512 = omega arith in
+    record {
+      count = length-set registers 2 (value % 512) ∙ are.count;
+      words = All-set (λ r. r < 65536) registers 2 (value % 512) (omega arith) are.words;
+      even_sp = set_kept (λ r. r % 2 ≡ 0) registers 2 (value % 512) 1 (λ e. omega (arith, e)) are.even_sp;
+      status = subst (λ r. r < 512) (sym stored) few;
+      nothing = set_kept (λ r. r ≡ 0) registers 2 (value % 512) 3 (λ e. omega (arith, e)) are.nothing;
+    }
+
+pub written_are : (registers : List ℕ) (register : Register) (value : ℕ) → value < 65536 → Kind register → AreRegisters registers → AreRegisters (with_register registers register value)
+written_are registers register value small (Counter e) are = subst (λ r. AreRegisters (with_register registers r value)) (sym e) (counted_are registers (even value) (even_small value small) are)
+written_are registers register value small (Stack e) are = subst (λ r. AreRegisters (with_register registers r value)) (sym e) (sp_are registers value small are)
+written_are registers register value small (Status e) are = subst (λ r. AreRegisters (with_register registers r value)) (sym e) (status_are registers value are)
+written_are registers register value small (Empty e) are = subst (λ r. AreRegisters (with_register registers r value)) (sym e) are
+written_are registers register value small (General is) are = subst AreRegisters (sym (is.set registers value)) (general_are registers (number register) value is.above small are)
+
+-- WRITES TO A PLACE
+
+-- a word that may be written: it holds of the value, and of bytes it is a byte
+pub record IsWritten (first : Option Suspended) (width : Width) (word : Word) (value : ℕ) : Type 0 where
+  pub held : IsHeld first word value
+  pub byte : size_of width ≡ 1 → (n : ℕ) → Has 65536 word.set n → n < 256
+
+pub register_put : (laws : Premises) (device : Device) (framed : Bool) (a : Known) (first : Option ChipState) (registers ram : List ℕ) (register : Register) (word : Word) (value : ℕ) → IsKnown device.lo device.hi framed a
+    → AreRegisters registers → is_status (place.InRegister register) ≡ false → Kind register → IsHeld (option_map suspended_of first) word value
+    → HoldsOfParts device a first registers ram → HoldsOfParts device (put_register a register word) first (with_register registers register value) ram
+register_put laws device framed a first registers ram register word value form are no_status (Counter e) held holds =
+    subst (λ r. HoldsOfParts device (put_register a r word) first (with_register registers r value) ram) (sym e) (parts_counted device a first registers ram (even value) form.fact holds)
+register_put laws device framed a first registers ram register word value form are no_status (Stack e) held holds =
+    let parts = even_parts_is laws word.set value (record { normal = held.normal; has = held.holds.0 }) in
+    subst (λ r. HoldsOfParts device (put_register a r word) first (with_register registers r value) ram) (sym e) (sp_written device a first registers ram value word.set are.count form.fact parts.has holds)
+register_put laws device framed a first registers ram register word value form are no_status (Status e) held holds =
+    let yes : is_status (place.InRegister register) ≡ true = ap (λ r. is_status (place.InRegister r)) e in absurd (cc)
+register_put laws device framed a first registers ram register word value form are no_status (Empty e) held holds =
+    subst (λ r. HoldsOfParts device (put_register a r word) first (with_register registers r value) ram) (sym e) holds
+register_put laws device framed a first registers ram register word value form are no_status (General is) held holds =
+    subst (λ b. HoldsOfParts device b first (with_register registers register value) ram) (sym (general_put a register word is.above))
+    (subst (λ list. HoldsOfParts device (with_word a (number register) word) first list ram) (sym (is.set registers value))
+    (word_written device a first registers ram (number register) value word are.count form.count is.above is.below held.holds holds))
+
+value_below : (laws : Premises) (first : Option Suspended) (width : Width) (word : Word) (value : ℕ) → IsWritten first width word value → value < modulus width
+value_below laws first Words word value is = laws.below 65536 value word.set is.held.normal is.held.holds.0
+value_below laws first Byte word value is = is.byte refl value is.held.holds.0
+
+storable_is : (first : Option Suspended) (width : Width) (word : Word) (value : ℕ) → IsWritten first width word value → IsStorable width word
+storable_is first width word value is = record { normal = is.held.normal; byte = is.byte }
+
+-- what a write leaves
+pub record IsPut (laws : Premises) (device : Device) (after : Known) (first : Option ChipState) (next : Form) (left : Left) : Type 0 where
+  pub are : AreRegisters left.registers
+  pub next_is : IsResult 65536 next (get_or left.registers 0 0)
+  pub parts : HoldsOfParts device after first left.registers left.ram
+
+general_next : (register : Register) (word : Word) (behind_so : ℕ) → 3 < number register → next_by (InRegister register) word behind_so ≡ single behind_so
+general_next Pc word behind_so low = absurd (omega (arith, low))
+general_next Sp word behind_so low = refl
+general_next Sr word behind_so low = refl
+general_next R3 word behind_so low = refl
+general_next other word behind_so low = refl
+
+register_next : (laws : Premises) (first : Option Suspended) (registers : List ℕ) (register : Register) (word : Word) (value behind_so : ℕ) → AreRegisters registers → get_or registers 0 0 ≡ behind_so → behind_so < 65536
+    → Kind register → IsHeld first word value → IsResult 65536 (next_by (InRegister register) word behind_so) (get_or (with_register registers register value) 0 0)
+register_next laws first registers register word value behind_so are pc small (Counter e) held =
+    let parts = even_parts_is laws word.set value (record { normal = held.normal; has = held.holds.0 }) in
+    subst (λ r. IsResult 65536 (next_by (InRegister r) word behind_so) (get_or (with_register registers r value) 0 0)) (sym e)
+    (subst (IsResult 65536 (even_parts word.set)) (sym (get_or-set_same registers 0 (even value) 0 (omega (arith, are.count)))) parts)
+register_next laws first registers register word value behind_so are pc small (Stack e) held =
+    subst (λ r. IsResult 65536 (next_by (InRegister r) word behind_so) (get_or (with_register registers r value) 0 0)) (sym e)
+    (subst (IsResult 65536 (single behind_so)) (sym (get_or-set_other registers 1 0 (even value) 0 (λ f. omega (arith, f)) ∙ pc)) (single_is laws 65536 behind_so small))
+register_next laws first registers register word value behind_so are pc small (Status e) held =
+    subst (λ r. IsResult 65536 (next_by (InRegister r) word behind_so) (get_or (with_register registers r value) 0 0)) (sym e)
+    (subst (IsResult 65536 (single behind_so)) (sym (get_or-set_other registers 2 0 (value % 512) 0 (λ f. omega (arith, f)) ∙ pc)) (single_is laws 65536 behind_so small))
+register_next laws first registers register word value behind_so are pc small (Empty e) held =
+    subst (λ r. IsResult 65536 (next_by (InRegister r) word behind_so) (get_or (with_register registers r value) 0 0)) (sym e)
+    (subst (IsResult 65536 (single behind_so)) (sym pc) (single_is laws 65536 behind_so small))
+register_next laws first registers register word value behind_so are pc small (General is) held =
+    let kept : get_or (with_register registers register value) 0 0 ≡ behind_so =
+    ap (λ list. get_or list 0 0) (is.set registers value) ∙ get_or-set_other registers (number register) 0 value 0 (λ f. let low = is.above in omega (arith, f, low)) ∙ pc in
+    subst (λ set_so. IsResult 65536 set_so (get_or (with_register registers register value) 0 0)) (sym (general_next register word behind_so is.above))
+    (subst (IsResult 65536 (single behind_so)) (sym kept) (single_is laws 65536 behind_so small))
+
+-- the state in which a write is done
+pub record IsReady (device : Device) (framed : Bool) (a : Known) (first : Option ChipState) (registers ram : List ℕ) (behind_so : ℕ) : Type 0 where
+  pub device_so : IsDevice device
+  pub base : framed ≡ false → first ≡ None
+  pub form : IsKnown device.lo device.hi framed a
+  pub are : AreRegisters registers
+  pub ram_is : IsRam device ram
+  pub pc : get_or registers 0 0 ≡ behind_so
+  pub small : behind_so < 65536
+  pub parts : HoldsOfParts device a first registers ram
+
+pub put_is : (laws : Premises) (device : Device) (framed : Bool) (a : Known) (first : Option ChipState) (registers ram : List ℕ) (behind_so : ℕ) → IsReady device framed a first registers ram behind_so
+    → ((register : Register) → Kind register) → (width : Width) (reach : Reach) (stands : Place) (word : Word) (value : ℕ) → IsReached reach stands → is_status stands ≡ false
+    → IsWritten (option_map suspended_of first) width word value
+    → IsPut laws device (put_known device framed a width reach word) first (next_by reach word behind_so) (put device registers ram width stands value)
+put_is laws device framed a first registers ram behind_so ready kinds width (InRegister register) (place.InRegister other) word value reached no_status is =
+    subst (λ r. IsPut laws device (put_register a register word) first (next_by (InRegister register) word behind_so) (put device registers ram width (place.InRegister r) value)) reached record {
+      are = written_are registers register value (laws.below 65536 value word.set is.held.normal is.held.holds.0) (kinds register) ready.are;
+      next_is = register_next laws (option_map suspended_of first) registers register word value behind_so ready.are ready.pc ready.small (kinds register) is.held;
+      parts = register_put laws device framed a first registers ram register word value ready.form ready.are (ap (λ r. is_status (place.InRegister r)) reached ∙ no_status) (kinds register) is.held ready.parts;
+    }
+put_is laws device framed a first registers ram behind_so ready kinds width (InMemory set_so) (place.InMemory address) word value reached no_status is = record {
+  are = ready.are;
+  next_is = subst (IsResult 65536 (single behind_so)) (sym ready.pc) (single_is laws 65536 behind_so ready.small);
+  parts = store_holds laws device framed a first registers ram width address value (located width set_so) word ready.device_so ready.ram_is ready.base ready.form
+      (laws.below 65536 address set_so reached.normal reached.has) (located_is laws width set_so address reached) (value_below laws (option_map suspended_of first) width word value is)
+      (storable_is (option_map suspended_of first) width word value is) is.held.holds ready.parts;
+}
+put_is laws device framed a first registers ram behind_so ready kinds width (Fixed fixed) (place.Fixed other) word value reached no_status is = record {
+  are = ready.are;
+  next_is = subst (IsResult 65536 (single behind_so)) (sym ready.pc) (single_is laws 65536 behind_so ready.small);
+  parts = ready.parts;
+}
+put_is laws device framed a first registers ram behind_so ready kinds width (InRegister register) (place.InMemory address) word value reached no_status is = absurd reached
+put_is laws device framed a first registers ram behind_so ready kinds width (InRegister register) (place.Fixed other) word value reached no_status is = absurd reached
+put_is laws device framed a first registers ram behind_so ready kinds width (InMemory set_so) (place.InRegister other) word value reached no_status is = absurd reached
+put_is laws device framed a first registers ram behind_so ready kinds width (InMemory set_so) (place.Fixed other) word value reached no_status is = absurd reached
+put_is laws device framed a first registers ram behind_so ready kinds width (Fixed fixed) (place.InRegister other) word value reached no_status is = absurd reached
+put_is laws device framed a first registers ram behind_so ready kinds width (Fixed fixed) (place.InMemory address) word value reached no_status is = absurd reached
+
+-- the same, where the result is written
+pub put_if_is : (laws : Premises) (device : Device) (framed : Bool) (a : Known) (first : Option ChipState) (registers ram : List ℕ) (behind_so : ℕ) → IsReady device framed a first registers ram behind_so
+    → ((register : Register) → Kind register) → (writes : Bool) (width : Width) (reach : Reach) (stands : Place) (word : Word) (value : ℕ) → IsReached reach stands → is_status stands ≡ false
+    → IsWritten (option_map suspended_of first) width word value
+    → IsPut laws device (put_known_if writes device framed a width reach word) first (next_if writes reach word behind_so) (put_if writes device registers ram width stands value)
+put_if_is laws device framed a first registers ram behind_so ready kinds true width reach stands word value reached no_status is =
+    put_is laws device framed a first registers ram behind_so ready kinds width reach stands word value reached no_status is
+put_if_is laws device framed a first registers ram behind_so ready kinds false width reach stands word value reached no_status is = record {
+  are = ready.are;
+  next_is = subst (IsResult 65536 (single behind_so)) (sym ready.pc) (single_is laws 65536 behind_so ready.small);
+  parts = ready.parts;
+}

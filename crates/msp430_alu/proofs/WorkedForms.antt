@@ -1,0 +1,391 @@
+-- What is made of a state has the form of states.
+use Rattle.std.proofs.Common.{◌≡◌, ℕ, zero, suc, ◌+◌, ◌-◌, ◌*◌, ◌/◌, ◌%◌, ◌^◌, ◌<◌, ◌≤◌, ◌==◌, ◌&&◌, ◌||◌, ◌++◌, Bool, true, false, Option, None, Some, List, [], ◌∷◌, length, get_or, replicate, refl, sym, ap, ◌∙◌, subst, inl, inr, arith, All, Contains}
+use Rattle.std.specs.Prelude.{bit_and, bit_or, if◌then◌else◌, nat_le}
+use Rattle.std.specs.Option.{option_map}
+use Rattle.std.proofs.lemmas.Bool.{cond_both, cases_lt}
+use Rattle.std.proofs.lemmas.List.{length-append, length-replicate, get_or_past}
+use Rattle.std.proofs.lemmas.List.Elements.{All-get_or}
+use Rattle.std.proofs.lemmas.Nat.{and_le_l, or_lt}
+use Rattle.std.proofs.lemmas.Option.{same_Some}
+use Rattle.call_context.specs.Members.{in_none, in_cons, in_first, in_rest}
+use Rattle.entry_value.specs.declared.cells.Cell.{Cell}
+use Rattle.entry_value.specs.declared.word.Entry.{Entry}
+use Rattle.entry_value.specs.declared.word.Word.{Word}
+use Rattle.entry_value.specs.Cells.{cell_at, found_or, put_together, read, unknown}
+use Rattle.entry_value.specs.Words.{entry_and, entry_or}
+use Rattle.value_set.specs.declared.form.Form.{Form}
+use Rattle.value_set.specs.Form.{Has, IsNormal, members}
+use Rattle.value_set.specs.Joining.{join}
+use Rattle.value_set.specs.Remainders.{HasRemainder}
+use Rattle.value_set.specs.Summing.{single, add}
+use Rattle.value_bits.specs.declared.tri.Tri.{Tri}
+use Rattle.value_bits.specs.declared.tri.Tri.TheVariants.{Either}
+use Rattle.value_bits.specs.Sets.{pair_set, low_set}
+use Rattle.msp430_decode.specs.declared.instr.Constant.{Constant}
+use Rattle.msp430_decode.specs.declared.instr.Destination.{Destination}
+use Rattle.msp430_decode.specs.declared.instr.Destination.TheVariants as destination
+use Rattle.msp430_decode.specs.declared.instr.Operation.{Operation}
+use Rattle.msp430_decode.specs.declared.instr.Operation.TheVariants as operation
+use Rattle.msp430_decode.specs.declared.instr.Register.{Register}
+use Rattle.msp430_decode.specs.declared.instr.Register.TheVariants.{Pc, Sp, Sr, R3}
+use Rattle.msp430_decode.specs.declared.instr.Source.{Source}
+use Rattle.msp430_decode.specs.declared.instr.Source.TheVariants as source
+use Rattle.msp430_decode.specs.declared.instr.Width.{Width}
+use Rattle.msp430_decode.specs.declared.instr.Width.TheVariants.{Word as Words, Byte}
+use Rattle.msp430_decode.specs.Codes.{number}
+use Rattle.msp430_decode.specs.Operands.{IsSource, IsDestination}
+use Rattle.msp430_chip.specs.declared.device.Device.{Device}
+use Rattle.msp430_chip.specs.Arithmetic.{modulus, reads_destination, writes_result}
+use Rattle.msp430_chip.specs.Kinds.{Kind, IsGeneral}
+use Rattle.msp430_chip.specs.Kinds.Kind.{Counter, Stack, Status, Empty, General}
+use Rattle.msp430_chip.specs.Memory.{is_ram, size_of}
+use Rattle.msp430_chip.specs.Operands.{constant_value, growth}
+use Rattle.msp430_chip.specs.Step.{reads_counter}
+use Rattle.msp430_state.specs.declared.status.Status.{Status as StatusBits}
+use Rattle.msp430_state.specs.Forms.{is_place, IsRelation, IsStatusRelation, IsWord, IsChipCell, IsKnown}
+use Rattle.msp430_state.specs.Known.{Known, word_of}
+use Rattle.msp430_alu.specs.declared.reach.Reach.{Reach}
+use Rattle.msp430_alu.specs.declared.reach.Reach.TheVariants.{InRegister, InMemory, Fixed}
+use Rattle.msp430_alu.specs.Formats.{constant_of, relation_of, masked_and, masked_clear, masked_or, written_word, counter_set, is_doubled, carry_of, destination_word, made_of, put_known, put_known_if, next_by, next_if, double_behind, double_worked}
+use Rattle.msp430_alu.specs.FlagSets.{MadeSet}
+use Rattle.msp430_alu.specs.Memory.{IsDevice, located, word_by, byte_by, program_word, read_one, read_each, read_list, read_known, with_store}
+use Rattle.msp430_alu.specs.Operands.{beside, source_reach, destination_reach, grown_known, operand_word, values_of}
+use Rattle.msp430_alu.specs.Premises.{Premises}
+use Rattle.msp430_alu.specs.Registers.{even_parts, status_set, put_register, register_word, with_flag_bits}
+use Rattle.msp430_alu.specs.Results.{double_made, twice_flags}
+use Rattle.msp430_alu.proofs.Growth.{growth_small}
+use Rattle.msp430_alu.proofs.OperandLemmas.{AreKinds, constant_small, general_word, word_normal}
+use Rattle.msp430_alu.proofs.Parts.{even_parts_form}
+use Rattle.msp430_alu.proofs.Reading.{read_known_normal}
+use Rattle.msp430_alu.proofs.Rows.{double_form, twice_form}
+use Rattle.msp430_alu.proofs.Shapes.{IsCellWord, no_relation, register_form, flags_form, store_form}
+
+-- REGISTERS AS OPERANDS
+
+status_normal : (laws : Premises) (status : StatusBits) → length status.bits ≡ 9 → IsNormal 65536 (status_set status)
+status_normal laws status long =
+    let count : length (status.bits ++ replicate 7 Either) ≡ 16 = length-append status.bits (replicate 7 Either) ∙ omega (arith, long, length-replicate 7 Either) in
+    laws.from_normal 16 (status.bits ++ replicate 7 Either) count
+
+status_relation : (framed : Bool) (entry : Option Entry) → IsStatusRelation framed entry → IsRelation framed entry
+status_relation framed None form = tt
+status_relation false (Some entry) form = form
+status_relation true (Some entry) (place, and_small, high, or_small) = (ap is_place place, and_small, omega (arith, or_small))
+
+word_of_form : (laws : Premises) (lo hi : ℕ) (framed : Bool) (a : Known) → IsKnown lo hi framed a → (register : ℕ) → IsWord framed (word_of a register)
+word_of_form laws lo hi framed a form register = elim (cases_lt (register - 4) (length a.registers)) [
+  | inl inside ↦ All-get_or (IsWord framed) a.registers (register - 4) (unknown 2) inside form.registers
+  | inr past ↦ subst (IsWord framed) (sym (get_or_past a.registers (register - 4) (unknown 2) past)) (record { normal = laws.whole_normal 65536 (omega arith); entry = no_relation framed })
+]
+
+register_word_form : (laws : Premises) (lo hi : ℕ) (framed : Bool) (a : Known) (counted : Form) → IsKnown lo hi framed a → IsNormal 65536 counted → (register : Register) → Kind register → IsWord framed (register_word a counted register)
+register_word_form laws lo hi framed a counted form normal register (Counter e) = subst (λ r. IsWord framed (register_word a counted r)) (sym e) (record { normal = normal; entry = no_relation framed })
+register_word_form laws lo hi framed a counted form normal register (Stack e) = subst (λ r. IsWord framed (register_word a counted r)) (sym e) (record { normal = form.sp.normal; entry = no_relation framed })
+register_word_form laws lo hi framed a counted form normal register (Status e) =
+    subst (λ r. IsWord framed (register_word a counted r)) (sym e) (record { normal = status_normal laws a.status form.bits; entry = status_relation framed a.status.entry form.status })
+register_word_form laws lo hi framed a counted form normal register (Empty e) =
+    subst (λ r. IsWord framed (register_word a counted r)) (sym e) (record { normal = (laws.single 65536 0 (omega arith)).0; entry = no_relation framed })
+register_word_form laws lo hi framed a counted form normal register (General is) =
+    subst (IsWord framed) (sym (general_word a counted register is.above)) (word_of_form laws lo hi framed a form (number register))
+
+-- WHERE OPERANDS STAND
+
+abbrev pub IsReachNormal : Reach → Type 0
+IsReachNormal (InMemory set_so) = IsNormal 65536 set_so
+IsReachNormal (InRegister register) = Unit {0}
+IsReachNormal (Fixed value) = Unit {0}
+
+beside_form : (laws : Premises) (lo hi : ℕ) (framed : Bool) (a : Known) (counted : Form) → IsKnown lo hi framed a → IsNormal 65536 counted → AreKinds → (register : Register) (offset : ℕ) → offset < 65536
+    → IsNormal 65536 (beside a counted register offset)
+beside_form laws lo hi framed a counted form normal kinds register offset small =
+    laws.add_normal 65536 (register_word a counted register).set (single offset) (register_word_form laws lo hi framed a counted form normal register (kinds register)).normal (laws.single 65536 offset small).0
+
+pub source_form : (laws : Premises) (lo hi : ℕ) (framed : Bool) (a : Known) (counted : Form) → IsKnown lo hi framed a → IsNormal 65536 counted → AreKinds → (pc : ℕ) (origin : Source) → IsSource origin
+    → IsReachNormal (source_reach pc a counted origin)
+source_form laws lo hi framed a counted form normal kinds pc (source.Register register) is = tt
+source_form laws lo hi framed a counted form normal kinds pc (source.Indexed register offset) is = beside_form laws lo hi framed a counted form normal kinds register offset is.1
+source_form laws lo hi framed a counted form normal kinds pc (source.Indirect register) is = (register_word_form laws lo hi framed a counted form normal register (kinds register)).normal
+source_form laws lo hi framed a counted form normal kinds pc (source.IndirectIncrement register) is = (register_word_form laws lo hi framed a counted form normal register (kinds register)).normal
+source_form laws lo hi framed a counted form normal kinds pc (source.Immediate value) is = tt
+source_form laws lo hi framed a counted form normal kinds pc (source.Symbolic offset) is = (laws.single 65536 ((pc + 2 + offset) % 65536) (omega arith)).0
+source_form laws lo hi framed a counted form normal kinds pc (source.Absolute address) is = (laws.single 65536 address is).0
+source_form laws lo hi framed a counted form normal kinds pc (source.Constant constant) is = tt
+
+pub destination_form : (laws : Premises) (lo hi : ℕ) (framed : Bool) (a : Known) (counted : Form) → IsKnown lo hi framed a → IsNormal 65536 counted → AreKinds → (pc len : ℕ) (target : Destination) → IsDestination target
+    → IsReachNormal (destination_reach pc len a counted target)
+destination_form laws lo hi framed a counted form normal kinds pc len (destination.Register register) is = tt
+destination_form laws lo hi framed a counted form normal kinds pc len (destination.Indexed register offset) is = beside_form laws lo hi framed a counted form normal kinds register offset is.1
+destination_form laws lo hi framed a counted form normal kinds pc len (destination.Symbolic offset) is = (laws.single 65536 ((pc + len - 2 + offset) % 65536) (omega arith)).0
+destination_form laws lo hi framed a counted form normal kinds pc len (destination.Absolute address) is = (laws.single 65536 address is).0
+
+pub grown_form : (laws : Premises) (lo hi : ℕ) (framed : Bool) (a : Known) (counted : Form) → IsKnown lo hi framed a → IsNormal 65536 counted → AreKinds → (width : Width) (origin : Source)
+    → IsKnown lo hi framed (grown_known a counted width origin)
+grown_form laws lo hi framed a counted form normal kinds width (source.IndirectIncrement register) =
+    let more = growth width register in
+    register_form laws lo hi framed a register (record { set = add 65536 (register_word a counted register).set (single more); entry = None }) (kinds register)
+    (record {
+      normal = laws.add_normal 65536 (register_word a counted register).set (single more) (register_word_form laws lo hi framed a counted form normal register (kinds register)).normal
+          (laws.single 65536 more (growth_small width register (kinds register))).0;
+      entry = no_relation framed;
+    }) form
+grown_form laws lo hi framed a counted form normal kinds width (source.Register register) = form
+grown_form laws lo hi framed a counted form normal kinds width (source.Indexed register offset) = form
+grown_form laws lo hi framed a counted form normal kinds width (source.Indirect register) = form
+grown_form laws lo hi framed a counted form normal kinds width (source.Immediate value) = form
+grown_form laws lo hi framed a counted form normal kinds width (source.Symbolic offset) = form
+grown_form laws lo hi framed a counted form normal kinds width (source.Absolute address) = form
+grown_form laws lo hi framed a counted form normal kinds width (source.Constant constant) = form
+
+-- WHAT THEY HOLD
+
+found_relation : (framed : Bool) (cells : List Cell) (at size : ℕ) (otherwise : Word) → ((c : Cell) → Contains cells c → IsChipCell framed c) → IsRelation framed otherwise.entry
+    → IsRelation framed (found_or (cell_at cells at size) otherwise).entry
+found_relation framed [] at size otherwise forms none = none
+found_relation framed (cell ∷ cells) at size otherwise forms none =
+    cond_both ((cell.place == at) && (cell.size == size)) (Some cell.word) (cell_at cells at size) (λ found. IsRelation framed (found_or found otherwise).entry)
+    (λ e. (forms cell (in_first cell cells)).entry)
+    (λ e. found_relation framed cells at size otherwise (λ c there. forms c (in_rest cell cells c there)) none)
+
+read_relation : (framed : Bool) (cells : List Cell) (at size : ℕ) → ((c : Cell) → Contains cells c → IsChipCell framed c) → IsRelation framed (read cells at size).entry
+unfolding read
+read_relation framed cells at size forms = found_relation framed cells at size (put_together cells at size) forms (no_relation framed)
+
+word_relation : (framed : Bool) (one other : Option ℕ) → IsRelation framed (word_by one other).entry
+word_relation framed None other = no_relation framed
+word_relation framed (Some low) None = no_relation framed
+word_relation framed (Some low) (Some high) = no_relation framed
+
+byte_relation : (framed : Bool) (found : Option ℕ) → IsRelation framed (byte_by found).entry
+byte_relation framed None = no_relation framed
+byte_relation framed (Some byte) = no_relation framed
+
+program_relation : (framed : Bool) (device : Device) (width : Width) (at : ℕ) → IsRelation framed (program_word device width at).entry
+program_relation framed device Words at = word_relation framed _ _
+program_relation framed device Byte at = byte_relation framed _
+
+one_relation : (framed : Bool) (device : Device) (a : Known) (width : Width) (at : ℕ) → IsKnown device.lo device.hi framed a → IsRelation framed (read_one device a width at).entry
+one_relation framed device a width at form =
+    cond_both (is_ram device at) (read a.cells.cells at (size_of width)) (program_word device width at) (λ word. IsRelation framed word.entry)
+    (λ e. read_relation framed a.cells.cells at (size_of width) form.each_cell) (λ e. program_relation framed device width at)
+
+list_relation : (framed : Bool) (device : Device) (a : Known) (width : Width) (list : List ℕ) → IsKnown device.lo device.hi framed a → IsRelation framed (read_list device a width list).entry
+list_relation framed device a width [] form = no_relation framed
+list_relation framed device a width (only ∷ []) form = one_relation framed device a width only form
+list_relation framed device a width (one ∷ next ∷ rest) form =
+    cond_both (nat_le (length rest) 254) (record { set = read_each device a width (read_one device a width one).set (next ∷ rest); entry = None }) (unknown (size_of width)) (λ word. IsRelation framed word.entry) (λ e. no_relation framed) (λ e. no_relation framed)
+
+abbrev pub IsReachSmall : Reach → Type 0
+IsReachSmall (Fixed value) = value < 65536
+IsReachSmall (InMemory set_so) = Unit {0}
+IsReachSmall (InRegister register) = Unit {0}
+
+pub source_small : (pc : ℕ) (a : Known) (counted : Form) (origin : Source) → IsSource origin → IsReachSmall (source_reach pc a counted origin)
+source_small pc a counted (source.Register register) is = tt
+source_small pc a counted (source.Indexed register offset) is = tt
+source_small pc a counted (source.Indirect register) is = tt
+source_small pc a counted (source.IndirectIncrement register) is = tt
+source_small pc a counted (source.Immediate value) is = is
+source_small pc a counted (source.Symbolic offset) is = tt
+source_small pc a counted (source.Absolute address) is = tt
+source_small pc a counted (source.Constant constant) is = constant_small constant
+
+pub destination_small : (pc len : ℕ) (a : Known) (counted : Form) (target : Destination) → IsReachSmall (destination_reach pc len a counted target)
+destination_small pc len a counted (destination.Register register) = tt
+destination_small pc len a counted (destination.Indexed register offset) = tt
+destination_small pc len a counted (destination.Symbolic offset) = tt
+destination_small pc len a counted (destination.Absolute address) = tt
+
+pub operand_form : (laws : Premises) (device : Device) (framed : Bool) (a : Known) (counted : Form) → IsDevice device → IsKnown device.lo device.hi framed a → IsNormal 65536 counted → AreKinds → (width : Width) (reach : Reach)
+    → IsReachSmall reach → IsWord framed (operand_word device a counted width reach)
+operand_form laws device framed a counted is form normal kinds width (InRegister register) small = register_word_form laws device.lo device.hi framed a counted form normal register (kinds register)
+operand_form laws device framed a counted is form normal kinds width (InMemory set_so) small = record {
+  normal = read_known_normal laws device a is form.cells width (located width set_so);
+  entry = list_relation framed device a width (members 65536 (located width set_so)) form;
+}
+operand_form laws device framed a counted is form normal kinds width (Fixed value) small = record { normal = (laws.single 65536 value small).0; entry = no_relation framed }
+
+pub values_form : (laws : Premises) (framed : Bool) (width : Width) (word : Word) → IsWord framed word → IsNormal (modulus width) (values_of width word)
+values_form laws framed Words word is = is.normal
+values_form laws framed Byte word is = laws.low_normal word.set is.normal
+
+-- RELATIONS OF RESULTS
+
+and_form : (framed : Bool) (m : ℕ) (entry : Option Entry) → IsRelation framed entry → IsRelation framed (option_map (entry_and m) entry)
+and_form framed m None form = no_relation framed
+and_form false m (Some entry) form = form
+and_form true m (Some entry) (place, and_small, or_small) =
+    let one = and_le_l entry.and m in
+    let other = and_le_l entry.or m in
+    (place, omega (arith, one, and_small), omega (arith, other, or_small))
+
+or_form : (framed : Bool) (m : ℕ) (entry : Option Entry) → m < 65536 → IsRelation framed entry → IsRelation framed (option_map (entry_or m) entry)
+or_form framed m None small form = no_relation framed
+or_form false m (Some entry) small form = form
+or_form true m (Some entry) small (place, and_small, or_small) = (place, and_small, or_lt 16 entry.or m or_small small)
+
+masked_and_form : (framed : Bool) (constant : Option ℕ) (entry : Option Entry) → IsRelation framed entry → IsRelation framed (masked_and constant entry)
+masked_and_form framed None entry form = no_relation framed
+masked_and_form framed (Some m) entry form = and_form framed m entry form
+
+masked_clear_form : (framed : Bool) (constant : Option ℕ) (entry : Option Entry) → IsRelation framed entry → IsRelation framed (masked_clear constant entry)
+masked_clear_form framed None entry form = no_relation framed
+masked_clear_form framed (Some m) entry form = and_form framed (65535 - m) entry form
+
+masked_or_form : (framed : Bool) (constant : Option ℕ) (entry : Option Entry) → ((m : ℕ) → constant ≡ Some m → m < 65536) → IsRelation framed entry → IsRelation framed (masked_or constant entry)
+masked_or_form framed None entry small form = no_relation framed
+masked_or_form framed (Some m) entry small form = or_form framed m entry (small m refl) form
+
+relation_form : (framed : Bool) (done : Operation) (constant : Option ℕ) (one other : Option Entry) → ((m : ℕ) → constant ≡ Some m → m < 65536) → IsRelation framed one → IsRelation framed other
+    → IsRelation framed (relation_of done constant one other)
+relation_form framed operation.Mov constant one other small h k = h
+relation_form framed operation.And constant one other small h k = masked_and_form framed constant other k
+relation_form framed operation.Bic constant one other small h k = masked_clear_form framed constant other k
+relation_form framed operation.Bis constant one other small h k = masked_or_form framed constant other small k
+relation_form framed operation.Add constant one other small h k = no_relation framed
+relation_form framed operation.Addc constant one other small h k = no_relation framed
+relation_form framed operation.Subc constant one other small h k = no_relation framed
+relation_form framed operation.Sub constant one other small h k = no_relation framed
+relation_form framed operation.Cmp constant one other small h k = no_relation framed
+relation_form framed operation.Dadd constant one other small h k = no_relation framed
+relation_form framed operation.Bit constant one other small h k = no_relation framed
+relation_form framed operation.Xor constant one other small h k = no_relation framed
+
+constant_below : (origin : Source) (m : ℕ) → IsSource origin → constant_of origin ≡ Some m → m < 65536
+constant_below (source.Immediate value) m is e = subst (λ n. n < 65536) (same_Some value m e) is
+constant_below (source.Constant constant) m is e = subst (λ n. n < 65536) (same_Some (constant_value constant) m e) (constant_small constant)
+constant_below (source.Register register) m is e = absurd (cc)
+constant_below (source.Indexed register offset) m is e = absurd (cc)
+constant_below (source.Indirect register) m is e = absurd (cc)
+constant_below (source.IndirectIncrement register) m is e = absurd (cc)
+constant_below (source.Symbolic offset) m is e = absurd (cc)
+constant_below (source.Absolute address) m is e = absurd (cc)
+
+-- WRITES
+
+-- a word that may be written to any place
+pub record IsWritable (framed : Bool) (width : Width) (word : Word) : Type 0 where
+  pub word_so : IsWord framed word
+  pub cell : IsCellWord framed width word
+
+pub written_form : (laws : Premises) (framed : Bool) (width : Width) (set_so : Form) (entry : Option Entry) → IsNormal (modulus width) set_so → IsRelation framed entry → IsWritable framed width (written_word width set_so entry)
+written_form laws framed Words set_so entry normal form = record {
+  word_so = record { normal = normal; entry = form };
+  cell = record {
+    storable = record { normal = normal; byte = λ e. absurd (omega (arith, e)) };
+    byte = λ e. absurd (omega (arith, e));
+    entry = form;
+  };
+}
+written_form laws framed Byte set_so entry normal form =
+    let paired = laws.pair_normal set_so (single 0) normal (laws.single 256 0 (omega arith)).0 in
+    record {
+      word_so = record { normal = paired; entry = no_relation framed };
+      cell = record {
+        storable = record { normal = paired; byte = λ e n h. laws.pair_byte set_so n normal h };
+        byte = λ e. refl;
+        entry = no_relation framed;
+      };
+    }
+
+located_normal : (laws : Premises) (width : Width) (set_so : Form) → IsNormal 65536 set_so → IsNormal 65536 (located width set_so)
+located_normal laws Words set_so normal = (even_parts_form laws set_so normal).normal
+located_normal laws Byte set_so normal = normal
+
+located_even : (laws : Premises) (width : Width) (set_so : Form) → IsNormal 65536 set_so → size_of width ≡ 2 → HasRemainder 65536 2 0 (located width set_so)
+located_even laws Words set_so normal e = (even_parts_form laws set_so normal).even
+located_even laws Byte set_so normal e = absurd (omega (arith, e))
+
+pub put_form : (laws : Premises) (device : Device) (framed : Bool) (a : Known) → IsDevice device → IsKnown device.lo device.hi framed a → AreKinds → (width : Width) (reach : Reach) (word : Word) → IsReachNormal reach
+    → IsWritable framed width word → IsKnown device.lo device.hi framed (put_known device framed a width reach word)
+put_form laws device framed a is form kinds width (InRegister register) word normal writable = register_form laws device.lo device.hi framed a register word (kinds register) writable.word_so form
+put_form laws device framed a is form kinds width (InMemory set_so) word normal writable =
+    let there = located_normal laws width set_so normal in
+    store_form laws device framed a width (located width set_so) word is (laws.some 65536 (located width set_so) there) (located_even laws width set_so normal) writable.cell form
+put_form laws device framed a is form kinds width (Fixed value) word normal writable = form
+
+pub put_if_form : (laws : Premises) (device : Device) (framed : Bool) (a : Known) → IsDevice device → IsKnown device.lo device.hi framed a → AreKinds → (writes : Bool) (width : Width) (reach : Reach) (word : Word) → IsReachNormal reach
+    → IsWritable framed width word → IsKnown device.lo device.hi framed (put_known_if writes device framed a width reach word)
+put_if_form laws device framed a is form kinds true width reach word normal writable = put_form laws device framed a is form kinds width reach word normal writable
+put_if_form laws device framed a is form kinds false width reach word normal writable = form
+
+-- the next addresses: even, in one form
+next_form : (laws : Premises) (reach : Reach) (word : Word) (behind_so : ℕ) → IsNormal 65536 word.set → behind_so < 65536 → IsNormal 65536 (next_by reach word behind_so)
+next_form laws (InRegister Pc) word behind_so normal small = (even_parts_form laws word.set normal).normal
+next_form laws (InRegister register) word behind_so normal small = (laws.single 65536 behind_so small).0
+next_form laws (InMemory set_so) word behind_so normal small = (laws.single 65536 behind_so small).0
+next_form laws (Fixed value) word behind_so normal small = (laws.single 65536 behind_so small).0
+
+next_if_form : (laws : Premises) (writes : Bool) (reach : Reach) (word : Word) (behind_so : ℕ) → IsNormal 65536 word.set → behind_so < 65536 → IsNormal 65536 (next_if writes reach word behind_so)
+next_if_form laws true reach word behind_so normal small = next_form laws reach word behind_so normal small
+next_if_form laws false reach word behind_so normal small = (laws.single 65536 behind_so small).0
+
+-- TWO OPERANDS
+
+counter_form : (laws : Premises) (pc len : ℕ) (origin : Source) (target : Destination) → IsNormal 65536 (counter_set pc len origin target)
+counter_form laws pc len origin target =
+    let one = laws.single 65536 ((pc + 2) % 65536) (omega arith) in
+    let two = laws.single 65536 ((pc + 4) % 65536) (omega arith) in
+    cond_both (reads_counter origin target) (join 65536 (single ((pc + 2) % 65536)) (single ((pc + 4) % 65536))) (single ((pc + len) % 65536)) (IsNormal 65536)
+    (λ e. laws.join_normal 65536 (single ((pc + 2) % 65536)) (single ((pc + 4) % 65536)) one.0 two.0) (λ e. (laws.single 65536 ((pc + len) % 65536) (omega arith)).0)
+
+target_form : (laws : Premises) (device : Device) (framed : Bool) (a : Known) (counted : Form) → IsDevice device → IsKnown device.lo device.hi framed a → IsNormal 65536 counted → AreKinds → (done : Operation) (width : Width) (reach : Reach)
+    → IsReachSmall reach → IsWord framed (destination_word device a counted done width reach)
+target_form laws device framed a counted is form normal kinds done width reach small =
+    cond_both (reads_destination done) (operand_word device a counted width reach) (record { set = single 0; entry = None }) (IsWord framed)
+    (λ e. operand_form laws device framed a counted is form normal kinds width reach small)
+    (λ e. record { normal = (laws.single 65536 0 (omega arith)).0; entry = no_relation framed })
+
+made_form : (laws : Premises) (framed : Bool) (done : Operation) (width : Width) (origin : Source) (target : Destination) (one other : Word) (c : Tri) → IsWord framed one → IsWord framed other
+    → IsNormal (modulus width) (made_of done width origin target one other c).0
+made_form laws framed done width origin target one other c h k =
+    cond_both (is_doubled done origin target) (twice_flags width (values_of width other)) (double_made done width (values_of width one) (values_of width other) c) (λ (made_so : MadeSet). IsNormal (modulus width) made_so.0)
+    (λ e. twice_form laws width (values_of width other) (values_form laws framed width other k))
+    (λ e. double_form laws done width (values_of width one) (values_of width other) c (values_form laws framed width one h) (values_form laws framed width other k))
+
+-- the parts of what an instruction with two operands makes of a state
+pub record DoubleForms (device : Device) (framed : Bool) (width : Width) (one other word : Word) (put_so after : Known) (next : Form) : Type 0 where
+  pub source : IsWord framed one
+  pub target_so : IsWord framed other
+  pub writable : IsWritable framed width word
+  pub put : IsKnown device.lo device.hi framed put_so
+  pub after_so : IsKnown device.lo device.hi framed after
+  pub next_so : IsNormal 65536 next
+
+pub double_forms : (laws : Premises) (device : Device) (framed : Bool) (a : Known) → IsDevice device → IsKnown device.lo device.hi framed a → AreKinds → (pc len : ℕ) (done : Operation) (width : Width) (origin : Source) (target : Destination)
+    → IsSource origin → IsDestination target
+    → let counted = counter_set pc len origin target in
+    let grown_so = grown_known a counted width origin in
+    let to = destination_reach pc len grown_so counted target in
+    let one = operand_word device a counted width (source_reach pc a counted origin) in
+    let other = destination_word device grown_so counted done width to in
+    let made_so = made_of done width origin target one other (carry_of a) in
+    let word = written_word width made_so.0 (relation_of done (constant_of origin) one.entry other.entry) in
+    let put_so = put_known_if (writes_result done) device framed grown_so width to word in
+    DoubleForms device framed width one other word put_so (with_flag_bits put_so made_so.1) (next_if (writes_result done) to word ((pc + len) % 65536))
+double_forms laws device framed a is form kinds pc len done width origin target from_so to_so =
+    let counted = counter_set pc len origin target in
+    let counted_so = counter_form laws pc len origin target in
+    let grown_so = grown_known a counted width origin in
+    let grown_is = grown_form laws device.lo device.hi framed a counted form counted_so kinds width origin in
+    let from = source_reach pc a counted origin in
+    let to = destination_reach pc len grown_so counted target in
+    let one = operand_word device a counted width from in
+    let other = destination_word device grown_so counted done width to in
+    let one_is = operand_form laws device framed a counted is form counted_so kinds width from (source_small pc a counted origin from_so) in
+    let other_is = target_form laws device framed grown_so counted is grown_is counted_so kinds done width to (destination_small pc len grown_so counted target) in
+    let made_so = made_of done width origin target one other (carry_of a) in
+    let relation = relation_of done (constant_of origin) one.entry other.entry in
+    let word = written_word width made_so.0 relation in
+    let writable = written_form laws framed width made_so.0 relation (made_form laws framed done width origin target one other (carry_of a) one_is other_is)
+    (relation_form framed done (constant_of origin) one.entry other.entry (λ m e. constant_below origin m from_so e) one_is.entry other_is.entry) in
+    let put_is = put_if_form laws device framed grown_so is grown_is kinds (writes_result done) width to word
+    (destination_form laws device.lo device.hi framed grown_so counted grown_is counted_so kinds pc len target to_so) writable in
+    let put_so = put_known_if (writes_result done) device framed grown_so width to word in
+    record {
+      source = one_is;
+      target_so = other_is;
+      writable = writable;
+      put = put_is;
+      after_so = flags_form device.lo device.hi framed put_so made_so.1 put_is;
+      next_so = next_if_form laws (writes_result done) to word ((pc + len) % 65536) writable.word_so.normal (omega arith);
+    }
