@@ -515,7 +515,7 @@ multiplied_kept s is = set_ab _ _ _ (cleared_flags s _ is (flag_below _)) (omega
 divided_kept : (s : ChipState) → IsChipState s → (s.b == 0) ≡ false → IsChipState (divided s)
 divided_kept s is some = set_ab _ _ _ (cleared_flags s 0 is (omega arith)) (quotient_below s.a s.b is.a some) (remainder_below s.a s.b is.a)
 
--- ---- forms of instructions
+-- ---- formats of instructions
 
 abbrev pub Keeps : Effect → Type 0
 Keeps effect = IsChipState effect.1
