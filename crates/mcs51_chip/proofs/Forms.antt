@@ -61,33 +61,57 @@ use Rattle.mcs51_chip.proofs.Results.{or_below, xor_below, and_below, masked_bel
 -- ---- registers
 
 set_pc : (s : ChipState) (x : ℕ) → IsChipState s → x < 65536 → IsChipState (going_to x s)
-set_pc s x is h = record { pc = h; a = is.a; b = is.b; sp = is.sp; dpl = is.dpl; dph = is.dph; psw = is.psw; psw_held = is.psw_held; ie = is.ie; ie_held = is.ie_held; ip = is.ip; ram = is.ram; bytes = is.bytes }
+set_pc s x is h = assumption (is, h)
 
 set_a : (s : ChipState) (x : ℕ) → IsChipState s → x < 256 → IsChipState (with_accumulator x s)
-set_a s x is h = record { pc = is.pc; a = h; b = is.b; sp = is.sp; dpl = is.dpl; dph = is.dph; psw = is.psw; psw_held = is.psw_held; ie = is.ie; ie_held = is.ie_held; ip = is.ip; ram = is.ram; bytes = is.bytes }
+set_a s x is h = assumption (is, h)
+
+set_b : (s : ChipState) (x : ℕ) → IsChipState s → x < 256 → IsChipState (record s { b = x })
+set_b s x is h = assumption (is, h)
 
 set_ab : (s : ChipState) (x y : ℕ) → IsChipState s → x < 256 → y < 256 → IsChipState (record s { a = x; b = y })
-set_ab s x y is h g = record { pc = is.pc; a = h; b = g; sp = is.sp; dpl = is.dpl; dph = is.dph; psw = is.psw; psw_held = is.psw_held; ie = is.ie; ie_held = is.ie_held; ip = is.ip; ram = is.ram; bytes = is.bytes }
+set_ab s x y is h g = assumption (is, h, g)
+
+set_sp : (s : ChipState) (x : ℕ) → IsChipState s → x < 256 → IsChipState (record s { sp = x })
+set_sp s x is h = assumption (is, h)
+
+set_halves : (s : ChipState) (x y : ℕ) → IsChipState s → x < 256 → y < 256 → IsChipState (record s { dpl = x; dph = y })
+set_halves s x y is h g = assumption (is, h, g)
+
+set_psw : (s : ChipState) (x : ℕ) → IsChipState s → x < 256 → x % 4 ≡ 0 → IsChipState (record s { psw = x })
+set_psw s x is h held = assumption (is, h, held)
+
+set_ie : (s : ChipState) (x : ℕ) → IsChipState s → x < 256 → x / 64 % 2 ≡ 0 → IsChipState (record s { ie = x })
+set_ie s x is h held = assumption (is, h, held)
+
+set_ip : (s : ChipState) (x : ℕ) → IsChipState s → x < 64 → IsChipState (record s { ip = x })
+set_ip s x is h = assumption (is, h)
+
+set_ram : (s : ChipState) (ram : List ℕ) → IsChipState s → length ram ≡ 256 → All (λ b. b < 256) ram → IsChipState (record s { ram = ram })
+set_ram s ram is size are = assumption (is, size, are)
+
+set_levels : (s : ChipState) (low high : Bool) → IsChipState s → IsChipState (record s { serves_low = low; serves_high = high })
+set_levels s low high is = assumption is
 
 set_pointer : (s : ChipState) (x : ℕ) → IsChipState s → x < 65536 → IsChipState (with_data_pointer x s)
-set_pointer s x is h = record { pc = is.pc; a = is.a; b = is.b; sp = is.sp; dpl = omega arith; dph = omega (arith, h); psw = is.psw; psw_held = is.psw_held; ie = is.ie; ie_held = is.ie_held; ip = is.ip; ram = is.ram; bytes = is.bytes }
+set_pointer s x is h = set_halves s (x % 256) (x / 256) is (omega arith) (omega (arith, h))
 
 carry_kept : (s : ChipState) (c : ℕ) → IsChipState s → c < 2 → IsChipState (with_carry c s)
-carry_kept s c is h = record { pc = is.pc; a = is.a; b = is.b; sp = is.sp; dpl = is.dpl; dph = is.dph; psw = omega (arith, h); psw_held = omega (arith, is.psw_held); ie = is.ie; ie_held = is.ie_held; ip = is.ip; ram = is.ram; bytes = is.bytes }
+carry_kept s c is h = set_psw s _ is (omega (arith, h)) (omega (arith, is.psw_held))
 
 flags_kept : (s : ChipState) (c half overflow : ℕ) → IsChipState s → c < 2 → half < 2 → overflow < 2 → IsChipState (with_flags c half overflow s)
-flags_kept s c half overflow is h g o = record { pc = is.pc; a = is.a; b = is.b; sp = is.sp; dpl = is.dpl; dph = is.dph; psw = omega (arith, h, g, o); psw_held = omega arith; ie = is.ie; ie_held = is.ie_held; ip = is.ip; ram = is.ram; bytes = is.bytes }
+flags_kept s c half overflow is h g o = set_psw s _ is (omega (arith, h, g, o)) (omega arith)
 
 ended_by : (b : Bool) (s t : ChipState) → IsChipState s → IsChipState t → IsChipState (cond b s t)
 ended_by true s t is be = is
 ended_by false s t is be = be
 
 level_kept : (s : ChipState) → IsChipState s → IsChipState (level_ended s)
-level_kept s is = ended_by s.serves_high _ _ (record { pc = is.pc; a = is.a; b = is.b; sp = is.sp; dpl = is.dpl; dph = is.dph; psw = is.psw; psw_held = is.psw_held; ie = is.ie; ie_held = is.ie_held; ip = is.ip; ram = is.ram; bytes = is.bytes }) (record { pc = is.pc; a = is.a; b = is.b; sp = is.sp; dpl = is.dpl; dph = is.dph; psw = is.psw; psw_held = is.psw_held; ie = is.ie; ie_held = is.ie_held; ip = is.ip; ram = is.ram; bytes = is.bytes })
+level_kept s is = ended_by s.serves_high _ _ (set_levels s s.serves_low false is) (set_levels s false s.serves_high is)
 
 serving_kept : (high : Bool) (s : ChipState) → IsChipState s → IsChipState (serving high s)
-serving_kept true s is = record { pc = is.pc; a = is.a; b = is.b; sp = is.sp; dpl = is.dpl; dph = is.dph; psw = is.psw; psw_held = is.psw_held; ie = is.ie; ie_held = is.ie_held; ip = is.ip; ram = is.ram; bytes = is.bytes }
-serving_kept false s is = record { pc = is.pc; a = is.a; b = is.b; sp = is.sp; dpl = is.dpl; dph = is.dph; psw = is.psw; psw_held = is.psw_held; ie = is.ie; ie_held = is.ie_held; ip = is.ip; ram = is.ram; bytes = is.bytes }
+serving_kept true s is = set_levels s s.serves_low true is
+serving_kept false s is = set_levels s true s.serves_high is
 
 -- ---- bytes
 
@@ -122,18 +146,18 @@ read_gives s (InRam at) is h = answer_gives (λ (x : ℕ). x < 256) _ (ram_byte 
 read_gives s (InSfr at) is h = sfr_gives s (sfr_at at) is
 
 sfr_kept : (s : ChipState) (sfr : Sfr) (x : ℕ) → IsChipState s → x < 256 → IsChipState (write_sfr sfr x s)
-sfr_kept s Sp x is h = record { pc = is.pc; a = is.a; b = is.b; sp = h; dpl = is.dpl; dph = is.dph; psw = is.psw; psw_held = is.psw_held; ie = is.ie; ie_held = is.ie_held; ip = is.ip; ram = is.ram; bytes = is.bytes }
-sfr_kept s Dpl x is h = record { pc = is.pc; a = is.a; b = is.b; sp = is.sp; dpl = h; dph = is.dph; psw = is.psw; psw_held = is.psw_held; ie = is.ie; ie_held = is.ie_held; ip = is.ip; ram = is.ram; bytes = is.bytes }
-sfr_kept s Dph x is h = record { pc = is.pc; a = is.a; b = is.b; sp = is.sp; dpl = is.dpl; dph = h; psw = is.psw; psw_held = is.psw_held; ie = is.ie; ie_held = is.ie_held; ip = is.ip; ram = is.ram; bytes = is.bytes }
-sfr_kept s Ie x is h = record { pc = is.pc; a = is.a; b = is.b; sp = is.sp; dpl = is.dpl; dph = is.dph; psw = is.psw; psw_held = is.psw_held; ie = omega (arith, h); ie_held = omega (arith, h); ip = is.ip; ram = is.ram; bytes = is.bytes }
-sfr_kept s Ip x is h = record { pc = is.pc; a = is.a; b = is.b; sp = is.sp; dpl = is.dpl; dph = is.dph; psw = is.psw; psw_held = is.psw_held; ie = is.ie; ie_held = is.ie_held; ip = omega arith; ram = is.ram; bytes = is.bytes }
-sfr_kept s Psw x is h = record { pc = is.pc; a = is.a; b = is.b; sp = is.sp; dpl = is.dpl; dph = is.dph; psw = omega (arith, h); psw_held = omega arith; ie = is.ie; ie_held = is.ie_held; ip = is.ip; ram = is.ram; bytes = is.bytes }
-sfr_kept s Acc x is h = record { pc = is.pc; a = h; b = is.b; sp = is.sp; dpl = is.dpl; dph = is.dph; psw = is.psw; psw_held = is.psw_held; ie = is.ie; ie_held = is.ie_held; ip = is.ip; ram = is.ram; bytes = is.bytes }
-sfr_kept s B x is h = record { pc = is.pc; a = is.a; b = h; sp = is.sp; dpl = is.dpl; dph = is.dph; psw = is.psw; psw_held = is.psw_held; ie = is.ie; ie_held = is.ie_held; ip = is.ip; ram = is.ram; bytes = is.bytes }
+sfr_kept s Sp x is h = set_sp s x is h
+sfr_kept s Dpl x is h = set_halves s x s.dph is h is.dph
+sfr_kept s Dph x is h = set_halves s s.dpl x is is.dpl h
+sfr_kept s Ie x is h = set_ie s _ is (omega (arith, h)) (omega (arith, h))
+sfr_kept s Ip x is h = set_ip s (x % 64) is (omega arith)
+sfr_kept s Psw x is h = set_psw s (x / 4 * 4) is (omega (arith, h)) (omega arith)
+sfr_kept s Acc x is h = set_a s x is h
+sfr_kept s B x is h = set_b s x is h
 sfr_kept s Other x is h = is
 
 ram_kept : (s : ChipState) (at x : ℕ) → IsChipState s → x < 256 → IsChipState (record s { ram = slice_set s.ram at x })
-ram_kept s at x is h = record { pc = is.pc; a = is.a; b = is.b; sp = is.sp; dpl = is.dpl; dph = is.dph; psw = is.psw; psw_held = is.psw_held; ie = is.ie; ie_held = is.ie_held; ip = is.ip; ram = grind (arith, common_steps, is.ram); bytes = All-set (λ b. b < 256) s.ram at x h is.bytes }
+ram_kept s at x is h = set_ram s (slice_set s.ram at x) is (grind (arith, common_steps, is.ram)) (All-set (λ b. b < 256) s.ram at x h is.bytes)
 
 write_kept : (s : ChipState) (address : Address) (x : ℕ) → IsChipState s → x < 256 → IsChipState (write address x s)
 unfolding write
@@ -189,10 +213,10 @@ address_is s (InWorking w) is = working_is s w is
 -- ---- the stack
 
 pushed_kept : (s : ChipState) (byte : ℕ) → IsChipState s → byte < 256 → IsChipState (pushed byte s)
-pushed_kept s byte is h = record { pc = is.pc; a = is.a; b = is.b; sp = omega arith; dpl = is.dpl; dph = is.dph; psw = is.psw; psw_held = is.psw_held; ie = is.ie; ie_held = is.ie_held; ip = is.ip; ram = grind (arith, common_steps, is.ram); bytes = All-set (λ b. b < 256) s.ram ((s.sp + 1) % 256) byte h is.bytes }
+pushed_kept s byte is h = set_sp _ ((s.sp + 1) % 256) (ram_kept s ((s.sp + 1) % 256) byte is h) (omega arith)
 
 popped_kept : (s : ChipState) → IsChipState s → IsChipState (popped s)
-popped_kept s is = record { pc = is.pc; a = is.a; b = is.b; sp = omega arith; dpl = is.dpl; dph = is.dph; psw = is.psw; psw_held = is.psw_held; ie = is.ie; ie_held = is.ie_held; ip = is.ip; ram = is.ram; bytes = is.bytes }
+popped_kept s is = set_sp s ((s.sp + 255) % 256) is (omega arith)
 
 called_kept : (s : ChipState) (target : ℕ) → IsChipState s → target < 65536 → IsChipState (called target s)
 called_kept s target is h = let pc = is.pc in
@@ -249,7 +273,7 @@ multiplied_kept s is = set_ab _ _ _ (cleared_flags s _ is (flag_below _)) (omega
 divided_kept : (s : ChipState) → IsChipState s → (s.b == 0) ≡ false → IsChipState (divided s)
 divided_kept s is some = set_ab _ _ _ (cleared_flags s 0 is (omega arith)) (quotient_below s.a s.b is.a some) (remainder_below s.a s.b is.a)
 
--- ---- forms of instructions
+-- ---- formats of instructions
 
 abbrev pub Keeps : Effect → Type 0
 Keeps effect = IsChipState effect.1

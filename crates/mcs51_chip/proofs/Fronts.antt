@@ -60,7 +60,7 @@ unfolding read_code
 code_asks (Some byte) = answers 1 _
 code_asks None = ask_asks 256 (omega arith) (omega arith)
 
--- ---- forms
+-- ---- formats
 
 -- a byte is read, and then nothing is asked
 after_byte : {A : Type 0} (s : ChipState) (address : Address) (leads : ℕ → A) → AsksAtMost 2 (and_then (read s address) (λ (x : ℕ). answer (leads x)))

@@ -1,4 +1,4 @@
--- The forms of instructions, and steps, lead to what the relations without choices say.
+-- The formats of instructions, and steps, lead to what the relations without choices say.
 use Rattle.std.proofs.Common.{◌≡◌, ℕ, ◌+◌, ◌-◌, ◌*◌, ◌%◌, ◌<◌, ◌==◌, Bool, true, false, cond, nat_lt, List, [], ◌∷◌, ◌++◌, length, slice_index, Option, None, Some, Result, Ok, Err, refl, arith}
 use Rattle.std.specs.Prelude.{Contains}
 use Rattle.std.specs.Int.{bit_at}
@@ -75,7 +75,7 @@ unfolding external_address
 at_leads s DataPointer = answer_gives (MayBeAt s DataPointer) _ refl
 at_leads s (Indirect i) = made_of 256 (λ high. pointed_by s i + 256 * high) (omega arith)
 
--- ---- forms
+-- ---- formats
 
 of_byte : (s : ChipState) (address : Address) (leads : ℕ → Effect) → Gives (IsOfOne (MayRead s address) leads) (and_then (read s address) (λ x. answer (leads x)))
 of_byte s address leads = then_gives (MayRead s address) (IsOfOne (MayRead s address) leads) _ _ (read_leads s address) (λ x may.

@@ -1,5 +1,5 @@
--- What the forms of instructions and steps may lead to, as relations in which no choices stand: each point that is free is
--- any number that it may be. A step of `Step.antt` by any choices leads to what these say (`forms_lead`, `steps_lead`).
+-- What the formats of instructions and steps may lead to, as relations in which no choices stand: each point that is free is
+-- any number that it may be. A step of `Step.antt` by any choices leads to what these say (`formats_lead`, `steps_lead`).
 use Rattle.std.specs.Prelude.{◌≡◌, ℕ, ◌+◌, ◌-◌, ◌*◌, ◌%◌, ◌<◌, Bool, true, false, Option, None, Some, Err, List, [], ◌∷◌, ◌++◌, Contains, slice_index}
 use Rattle.mcs51_decode.specs.declared.instr.Instr.{Instr}
 use Rattle.mcs51_decode.specs.declared.instr.External.{External as AnExternal}
@@ -55,7 +55,7 @@ abbrev pub MayBeAt : ChipState → AnExternal → ℕ → Type 0
 MayBeAt s DataPointer at = at ≡ data_pointer s
 MayBeAt s (Indirect i) at = (high : ℕ) × (high < 256) × (at ≡ pointed_by s i + 256 * high)
 
--- FORMS
+-- FORMATS
 
 -- the effect is that of one of these numbers
 abbrev pub IsOfOne : (ℕ → Type 0) → (ℕ → Effect) → Effect → Type 0
@@ -81,7 +81,7 @@ MayDivide false s effect = effect ≡ ([], divided s)
 
 -- STEPS
 
--- an instruction comes to an effect by some choices; the forms say which these are
+-- an instruction comes to an effect by some choices; the formats say which these are
 abbrev pub MayDo : List (Option ℕ) → ChipState → Instr → Effect → Type 0
 MayDo image s instr effect =
     (choices : List ℕ) × (rest : List ℕ) × (effect_of image (going_to (following s.pc instr) s) instr choices ≡ Some (effect, rest))

@@ -45,7 +45,7 @@ use Rattle.choosing.specs.Outcome.Outcome.{Next, Wild}
 abbrev pub Outcome : Type 0
 Outcome = OutcomeBy Single ChipState NoInstr
 
--- THE FORMS OF INSTRUCTIONS. In the state s that an instruction works on, PC is already the address behind the instruction.
+-- THE FORMATS OF INSTRUCTIONS. In the state s that an instruction works on, PC is already the address behind the instruction.
 -- What it comes to is its accesses in their order, and the state behind it.
 
 abbrev pub Effect : Type 0
@@ -168,7 +168,7 @@ writing_external s external = do
   at ← external_address s external
   answer (external_reads s external ++ External true at ∷ [], s)
 
--- OTHER FORMS
+-- OTHER FORMATS
 
 unfoldable pub dividing : ChipState → Asking Effect
 dividing s choices =

@@ -76,8 +76,8 @@ pub fn the_table_decides()
     decoded_is_the_answer();
 }
 
-/// What the forms of instructions come to, as relations in which no choices stand (`specs/Leading.antt`).
-pub fn forms_lead()
+/// What the formats of instructions come to, as relations in which no choices stand (`specs/Leading.antt`).
+pub fn formats_lead()
     ensures reading { (s : AState) (before : List AnAccess) (address : AnAddress) (leads : ℕ → AState) →
         Gives (IsOfOne (MayRead s address) (λ x. (before ++ reads address, leads x))) (reading s before address leads) }
     ensures updating { (s : AState) (before : List AnAccess) (address : AnAddress) (leads : ℕ → AState) →

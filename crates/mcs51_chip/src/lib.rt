@@ -13,7 +13,7 @@
 //! - [`a_reset_exists`]: there is a state behind a reset.
 //! - [`the_table_decides`]: the instruction that stands at PC by the instruction table is the one that runs.
 //! - [`steps_keep_form`]: steps keep the form of states.
-//! - [`forms_lead`], [`steps_lead`]: what the forms of instructions and steps lead to, without choices
+//! - [`formats_lead`], [`steps_lead`]: what the formats of instructions and steps lead to, without choices
 //!   (`specs/Leading.antt`).
 #![tactic(auto)]
 

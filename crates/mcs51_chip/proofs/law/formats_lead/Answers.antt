@@ -1,5 +1,5 @@
 use Rattle.mcs51_chip.proofs.Leads.{reading_leads, updating_leads, moving_leads, clearing_leads, set_leads, clear_leads, pushing_leads, popping_leads, code_reads_lead, external_reads_lead, external_writes_lead, dividing_leads}
-use Rattle.mcs51_chip.proofs.law.forms_lead.Goals as goal
+use Rattle.mcs51_chip.proofs.law.formats_lead.Goals as goal
 
 pub returns-clause-reading : goal.returns-clause-reading
 returns-clause-reading c = reading_leads
