@@ -1,5 +1,5 @@
 -- What the formats of instructions make of what is known of a state: the two operands, the one operand, PUSH and CALL.
-use Rattle.std.specs.Prelude.{◌≡◌, ℕ, ◌+◌, ◌-◌, ◌%◌, ◌<◌, ◌==◌, ◌&&◌, ◌||◌, if◌then◌else◌, Bool, true, false, Option, None, Some, option_map, List, [], ◌∷◌, ◌++◌, slice_index_or}
+use Rattle.std.specs.Prelude.{◌≡◌, ℕ, ◌+◌, ◌-◌, ◌%◌, ◌<◌, ◌==◌, ◌&&◌, ◌||◌, if◌then◌else◌, Bool, true, false, Option, None, Some, option_map, List, [], ◌∷◌, ◌++◌, slice_index, slice_index_or}
 use Rattle.call_context.specs.declared.shown.Item.{Item}
 use Rattle.call_context.specs.declared.shown.Item.TheVariants.{Access}
 use Rattle.call_context.specs.declared.shown.Set.TheVariants.{W}
@@ -29,12 +29,16 @@ use Rattle.msp430_chip.specs.Arithmetic.{writes_result, reads_destination}
 use Rattle.msp430_chip.specs.Memory.{size_of}
 use Rattle.msp430_chip.specs.Operands.{constant_value}
 use Rattle.msp430_chip.specs.Step.{reads_counter}
+use Rattle.msp430_chip.specs.declared.state.ChipState.{ChipState}
+use Rattle.msp430_chip.specs.Step.{Left}
+use Rattle.msp430_state.specs.Forms.{IsKnown}
+use Rattle.msp430_state.specs.Holding.{HoldsOf, HoldsOfParts}
 use Rattle.msp430_state.specs.Known.{Known}
 use Rattle.msp430_alu.specs.declared.flag_bits.FlagBits.{FlagBits}
 use Rattle.msp430_alu.specs.declared.reach.Reach.{Reach}
 use Rattle.msp430_alu.specs.declared.reach.Reach.TheVariants.{InRegister, InMemory, Fixed}
-use Rattle.msp430_alu.specs.FlagSets.{MadeSet}
-use Rattle.msp430_alu.specs.Memory.{located, with_store}
+use Rattle.msp430_alu.specs.FlagSets.{MadeSet, IsResult}
+use Rattle.msp430_alu.specs.Memory.{IsDevice, located, with_store}
 use Rattle.msp430_alu.specs.Operands.{source_reach, destination_reach, grown_known, operand_word, values_of}
 use Rattle.msp430_alu.specs.Registers.{even_parts, put_register, with_flag_bits}
 use Rattle.msp430_alu.specs.Results.{double_made, twice_flags}
@@ -170,3 +174,17 @@ double_worked device framed a pc len done width origin target =
 abbrev pub LeavesStatus : Destination → Type 0
 LeavesStatus (destination.Register Sr) = ⊥
 LeavesStatus other = Unit {0}
+
+-- LAWS OF A FORMAT
+
+-- a state that stands under what is known, in an interrupt's frame or in none
+pub record IsUnder (device : Device) (framed : Bool) (a : Known) (s : ChipState) (first : Option ChipState) : Type 0 where
+  pub device_so : IsDevice device
+  pub base : framed ≡ false → first ≡ None
+  pub form : IsKnown device.lo device.hi framed a
+  pub holds : HoldsOf device a s first
+
+-- what an instruction leaves stands under what is known behind it, and PC is one of the next addresses
+pub record IsLeft (device : Device) (after : Known) (first : Option ChipState) (next : Form) (left : Left) : Type 0 where
+  pub next_is : IsResult 65536 next (slice_index left.registers 0)
+  pub parts : HoldsOfParts device after first left.registers left.ram
