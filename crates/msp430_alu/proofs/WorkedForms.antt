@@ -46,7 +46,7 @@ use Rattle.msp430_state.specs.Forms.{is_place, IsRelation, IsStatusRelation, IsW
 use Rattle.msp430_state.specs.Known.{Known, word_of}
 use Rattle.msp430_alu.specs.declared.reach.Reach.{Reach}
 use Rattle.msp430_alu.specs.declared.reach.Reach.TheVariants.{InRegister, InMemory, Fixed}
-use Rattle.msp430_alu.specs.Formats.{constant_of, relation_of, masked_and, masked_clear, masked_or, written_word, counter_set, is_doubled, carry_of, destination_word, made_of, put_known, put_known_if, next_by, next_if, double_behind, double_worked}
+use Rattle.msp430_alu.specs.Formats.{double_worked, constant_of, relation_of, masked_and, masked_clear, masked_or, written_word, counter_set, is_doubled, carry_of, destination_word, made_of, put_known, put_known_if, next_by, next_if, double_behind, double_worked}
 use Rattle.msp430_alu.specs.FlagSets.{MadeSet}
 use Rattle.msp430_alu.specs.Memory.{IsDevice, located, word_by, byte_by, program_word, read_one, read_each, read_list, read_known, with_store}
 use Rattle.msp430_alu.specs.Operands.{beside, source_reach, destination_reach, grown_known, operand_word, values_of}
@@ -389,3 +389,16 @@ double_forms laws device framed a is form kinds pc len done width origin target 
       after_so = flags_form device.lo device.hi framed put_so made_so.1 put_is;
       next_so = next_if_form laws (writes_result done) to word ((pc + len) % 65536) writable.word_so.normal (omega arith);
     }
+
+-- the parts of `double_worked`
+pub record WorkedForm (device : Device) (framed : Bool) (after : Known) (next : Form) : Type 0 where
+  pub after_so : IsKnown device.lo device.hi framed after
+  pub next_so : IsNormal 65536 next
+
+pub double_worked_form : (laws : Premises) → AreKinds → (device : Device) (framed : Bool) (a : Known) (pc len : ℕ) (done : Operation) (width : Width) (origin : Source) (target : Destination) → IsDevice device
+    → IsKnown device.lo device.hi framed a → IsSource origin → IsDestination target
+    → WorkedForm device framed (double_worked device framed a pc len done width origin target).after (double_worked device framed a pc len done width origin target).next
+unfolding double_worked
+double_worked_form laws kinds device framed a pc len done width origin target is form from_so to_so =
+    let forms = double_forms laws device framed a is form kinds pc len done width origin target from_so to_so in
+    record { after_so = forms.after_so; next_so = forms.next_so }
