@@ -19,6 +19,7 @@ use Rattle.msp430_decode.specs.declared.instr.Operation.{Operation}
 use Rattle.msp430_decode.specs.declared.instr.Operation.TheVariants as operation
 use Rattle.msp430_decode.specs.declared.instr.Register.{Register}
 use Rattle.msp430_decode.specs.declared.instr.Register.TheVariants.{Pc, Sp, Sr, R3}
+use Rattle.msp430_decode.specs.declared.instr.SingleOperation.{SingleOperation}
 use Rattle.msp430_decode.specs.declared.instr.Source.{Source}
 use Rattle.msp430_decode.specs.declared.instr.Source.TheVariants as source
 use Rattle.msp430_decode.specs.declared.instr.Width.{Width}
@@ -41,7 +42,7 @@ use Rattle.msp430_alu.specs.FlagSets.{MadeSet, IsResult}
 use Rattle.msp430_alu.specs.Memory.{IsDevice, located, with_store}
 use Rattle.msp430_alu.specs.Operands.{source_reach, destination_reach, grown_known, operand_word, values_of}
 use Rattle.msp430_alu.specs.Registers.{even_parts, put_register, with_flag_bits}
-use Rattle.msp430_alu.specs.Results.{double_made, twice_flags}
+use Rattle.msp430_alu.specs.Results.{double_made, single_made, twice_flags}
 
 -- WRITES TO A PLACE
 
@@ -169,6 +170,31 @@ double_worked device framed a pc len done width origin target =
     let grown_so = grown_known a counted width origin in
     let to = destination_reach pc len grown_so counted target in
     double_behind device framed pc len done width origin target counted grown_so from to (operand_word device a counted width from) (destination_word device grown_so counted done width to) (carry_of a)
+
+-- ONE OPERAND
+
+-- from its place and what it holds; results have no relation
+abbrev pub single_behind : Device → (framed : Bool) → (pc len : ℕ) → SingleOperation → Width → (grown_so : Known) → (from : Reach) → (x : Word) → (carry : Tri) → Worked
+single_behind device framed pc len done width grown_so from x carry =
+    let made_so = single_made done width (values_of width x) carry in
+    let word = written_word width made_so.0 None in
+    record {
+      after = with_flag_bits (put_known device framed grown_so width from word) made_so.1;
+      next = next_by from word ((pc + len) % 65536);
+      accesses = access_of pc false width from ++ access_of pc true width from;
+      store = store_of true width from;
+    }
+
+unfoldable pub single_worked : Device → (framed : Bool) → Known → (pc len : ℕ) → SingleOperation → Width → Source → Worked
+single_worked device framed a pc len done width operand =
+    let counted = single ((pc + len) % 65536) in
+    let from = source_reach pc a counted operand in
+    single_behind device framed pc len done width (grown_known a counted width operand) from (operand_word device a counted width from) (carry_of a)
+
+-- SR isn't the operand
+abbrev pub LeavesStatusAlone : Source → Type 0
+LeavesStatusAlone (source.Register Sr) = ⊥
+LeavesStatusAlone other = Unit {0}
 
 -- SR isn't the destination
 abbrev pub LeavesStatus : Destination → Type 0
