@@ -37,6 +37,7 @@ use Rattle.msp430_chip.specs.Kinds.{Kind}
 use Rattle.msp430_chip.specs.Leading.{MayCount, MayStandAt, MayStandIf, MayMake, MayLeaveDouble, MayDouble, LeavesFree, at_source, behind_source, origin_of, place_of}
 use Rattle.msp430_chip.specs.Leading.MayCount.{Behind, Within}
 use Rattle.msp430_chip.specs.Leading.MayLeaveDouble.{FreeStatus, OfResult}
+use Rattle.msp430_chip.specs.Outcome.{Outcome}
 use Rattle.msp430_chip.specs.Operands.{value_in, grown, source_place, destination_place, has_free_bits, with_free_bits, is_status}
 use Rattle.msp430_chip.specs.State.{register_of, IsChipState}
 use Rattle.msp430_chip.specs.Step.{Left, put_if, with_status, behind}
@@ -47,7 +48,7 @@ use Rattle.msp430_alu.specs.declared.flag_bits.FlagBits.{FlagBits}
 use Rattle.msp430_alu.specs.declared.reach.Reach.{Reach}
 use Rattle.msp430_alu.specs.declared.reach.Reach.TheVariants.{InRegister, InMemory, Fixed}
 use Rattle.msp430_alu.specs.FlagSets.{MadeSet, IsResult, HoldsOfMade}
-use Rattle.msp430_alu.specs.Formats.{constant_of, relation_of, written_word, counter_set, is_doubled, carry_of, destination_word, made_of, put_known_if, next_if, double_behind, double_worked, LeavesStatus}
+use Rattle.msp430_alu.specs.Formats.{constant_of, relation_of, written_word, counter_set, is_doubled, carry_of, destination_word, made_of, put_known_if, next_if, double_behind, double_worked, LeavesStatus, IsUnder, IsLeft}
 use Rattle.msp430_alu.specs.Memory.{IsDevice}
 use Rattle.msp430_alu.specs.Operands.{source_reach, destination_reach, grown_known, operand_word, values_of, IsReached}
 use Rattle.msp430_alu.specs.Premises.{Premises}
@@ -60,15 +61,8 @@ use Rattle.msp430_alu.proofs.OperandLemmas.{AreKinds, IsOnTheWay, IsOperand, sou
 use Rattle.msp430_alu.proofs.Parts.{parts_counted, flags_written}
 use Rattle.msp430_alu.proofs.Putting.{IsPut, IsReady, put_if_is, counted_are}
 use Rattle.msp430_alu.proofs.Rows.{double_holds, twice_row}
-use Rattle.msp430_alu.proofs.Shapes.{register_form}
+use Rattle.msp430_alu.proofs.WorkedForms.{double_forms}
 use Rattle.msp430_alu.proofs.Storing.{IsRam}
-
--- a state that stands under what is known, in an interrupt's frame or in none
-pub record IsUnder (device : Device) (framed : Bool) (a : Known) (s : ChipState) (first : Option ChipState) : Type 0 where
-  pub device_so : IsDevice device
-  pub base : framed ≡ false → first ≡ None
-  pub form : IsKnown device.lo device.hi framed a
-  pub holds : HoldsOf device a s first
 
 -- C
 first_bit : (bits : List Tri) (sr n : ℕ) → length bits ≡ suc n → Agrees bits sr → IsBit (slice_index_or bits 0 Either) (sr % 2)
@@ -190,3 +184,83 @@ result_related laws first device ram registers pc len done Words origin target o
     (with_free_bits Words (destination_place pc len (grown registers Words origin) target) bits y) carry made_so may
     (λ m constant. constant_value_is device ram registers pc origin x bits m is constant are.stands)
     (are.source.holds refl).1 (are.target_so.holds refl).1
+
+-- THE LAW
+
+-- the flags behind a write
+pub flags_put : (laws : Premises) (device : Device) (framed : Bool) (a : Known) (first : Option ChipState) (next : Form) (left : Left) (made_set : MadeSet) (made_so : Made) (width : Width) → IsKnown device.lo device.hi framed a
+    → HoldsOfMade width made_set made_so → IsPut laws device a first next left → IsLeft device (with_flag_bits a made_set.1) first next (with_status made_so.1 left)
+flags_put laws device framed a first next left made_set made_so width form made_is put = record {
+  next_is = subst (IsResult 65536 next) (sym (get_or-set_other left.registers 2 0 (with_made_flags (get_or left.registers 2 0) made_so.1) 0 (λ e. omega (arith, e)))) put.next_is;
+  parts = flags_written device a first left.registers left.ram made_set.1 made_so.1 put.are.count form.bits form.fact made_is.flags put.parts;
+}
+
+-- what one of its results leaves
+double_leaves : (laws : Premises) (kinds : AreKinds) (device : Device) (framed : Bool) (a : Known) (s : ChipState) (first : Option ChipState) (len counted : ℕ) (done : Operation) (width : Width) (origin : Source) (target : Destination)
+    → IsUnder device framed a s first → IsSource origin → IsDestination target → LeavesStatus target
+    → MayCount s len origin target counted → (x y bits : ℕ) (left : Left)
+    → MayStandAt device s.ram (at_source s counted) width (origin_of s counted origin) x
+    → MayStandIf (reads_destination done) device s.ram (behind_source s counted width origin) width (place_of s len counted width origin target) y → bits < 128
+    → MayLeaveDouble device s.ram (set (behind_source s counted width origin) 0 (behind s len)) done width (place_of s len counted width origin target)
+    (with_free_bits width (origin_of s counted origin) bits x) (with_free_bits width (place_of s len counted width origin target) bits y) (register_of s 2 % 2) left
+    → IsLeft device (double_worked device framed a (register_of s 0) len done width origin target).after first (double_worked device framed a (register_of s 0) len done width origin target).next left
+unfolding double_worked
+double_leaves laws kinds device framed a s first len counted done width origin target under from_so to_so leaves counts x y bits left reads held few (FreeStatus free freed) =
+    let none = no_status (register_of s 0) len (behind_source s counted width origin) target leaves in
+    let yes = (and_parts (sets_flags done) (is_status (place_of s len counted width origin target)) free).1 in
+    absurd (false≢true (sym none ∙ yes))
+double_leaves laws kinds device framed a s first len counted done width origin target under from_so to_so leaves counts x y bits left reads held few (OfResult other made_so may is) =
+    let pc = register_of s 0 in
+    let suspended = option_map suspended_of first in
+    let counted_so = counter_set pc len origin target in
+    let count_is = counter_is laws s len origin target counted counts in
+    let small = laws.below 65536 counted counted_so count_is.normal count_is.has in
+    let on = on_the_way device framed a counted_so first s counted under.form under.holds small count_is in
+    let grown_so = grown_known a counted_so width origin in
+    let on_grown = grown_on laws device framed a counted_so first (at_source s counted) s.ram on kinds width origin from_so in
+    let from = source_reach pc a counted_so origin in
+    let to = destination_reach pc len grown_so counted_so target in
+    let one = operand_word device a counted_so width from in
+    let two = destination_word device grown_so counted_so done width to in
+    let none = no_status pc len (behind_source s counted width origin) target leaves in
+    let from_is = source_reached laws device framed a counted_so first (at_source s counted) s.ram on kinds pc origin from_so in
+    let to_is = destination_reached laws device framed grown_so counted_so first (behind_source s counted width origin) s.ram on_grown kinds pc len target to_so in
+    let are : AreOperands suspended device s.ram (at_source s counted) pc len done width origin target one two x y bits = record {
+      source = operand_held laws device framed a counted_so first (at_source s counted) s.ram on kinds under.device_so width from (origin_of s counted origin) x bits from_is reads few;
+      target_so = target_held laws device framed grown_so counted_so first (behind_source s counted width origin) s.ram on_grown kinds under.device_so (reads_destination done) width to
+          (place_of s len counted width origin target) y bits to_is none held few;
+      stands = reads;
+      held = held;
+    } in
+    let made_set = made_of done width origin target one two (carry_of a) in
+    let bit = carry_bit device framed a s first under in
+    let made_is = made_holds laws suspended device s.ram (at_source s counted) pc len done width origin target one two x y bits (register_of s 2 % 2) (carry_of a) made_so bit are may in
+    let relation = relation_of done (constant_of origin) one.entry two.entry in
+    let word = written_word width made_set.0 relation in
+    let written = written_is laws suspended width made_set.0 relation made_so.0 (record { normal = made_is.normal; has = made_is.result })
+    (result_related laws suspended device s.ram (at_source s counted) pc len done width origin target one two x y bits (register_of s 2 % 2) made_so from_so are may) in
+    let after = behind s len in
+    let after_small : after < 65536 = omega arith in
+    let at_write = set (behind_source s counted width origin) 0 after in
+    let ready : IsReady device framed grown_so first at_write s.ram after = record {
+      device_so = under.device_so;
+      base = under.base;
+      form = on_grown.form;
+      are = counted_are (behind_source s counted width origin) after after_small on_grown.are;
+      ram_is = record { count = under.holds.state.ram; bytes = under.holds.state.bytes };
+      pc = get_or-set_same (behind_source s counted width origin) 0 after 0 (omega (arith, on_grown.are.count));
+      small = after_small;
+      parts = parts_counted device grown_so first (behind_source s counted width origin) s.ram after on_grown.form.fact on_grown.parts;
+    } in
+    let forms = double_forms laws device framed a under.device_so under.form kinds pc len done width origin target from_so to_so in
+    let put_so = put_known_if (writes_result done) device framed grown_so width to word in
+    let put_is = put_if_is laws device framed grown_so first at_write s.ram after ready kinds (writes_result done) width to (place_of s len counted width origin target) word made_so.0 to_is none written in
+    subst (IsLeft device (with_flag_bits put_so made_set.1) first (next_if (writes_result done) to word after)) (sym is)
+    (flags_put laws device framed put_so first (next_if (writes_result done) to word after) (put_if (writes_result done) device at_write s.ram width (place_of s len counted width origin target) made_so.0)
+    made_set made_so width forms.put made_is put_is)
+
+pub double_law : (laws : Premises) (kinds : AreKinds) (device : Device) (framed : Bool) (a : Known) (s : ChipState) (first : Option ChipState) (len : ℕ) (done : Operation) (width : Width) (origin : Source) (target : Destination) (outcome : Outcome ChipState)
+    → IsUnder device framed a s first → IsSource origin → IsDestination target → LeavesStatus target → (may : MayDouble device s len done width origin target outcome)
+    → IsLeft device (double_worked device framed a (register_of s 0) len done width origin target).after first (double_worked device framed a (register_of s 0) len done width origin target).next may.left
+double_law laws kinds device framed a s first len done width origin target outcome under from_so to_so leaves may =
+    double_leaves laws kinds device framed a s first len may.counted done width origin target under from_so to_so leaves may.counts may.x may.y may.bits may.left may.reads may.held may.free.below may.leaves

@@ -102,3 +102,14 @@ grown_on laws device framed a counted first registers ram on kinds width (source
 grown_on laws device framed a counted first registers ram on kinds width (source.Symbolic offset) is = on
 grown_on laws device framed a counted first registers ram on kinds width (source.Absolute address) is = on
 grown_on laws device framed a counted first registers ram on kinds width (source.Constant constant) is = on
+
+-- and PC stays
+pub grown_pc : (registers : List ℕ) (width : Width) (origin : Source) → AreKinds → IsSource origin → get_or (grown registers width origin) 0 0 ≡ get_or registers 0 0
+grown_pc registers width (source.IndirectIncrement register) kinds is = pointer_pc registers register ((value_in registers register + growth width register) % 65536) is (kinds register)
+grown_pc registers width (source.Register register) kinds is = refl
+grown_pc registers width (source.Indexed register offset) kinds is = refl
+grown_pc registers width (source.Indirect register) kinds is = refl
+grown_pc registers width (source.Immediate value) kinds is = refl
+grown_pc registers width (source.Symbolic offset) kinds is = refl
+grown_pc registers width (source.Absolute address) kinds is = refl
+grown_pc registers width (source.Constant constant) kinds is = refl

@@ -12,3 +12,4 @@ pub mod Growth
 pub mod Doubles
 pub mod DoubleLaw
 pub mod WorkedForms
+pub mod SingleLaw

@@ -28,6 +28,7 @@ use Rattle.msp430_decode.specs.declared.instr.Operation.{Operation}
 use Rattle.msp430_decode.specs.declared.instr.Operation.TheVariants as operation
 use Rattle.msp430_decode.specs.declared.instr.Register.{Register}
 use Rattle.msp430_decode.specs.declared.instr.Register.TheVariants.{Pc, Sp, Sr, R3}
+use Rattle.msp430_decode.specs.declared.instr.SingleOperation.{SingleOperation}
 use Rattle.msp430_decode.specs.declared.instr.Source.{Source}
 use Rattle.msp430_decode.specs.declared.instr.Source.TheVariants as source
 use Rattle.msp430_decode.specs.declared.instr.Width.{Width}
@@ -46,18 +47,18 @@ use Rattle.msp430_state.specs.Forms.{is_place, IsRelation, IsStatusRelation, IsW
 use Rattle.msp430_state.specs.Known.{Known, word_of}
 use Rattle.msp430_alu.specs.declared.reach.Reach.{Reach}
 use Rattle.msp430_alu.specs.declared.reach.Reach.TheVariants.{InRegister, InMemory, Fixed}
-use Rattle.msp430_alu.specs.Formats.{constant_of, relation_of, masked_and, masked_clear, masked_or, written_word, counter_set, is_doubled, carry_of, destination_word, made_of, put_known, put_known_if, next_by, next_if, double_behind, double_worked}
+use Rattle.msp430_alu.specs.Formats.{single_worked, double_worked, constant_of, relation_of, masked_and, masked_clear, masked_or, written_word, counter_set, is_doubled, carry_of, destination_word, made_of, put_known, put_known_if, next_by, next_if, double_behind, double_worked}
 use Rattle.msp430_alu.specs.FlagSets.{MadeSet}
 use Rattle.msp430_alu.specs.Memory.{IsDevice, located, word_by, byte_by, program_word, read_one, read_each, read_list, read_known, with_store}
 use Rattle.msp430_alu.specs.Operands.{beside, source_reach, destination_reach, grown_known, operand_word, values_of}
 use Rattle.msp430_alu.specs.Premises.{Premises}
 use Rattle.msp430_alu.specs.Registers.{even_parts, status_set, put_register, register_word, with_flag_bits}
-use Rattle.msp430_alu.specs.Results.{double_made, twice_flags}
+use Rattle.msp430_alu.specs.Results.{double_made, single_made, twice_flags, HasWidth}
 use Rattle.msp430_alu.proofs.Growth.{growth_small}
 use Rattle.msp430_alu.proofs.OperandLemmas.{AreKinds, constant_small, general_word, word_normal}
 use Rattle.msp430_alu.proofs.Parts.{even_parts_form}
 use Rattle.msp430_alu.proofs.Reading.{read_known_normal}
-use Rattle.msp430_alu.proofs.Rows.{double_form, twice_form}
+use Rattle.msp430_alu.proofs.Rows.{double_form, twice_form, single_form}
 use Rattle.msp430_alu.proofs.Shapes.{IsCellWord, no_relation, register_form, flags_form, store_form}
 
 -- REGISTERS AS OPERANDS
@@ -389,3 +390,60 @@ double_forms laws device framed a is form kinds pc len done width origin target 
       after_so = flags_form device.lo device.hi framed put_so made_so.1 put_is;
       next_so = next_if_form laws (writes_result done) to word ((pc + len) % 65536) writable.word_so.normal (omega arith);
     }
+
+-- the parts of `double_worked`
+pub record WorkedForm (device : Device) (framed : Bool) (after : Known) (next : Form) : Type 0 where
+  pub after_so : IsKnown device.lo device.hi framed after
+  pub next_so : IsNormal 65536 next
+
+pub double_worked_form : (laws : Premises) → AreKinds → (device : Device) (framed : Bool) (a : Known) (pc len : ℕ) (done : Operation) (width : Width) (origin : Source) (target : Destination) → IsDevice device
+    → IsKnown device.lo device.hi framed a → IsSource origin → IsDestination target
+    → WorkedForm device framed (double_worked device framed a pc len done width origin target).after (double_worked device framed a pc len done width origin target).next
+unfolding double_worked
+double_worked_form laws kinds device framed a pc len done width origin target is form from_so to_so =
+    let forms = double_forms laws device framed a is form kinds pc len done width origin target from_so to_so in
+    record { after_so = forms.after_so; next_so = forms.next_so }
+
+-- ONE OPERAND
+
+-- the parts of what an instruction with one operand makes of a state
+pub record SingleForms (device : Device) (framed : Bool) (put_so after : Known) (next : Form) : Type 0 where
+  pub put : IsKnown device.lo device.hi framed put_so
+  pub after_so : IsKnown device.lo device.hi framed after
+  pub next_so : IsNormal 65536 next
+
+pub single_forms : (laws : Premises) (device : Device) (framed : Bool) (a : Known) → IsDevice device → IsKnown device.lo device.hi framed a → AreKinds → (pc len : ℕ) (done : SingleOperation) (width : Width) (operand : Source)
+    → IsSource operand → HasWidth done width
+    → let counted = single ((pc + len) % 65536) in
+    let grown_so = grown_known a counted width operand in
+    let from = source_reach pc a counted operand in
+    let made_so = single_made done width (values_of width (operand_word device a counted width from)) (carry_of a) in
+    let word = written_word width made_so.0 None in
+    let put_so = put_known device framed grown_so width from word in
+    SingleForms device framed put_so (with_flag_bits put_so made_so.1) (next_by from word ((pc + len) % 65536))
+single_forms laws device framed a is form kinds pc len done width operand from_so fits =
+    let counted = single ((pc + len) % 65536) in
+    let counted_so = (laws.single 65536 ((pc + len) % 65536) (omega arith)).0 in
+    let grown_so = grown_known a counted width operand in
+    let grown_is = grown_form laws device.lo device.hi framed a counted form counted_so kinds width operand in
+    let from = source_reach pc a counted operand in
+    let one = operand_word device a counted width from in
+    let one_is = operand_form laws device framed a counted is form counted_so kinds width from (source_small pc a counted operand from_so) in
+    let made_so = single_made done width (values_of width one) (carry_of a) in
+    let word = written_word width made_so.0 None in
+    let writable = written_form laws framed width made_so.0 None (single_form laws done width (values_of width one) (carry_of a) fits (values_form laws framed width one one_is)) (no_relation framed) in
+    let put_is = put_form laws device framed grown_so is grown_is kinds width from word (source_form laws device.lo device.hi framed a counted form counted_so kinds pc operand from_so) writable in
+    let put_so = put_known device framed grown_so width from word in
+    record {
+      put = put_is;
+      after_so = flags_form device.lo device.hi framed put_so made_so.1 put_is;
+      next_so = next_form laws from word ((pc + len) % 65536) writable.word_so.normal (omega arith);
+    }
+
+pub single_worked_form : (laws : Premises) → AreKinds → (device : Device) (framed : Bool) (a : Known) (pc len : ℕ) (done : SingleOperation) (width : Width) (operand : Source) → IsDevice device
+    → IsKnown device.lo device.hi framed a → IsSource operand → HasWidth done width
+    → WorkedForm device framed (single_worked device framed a pc len done width operand).after (single_worked device framed a pc len done width operand).next
+unfolding single_worked
+single_worked_form laws kinds device framed a pc len done width operand is form from_so fits =
+    let forms = single_forms laws device framed a is form kinds pc len done width operand from_so fits in
+    record { after_so = forms.after_so; next_so = forms.next_so }

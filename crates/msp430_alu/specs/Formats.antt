@@ -1,5 +1,5 @@
 -- What the formats of instructions make of what is known of a state: the two operands, the one operand, PUSH and CALL.
-use Rattle.std.specs.Prelude.{◌≡◌, ℕ, ◌+◌, ◌-◌, ◌%◌, ◌<◌, ◌==◌, ◌&&◌, ◌||◌, if◌then◌else◌, Bool, true, false, Option, None, Some, option_map, List, [], ◌∷◌, ◌++◌, slice_index_or}
+use Rattle.std.specs.Prelude.{◌≡◌, ℕ, ◌+◌, ◌-◌, ◌%◌, ◌<◌, ◌==◌, ◌&&◌, ◌||◌, if◌then◌else◌, Bool, true, false, Option, None, Some, option_map, List, [], ◌∷◌, ◌++◌, slice_index, slice_index_or}
 use Rattle.call_context.specs.declared.shown.Item.{Item}
 use Rattle.call_context.specs.declared.shown.Item.TheVariants.{Access}
 use Rattle.call_context.specs.declared.shown.Set.TheVariants.{W}
@@ -19,6 +19,7 @@ use Rattle.msp430_decode.specs.declared.instr.Operation.{Operation}
 use Rattle.msp430_decode.specs.declared.instr.Operation.TheVariants as operation
 use Rattle.msp430_decode.specs.declared.instr.Register.{Register}
 use Rattle.msp430_decode.specs.declared.instr.Register.TheVariants.{Pc, Sp, Sr, R3}
+use Rattle.msp430_decode.specs.declared.instr.SingleOperation.{SingleOperation}
 use Rattle.msp430_decode.specs.declared.instr.Source.{Source}
 use Rattle.msp430_decode.specs.declared.instr.Source.TheVariants as source
 use Rattle.msp430_decode.specs.declared.instr.Width.{Width}
@@ -29,15 +30,19 @@ use Rattle.msp430_chip.specs.Arithmetic.{writes_result, reads_destination}
 use Rattle.msp430_chip.specs.Memory.{size_of}
 use Rattle.msp430_chip.specs.Operands.{constant_value}
 use Rattle.msp430_chip.specs.Step.{reads_counter}
+use Rattle.msp430_chip.specs.declared.state.ChipState.{ChipState}
+use Rattle.msp430_chip.specs.Step.{Left}
+use Rattle.msp430_state.specs.Forms.{IsKnown}
+use Rattle.msp430_state.specs.Holding.{HoldsOf, HoldsOfParts}
 use Rattle.msp430_state.specs.Known.{Known}
 use Rattle.msp430_alu.specs.declared.flag_bits.FlagBits.{FlagBits}
 use Rattle.msp430_alu.specs.declared.reach.Reach.{Reach}
 use Rattle.msp430_alu.specs.declared.reach.Reach.TheVariants.{InRegister, InMemory, Fixed}
-use Rattle.msp430_alu.specs.FlagSets.{MadeSet}
-use Rattle.msp430_alu.specs.Memory.{located, with_store}
+use Rattle.msp430_alu.specs.FlagSets.{MadeSet, IsResult}
+use Rattle.msp430_alu.specs.Memory.{IsDevice, located, with_store}
 use Rattle.msp430_alu.specs.Operands.{source_reach, destination_reach, grown_known, operand_word, values_of}
 use Rattle.msp430_alu.specs.Registers.{even_parts, put_register, with_flag_bits}
-use Rattle.msp430_alu.specs.Results.{double_made, twice_flags}
+use Rattle.msp430_alu.specs.Results.{double_made, single_made, twice_flags}
 
 -- WRITES TO A PLACE
 
@@ -166,7 +171,46 @@ double_worked device framed a pc len done width origin target =
     let to = destination_reach pc len grown_so counted target in
     double_behind device framed pc len done width origin target counted grown_so from to (operand_word device a counted width from) (destination_word device grown_so counted done width to) (carry_of a)
 
+-- ONE OPERAND
+
+-- from its place and what it holds; results have no relation
+abbrev pub single_behind : Device → (framed : Bool) → (pc len : ℕ) → SingleOperation → Width → (grown_so : Known) → (from : Reach) → (x : Word) → (carry : Tri) → Worked
+single_behind device framed pc len done width grown_so from x carry =
+    let made_so = single_made done width (values_of width x) carry in
+    let word = written_word width made_so.0 None in
+    record {
+      after = with_flag_bits (put_known device framed grown_so width from word) made_so.1;
+      next = next_by from word ((pc + len) % 65536);
+      accesses = access_of pc false width from ++ access_of pc true width from;
+      store = store_of true width from;
+    }
+
+unfoldable pub single_worked : Device → (framed : Bool) → Known → (pc len : ℕ) → SingleOperation → Width → Source → Worked
+single_worked device framed a pc len done width operand =
+    let counted = single ((pc + len) % 65536) in
+    let from = source_reach pc a counted operand in
+    single_behind device framed pc len done width (grown_known a counted width operand) from (operand_word device a counted width from) (carry_of a)
+
+-- SR isn't the operand
+abbrev pub LeavesStatusAlone : Source → Type 0
+LeavesStatusAlone (source.Register Sr) = ⊥
+LeavesStatusAlone other = Unit {0}
+
 -- SR isn't the destination
 abbrev pub LeavesStatus : Destination → Type 0
 LeavesStatus (destination.Register Sr) = ⊥
 LeavesStatus other = Unit {0}
+
+-- LAWS OF A FORMAT
+
+-- a state that stands under what is known, in an interrupt's frame or in none
+pub record IsUnder (device : Device) (framed : Bool) (a : Known) (s : ChipState) (first : Option ChipState) : Type 0 where
+  pub device_so : IsDevice device
+  pub base : framed ≡ false → first ≡ None
+  pub form : IsKnown device.lo device.hi framed a
+  pub holds : HoldsOf device a s first
+
+-- what an instruction leaves stands under what is known behind it, and PC is one of the next addresses
+pub record IsLeft (device : Device) (after : Known) (first : Option ChipState) (next : Form) (left : Left) : Type 0 where
+  pub next_is : IsResult 65536 next (slice_index left.registers 0)
+  pub parts : HoldsOfParts device after first left.registers left.ram

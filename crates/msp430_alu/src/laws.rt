@@ -1,16 +1,27 @@
 //! What holds of the operations on sets.
 
-ghost use Rattle.std.specs.Prelude.{◌≡◌, ℕ};
+ghost use Rattle.std.specs.Prelude.{◌≡◌, ℕ, Bool, Option};
 ghost use Rattle.value_set.specs.declared.form.Form.{Form as AForm};
 ghost use Rattle.value_set.specs.Form.{IsNormal};
 ghost use Rattle.value_bits.specs.declared.tri.Tri.{Tri as ATri};
 ghost use Rattle.value_bits.specs.Bits.{IsBit};
+ghost use Rattle.msp430_decode.specs.declared.instr.Destination.{Destination as ADestination};
+ghost use Rattle.msp430_decode.specs.declared.instr.Source.{Source as ASource};
 ghost use Rattle.msp430_decode.specs.declared.instr.Operation.{Operation as AnOperation};
 ghost use Rattle.msp430_decode.specs.declared.instr.SingleOperation.{SingleOperation as ASingleOperation};
 ghost use Rattle.msp430_decode.specs.declared.instr.Width.{Width as AWidth};
+ghost use Rattle.msp430_decode.specs.Operands.{IsSource, IsDestination};
+ghost use Rattle.msp430_chip.specs.declared.device.Device.{Device as ADevice};
+ghost use Rattle.msp430_chip.specs.declared.state.ChipState.{ChipState as AState};
+ghost use Rattle.msp430_chip.specs.Outcome.{Outcome};
+ghost use Rattle.msp430_chip.specs.State.{register_of};
 ghost use Rattle.msp430_chip.specs.Arithmetic.{Made, modulus, sum};
-ghost use Rattle.msp430_chip.specs.Leading.{MayMake, MayMakeSingle};
+ghost use Rattle.msp430_chip.specs.Leading.{MayDouble, MayMake, MayMakeSingle, MaySingle};
 ghost use Rattle.msp430_alu.specs.FlagSets.{IsResult, HoldsOfMade};
+ghost use Rattle.msp430_alu.specs.Formats.{IsLeft, IsUnder, LeavesStatus, LeavesStatusAlone, double_worked, single_worked};
+ghost use Rattle.msp430_alu.specs.Memory.{IsDevice};
+ghost use Rattle.msp430_state.specs.Forms.{IsKnown};
+ghost use Rattle.msp430_state.specs.Known.{Known};
 ghost use Rattle.msp430_alu.specs.Premises.{Premises};
 ghost use Rattle.msp430_alu.specs.Results.{HasWidth, double_made, single_made, twice_flags};
 
@@ -18,6 +29,7 @@ use entry_value::{
     bytes_stay_bytes, cells_speak_of_ram, reads_hold, reads_keep_form, relations_hold,
     writes_cover, writes_keep_form,
 };
+use msp430_chip::registers_of_five_kinds;
 use msp430_state::ranges_hold;
 use value_bits::{
     bits_hold, decimals_hold, evens_stay, flags_agree, halves_hold, logic_holds, moves_hold,
@@ -71,4 +83,37 @@ pub fn operations_hold()
         → IsNormal (modulus width) (single_made done width a c).0 }
 {
     premises_hold();
+}
+
+/// The law of instructions with two operands, but for those that write SR: a state that stands under what is known may only
+/// lead to one that stands under what `double_worked` says, at one of its next addresses. What it says is in form.
+pub fn doubles_hold()
+    ensures left { (device : ADevice) (framed : Bool) (a : Known) (s : AState) (first : Option AState) (len : ℕ) (done : AnOperation) (width : AWidth) (origin : ASource) (target : ADestination) (outcome : Outcome AState)
+        → IsUnder device framed a s first → IsSource origin → IsDestination target → LeavesStatus target → (may : MayDouble device s len done width origin target outcome)
+        → IsLeft device (double_worked device framed a (register_of s 0) len done width origin target).after first (double_worked device framed a (register_of s 0) len done width origin target).next may.left }
+    ensures form { (device : ADevice) (framed : Bool) (a : Known) (pc len : ℕ) (done : AnOperation) (width : AWidth) (origin : ASource) (target : ADestination)
+        → IsDevice device → IsKnown device.lo device.hi framed a → IsSource origin → IsDestination target
+        → IsKnown device.lo device.hi framed (double_worked device framed a pc len done width origin target).after }
+    ensures next { (device : ADevice) (framed : Bool) (a : Known) (pc len : ℕ) (done : AnOperation) (width : AWidth) (origin : ASource) (target : ADestination)
+        → IsDevice device → IsKnown device.lo device.hi framed a → IsSource origin → IsDestination target
+        → IsNormal 65536 (double_worked device framed a pc len done width origin target).next }
+{
+    premises_hold();
+    registers_of_five_kinds();
+}
+
+/// The same of instructions with one operand, but for those that write SR: `single_worked`.
+pub fn singles_hold()
+    ensures left { (device : ADevice) (framed : Bool) (a : Known) (s : AState) (first : Option AState) (len : ℕ) (done : ASingleOperation) (width : AWidth) (operand : ASource) (outcome : Outcome AState)
+        → IsUnder device framed a s first → IsSource operand → LeavesStatusAlone operand → HasWidth done width → (may : MaySingle device s len done width operand outcome)
+        → IsLeft device (single_worked device framed a (register_of s 0) len done width operand).after first (single_worked device framed a (register_of s 0) len done width operand).next may.left }
+    ensures form { (device : ADevice) (framed : Bool) (a : Known) (pc len : ℕ) (done : ASingleOperation) (width : AWidth) (operand : ASource)
+        → IsDevice device → IsKnown device.lo device.hi framed a → IsSource operand → HasWidth done width
+        → IsKnown device.lo device.hi framed (single_worked device framed a pc len done width operand).after }
+    ensures next { (device : ADevice) (framed : Bool) (a : Known) (pc len : ℕ) (done : ASingleOperation) (width : AWidth) (operand : ASource)
+        → IsDevice device → IsKnown device.lo device.hi framed a → IsSource operand → HasWidth done width
+        → IsNormal 65536 (single_worked device framed a pc len done width operand).next }
+{
+    premises_hold();
+    registers_of_five_kinds();
 }

@@ -1,0 +1,13 @@
+use Rattle.msp430_alu.proofs.DoubleLaw.{double_law}
+use Rattle.msp430_alu.proofs.WorkedForms.{double_worked_form}
+use Rattle.msp430_alu.proofs.laws.doubles_hold.Goals as goal
+
+pub returns : goal.returns
+returns c =
+    let laws = c.premises_hold.ensures in
+    let kinds = c.registers_of_five_kinds.ensures in
+    record {
+      left = double_law laws kinds;
+      form = λ device framed a pc len done width origin target is form from_so to_so. (double_worked_form laws kinds device framed a pc len done width origin target is form from_so to_so).after_so;
+      next = λ device framed a pc len done width origin target is form from_so to_so. (double_worked_form laws kinds device framed a pc len done width origin target is form from_so to_so).next_so;
+    }
