@@ -5,16 +5,18 @@ use vsa_top::Status;
 
 /// The command line, printed where it isn't valid.
 const USAGE: &str = "\
-usage: vsa MODE msp430 [--ram LO-HI] [--steps N] < INPUT
+usage: vsa MODE CHIP [--ram LO-HI] [--steps N] < INPUT
 
 Modes, with the input that each reads from standard input:
-  analyse   an Intel HEX text: prints what the program can do
+  analyse   an Intel HEX text: prints what the program can do (msp430 alone)
   disasm    an Intel HEX text: prints its instructions
   run       an Intel HEX text, and a script after its end record: runs the program, prints what each step does
 
+Chips: msp430, and mcs51 (the 8051, as an 8052).
+
 Options, each at most once, after the chip:
-  --ram LO-HI   the first and the last address of RAM, by four hexadecimal digits each. LO is even and at least
-                0200, HI is odd and above LO. Default: 0200-09FF
+  --ram LO-HI   for msp430: the first and the last address of RAM, by four hexadecimal digits each. LO is even and
+                at least 0200, HI is odd and above LO. Default: 0200-09FF
   --steps N     for run: the greatest number of steps, 0 to 1000000. Default: 100
 
 Limits: 4,194,304 bytes for an Intel HEX text, 268,435,456 bytes for a script.
@@ -23,6 +25,7 @@ Examples:
   vsa analyse msp430 < image.hex
   vsa disasm msp430 --ram 0200-03FF < image.hex
   cat image.hex script.txt | vsa run msp430 --steps 1000
+  vsa disasm mcs51 < image.ihx
 
 docs/REPORT.md says what each line of an answer means.";
 

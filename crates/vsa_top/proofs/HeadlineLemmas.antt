@@ -1,12 +1,12 @@
 -- An answer that tells a closed report covers every run, and one that tells an open one shows its open sites. An image
--- gets what its mode asks.
-use Rattle.std.proofs.Common.{arith, ◌≡◌, ◌++◌, ◌+◌, ◌-◌, ◌≤◌, ℕ, zero, suc, take, Bool, true, false, Option, None, Some, List, [], refl, sym, ap, subst, ◌∙◌, inl, inr}
+-- gets what is asked of it.
+use Rattle.std.proofs.Common.{arith, ◌≡◌, ◌++◌, ◌-◌, ◌≤◌, ℕ, take, Bool, true, false, Option, None, Some, List, [], refl, sym, ap, subst, ◌∙◌, inl, inr}
 use Rattle.std.specs.Prelude.{◌⊎◌, IfSome, length}
 use Rattle.std.proofs.lemmas.List.{append-nil, take_all}
 use Rattle.std.proofs.lemmas.Option.{same_Some}
-use Rattle.chip_law.specs.Analysis.{Analysis}
 use Rattle.ihex_read.specs.declared.fault.HexFault.{HexFault}
 use Rattle.ihex_read.specs.declared.rule_set.Rules.{Rules}
+use Rattle.ihex_read.specs.declared.rule_set.Rules.TheVariants.{Msp430}
 use Rattle.ihex_read.specs.declared.rule_set.Tail.{Tail}
 use Rattle.ihex_read.specs.declared.rule_set.Tail.TheVariants.{Blank, Second}
 use Rattle.ihex_read.specs.ImageText.{Denotes, FirstFault}
@@ -22,11 +22,12 @@ use Rattle.msp430_flow.specs.Chip.{msp430_analysis, IsProgram}
 use Rattle.msp430_flow.specs.Machine.{msp430_machine}
 use Rattle.run_trace.specs.declared.trace.End.{End}
 use Rattle.run_trace.specs.declared.trace.End.TheVariants as ended
+use Rattle.run_trace.specs.Trace.{Ended}
 use Rattle.report_text.specs.Promise.{CoversEveryRun, ShowsOpenSites}
 use Rattle.report_text.specs.Report.{are_closed, last_works, report_of_journal}
 use Rattle.vsa_top.specs.declared.outcome.Status.{Status}
 use Rattle.vsa_top.specs.declared.outcome.Status.TheVariants.{Done, Open, ReadFault, WriteFault, Memory}
-use Rattle.vsa_top.specs.Answer.{Answers, Ends, IsAnalysed, IsImageReply, IsReply, IsRun, TellsNoFault, status_of_analysis, status_of_end}
+use Rattle.vsa_top.specs.Answer.{Answers, Ends, IsAnalysed, IsImageReply, IsReply, IsRun, TellsNoFault, run_under, status_of_analysis, status_of_end}
 use Rattle.vsa_top.specs.Answer.Answers.{replied, unreplied}
 use Rattle.vsa_top.specs.Answer.Ends.{closed, left_open, disassembled, ran_on, went_wild, lacked_a_choice, refused_script, script_too_long}
 use Rattle.vsa_top.specs.Answer.IsReply.{of_image, of_bad, of_long}
@@ -34,10 +35,10 @@ use Rattle.vsa_top.specs.Answer.IsRun.{ran, refused, longer}
 use Rattle.vsa_top.specs.Answer.IsWritten.{whole, cut}
 use Rattle.vsa_top.specs.Headline.{ReportsOn}
 use Rattle.vsa_top.specs.Input.{text_limit, front_of, tail_of, AreTexts, Gives, InputGives, IsBad, IsTooLong, IsImageOf}
-use Rattle.vsa_top.specs.Msp430.{msp430_run}
-use Rattle.vsa_top.specs.declared.words.Mode.{Mode}
-use Rattle.vsa_top.specs.declared.words.Mode.TheVariants.{Analyse, Disasm, Run}
+use Rattle.vsa_top.specs.declared.words.Ram.{Ram}
 use Rattle.vsa_top.specs.declared.words.Reading.{Reading}
+use Rattle.vsa_top.specs.declared.words.Reading.TheVariants.{Analyse, Disasm, Run}
+use Rattle.vsa_top.specs.declared.words.Target.{Target}
 use Rattle.vsa_top.specs.Words.{rules_of, device_of}
 use Rattle.vsa_top.proofs.InputLemmas.{front_goes_on}
 
@@ -101,91 +102,111 @@ gives_image : (rules : Rules) (input second : Option (List ℕ)) (image : List (
 gives_image rules None second image gives = tt
 gives_image rules (Some text) second image gives = gives.2.0
 
--- the analysis of the device with the image that the text denotes, where the reply is that of an analysis
-analysed : HaveOneImage → (reading : Reading) (input second : Option (List ℕ)) (answered : Status) (report : List ℕ) (journal : List Event) (text : List ℕ)
-    (image other : List (Option ℕ)) → reading.mode ≡ Analyse → InputGives (rules_of reading) (tail_of reading.mode) input second other
-    → IsImageReply reading.mode (device_of reading other) reading.steps second answered report journal
-    → input ≡ Some text → Denotes (rules_of reading) Blank (texts.lines_of text) image
-    → IsAnalysed instr_text (msp430_analysis (device_of reading image)) answered report journal
-analysed one reading input second answered report journal text image other mode gives reply e denoted =
-    let found = gives_image (rules_of reading) input second other (subst (λ m. InputGives (rules_of reading) (tail_of m) input second other) mode gives) in
-    subst (λ i. IsAnalysed instr_text (msp430_analysis (device_of reading i)) answered report journal)
-    (same_image one (rules_of reading) input text image other e denoted found)
-    (subst (λ m. IsImageReply m (device_of reading other) reading.steps second answered report journal) mode reply)
+-- the rules of an image that is analysed
+abbrev RulesOf : Ram → Rules
+RulesOf ram = Msp430 ram.lo ram.hi
 
-closed_reply : CoverRuns → HaveRules → HaveOneImage → (reading : Reading) (input : Option (List ℕ)) (report : List ℕ) (journal : List Event)
-    → reading.mode ≡ Analyse → IsReply reading input Done report journal → (text : List ℕ) (image : List (Option ℕ)) → input ≡ Some text
-    → Denotes (rules_of reading) Blank (texts.lines_of text) image → CoversEveryRun (msp430_machine (device_of reading image)) instr_text report
-closed_reply cover rules one reading input report journal mode (of_image other second gives reply) text image e denoted =
-    let device = device_of reading image in
-    let is = analysed one reading input second Done report journal text image other mode gives reply e denoted in
-    let program : IsProgram device = rules (rules_of reading) Blank (texts.lines_of text) image denoted in
+-- the analysis of the device with the image that the text denotes
+analysed : HaveOneImage → (ram : Ram) (input second : Option (List ℕ)) (answered : Status) (report : List ℕ) (journal : List Event) (text : List ℕ)
+    (image other : List (Option ℕ)) → InputGives (RulesOf ram) Blank input second other
+    → IsAnalysed instr_text (msp430_analysis (device_of ram other)) answered report journal
+    → input ≡ Some text → Denotes (RulesOf ram) Blank (texts.lines_of text) image
+    → IsAnalysed instr_text (msp430_analysis (device_of ram image)) answered report journal
+analysed one ram input second answered report journal text image other gives reply e denoted =
+    subst (λ i. IsAnalysed instr_text (msp430_analysis (device_of ram i)) answered report journal)
+    (same_image one (RulesOf ram) input text image other e denoted (gives_image (RulesOf ram) input second other gives)) reply
+
+closed_reply : CoverRuns → HaveRules → HaveOneImage → (ram : Ram) (input : Option (List ℕ)) (report : List ℕ) (journal : List Event)
+    → IsReply (Analyse ram) input Done report journal → (text : List ℕ) (image : List (Option ℕ)) → input ≡ Some text
+    → Denotes (RulesOf ram) Blank (texts.lines_of text) image → CoversEveryRun (msp430_machine (device_of ram image)) instr_text report
+closed_reply cover rules one ram input report journal (of_image other second gives reply) text image e denoted =
+    let device = device_of ram image in
+    let is = analysed one ram input second Done report journal text image other gives reply e denoted in
+    let program : IsProgram device = rules (RulesOf ram) Blank (texts.lines_of text) image denoted in
     let none_left = closed_is (are_closed (last_works (msp430_analysis device) journal)) is.status_is in
     subst (CoversEveryRun (msp430_machine device) instr_text) (sym is.text_is)
     (cover device instr_text journal program is.is_analysis.legal is.is_analysis.finished none_left)
-closed_reply cover rules one reading input report journal mode (of_bad line fault bad is line_is none) text image e denoted = absurd (cc)
-closed_reply cover rules one reading input report journal mode (of_long long is line_is none) text image e denoted = absurd (cc)
+closed_reply cover rules one ram input report journal (of_bad line fault bad is line_is none) text image e denoted = absurd (cc)
+closed_reply cover rules one ram input report journal (of_long long is line_is none) text image e denoted = absurd (cc)
 
-pub closed_lem : CoverRuns → HaveRules → HaveOneImage → (reading : Reading) (input before after : Option (List ℕ)) (journal : List Event)
-    → reading.mode ≡ Analyse → Answers reading Done input before after journal →
-    ReportsOn reading input before after (λ device report. CoversEveryRun (msp430_machine device) instr_text report)
-closed_lem cover rules one reading input before after journal mode answers text image e denoted =
-    let given = gives_reply reading Done input before after journal answers ((λ f. cc f), (λ f. cc f)) (λ f. cc f) in
-    (given.text, given.held, closed_reply cover rules one reading input given.text journal mode given.reply text image e denoted)
+pub closed_lem : CoverRuns → HaveRules → HaveOneImage → (ram : Ram) (input before after : Option (List ℕ)) (journal : List Event)
+    → Answers (Analyse ram) Done input before after journal →
+    ReportsOn ram input before after (λ device report. CoversEveryRun (msp430_machine device) instr_text report)
+closed_lem cover rules one ram input before after journal answers text image e denoted =
+    let given = gives_reply (Analyse ram) Done input before after journal answers ((λ f. cc f), (λ f. cc f)) (λ f. cc f) in
+    (given.text, given.held, closed_reply cover rules one ram input given.text journal given.reply text image e denoted)
 
-end_ends : (end : End) → Ends Run (status_of_end end)
-end_ends ended.Ran = ran_on
-end_ends ended.Wild = went_wild
-end_ends ended.NeedChoice = lacked_a_choice
+end_ends : (target : Target) (steps : ℕ) (end : End) → Ends (Run target steps) (status_of_end end)
+end_ends target steps ended.Ran = ran_on target steps
+end_ends target steps ended.Wild = went_wild target steps
+end_ends target steps ended.NeedChoice = lacked_a_choice target steps
 
-analysis_ends : (is_closed : Bool) → Ends Analyse (status_of_analysis is_closed)
-analysis_ends true = closed
-analysis_ends false = left_open
+analysis_ends : (ram : Ram) (is_closed : Bool) → Ends (Analyse ram) (status_of_analysis is_closed)
+analysis_ends ram true = closed ram
+analysis_ends ram false = left_open ram
 
-run_reply_ends : (device : Device) (steps : ℕ) (second : Option (List ℕ)) (answered : Status) (text : List ℕ) → IsRun device steps second answered text
-    → Ends Run answered
-run_reply_ends device steps second answered text (ran script is told text_is) =
-    subst (Ends Run) (sym told) (end_ends (msp430_run device script steps).0)
-run_reply_ends device steps second answered text (refused line is told line_is) = subst (Ends Run) (sym told) refused_script
-run_reply_ends device steps second answered text (longer is told line_is) = subst (Ends Run) (sym told) script_too_long
+run_reply_ends : (target : Target) (steps : ℕ) (run : List ℕ → Ended) (second : Option (List ℕ)) (answered : Status) (text : List ℕ)
+    → IsRun run second answered text → Ends (Run target steps) answered
+run_reply_ends target steps run second answered text (ran script is told text_is) =
+    subst (Ends (Run target steps)) (sym told) (end_ends target steps (run script).0)
+run_reply_ends target steps run second answered text (refused line is told line_is) = subst (Ends (Run target steps)) (sym told) (refused_script target steps)
+run_reply_ends target steps run second answered text (longer is told line_is) = subst (Ends (Run target steps)) (sym told) (script_too_long target steps)
 
-image_reply_ends : (mode : Mode) (device : Device) (steps : ℕ) (second : Option (List ℕ)) (answered : Status) (text : List ℕ) (journal : List Event)
-    → IsImageReply mode device steps second answered text journal → Ends mode answered
-image_reply_ends Analyse device steps second answered text journal is =
-    subst (Ends Analyse) (sym is.status_is) (analysis_ends (are_closed (last_works (msp430_analysis device) journal)))
-image_reply_ends Disasm device steps second answered text journal is = subst (Ends Disasm) (sym is.0) disassembled
-image_reply_ends Run device steps second answered text journal is = run_reply_ends device steps second answered text is.0
+image_reply_ends : (reading : Reading) (image : List (Option ℕ)) (second : Option (List ℕ)) (answered : Status) (text : List ℕ) (journal : List Event)
+    → IsImageReply reading image second answered text journal → Ends reading answered
+image_reply_ends (Analyse ram) image second answered text journal is =
+    subst (Ends (Analyse ram)) (sym is.status_is) (analysis_ends ram (are_closed (last_works (msp430_analysis (device_of ram image)) journal)))
+image_reply_ends (Disasm target) image second answered text journal is = subst (Ends (Disasm target)) (sym is.0) (disassembled target)
+image_reply_ends (Run target steps) image second answered text journal is =
+    run_reply_ends target steps (run_under target steps image) second answered text is.0
 
--- of the modes an analysis alone leaves something open
-is_analyse : (mode : Mode) (answered : Status) → Ends mode answered → answered ≡ Open → mode ≡ Analyse
-is_analyse mode answered closed e = refl
-is_analyse mode answered left_open e = refl
-is_analyse mode answered disassembled e = absurd (cc)
-is_analyse mode answered ran_on e = absurd (cc)
-is_analyse mode answered went_wild e = absurd (cc)
-is_analyse mode answered lacked_a_choice e = absurd (cc)
-is_analyse mode answered refused_script e = absurd (cc)
-is_analyse mode answered script_too_long e = absurd (cc)
+-- an analysis alone leaves something open
+is_analysis : (reading : Reading) (answered : Status) → Ends reading answered → answered ≡ Open → (ram : Ram) × (reading ≡ Analyse ram)
+is_analysis reading answered (closed ram) e = (ram, refl)
+is_analysis reading answered (left_open ram) e = (ram, refl)
+is_analysis reading answered (disassembled target) e = absurd (cc)
+is_analysis reading answered (ran_on target steps) e = absurd (cc)
+is_analysis reading answered (went_wild target steps) e = absurd (cc)
+is_analysis reading answered (lacked_a_choice target steps) e = absurd (cc)
+is_analysis reading answered (refused_script target steps) e = absurd (cc)
+is_analysis reading answered (script_too_long target steps) e = absurd (cc)
 
-open_reply : ShowSites → HaveRules → HaveOneImage → (reading : Reading) (input : Option (List ℕ)) (report : List ℕ) (journal : List Event)
-    → IsReply reading input Open report journal → (text : List ℕ) (image : List (Option ℕ)) → input ≡ Some text
-    → Denotes (rules_of reading) Blank (texts.lines_of text) image → ShowsOpenSites (msp430_analysis (device_of reading image)) journal report
-open_reply shows rules one reading input report journal (of_image other second gives reply) text image e denoted =
-    let device = device_of reading image in
-    let mode = is_analyse reading.mode Open
-    (image_reply_ends reading.mode (device_of reading other) reading.steps second Open report journal reply) refl in
-    let is = analysed one reading input second Open report journal text image other mode gives reply e denoted in
-    let program : IsProgram device = rules (rules_of reading) Blank (texts.lines_of text) image denoted in
+open_is_analysis : (reading : Reading) (input : Option (List ℕ)) (report : List ℕ) (journal : List Event) → IsReply reading input Open report journal
+    → (ram : Ram) × (reading ≡ Analyse ram)
+open_is_analysis reading input report journal (of_image other second gives reply) =
+    is_analysis reading Open (image_reply_ends reading other second Open report journal reply) refl
+open_is_analysis reading input report journal (of_bad line fault bad is line_is none) = absurd (cc)
+open_is_analysis reading input report journal (of_long long is line_is none) = absurd (cc)
+
+open_reply : ShowSites → HaveRules → HaveOneImage → (ram : Ram) (input : Option (List ℕ)) (report : List ℕ) (journal : List Event)
+    → IsReply (Analyse ram) input Open report journal → (text : List ℕ) (image : List (Option ℕ)) → input ≡ Some text
+    → Denotes (RulesOf ram) Blank (texts.lines_of text) image → ShowsOpenSites (msp430_analysis (device_of ram image)) journal report
+open_reply shows rules one ram input report journal (of_image other second gives reply) text image e denoted =
+    let device = device_of ram image in
+    let is = analysed one ram input second Open report journal text image other gives reply e denoted in
+    let program : IsProgram device = rules (RulesOf ram) Blank (texts.lines_of text) image denoted in
     let left = open_is (are_closed (last_works (msp430_analysis device) journal)) is.status_is in
     subst (ShowsOpenSites (msp430_analysis device) journal) (sym is.text_is) (shows device instr_text journal program is.is_analysis.legal left)
-open_reply shows rules one reading input report journal (of_bad line fault bad is line_is none) text image e denoted = absurd (cc)
-open_reply shows rules one reading input report journal (of_long long is line_is none) text image e denoted = absurd (cc)
+open_reply shows rules one ram input report journal (of_bad line fault bad is line_is none) text image e denoted = absurd (cc)
+open_reply shows rules one ram input report journal (of_long long is line_is none) text image e denoted = absurd (cc)
+
+-- what an answer that is told as open says of its reading
+abbrev ShowsOpen : Reading → (input before after : Option (List ℕ)) → List Event → Type 0
+ShowsOpen reading input before after journal =
+    (ram : Ram) × (reading ≡ Analyse ram) × ReportsOn ram input before after (λ device report. ShowsOpenSites (msp430_analysis device) journal report)
+
+open_shown : ShowSites → HaveRules → HaveOneImage → (reading : Reading) (input before after : Option (List ℕ)) (journal : List Event)
+    → GivesReply reading Open input before after journal → (ram : Ram) → reading ≡ Analyse ram → ShowsOpen reading input before after journal
+open_shown shows rules one reading input before after journal given ram is =
+    let reply : IsReply (Analyse ram) input Open given.text journal = subst (λ r. IsReply r input Open given.text journal) is given.reply in
+    (ram, is, λ text image e denoted. (given.text, given.held, open_reply shows rules one ram input given.text journal reply text image e denoted))
 
 pub open_lem : ShowSites → HaveRules → HaveOneImage → (reading : Reading) (input before after : Option (List ℕ)) (journal : List Event)
-    → Answers reading Open input before after journal → ReportsOn reading input before after (λ device report. ShowsOpenSites (msp430_analysis device) journal report)
-open_lem shows rules one reading input before after journal answers text image e denoted =
+    → Answers reading Open input before after journal → ShowsOpen reading input before after journal
+open_lem shows rules one reading input before after journal answers =
     let given = gives_reply reading Open input before after journal answers ((λ f. cc f), (λ f. cc f)) (λ f. cc f) in
-    (given.text, given.held, open_reply shows rules one reading input given.text journal given.reply text image e denoted)
+    let is = open_is_analysis reading input given.text journal given.reply in
+    open_shown shows rules one reading input before after journal given is.0 is.1
 
 abbrev HaveNotBoth : Type 0
 HaveNotBoth = (rules : Rules) (tail : Tail) (lines : List (List ℕ)) (image : List (Option ℕ)) (line : ℕ) (fault : HexFault)
@@ -242,22 +263,22 @@ not_long stay rules Second text image second gives long = not_long_behind stay r
 -- the status of the reply to an input that gives an image
 reply_ends : HaveNotBoth → EndedStay → ImagesStay → (reading : Reading) (answered : Status) (input : Option (List ℕ)) (report : List ℕ) (journal : List Event)
     (text : List ℕ) (image : List (Option ℕ)) (second : List ℕ) → IsReply reading input answered report journal → input ≡ Some text
-    → Gives (rules_of reading) (tail_of reading.mode) text image second → Ends reading.mode answered
+    → Gives (rules_of reading) (tail_of reading) text image second → Ends reading answered
 reply_ends both ended stay reading answered input report journal text image second (of_image other behind found reply) e is =
-    image_reply_ends reading.mode (device_of reading other) reading.steps behind answered report journal reply
+    image_reply_ends reading other behind answered report journal reply
 reply_ends both ended stay reading answered input report journal text image second (of_bad line fault bad told line_is none) e is =
-    absurd (not_bad both stay (rules_of reading) (tail_of reading.mode) text image second line fault is
-    (subst (λ i. IfSome i (λ t. IsBad (rules_of reading) (tail_of reading.mode) t line fault)) e bad))
+    absurd (not_bad both stay (rules_of reading) (tail_of reading) text image second line fault is
+    (subst (λ i. IfSome i (λ t. IsBad (rules_of reading) (tail_of reading) t line fault)) e bad))
 reply_ends both ended stay reading answered input report journal text image second (of_long long told line_is none) e is =
-    absurd (not_long ended (rules_of reading) (tail_of reading.mode) text image second is
-    (subst (λ i. IfSome i (IsTooLong (rules_of reading) (tail_of reading.mode))) e long))
+    absurd (not_long ended (rules_of reading) (tail_of reading) text image second is
+    (subst (λ i. IfSome i (IsTooLong (rules_of reading) (tail_of reading))) e long))
 
 pub complete_lem : HaveNotBoth → EndedStay → ImagesStay → (reading : Reading) (answered : Status) (input before after : Option (List ℕ)) (journal : List Event) (text : List ℕ)
     (image : List (Option ℕ)) (second : List ℕ) → Answers reading answered input before after journal → input ≡ Some text
-    → Gives (rules_of reading) (tail_of reading.mode) text image second → (answered ≡ ReadFault → ⊥) → (answered ≡ WriteFault → ⊥)
-    → Ends reading.mode answered ⊎ (answered ≡ Memory)
+    → Gives (rules_of reading) (tail_of reading) text image second → (answered ≡ ReadFault → ⊥) → (answered ≡ WriteFault → ⊥)
+    → Ends reading answered ⊎ (answered ≡ Memory)
 complete_lem both ended stay reading answered input before after journal text image second (replied reply report is (whole same held)) e gives no_read no_write =
-    inl (subst (Ends reading.mode) (sym same) (reply_ends both ended stay reading reply input report journal text image second is e gives))
+    inl (subst (Ends reading) (sym same) (reply_ends both ended stay reading reply input report journal text image second is e gives))
 complete_lem both ended stay reading answered input before after journal text image second (replied reply report is (cut fault held)) e gives no_read no_write =
     absurd (no_write fault)
 complete_lem both ended stay reading answered input before after journal text image second (unreplied (inl fault) kept none) e gives no_read no_write =

@@ -1,5 +1,5 @@
 -- The reply to a program that is analysed, put together from the book and its report.
-use Rattle.std.proofs.Common.{◌≡◌, ℕ, Bool, true, List, ap, subst, sym, ◌∙◌}
+use Rattle.std.proofs.Common.{◌≡◌, ℕ, Bool, true, List, ap, ◌∙◌}
 use Rattle.std.specs.Prelude.{◌&&◌, IfOk, Result, Ok, Err}
 use Rattle.chip_law.specs.Analysis.{Analysis}
 use Rattle.round_core.specs.declared.event.Event.{Event}

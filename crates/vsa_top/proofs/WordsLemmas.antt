@@ -1,19 +1,23 @@
 -- What the words ask: numbers of steps, options, and readings, of which there is at most one.
-use Rattle.std.proofs.Common.{◌≡◌, ℕ, ◌+◌, ◌-◌, ◌*◌, ◌<◌, ◌≤◌, Bool, true, false, List, [], ◌∷◌, Option, None, Some, refl, sym, ◌∙◌, ap, ap₂, subst, arith, All}
+use Rattle.std.proofs.Common.{◌≡◌, ℕ, ◌+◌, ◌-◌, ◌*◌, ◌<◌, ◌≤◌, List, [], ◌∷◌, Option, None, Some, refl, sym, ◌∙◌, ap, ap₂, subst, arith, All}
 use Rattle.std.proofs.lemmas.List.{length-map}
 use Rattle.std.proofs.lemmas.List.Elements.{All-cons, All-tail}
-use Rattle.std.specs.Prelude.{IfNone, IfSome, if◌then◌else◌, length, MatchOption, map, codes, string_bytes}
+use Rattle.std.specs.Prelude.{IfNone, IfSome, length, MatchOption, map, codes, string_bytes}
 use Rattle.std.specs.List.{IsFirstAndRest}
 use Rattle.std.specs.declared.string.String.{String}
 use Rattle.std.specs.declared.alloc.Global.{Global}
-use Rattle.ihex_read.specs.declared.rule_set.Rules.TheVariants.{Msp430}
+use Rattle.ihex_read.specs.declared.rule_set.Rules.TheVariants as rules
 use Rattle.ihex_read.specs.ImageText.{IsRamRange}
+use Rattle.vsa_top.specs.declared.words.Chip.{Chip}
+use Rattle.vsa_top.specs.declared.words.Chip.TheVariants as chip
 use Rattle.vsa_top.specs.declared.words.Mode.{Mode}
-use Rattle.vsa_top.specs.declared.words.Mode.TheVariants.{Analyse, Disasm, Run}
+use Rattle.vsa_top.specs.declared.words.Mode.TheVariants as mode
 use Rattle.vsa_top.specs.declared.words.Options.{Options}
 use Rattle.vsa_top.specs.declared.words.Ram.{Ram}
 use Rattle.vsa_top.specs.declared.words.Reading.{Reading}
-use Rattle.vsa_top.specs.Words.{Adds, IsDigit, IsNumberBehind, IsRange, IsSteps, Reads, Say, number_behind, mode_word, may_say, reading_by, reading_with, with_range, with_number, or_else, rules_of, usual}
+use Rattle.vsa_top.specs.declared.words.Target.{Target}
+use Rattle.vsa_top.specs.declared.words.Target.TheVariants.{Msp430, Mcs51}
+use Rattle.vsa_top.specs.Words.{Adds, IsDigit, IsNumberBehind, IsRange, IsSteps, Reads, Say, asked, chip_word, number_behind, mode_word, reading_by, reading_with, target_by, target_rules, with_range, with_number, or_else, rules_of, usual}
 use Rattle.vsa_top.specs.Words.Adds.{ranged, stepped}
 
 -- NUMBERS
@@ -189,18 +193,27 @@ said_nothing (word ∷ words) none = absurd (omega arith)
 -- READINGS
 
 one_mode : (a b : Mode) → mode_word a ≡ mode_word b → a ≡ b
-one_mode Analyse Analyse h = refl
-one_mode Disasm Disasm h = refl
-one_mode Run Run h = refl
-one_mode Analyse Disasm h = absurd (cc h)
-one_mode Analyse Run h = absurd (cc h)
-one_mode Disasm Analyse h = absurd (cc h)
-one_mode Disasm Run h = absurd (cc h)
-one_mode Run Analyse h = absurd (cc h)
-one_mode Run Disasm h = absurd (cc h)
+one_mode mode.Analyse mode.Analyse h = refl
+one_mode mode.Disasm mode.Disasm h = refl
+one_mode mode.Run mode.Run h = refl
+one_mode mode.Analyse mode.Disasm h = absurd (cc h)
+one_mode mode.Analyse mode.Run h = absurd (cc h)
+one_mode mode.Disasm mode.Analyse h = absurd (cc h)
+one_mode mode.Disasm mode.Run h = absurd (cc h)
+one_mode mode.Run mode.Analyse h = absurd (cc h)
+one_mode mode.Run mode.Disasm h = absurd (cc h)
+
+one_chip : (a b : Chip) → chip_word a ≡ chip_word b → a ≡ b
+one_chip chip.Msp430 chip.Msp430 h = refl
+one_chip chip.Mcs51 chip.Mcs51 h = refl
+one_chip chip.Msp430 chip.Mcs51 h = absurd (cc h)
+one_chip chip.Mcs51 chip.Msp430 h = absurd (cc h)
 
 abbrev pub IsModeOf : List ℕ → Option Mode → Type 0
 IsModeOf word found = MatchOption found ((mode : Mode) → word ≡ mode_word mode → ⊥) (λ mode. word ≡ mode_word mode)
+
+abbrev pub IsChipOf : List ℕ → Option Chip → Type 0
+IsChipOf word found = MatchOption found ((chip : Chip) → word ≡ chip_word chip → ⊥) (λ chip. word ≡ chip_word chip)
 
 first_word : (a b : List ℕ) (c d : List ℕ) (xs ys : List (List ℕ)) → a ∷ c ∷ xs ≡ b ∷ d ∷ ys → a ≡ b
 first_word a b c d xs ys h = cc h
@@ -211,88 +224,83 @@ second_word a b c d xs ys h = cc h
 other_words : (a b : List ℕ) (c d : List ℕ) (xs ys : List (List ℕ)) → a ∷ c ∷ xs ≡ b ∷ d ∷ ys → xs ≡ ys
 other_words a b c d xs ys h = cc h
 
--- what a reading of these words has: its mode, and what is said
-record Parts (mode chip : List ℕ) (rest : List (List ℕ)) (reading : Reading) : Type 0 where
-  asked : Mode
+-- what a reading of these words has: its mode and its chip, and what is said
+record Parts (first second : List ℕ) (rest : List (List ℕ)) (reading : Reading) : Type 0 where
+  mode : Mode
+  chip : Chip
   options : Options
-  word : mode ≡ mode_word asked
-  chips : chip ≡ codes "msp430"
+  mode_is : first ≡ mode_word mode
+  chip_is : second ≡ chip_word chip
   said : Say rest options
-  allowed : may_say asked options ≡ true
-  is : reading ≡ reading_by asked options
+  is : asked mode chip options ≡ Some reading
 
-parts_of : (words : List (String Global)) (mode chip : List ℕ) (rest : List (List ℕ)) (reading : Reading) → Texts words ≡ mode ∷ chip ∷ rest
-    → Reads words reading → Parts mode chip rest reading
-parts_of words mode chip rest reading two reads =
+parts_of : (words : List (String Global)) (first second : List ℕ) (rest : List (List ℕ)) (reading : Reading) → Texts words ≡ first ∷ second ∷ rest
+    → Reads words reading → Parts first second rest reading
+parts_of words first second rest reading two reads =
     let same = sym two ∙ reads.whole in record {
-      asked = reads.mode;
+      mode = reads.mode;
+      chip = reads.chip;
       options = reads.options;
-      word = first_word mode (mode_word reads.mode) chip (codes "msp430") rest reads.said same;
-      chips = second_word mode (mode_word reads.mode) chip (codes "msp430") rest reads.said same;
-      said = subst (λ ws. Say ws reads.options) (sym (other_words mode (mode_word reads.mode) chip (codes "msp430") rest reads.said same)) reads.say;
-      allowed = reads.allowed;
+      mode_is = first_word first (mode_word reads.mode) second (chip_word reads.chip) rest reads.said same;
+      chip_is = second_word first (mode_word reads.mode) second (chip_word reads.chip) rest reads.said same;
+      said = subst (λ ws. Say ws reads.options) (sym (other_words first (mode_word reads.mode) second (chip_word reads.chip) rest reads.said same)) reads.say;
       is = reads.is;
     }
 
--- words of another chip
-pub no_chip : (words : List (String Global)) (mode chip : List ℕ) (rest : List (List ℕ)) → Texts words ≡ mode ∷ chip ∷ rest
-    → (chip ≡ codes "msp430" → ⊥) → (reading : Reading) → Reads words reading → ⊥
-no_chip words mode chip rest two other reading reads = other (parts_of words mode chip rest reading two reads).chips
+with_words : (words : List (String Global)) (first second : List ℕ) (mode : Mode) (chip : Chip) (rest : List (List ℕ)) → Texts words ≡ first ∷ second ∷ rest
+    → first ≡ mode_word mode → second ≡ chip_word chip → Texts words ≡ mode_word mode ∷ chip_word chip ∷ rest
+with_words words first second mode chip rest two is named = two ∙ ap₂ (λ (a b : List ℕ). a ∷ b ∷ rest) is named
 
--- fewer than two words
-pub too_few : (words : List (String Global)) → length words < 2 → (reading : Reading) → Reads words reading → ⊥
-too_few [] few reading reads = absurd (cc reads.whole)
-too_few (word ∷ []) few reading reads = absurd (cc reads.whole)
-too_few (word ∷ other ∷ words) few reading reads = absurd (omega (arith, few))
+found_reads : (words : List (String Global)) (mode : Mode) (chip : Chip) (rest : List (List ℕ)) (options : Options) (found : Option Reading)
+    → Texts words ≡ mode_word mode ∷ chip_word chip ∷ rest → Say rest options → found ≡ asked mode chip options → IfSome found (Reads words)
+found_reads words mode chip rest options None whole said same = tt
+found_reads words mode chip rest options (Some reading) whole said same =
+    record { mode = mode; chip = chip; said = rest; options = options; whole = whole; say = said; is = sym same }
 
-allowed_reads : (words : List (String Global)) (mode : Mode) (rest : List (List ℕ)) (options : Options) (allowed : Bool)
-    → Texts words ≡ mode_word mode ∷ codes "msp430" ∷ rest → Say rest options → may_say mode options ≡ allowed
-    → IfSome (if allowed then Some (reading_by mode options) else None) (Reads words)
-allowed_reads words mode rest options true two said is = record { mode = mode; said = rest; options = options; whole = two; say = said; allowed = is; is = refl }
-allowed_reads words mode rest options false two said is = tt
-
-with_words : (words : List (String Global)) (word : List ℕ) (chip : List ℕ) (mode : Mode) (rest : List (List ℕ)) → Texts words ≡ word ∷ chip ∷ rest
-    → word ≡ mode_word mode → chip ≡ codes "msp430" → Texts words ≡ mode_word mode ∷ codes "msp430" ∷ rest
-with_words words word chip mode rest two is named = two ∙ ap₂ (λ (a b : List ℕ). a ∷ b ∷ rest) is named
-
-pub reads_found : (words : List (String Global)) (word chip : List ℕ) (rest : List (List ℕ)) (mode : Option Mode) (options : Option Options) (found : Option Reading)
-    → Texts words ≡ word ∷ chip ∷ rest → chip ≡ codes "msp430" → IsModeOf word mode → IsSaid options rest → found ≡ reading_with mode options
-    → IfSome found (Reads words)
-reads_found words word chip rest None options found two named is said same = rw same tt
-reads_found words word chip rest (Some mode) None found two named is said same = rw same tt
-reads_found words word chip rest (Some mode) (Some options) found two named is said same =
-    rw same (allowed_reads words mode rest options (may_say mode options) (with_words words word chip mode rest two is named) said refl)
+pub reads_found : (words : List (String Global)) (first second : List ℕ) (rest : List (List ℕ)) (mode : Option Mode) (chip : Option Chip) (options : Option Options)
+    (found : Option Reading) → Texts words ≡ first ∷ second ∷ rest → IsModeOf first mode → IsChipOf second chip → IsSaid options rest
+    → found ≡ reading_with mode chip options → IfSome found (Reads words)
+reads_found words first second rest None chip options found two is named said same = rw same tt
+reads_found words first second rest (Some mode) None options found two is named said same = rw same tt
+reads_found words first second rest (Some mode) (Some chip) None found two is named said same = rw same tt
+reads_found words first second rest (Some mode) (Some chip) (Some options) found two is named said same =
+    found_reads words mode chip rest options found (with_words words first second mode chip rest two is named) said same
 
 -- the one reading that there may be
-parts_alone : (mode : Mode) (options : Options) (word chip : List ℕ) (rest : List (List ℕ)) (other : Reading) → word ≡ mode_word mode → Say rest options
-    → Parts word chip rest other → (other ≡ reading_by mode options) × (may_say mode options ≡ true)
-parts_alone mode options word chip rest other is said parts =
-    let modes : parts.asked ≡ mode = one_mode parts.asked mode (sym parts.word ∙ is) in
-    let same : parts.options ≡ options = say_one rest parts.options options parts.said said in
-    (parts.is ∙ ap₂ reading_by modes same, sym (ap₂ may_say modes same) ∙ parts.allowed)
+asked_alone : (mode : Mode) (chip : Chip) (options : Options) (first second : List ℕ) (rest : List (List ℕ)) (other : Reading)
+    → first ≡ mode_word mode → second ≡ chip_word chip → Say rest options → Parts first second rest other → asked mode chip options ≡ Some other
+asked_alone mode chip options first second rest other is named said parts =
+    let modes : mode ≡ parts.mode = one_mode mode parts.mode (sym is ∙ parts.mode_is) in
+    let chips : chip ≡ parts.chip = one_chip chip parts.chip (sym named ∙ parts.chip_is) in
+    let same : options ≡ parts.options = say_one rest options parts.options said parts.said in
+    ap₂ (λ (m : Mode) (c : Chip). asked m c options) modes chips ∙ ap (asked parts.mode parts.chip) same ∙ parts.is
 
-alone_by : (words : List (String Global)) (mode : Mode) (options : Options) (allowed : Bool)
-    → ((other : Reading) → Reads words other → (other ≡ reading_by mode options) × (may_say mode options ≡ true)) → may_say mode options ≡ allowed
-    → IfSome (if allowed then Some (reading_by mode options) else None) (λ reading. (other : Reading) → Reads words other → other ≡ reading)
-    × IfNone (if allowed then Some (reading_by mode options) else None) ((reading : Reading) → Reads words reading → ⊥)
-alone_by words mode options true only is = (λ other reads. (only other reads).0, tt)
-alone_by words mode options false only is = (tt, λ reading reads. absurd (cc (sym (only reading reads).1 ∙ is)))
+-- no other reading is there than the one that was found
+abbrev IsAlone : List (String Global) → Option Reading → Type 0
+IsAlone words found =
+    IfSome found (λ reading. (other : Reading) → Reads words other → other ≡ reading) × IfNone found ((reading : Reading) → Reads words reading → ⊥)
 
-pub reads_alone : (words : List (String Global)) (word chip : List ℕ) (rest : List (List ℕ)) (mode : Option Mode) (options : Option Options) (found : Option Reading)
-    → Texts words ≡ word ∷ chip ∷ rest → IsModeOf word mode → IsSaid options rest → found ≡ reading_with mode options
-    → IfSome found (λ reading. (other : Reading) → Reads words other → other ≡ reading) × IfNone found ((reading : Reading) → Reads words reading → ⊥)
-reads_alone words word chip rest None options found two is said same =
-    rw same (tt, λ reading reads. let parts = parts_of words word chip rest reading two reads in is parts.asked parts.word)
-reads_alone words word chip rest (Some mode) None found two is said same =
-    rw same (tt, λ reading reads. let parts = parts_of words word chip rest reading two reads in said parts.options parts.said)
-reads_alone words word chip rest (Some mode) (Some options) found two is said same =
-    rw same (alone_by words mode options (may_say mode options)
-    (λ other reads. parts_alone mode options word chip rest other is said (parts_of words word chip rest other two reads)) refl)
+alone_by : (words : List (String Global)) (found : Option Reading) → ((other : Reading) → Reads words other → found ≡ Some other) → IsAlone words found
+alone_by words None only = (tt, λ reading reads. absurd (cc (only reading reads)))
+alone_by words (Some reading) only = (λ other reads. one_some other reading (sym (only other reads)), tt)
+
+pub reads_alone : (words : List (String Global)) (first second : List ℕ) (rest : List (List ℕ)) (mode : Option Mode) (chip : Option Chip) (options : Option Options)
+    (found : Option Reading) → Texts words ≡ first ∷ second ∷ rest → IsModeOf first mode → IsChipOf second chip → IsSaid options rest
+    → found ≡ reading_with mode chip options → IsAlone words found
+reads_alone words first second rest None chip options found two is named said same =
+    rw same (tt, λ reading reads. let parts = parts_of words first second rest reading two reads in is parts.mode parts.mode_is)
+reads_alone words first second rest (Some mode) None options found two is named said same =
+    rw same (tt, λ reading reads. let parts = parts_of words first second rest reading two reads in named parts.chip parts.chip_is)
+reads_alone words first second rest (Some mode) (Some chip) None found two is named said same =
+    rw same (tt, λ reading reads. let parts = parts_of words first second rest reading two reads in said parts.options parts.said)
+reads_alone words first second rest (Some mode) (Some chip) (Some options) found two is named said same =
+    alone_by words found
+    (λ other reads. same ∙ asked_alone mode chip options first second rest other is named said (parts_of words first second rest other two reads))
 
 -- RAM stands where it may
 abbrev RangeOf : Option Ram → Type 0
 RangeOf None = Unit {0}
-RangeOf (Some ram) = IsRamRange (Msp430 ram.lo ram.hi)
+RangeOf (Some ram) = IsRamRange (rules.Msp430 ram.lo ram.hi)
 
 range_added : (option text : List ℕ) (behind options : Options) → RangeOf behind.ram → Adds option text behind options → RangeOf options.ram
 range_added option text behind _ held (ranged ram name none range) = range.allowed
@@ -303,13 +311,33 @@ range_said [] options said = subst (λ (o : Options). RangeOf o.ram) (sym said) 
 range_said (option ∷ []) options said = elim said [ ]
 range_said (option ∷ text ∷ words) options said = range_added option text said.0 options (range_said words said.0 said.1) said.2
 
-range_or_usual : (held : Option Ram) → RangeOf held → IsRamRange (Msp430 (or_else held usual).lo (or_else held usual).hi)
+range_or_usual : (held : Option Ram) → RangeOf held → IsRamRange (rules.Msp430 (or_else held usual).lo (or_else held usual).hi)
 range_or_usual None held = (refl, refl, omega arith, omega arith)
 range_or_usual (Some ram) held = held
 
+abbrev RangeIn : Option Target → Type 0
+RangeIn None = Unit {0}
+RangeIn (Some target) = IsRamRange (target_rules target)
+
+target_range : (chip : Chip) (ram : Option Ram) → RangeOf ram → RangeIn (target_by chip ram)
+target_range chip.Msp430 ram held = range_or_usual ram held
+target_range chip.Mcs51 None held = tt
+target_range chip.Mcs51 (Some ram) held = tt
+
+reading_range : (mode : Mode) (target : Option Target) (steps : Option ℕ) → RangeIn target
+    → IfSome (reading_by mode target steps) (λ reading. IsRamRange (rules_of reading))
+reading_range mode None steps held = tt
+reading_range mode.Analyse (Some (Msp430 ram)) None held = held
+reading_range mode.Analyse (Some (Msp430 ram)) (Some steps) held = tt
+reading_range mode.Analyse (Some Mcs51) steps held = tt
+reading_range mode.Disasm (Some target) None held = held
+reading_range mode.Disasm (Some target) (Some steps) held = tt
+reading_range mode.Run (Some target) steps held = held
+
 pub reads_range : (words : List (String Global)) (reading : Reading) → Reads words reading → IsRamRange (rules_of reading)
 reads_range words reading reads =
-    subst (λ (r : Reading). IsRamRange (rules_of r)) (sym reads.is) (range_or_usual reads.options.ram (range_said reads.said reads.options reads.say))
+    let held = target_range reads.chip reads.options.ram (range_said reads.said reads.options reads.say) in
+    subst (λ found. IfSome found (λ r. IsRamRange (rules_of r))) reads.is (reading_range reads.mode (target_by reads.chip reads.options.ram) reads.options.steps held)
 
 pub found_range : (words : List (String Global)) (found : Option Reading) → IfSome found (Reads words) → IfSome found (λ reading. IsRamRange (rules_of reading))
 found_range words None reads = tt

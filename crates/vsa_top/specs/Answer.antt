@@ -10,20 +10,23 @@ use Rattle.round_core.specs.Machine.{replay, IsLegalJournal, IsFinished}
 use Rattle.worker_rounds.specs.Turns.{AreTurns}
 use Rattle.run_trace.specs.declared.trace.End.{End}
 use Rattle.run_trace.specs.declared.trace.End.TheVariants as ended
+use Rattle.run_trace.specs.Trace.{Ended}
 use Rattle.report_text.specs.Report.{are_closed, last_works, report_of_journal}
-use Rattle.msp430_chip.specs.declared.device.Device.{Device}
 use Rattle.msp430_flow.specs.Built.{instr_text}
 use Rattle.msp430_flow.specs.Chip.{msp430_analysis}
 use Rattle.disassembly.specs.Listing.{IsDisassembly}
 use Rattle.vsa_top.specs.Input.{InputGives, IsBad, IsTooLong, tail_of}
 use Rattle.vsa_top.specs.Scripts.{IsRefused, IsScript, second_limit}
+use Rattle.vsa_top.specs.Mcs51.{mcs51_reads, mcs51_run}
 use Rattle.vsa_top.specs.Msp430.{msp430_reads, msp430_run}
 use Rattle.vsa_top.specs.Words.{rules_of, device_of}
 use Rattle.vsa_top.specs.declared.outcome.Status.{Status}
 use Rattle.vsa_top.specs.declared.outcome.Status.TheVariants as status
-use Rattle.vsa_top.specs.declared.words.Mode.{Mode}
-use Rattle.vsa_top.specs.declared.words.Mode.TheVariants.{Analyse, Disasm, Run}
+use Rattle.vsa_top.specs.declared.words.Ram.{Ram}
 use Rattle.vsa_top.specs.declared.words.Reading.{Reading}
+use Rattle.vsa_top.specs.declared.words.Reading.TheVariants.{Analyse, Disasm, Run}
+use Rattle.vsa_top.specs.declared.words.Target.{Target}
+use Rattle.vsa_top.specs.declared.words.Target.TheVariants.{Msp430, Mcs51}
 
 abbrev pub usage_line : List ℕ
 usage_line = codes "USAGE\n"
@@ -59,31 +62,41 @@ status_of_end ended.Ran = status.Done
 status_of_end ended.Wild = status.Wild
 status_of_end ended.NeedChoice = status.NeedChoice
 
--- the reply to a device that runs along the second text: its run, or the first line that is refused, or that there is too much
-pub data IsRun (device : Device) (steps : ℕ) (second : Option (List ℕ)) (replied : Status) (text : List ℕ) : Type 0 where
-  ran : (script : List ℕ) → IfSome second (λ t. IsScript t script) → replied ≡ status_of_end (msp430_run device script steps).0
-      → text ≡ (msp430_run device script steps).1
-      → IsRun device steps second replied text
+-- The reply to a chip that runs along the second text, by what comes of each script: that of the script which stands there,
+-- or the first line that is refused, or that there is too much.
+pub data IsRun (run : List ℕ → Ended) (second : Option (List ℕ)) (replied : Status) (text : List ℕ) : Type 0 where
+  ran : (script : List ℕ) → IfSome second (λ t. IsScript t script) → replied ≡ status_of_end (run script).0 → text ≡ (run script).1
+      → IsRun run second replied text
   refused : (line : ℕ) → IfSome second (λ t. IsRefused t line) → replied ≡ status.BadCert → text ≡ no_line line
-      → IsRun device steps second replied text
+      → IsRun run second replied text
   longer : IfSome second (λ t. second_limit < length t) → replied ≡ status.TooLong → text ≡ long_line
-      → IsRun device steps second replied text
+      → IsRun run second replied text
 
--- the reply to a device in a mode
-abbrev pub IsImageReply : Mode → Device → (steps : ℕ) → (second : Option (List ℕ)) → Status → List ℕ → List Event → Type 0
-IsImageReply Analyse device steps second replied text journal = IsAnalysed instr_text (msp430_analysis device) replied text journal
-IsImageReply Disasm device steps second replied text journal = (replied ≡ status.Done) × IsDisassembly 2 msp430_reads device.image text × (journal ≡ [])
-IsImageReply Run device steps second replied text journal = IsRun device steps second replied text × (journal ≡ [])
+-- the text is the disassembly of an image of a chip: the MSP430's instructions stand at words, and the MCS-51's at bytes
+abbrev pub IsListing : Target → List (Option ℕ) → List ℕ → Type 0
+IsListing (Msp430 ram) image text = IsDisassembly 2 msp430_reads image text
+IsListing Mcs51 image text = IsDisassembly 1 mcs51_reads image text
+
+-- what comes of a script, where a chip runs so many steps under an image
+abbrev pub run_under : Target → (steps : ℕ) → List (Option ℕ) → (script : List ℕ) → Ended
+run_under (Msp430 ram) steps image script = msp430_run (device_of ram image) script steps
+run_under Mcs51 steps image script = mcs51_run image script steps
+
+-- the reply to an image
+abbrev pub IsImageReply : Reading → List (Option ℕ) → (second : Option (List ℕ)) → Status → List ℕ → List Event → Type 0
+IsImageReply (Analyse ram) image second replied text journal = IsAnalysed instr_text (msp430_analysis (device_of ram image)) replied text journal
+IsImageReply (Disasm target) image second replied text journal = (replied ≡ status.Done) × IsListing target image text × (journal ≡ [])
+IsImageReply (Run target steps) image second replied text journal = IsRun (run_under target steps image) second replied text × (journal ≡ [])
 
 -- The reply to words that are a reading, over the text that the input is, where it is told: that to the image which it
 -- gives, or its first faulty line, or that it is too long.
 pub data IsReply (reading : Reading) (input : Option (List ℕ)) (replied : Status) (text : List ℕ) (journal : List Event) : Type 0 where
-  of_image : (image : List (Option ℕ)) (second : Option (List ℕ)) → InputGives (rules_of reading) (tail_of reading.mode) input second image
-      → IsImageReply reading.mode (device_of reading image) reading.steps second replied text journal
+  of_image : (image : List (Option ℕ)) (second : Option (List ℕ)) → InputGives (rules_of reading) (tail_of reading) input second image
+      → IsImageReply reading image second replied text journal
       → IsReply reading input replied text journal
-  of_bad : (line : ℕ) (fault : HexFault) → IfSome input (λ t. IsBad (rules_of reading) (tail_of reading.mode) t line fault)
+  of_bad : (line : ℕ) (fault : HexFault) → IfSome input (λ t. IsBad (rules_of reading) (tail_of reading) t line fault)
       → replied ≡ status.BadImage → text ≡ bad_line line fault → journal ≡ [] → IsReply reading input replied text journal
-  of_long : IfSome input (IsTooLong (rules_of reading) (tail_of reading.mode))
+  of_long : IfSome input (IsTooLong (rules_of reading) (tail_of reading))
       → replied ≡ status.TooLong → text ≡ long_line → journal ≡ [] → IsReply reading input replied text journal
 
 -- what is written of a text that has this status: all of it, or the fault of the sink with a front of it, perhaps nothing
@@ -107,13 +120,13 @@ IsCutShort answered = (answered ≡ status.ReadFault) ⊎ (answered ≡ status.W
 abbrev pub TellsNoFault : Status → Type 0
 TellsNoFault answered = (answered ≢ status.ReadFault) × (answered ≢ status.WriteFault)
 
--- the statuses of the replies to an image in a mode
-pub data Ends : Mode → Status → Type 0 where
-  closed : Ends Analyse status.Done
-  left_open : Ends Analyse status.Open
-  disassembled : Ends Disasm status.Done
-  ran_on : Ends Run status.Done
-  went_wild : Ends Run status.Wild
-  lacked_a_choice : Ends Run status.NeedChoice
-  refused_script : Ends Run status.BadCert
-  script_too_long : Ends Run status.TooLong
+-- the statuses of the replies to an image
+pub data Ends : Reading → Status → Type 0 where
+  closed : (ram : Ram) → Ends (Analyse ram) status.Done
+  left_open : (ram : Ram) → Ends (Analyse ram) status.Open
+  disassembled : (target : Target) → Ends (Disasm target) status.Done
+  ran_on : (target : Target) (steps : ℕ) → Ends (Run target steps) status.Done
+  went_wild : (target : Target) (steps : ℕ) → Ends (Run target steps) status.Wild
+  lacked_a_choice : (target : Target) (steps : ℕ) → Ends (Run target steps) status.NeedChoice
+  refused_script : (target : Target) (steps : ℕ) → Ends (Run target steps) status.BadCert
+  script_too_long : (target : Target) (steps : ℕ) → Ends (Run target steps) status.TooLong

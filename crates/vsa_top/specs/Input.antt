@@ -11,14 +11,14 @@ use Rattle.ihex_read.specs.Lines.{lines_of}
 use Rattle.ihex_read.specs.Reading.{feeds_of, FaultsWithin, HasEnded}
 use Rattle.vsa_top.specs.declared.input.InputError.{InputError}
 use Rattle.vsa_top.specs.declared.input.InputError.TheVariants.{Failed, Memory, Bad, TooLong}
-use Rattle.vsa_top.specs.declared.words.Mode.{Mode}
-use Rattle.vsa_top.specs.declared.words.Mode.TheVariants.{Analyse, Disasm, Run}
+use Rattle.vsa_top.specs.declared.words.Reading.{Reading}
+use Rattle.vsa_top.specs.declared.words.Reading.TheVariants.{Analyse, Disasm, Run}
 
 -- a run takes its script behind the image text
-abbrev pub tail_of : Mode → Tail
-tail_of Analyse = Blank
-tail_of Disasm = Blank
-tail_of Run = Second
+abbrev pub tail_of : Reading → Tail
+tail_of (Analyse ram) = Blank
+tail_of (Disasm target) = Blank
+tail_of (Run target steps) = Second
 
 -- the longest image text
 abbrev pub text_limit : ℕ

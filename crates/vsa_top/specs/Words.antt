@@ -1,25 +1,40 @@
 -- What the words of the command line ask.
-use Rattle.std.specs.Prelude.{◌≡◌, ℕ, ◌+◌, ◌-◌, ◌*◌, ◌<◌, ◌≤◌, Bool, true, All, is_none, if◌then◌else◌, Option, None, Some, List, [], ◌∷◌, length, take, drop, slice_index, map, codes, string_bytes}
+use Rattle.std.specs.Prelude.{◌≡◌, ℕ, ◌+◌, ◌-◌, ◌*◌, ◌<◌, ◌≤◌, All, is_none, if◌then◌else◌, Option, None, Some, List, [], ◌∷◌, length, take, drop, slice_index, map, codes, string_bytes}
 use Rattle.std.specs.declared.string.String.{String}
 use Rattle.std.specs.declared.alloc.Global.{Global}
 use Rattle.hex.specs.Hex.{hex_digit_value}
 use Rattle.ihex_read.specs.declared.rule_set.Rules.{Rules}
-use Rattle.ihex_read.specs.declared.rule_set.Rules.TheVariants.{Msp430}
+use Rattle.ihex_read.specs.declared.rule_set.Rules.TheVariants as rules
 use Rattle.ihex_read.specs.ImageText.{IsRamRange}
 use Rattle.msp430_chip.specs.declared.device.Device.{Device}
+use Rattle.vsa_top.specs.declared.words.Chip.{Chip}
+use Rattle.vsa_top.specs.declared.words.Chip.TheVariants as chip
 use Rattle.vsa_top.specs.declared.words.Mode.{Mode}
-use Rattle.vsa_top.specs.declared.words.Mode.TheVariants.{Analyse, Disasm, Run}
+use Rattle.vsa_top.specs.declared.words.Mode.TheVariants as mode
 use Rattle.vsa_top.specs.declared.words.Options.{Options}
 use Rattle.vsa_top.specs.declared.words.Ram.{Ram}
 use Rattle.vsa_top.specs.declared.words.Reading.{Reading}
+use Rattle.vsa_top.specs.declared.words.Reading.TheVariants.{Analyse, Disasm, Run}
+use Rattle.vsa_top.specs.declared.words.Target.{Target}
+use Rattle.vsa_top.specs.declared.words.Target.TheVariants.{Msp430, Mcs51}
+
+-- the chip whose image is read: the MSP430 alone is analysed
+abbrev pub target_of : Reading → Target
+target_of (Analyse ram) = Msp430 ram
+target_of (Disasm target) = target
+target_of (Run target steps) = target
+
+abbrev pub target_rules : Target → Rules
+target_rules (Msp430 ram) = rules.Msp430 ram.lo ram.hi
+target_rules Mcs51 = rules.Mcs51
 
 -- the rules of an image under a reading
 abbrev pub rules_of : Reading → Rules
-rules_of reading = Msp430 reading.ram.lo reading.ram.hi
+rules_of reading = target_rules (target_of reading)
 
--- the device with an image under a reading
-abbrev pub device_of : Reading → List (Option ℕ) → Device
-device_of reading image = record { image = image; lo = reading.ram.lo; hi = reading.ram.hi }
+-- the MSP430 with an image and this RAM
+abbrev pub device_of : Ram → List (Option ℕ) → Device
+device_of ram image = record { image = image; lo = ram.lo; hi = ram.hi }
 
 -- the number of four digits, the highest first, where each has a value
 abbrev pub number_from : (a b c d : Option ℕ) → Option ℕ
@@ -41,7 +56,7 @@ pub record IsRange (text : List ℕ) (ram : Ram) : Type 0 where
   pub hyphen : slice_index text 4 ≡ 45
   pub first : number_of (take 4 text) ≡ Some ram.lo
   pub last : number_of (drop 5 text) ≡ Some ram.hi
-  pub allowed : IsRamRange (Msp430 ram.lo ram.hi)
+  pub allowed : IsRamRange (rules.Msp430 ram.lo ram.hi)
 
 -- RAM from 0200h to 09FFh
 abbrev pub usual : Ram
@@ -86,33 +101,48 @@ Say (option ∷ text ∷ words) options = (behind : Options) × Say words behind
 
 -- the word of a mode
 abbrev pub mode_word : Mode → List ℕ
-mode_word Analyse = codes "analyse"
-mode_word Disasm = codes "disasm"
-mode_word Run = codes "run"
+mode_word mode.Analyse = codes "analyse"
+mode_word mode.Disasm = codes "disasm"
+mode_word mode.Run = codes "run"
 
--- a run alone has steps
-abbrev pub may_say : Mode → Options → Bool
-may_say Run options = true
-may_say Analyse options = is_none options.steps
-may_say Disasm options = is_none options.steps
+-- the word of a chip
+abbrev pub chip_word : Chip → List ℕ
+chip_word chip.Msp430 = codes "msp430"
+chip_word chip.Mcs51 = codes "mcs51"
 
 abbrev pub or_else : {A : Type 0} → Option A → A → A
 or_else None other = other
 or_else (Some said) other = said
 
--- the reading of a mode and what the options say
-abbrev pub reading_by : Mode → Options → Reading
-reading_by mode options = record { mode = mode; ram = or_else options.ram usual; steps = or_else options.steps usual_steps }
+-- the chip with what is said of its RAM: of the MCS-51 nothing is said
+abbrev pub target_by : Chip → Option Ram → Option Target
+target_by chip.Msp430 said = Some (Msp430 (or_else said usual))
+target_by chip.Mcs51 None = Some Mcs51
+target_by chip.Mcs51 (Some ram) = None
 
--- the words ask this reading: by a mode, a chip and options that the mode has
+-- what a mode does with a chip: the MSP430 alone is analysed, and a run alone has steps
+abbrev pub reading_by : Mode → Option Target → (steps : Option ℕ) → Option Reading
+reading_by mode.Analyse (Some (Msp430 ram)) None = Some (Analyse ram)
+reading_by mode.Disasm (Some target) None = Some (Disasm target)
+reading_by mode.Run (Some target) steps = Some (Run target (or_else steps usual_steps))
+reading_by mode.Analyse (Some (Msp430 ram)) (Some steps) = None
+reading_by mode.Analyse (Some Mcs51) steps = None
+reading_by mode.Disasm (Some target) (Some steps) = None
+reading_by mode None steps = None
+
+-- what a mode, a chip and options ask
+abbrev pub asked : Mode → Chip → Options → Option Reading
+asked mode chip options = reading_by mode (target_by chip options.ram) options.steps
+
+-- the words ask this reading: by a mode, a chip, and options that both have
 pub record Reads (words : List (String Global)) (reading : Reading) : Type 0 where
   pub mode : Mode
+  pub chip : Chip
   pub said : List (List ℕ)
   pub options : Options
-  pub whole : map string_bytes words ≡ mode_word mode ∷ codes "msp430" ∷ said
+  pub whole : map string_bytes words ≡ mode_word mode ∷ chip_word chip ∷ said
   pub say : Say said options
-  pub allowed : may_say mode options ≡ true
-  pub is : reading ≡ reading_by mode options
+  pub is : asked mode chip options ≡ Some reading
 
 -- options with one more, where they have none of its kind and it is one
 abbrev pub with_range : Options → Option Ram → Option Options
@@ -123,11 +153,9 @@ abbrev pub with_number : Options → Option ℕ → Option Options
 with_number options None = None
 with_number options (Some steps) = if is_none options.steps then Some (record { ram = options.ram; steps = Some steps }) else None
 
-abbrev pub allowed_reading : Mode → Options → Option Reading
-allowed_reading mode options = if may_say mode options then Some (reading_by mode options) else None
-
--- the reading of a mode and its options, where both are there
-abbrev pub reading_with : Option Mode → Option Options → Option Reading
-reading_with (Some mode) (Some options) = allowed_reading mode options
-reading_with (Some mode) None = None
-reading_with None options = None
+-- what a mode, a chip and options ask, where all are there
+abbrev pub reading_with : Option Mode → Option Chip → Option Options → Option Reading
+reading_with (Some mode) (Some chip) (Some options) = asked mode chip options
+reading_with (Some mode) (Some chip) None = None
+reading_with (Some mode) None options = None
+reading_with None chip options = None

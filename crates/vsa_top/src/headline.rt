@@ -11,7 +11,8 @@ ghost use Rattle.vsa_top.specs.declared.outcome.Status.{Status as AStatus};
 ghost use Rattle.vsa_top.specs.Answer.{Answers, Ends};
 ghost use Rattle.vsa_top.specs.Input.{Gives, tail_of};
 ghost use Rattle.vsa_top.specs.Words.{rules_of};
-ghost use Rattle.vsa_top.specs.declared.words.Mode.TheVariants.{Analyse};
+ghost use Rattle.vsa_top.specs.declared.words.Ram.{Ram as ARam};
+ghost use Rattle.vsa_top.specs.declared.words.Reading.TheVariants.{Analyse};
 ghost use Rattle.vsa_top.specs.declared.words.Reading.{Reading as AReading};
 ghost use Rattle.vsa_top.specs.Headline.{ReportsOn};
 
@@ -19,17 +20,18 @@ use ihex_read::{ended_texts_stay, image_or_fault, images_keep_rules};
 use msp430_flow::Msp430Chip;
 use report_text::{closed_reports_cover_runs, open_reports_show_sites};
 
-/// A report that is told as closed covers every run, and one that is told as open shows its open sites. An image within
-/// the limit gets what its mode asks where nothing fails and memory is there.
+/// A report that is told as closed covers every run. What is told as open is an analysis, whose report shows its open
+/// sites. An image within the limit gets what is asked of it where nothing fails and memory is there.
 pub(crate) fn reports_hold()
-    ensures closed { (reading : AReading) (input before after : Option (List ℕ)) (journal : List AnEvent)
-        → reading.mode ≡ Analyse → Answers reading Done input before after journal →
-        ReportsOn reading input before after (λ device report. CoversEveryRun (msp430_machine device) instr_text report) }
+    ensures closed { (ram : ARam) (input before after : Option (List ℕ)) (journal : List AnEvent)
+        → Answers (Analyse ram) Done input before after journal →
+        ReportsOn ram input before after (λ device report. CoversEveryRun (msp430_machine device) instr_text report) }
     ensures open { (reading : AReading) (input before after : Option (List ℕ)) (journal : List AnEvent)
-        → Answers reading Open input before after journal → ReportsOn reading input before after (λ device report. ShowsOpenSites (msp430_analysis device) journal report) }
+        → Answers reading Open input before after journal →
+        (ram : ARam) × (reading ≡ Analyse ram) × ReportsOn ram input before after (λ device report. ShowsOpenSites (msp430_analysis device) journal report) }
     ensures complete { (reading : AReading) (answered : AStatus) (input before after : Option (List ℕ)) (journal : List AnEvent) (text : List ℕ) (image : List (Option ℕ)) (second : List ℕ)
-        → Answers reading answered input before after journal → input ≡ Some text → Gives (rules_of reading) (tail_of reading.mode) text image second
-        → ¬ (answered ≡ ReadFault) → ¬ (answered ≡ WriteFault) → Ends reading.mode answered ⊎ (answered ≡ Memory) }
+        → Answers reading answered input before after journal → input ≡ Some text → Gives (rules_of reading) (tail_of reading) text image second
+        → ¬ (answered ≡ ReadFault) → ¬ (answered ≡ WriteFault) → Ends reading answered ⊎ (answered ≡ Memory) }
 {
     ended_texts_stay();
     image_or_fault();

@@ -3,6 +3,7 @@
 
 mod headline;
 mod input;
+mod mcs51;
 mod msp430;
 mod outcome;
 mod reply;
@@ -14,6 +15,8 @@ pub use outcome::{Outcome, Status};
 pub use top::vsa;
 pub use worker_rounds::{Gate, NoGate};
 
+#[cfg(test)]
+mod mcs51_rows;
 #[cfg(test)]
 mod run_rows;
 #[cfg(test)]

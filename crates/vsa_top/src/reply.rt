@@ -4,23 +4,25 @@ ghost use Rattle.std.specs.Prelude.{◌≡◌, ◌≢◌, ◌≤◌, [], IfOk, I
 ghost use Rattle.ihex_read.specs.ImageText.{IsRamRange};
 ghost use Rattle.ihex_read.specs.Kept.{IsReadUnder};
 ghost use Rattle.vsa_io.specs.Stream.{HasRisen};
-ghost use Rattle.vsa_top.specs.Answer.{IsAnalysed, IsImageReply, IsReply, IsRun, TellsNoFault, bad_line as the_bad_line, no_line as the_no_line, status_of_analysis, status_of_end};
+ghost use Rattle.run_trace.specs.Trace.{run_of};
+ghost use Rattle.vsa_top.specs.Answer.{IsAnalysed, IsImageReply, IsListing, IsReply, IsRun, TellsNoFault, bad_line as the_bad_line, no_line as the_no_line, run_under, status_of_analysis, status_of_end};
 ghost use Rattle.vsa_top.specs.Input.{begun_with};
-ghost use Rattle.vsa_top.specs.Words.{device_of, rules_of};
+ghost use Rattle.vsa_top.specs.Words.{rules_of, target_rules};
 
 use crate::input::{InputError, image_in};
+use crate::mcs51::{Mcs51Code, Mcs51Run, Mcs51Text};
 use crate::msp430::{Msp430Code, Msp430Run};
 use crate::outcome::Status;
 use crate::script::{ScriptRefusal, script_in};
-use crate::words::{Mode, Reading};
-use chip_law::ChipText;
+use crate::words::{Reading, Target};
+use chip_law::{ChipText, InstrText};
 use disassembly::disassembly_of;
 use ihex_read::{HexFault, Image};
 use msp430_chip::Device;
 use msp430_flow::{Msp430Chip, Msp430Text};
 use report_text::report_of;
 use round_core::Event;
-use run_trace::{End, trace_of};
+use run_trace::{Emulator, End, trace_of};
 use std::alloc::{AllocError, Global};
 use vsa_io::{Memory, Source};
 use worker_rounds::fixpoint_alone;
@@ -142,18 +144,28 @@ fn no_line(alloc: Global, line: u32) -> Result<Vec<u8>, AllocError>
     Ok(text)
 }
 
-/// The run of a device along the script that stands behind its image text, of which so much was read; or what is refused
+/// The disassembly of an image of a chip.
+fn listing_of(alloc: Global, target: Target, image: &Image) -> Result<Vec<u8>, AllocError>
+    ensures { IfOk result (λ text. IsListing target image.now text.items) }
+{
+    match target {
+        Target::Msp430 { .. } => disassembly_of::<Msp430Code>(alloc, image),
+        Target::Mcs51 => disassembly_of::<Mcs51Code>(alloc, image),
+    }
+}
+
+/// The run of a machine along the script that stands behind an image text, of which so much was read; or what is refused
 /// of the script's text.
-fn run_reply<S: Source>(
+fn run_reply<S: Source, E: Emulator, T: InstrText>(
     alloc: Global,
-    device: &Device,
+    machine: &mut E,
+    texts: &T,
     steps: u32,
     begun: &[u8],
     source: &mut S,
 ) -> Result<Reply, NoReply>
-    requires { device.now.lo ≤ device.now.hi }
     ensures no_fault { IfOk result (λ reply. TellsNoFault reply.status) }
-    ensures run { IfOk result (λ reply. IsRun device.now steps (begun_with begun.now (S.left source.old)) reply.status reply.text.items) }
+    ensures run { IfOk result (λ reply. IsRun (λ script. run_of (E.runner machine.old) (T.text_of texts.now) steps (E.state machine.old) script) (begun_with begun.now (S.left source.old)) reply.status reply.text.items) }
     ensures journal { IfOk result (λ reply. reply.journal.items ≡ []) }
     ensures cause { IfErr result (λ error. error ≡ NoReply.ReadFault → HasRisen (S.faults source.old) (S.faults source.new)) }
     ensures quiet { OnOk result (S.faults source.new ≡ S.faults source.old) }
@@ -161,8 +173,7 @@ fn run_reply<S: Source>(
 {
     match script_in(alloc, source, begun) {
         Ok(script) => {
-            let mut run = Msp430Run::reset(alloc, device)?;
-            let trace = trace_of(alloc, &mut run, &Msp430Text, script, steps)?;
+            let trace = trace_of(alloc, machine, texts, script, steps)?;
             Ok(text_reply(alloc, status_of_run(trace.end), trace.text))
         }
         Err(ScriptRefusal::Syntax { line }) => {
@@ -178,6 +189,40 @@ fn run_reply<S: Source>(
     }
 }
 
+/// The run of a chip under an image, along the script behind its text.
+fn chip_run_reply<S: Source>(
+    alloc: Global,
+    target: Target,
+    steps: u32,
+    image: Image,
+    begun: &[u8],
+    source: &mut S,
+) -> Result<Reply, NoReply>
+    requires { IsRamRange (target_rules target) }
+    ensures no_fault { IfOk result (λ reply. TellsNoFault reply.status) }
+    ensures run { IfOk result (λ reply. IsRun (run_under target steps image) (begun_with begun.now (S.left source.old)) reply.status reply.text.items) }
+    ensures journal { IfOk result (λ reply. reply.journal.items ≡ []) }
+    ensures cause { IfErr result (λ error. error ≡ NoReply.ReadFault → HasRisen (S.faults source.old) (S.faults source.new)) }
+    ensures quiet { OnOk result (S.faults source.new ≡ S.faults source.old) }
+    ensures quiet_refusal { IfErr result (λ error. error ≢ NoReply.ReadFault → S.faults source.new ≡ S.faults source.old) }
+{
+    match target {
+        Target::Msp430 { ram } => {
+            let device = Device {
+                image,
+                lo: ram.lo,
+                hi: ram.hi,
+            };
+            let mut run = Msp430Run::reset(alloc, &device)?;
+            run_reply(alloc, &mut run, &Msp430Text, steps, begun, source)
+        }
+        Target::Mcs51 => {
+            let mut run = Mcs51Run::reset(&image);
+            run_reply(alloc, &mut run, &Mcs51Text, steps, begun, source)
+        }
+    }
+}
+
 /// What the words ask of an image, behind whose text so much was read.
 fn image_reply<S: Source>(
     alloc: Global,
@@ -189,24 +234,22 @@ fn image_reply<S: Source>(
     requires range { IsRamRange (rules_of reading) }
     requires kept { IsReadUnder (rules_of reading) image }
     ensures no_fault { IfOk result (λ reply. TellsNoFault reply.status) }
-    ensures reply { IfOk result (λ reply. IsImageReply reading.mode (device_of reading image) reading.steps (begun_with begun.now (S.left source.old)) reply.status reply.text.items reply.journal.items) }
+    ensures reply { IfOk result (λ reply. IsImageReply reading image (begun_with begun.now (S.left source.old)) reply.status reply.text.items reply.journal.items) }
     ensures cause { IfErr result (λ error. error ≡ NoReply.ReadFault → HasRisen (S.faults source.old) (S.faults source.new)) }
     ensures quiet { OnOk result (S.faults source.new ≡ S.faults source.old) }
     ensures quiet_refusal { IfErr result (λ error. error ≢ NoReply.ReadFault → S.faults source.new ≡ S.faults source.old) }
 {
-    let (lo, hi) = (reading.ram.lo, reading.ram.hi);
-    match reading.mode {
-        Mode::Analyse => {
-            let chip = Msp430Chip::new(alloc, image, lo, hi)?;
+    match reading {
+        Reading::Analyse { ram } => {
+            let chip = Msp430Chip::new(alloc, image, ram.lo, ram.hi)?;
             Ok(analysed(alloc, &chip)?)
         }
-        Mode::Disasm => {
-            let lines = disassembly_of::<Msp430Code>(alloc, &image)?;
+        Reading::Disasm { target } => {
+            let lines = listing_of(alloc, target, &image)?;
             Ok(text_reply(alloc, Status::Done, lines))
         }
-        Mode::Run => {
-            let device = Device { image, lo, hi };
-            run_reply(alloc, &device, reading.steps, begun, source)
+        Reading::Run { target, steps } => {
+            chip_run_reply(alloc, target, steps, image, begun, source)
         }
     }
 }
@@ -224,7 +267,7 @@ pub fn input_reply<S: Source>(
     ensures quiet { OnOk result (S.faults source.new ≡ S.faults source.old) }
     ensures quiet_refusal { IfErr result (λ error. error ≢ NoReply.ReadFault → S.faults source.new ≡ S.faults source.old) }
 {
-    match image_in(alloc, source, reading.rules(), reading.mode.tail()) {
+    match image_in(alloc, source, reading.rules(), reading.tail()) {
         Ok((image, begun)) => image_reply(alloc, reading, image, begun.as_slice(), source),
         Err(InputError::Bad { line, fault }) => {
             let text = bad_line(alloc, line, fault)?;

@@ -150,7 +150,8 @@ fn rows_of_words_of_runs(rt: HostRuntime) -> Result<(), Fail> {
     for words in [
         "analyse msp430 --steps 5",
         "disasm msp430 --steps 5",
-        "run mcs51",
+        "run mcs51 --ram 0200-09FF",
+        "run mcs51 --steps 1 --ram 0200-09FF",
         "run msp430 --steps",
         "run msp430 --steps 1000001",
         "run msp430 --steps 00000001",

@@ -8,7 +8,8 @@ ghost use Rattle.msp430_flow.specs.Chip.{msp430_analysis};
 ghost use Rattle.msp430_flow.specs.Machine.{msp430_machine};
 ghost use Rattle.report_text.specs.Promise.{CoversEveryRun, ShowsOpenSites};
 ghost use Rattle.vsa_top.specs.Headline.{ReportsOn};
-ghost use Rattle.vsa_top.specs.declared.words.Mode.TheVariants.{Analyse};
+ghost use Rattle.vsa_top.specs.declared.words.Ram.{Ram as ARam};
+ghost use Rattle.vsa_top.specs.declared.words.Reading.TheVariants.{Analyse};
 ghost use Rattle.vsa_top.specs.declared.words.Reading.{Reading as AReading};
 ghost use Rattle.vsa_top.specs.Answer.{Answers, Ends, IsCutShort, IsWritten, usage_line};
 ghost use Rattle.vsa_top.specs.Input.{Gives, tail_of};
@@ -84,12 +85,12 @@ pub fn vsa<R: Threads + Wait + Sync, S: Source, K: Sink, G: Gate>(
     // THE HEADLINE. Where the words ask an analysis, the input denotes an image under their rules and the status is Done,
     // which tells a report that says CLOSED, whatever the chip meets on any run has its line in the report, and no run
     // leaves the model.
-    ensures headline { (reading : AReading) → Reads words.now reading → reading.mode ≡ Analyse → result.status ≡ Status.Done
-        → ReportsOn reading (S.left source.old) (K.held sink.old) (K.held sink.new) (λ device report. CoversEveryRun (msp430_machine device) instr_text report) }
-    // Where the status is Open the report says OPEN and shows each open site, of which there is one: the address of a
-    // location of the book at which the limit that its cause names is broken.
+    ensures headline { (ram : ARam) → Reads words.now (Analyse ram) → result.status ≡ Status.Done
+        → ReportsOn ram (S.left source.old) (K.held sink.old) (K.held sink.new) (λ device report. CoversEveryRun (msp430_machine device) instr_text report) }
+    // Where the status is Open the words ask an analysis. The report says OPEN and shows each open site, of which there is
+    // one: the address of a location of the book at which the limit that its cause names is broken.
     ensures open_sites { (reading : AReading) → Reads words.now reading → result.status ≡ Status.Open
-        → ReportsOn reading (S.left source.old) (K.held sink.old) (K.held sink.new) (λ device report. ShowsOpenSites (msp430_analysis device) result.journal.items report) }
+        → (ram : ARam) × (reading ≡ Analyse ram) × ReportsOn ram (S.left source.old) (K.held sink.old) (K.held sink.new) (λ device report. ShowsOpenSites (msp430_analysis device) result.journal.items report) }
 
     // Words that aren't a reading are refused, and no others.
     ensures usage { ((reading : AReading) → ¬ Reads words.now reading)
@@ -104,9 +105,9 @@ pub fn vsa<R: Threads + Wait + Sync, S: Source, K: Sink, G: Gate>(
     // An input that gives an image within the limit gets its report, its disassembly, or its run or what is refused of its
     // script, where no count of faults rose, or Memory.
     ensures complete { (reading : AReading) (text : List ℕ) (image : List (Option ℕ)) (second : List ℕ) → Reads words.now reading
-        → S.left source.old ≡ Some text → Gives (rules_of reading) (tail_of reading.mode) text image second
+        → S.left source.old ≡ Some text → Gives (rules_of reading) (tail_of reading) text image second
         → ¬ HasRisen (S.faults source.old) (S.faults source.new) → ¬ HasRisen (K.faults sink.old) (K.faults sink.new)
-        → Ends reading.mode result.status ⊎ (result.status ≡ Status.Memory) }
+        → Ends reading result.status ⊎ (result.status ≡ Status.Memory) }
 
     // A fault is told only where its count rose, and a status that tells none is given only where none did.
     ensures read_fault { result.status ≡ Status.ReadFault → HasRisen (S.faults source.old) (S.faults source.new) }

@@ -5,11 +5,12 @@ ghost use Rattle.hex.specs.Hex.{hex_digit_value};
 ghost use Rattle.ihex_read.specs.ImageText.{IsRamRange};
 ghost use Rattle.ihex_read.specs.declared.rule_set.Rules.TheVariants.{Msp430};
 ghost use Rattle.vsa_top.specs.Input.{tail_of};
+ghost use Rattle.vsa_top.specs.declared.words.Chip.{Chip as AChip};
 ghost use Rattle.vsa_top.specs.declared.words.Mode.{Mode as AMode};
 ghost use Rattle.vsa_top.specs.declared.words.Options.{Options as AOptions};
 ghost use Rattle.vsa_top.specs.declared.words.Ram.{Ram as ARam};
 ghost use Rattle.vsa_top.specs.declared.words.Reading.{Reading as AReading};
-ghost use Rattle.vsa_top.specs.Words.{IsNumberBehind, IsRange, IsSteps, Reads, Say, may_say as the_mode_may_say, mode_word, number_of as the_number, reading_with as both, rules_of, with_number, with_range};
+ghost use Rattle.vsa_top.specs.Words.{IsNumberBehind, IsRange, IsSteps, Reads, Say, chip_word, mode_word, number_of as the_number, reading_by as the_reading_by, reading_with as all_three, rules_of, target_by as the_target_by, target_of, target_rules, with_number, with_range};
 
 use ihex_read::{Rules, Tail};
 
@@ -24,16 +25,11 @@ pub enum Mode {
     Run,
 }
 
-impl Mode {
-    /// What is expected behind an image text.
-    pub fn tail(self) -> Tail
-        ensures { result ≡ tail_of self }
-    {
-        match self {
-            Mode::Analyse | Mode::Disasm => Tail::Blank,
-            Mode::Run => Tail::Second,
-        }
-    }
+/// The chip whose image it is.
+#[derive(Clone, Copy, Debug, PartialEq, Eq)]
+pub enum Chip {
+    Msp430,
+    Mcs51,
 }
 
 /// The first and the last address of the MSP430's RAM. They begin and end whole words, behind the peripherals.
@@ -64,23 +60,65 @@ const USUAL_STEPS: u32 = 100;
 /// The greatest number of steps.
 const MOST_STEPS: u32 = 1_000_000;
 
+/// A chip, with all that the words say of it.
+#[derive(Clone, Copy, Debug, PartialEq, Eq)]
+pub enum Target {
+    Msp430 { ram: Ram },
+    Mcs51,
+}
+
+impl Target {
+    /// The rules of an image.
+    pub fn rules(self) -> Rules
+        ensures { result ≡ target_rules self }
+    {
+        match self {
+            Target::Msp430 { ram } => Rules::Msp430 {
+                lo: ram.lo,
+                hi: ram.hi,
+            },
+            Target::Mcs51 => Rules::Mcs51,
+        }
+    }
+}
+
 /// What the words ask.
 #[derive(Clone, Copy, Debug, PartialEq, Eq)]
-pub struct Reading {
-    pub mode: Mode,
-    pub ram: Ram,
-    /// At most 1,000,000; those of a run.
-    pub steps: u32,
+pub enum Reading {
+    /// The analysis of an MSP430.
+    Analyse { ram: Ram },
+    Disasm { target: Target },
+    /// At most so many steps, which are at most 1,000,000.
+    Run { target: Target, steps: u32 },
 }
 
 impl Reading {
+    /// The chip whose image is read.
+    fn target(self) -> Target
+        ensures { result ≡ target_of self }
+    {
+        match self {
+            Reading::Analyse { ram } => Target::Msp430 { ram },
+            Reading::Disasm { target } => target,
+            Reading::Run { target, .. } => target,
+        }
+    }
+
     /// The rules of an image.
     pub fn rules(self) -> Rules
         ensures { result ≡ rules_of self }
     {
-        Rules::Msp430 {
-            lo: self.ram.lo,
-            hi: self.ram.hi,
+        self.target().rules()
+    }
+
+    /// What is expected behind an image text.
+    pub fn tail(self) -> Tail
+        ensures { result ≡ tail_of self }
+    {
+        match self {
+            Reading::Analyse { .. } => Tail::Blank,
+            Reading::Disasm { .. } => Tail::Blank,
+            Reading::Run { .. } => Tail::Second,
         }
     }
 }
@@ -182,6 +220,19 @@ fn mode_of(word: &String) -> Option<Mode>
     }
 }
 
+/// The chip of a word.
+fn chip_of(word: &String) -> Option<Chip>
+    ensures { MatchOption result ((chip : AChip) → ¬ (string_bytes word.now ≡ chip_word chip)) (λ chip. string_bytes word.now ≡ chip_word chip) }
+{
+    if is_word(word, "msp430") {
+        Some(Chip::Msp430)
+    } else if is_word(word, "mcs51") {
+        Some(Chip::Mcs51)
+    } else {
+        None
+    }
+}
+
 /// Options with a range of RAM, where they have none and it is one.
 fn with_ram(options: Options, ram: Option<Ram>) -> Option<Options>
     ensures { result ≡ with_range options ram }
@@ -236,30 +287,44 @@ fn options_of(words: &[String]) -> Option<Options>
     }
 }
 
-/// Whether a mode has these options.
-fn may_say(mode: Mode, options: Options) -> bool
-    ensures { result ≡ the_mode_may_say mode options }
+/// The chip with its RAM, where the words say nothing of another chip's.
+fn target_by(chip: Chip, ram: Option<Ram>) -> Option<Target>
+    ensures { result ≡ the_target_by chip ram }
 {
-    mode == Mode::Run || options.steps.is_none()
-}
-
-/// The reading of a mode and its options, where both are there.
-fn reading_with(mode: Option<Mode>, options: Option<Options>) -> Option<Reading>
-    ensures { result ≡ both mode options }
-{
-    let (mode, options) = (mode?, options?);
-    if !may_say(mode, options) {
-        return None;
+    match (chip, ram) {
+        (Chip::Msp430, said) => Some(Target::Msp430 {
+            ram: said.unwrap_or(Ram::USUAL),
+        }),
+        (Chip::Mcs51, None) => Some(Target::Mcs51),
+        (Chip::Mcs51, Some(_)) => None,
     }
-    Some(Reading {
-        mode,
-        ram: options.ram.unwrap_or(Ram::USUAL),
-        steps: options.steps.unwrap_or(USUAL_STEPS),
-    })
 }
 
-/// What the words ask, where they are a mode and `msp430`, and then options that the mode has: `--ram LO-HI`, and for a
-/// run `--steps N`.
+/// What a mode does with a chip, where it does and the mode has steps.
+fn reading_by(mode: Mode, target: Option<Target>, steps: Option<u32>) -> Option<Reading>
+    ensures { result ≡ the_reading_by mode target steps }
+{
+    match (mode, target?, steps) {
+        (Mode::Analyse, Target::Msp430 { ram }, None) => Some(Reading::Analyse { ram }),
+        (Mode::Disasm, target, None) => Some(Reading::Disasm { target }),
+        (Mode::Run, target, steps) => Some(Reading::Run {
+            target,
+            steps: steps.unwrap_or(USUAL_STEPS),
+        }),
+        _ => None,
+    }
+}
+
+/// The reading of a mode, a chip and options, where all three are there.
+fn reading_with(mode: Option<Mode>, chip: Option<Chip>, options: Option<Options>) -> Option<Reading>
+    ensures { result ≡ all_three mode chip options }
+{
+    let (mode, chip, options) = (mode?, chip?, options?);
+    reading_by(mode, target_by(chip, options.ram), options.steps)
+}
+
+/// What the words ask, where they are a mode and a chip, and then options that both have: `--ram LO-HI` of the MSP430, and
+/// `--steps N` of a run.
 pub fn reading_of(words: &[String]) -> Option<Reading>
     ensures reads { IfSome result (Reads words.now) }
     ensures range { IfSome result (λ reading. IsRamRange (rules_of reading)) }
@@ -268,8 +333,5 @@ pub fn reading_of(words: &[String]) -> Option<Reading>
 {
     let (mode, behind) = words.split_first()?;
     let (chip, rest) = behind.split_first()?;
-    if !is_word(chip, "msp430") {
-        return None;
-    }
-    reading_with(mode_of(mode), options_of(rest))
+    reading_with(mode_of(mode), chip_of(chip), options_of(rest))
 }

@@ -1,4 +1,4 @@
-use Rattle.std.proofs.Common.{◌≡◌, sym, subst}
+use Rattle.std.proofs.Common.{sym, subst}
 use Rattle.round_core.specs.Machine.{replay}
 use Rattle.report_text.specs.Report.{IsReportOf}
 use Rattle.vsa_top.specs.Answer.{IsAnalysed, IsAnalysis}

@@ -1,22 +1,18 @@
 use Rattle.std.proofs.Common.{◌≡◌, ap, subst, ◌∙◌}
 use Rattle.std.specs.Prelude.{IfSome}
-use Rattle.msp430_flow.specs.Built.{instr_text}
 use Rattle.run_trace.specs.Trace.{Ended, run_of}
 use Rattle.vsa_top.specs.Answer.{status_of_end}
 use Rattle.vsa_top.specs.Answer.IsRun.{ran, refused}
 use Rattle.vsa_top.specs.Input.{begun_with}
-use Rattle.vsa_top.specs.Msp430.{msp430_run, msp430_runner}
 use Rattle.vsa_top.specs.Scripts.{LacksScript}
 use Rattle.vsa_top.proofs.reply.run_reply.Goals as goal
 
 pub returns-in_ok-trace-in-Ok-clause-run : goal.returns-in_ok-trace-in-Ok-clause-run
 returns-in_ok-trace-in-Ok-clause-run g c =
-    let device = c.args.device.now in
-    let steps = c.args.steps in
     let script = c.in-Ok.script.items in
     let trace = c.in_ok-trace-in-Ok.trace in
-    let is : (trace.end, trace.text.items) ≡ msp430_run device script steps =
-    subst (λ r. (trace.end, trace.text.items) ≡ run_of (msp430_runner r.0) instr_text steps r.1 script) c.in_ok-run-in-Ok.ensures c.in_ok-trace-in-Ok.ensures in
+    let is : (trace.end, trace.text.items) ≡ run_of (g.E.Emulator.runner c.args.machine.now) (g.T.InstrText.text_of c.args.texts.now) c.args.steps
+    (g.E.Emulator.state c.args.machine.now) script = c.in_ok-trace-in-Ok.ensures in
     ran script c.in-Ok.ensures.script (c.text_reply.ensures.status ∙ c.status_of_run.ensures.value ∙ ap (λ (e : Ended). status_of_end e.0) is)
     (c.text_reply.ensures.text ∙ ap (λ (e : Ended). e.1) is)
 

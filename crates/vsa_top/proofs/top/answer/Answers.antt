@@ -1,4 +1,4 @@
-use Rattle.std.proofs.Common.{◌≡◌, sym, subst}
+use Rattle.std.proofs.Common.{sym, subst}
 use Rattle.vsa_top.specs.Answer.{Answers, IsWritten}
 use Rattle.vsa_top.specs.Answer.Answers.{replied}
 use Rattle.vsa_top.proofs.top.answer.Goals as goal

@@ -1,18 +1,19 @@
 use Rattle.std.proofs.Common.{◌≡◌, sym, subst}
 use Rattle.vsa_top.specs.Answer.{Answers}
+use Rattle.vsa_top.specs.declared.words.Reading.TheVariants.{Analyse}
 use Rattle.vsa_top.proofs.top.vsa.Goals as goal
 
 pub returns-in_default-clause-answer : goal.returns-in_default-clause-answer
 returns-in_default-clause-answer g c = λ reading reads. absurd (c.in_default.ensures.none reading reads)
 
 pub returns-clause-headline : goal.returns-clause-headline
-returns-clause-headline g c = λ reading reads mode done.
+returns-clause-headline g c = λ ram reads done.
     let input = g.S.Source.left c.args.source.now in
     let before = g.K.Sink.held c.args.sink.now in
     let after = g.K.Sink.held c.answer.new.sink in
-    let same : reading ≡ c.in-Some.reading = c.in-Some.ensures.alone reading reads in
-    c.reports_hold.ensures.closed reading input before after c.answer.result.journal.items mode
-    (subst (λ status. Answers reading status input before after c.answer.result.journal.items) done
+    let same : Analyse ram ≡ c.in-Some.reading = c.in-Some.ensures.alone (Analyse ram) reads in
+    c.reports_hold.ensures.closed ram input before after c.answer.result.journal.items
+    (subst (λ status. Answers (Analyse ram) status input before after c.answer.result.journal.items) done
     (subst (λ r. Answers r c.answer.result.status input before after c.answer.result.journal.items) (sym same) c.answer.ensures.answer))
 
 pub returns-clause-open_sites : goal.returns-clause-open_sites
