@@ -5,4 +5,4 @@ use Rattle.mcs51_chip.specs.State.{IsChipState}
 use Rattle.mcs51_chip.specs.Step.{going_to}
 
 pub pc_kept : (s : ChipState) (pc : ℕ) → IsChipState s → pc < 65536 → IsChipState (going_to pc s)
-pc_kept s pc is h = record { pc = h; a = is.a; b = is.b; sp = is.sp; dpl = is.dpl; dph = is.dph; psw = is.psw; psw_held = is.psw_held; ie = is.ie; ie_held = is.ie_held; ip = is.ip; ram = is.ram; bytes = is.bytes }
+pc_kept s pc is h = assumption (is, h)
