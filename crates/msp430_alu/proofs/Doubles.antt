@@ -74,7 +74,7 @@ joined_second laws x y h k =
     let other = single_is laws 65536 y k in
     record { normal = laws.join_normal 65536 (single x) (single y) one.normal other.normal; has = laws.join_second 65536 (single x) (single y) one.normal other.normal y other.has }
 
-two_options : (option : ℕ) → option < 2 → (option ≡ 0) ⊎ (option ≡ 1)
+pub two_options : (option : ℕ) → option < 2 → (option ≡ 0) ⊎ (option ≡ 1)
 two_options zero h = inl refl
 two_options (suc zero) h = inr refl
 two_options (suc (suc n)) h = absurd (omega arith)

@@ -13,3 +13,4 @@ pub mod Doubles
 pub mod DoubleLaw
 pub mod WorkedForms
 pub mod SingleLaw
+pub mod PushLaw

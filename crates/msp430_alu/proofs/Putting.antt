@@ -77,7 +77,7 @@ general_are registers register value low small are = record {
   nothing = set_kept (λ r. r ≡ 0) registers register value 3 (λ e. omega (arith, e, low)) are.nothing;
 }
 
-sp_are : (registers : List ℕ) (value : ℕ) → value < 65536 → AreRegisters registers → AreRegisters (set registers 1 (even value))
+pub sp_are : (registers : List ℕ) (value : ℕ) → value < 65536 → AreRegisters registers → AreRegisters (set registers 1 (even value))
 sp_are registers value small are =
     let stored : get_or (set registers 1 (even value)) 1 0 ≡ even value = get_or-set_same registers 1 (even value) 0 (omega (arith, are.count)) in
     let no_bit : even value % 2 ≡ 0 = omega arith in

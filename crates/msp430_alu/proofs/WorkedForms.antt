@@ -14,7 +14,7 @@ use Rattle.entry_value.specs.declared.word.Word.{Word}
 use Rattle.entry_value.specs.Cells.{cell_at, found_or, put_together, read, unknown}
 use Rattle.entry_value.specs.Words.{entry_and, entry_or}
 use Rattle.value_set.specs.declared.form.Form.{Form}
-use Rattle.value_set.specs.Form.{Has, IsNormal, members}
+use Rattle.value_set.specs.Form.{Has, IsNormal, make, members}
 use Rattle.value_set.specs.Joining.{join}
 use Rattle.value_set.specs.Remainders.{HasRemainder}
 use Rattle.value_set.specs.Summing.{single, add}
@@ -29,6 +29,7 @@ use Rattle.msp430_decode.specs.declared.instr.Operation.TheVariants as operation
 use Rattle.msp430_decode.specs.declared.instr.Register.{Register}
 use Rattle.msp430_decode.specs.declared.instr.Register.TheVariants.{Pc, Sp, Sr, R3}
 use Rattle.msp430_decode.specs.declared.instr.SingleOperation.{SingleOperation}
+use Rattle.msp430_decode.specs.declared.instr.SingleOperation.TheVariants.{Rrc, Swpb, Rra, Sxt, Push, Call}
 use Rattle.msp430_decode.specs.declared.instr.Source.{Source}
 use Rattle.msp430_decode.specs.declared.instr.Source.TheVariants as source
 use Rattle.msp430_decode.specs.declared.instr.Width.{Width}
@@ -41,25 +42,25 @@ use Rattle.msp430_chip.specs.Kinds.{Kind, IsGeneral}
 use Rattle.msp430_chip.specs.Kinds.Kind.{Counter, Stack, Status, Empty, General}
 use Rattle.msp430_chip.specs.Memory.{is_ram, size_of}
 use Rattle.msp430_chip.specs.Operands.{constant_value, growth}
-use Rattle.msp430_chip.specs.Step.{reads_counter}
+use Rattle.msp430_chip.specs.Step.{reads_counter, is_formed_by_stack}
 use Rattle.msp430_state.specs.declared.status.Status.{Status as StatusBits}
 use Rattle.msp430_state.specs.Forms.{is_place, IsRelation, IsStatusRelation, IsWord, IsChipCell, IsKnown}
 use Rattle.msp430_state.specs.Known.{Known, word_of}
 use Rattle.msp430_alu.specs.declared.reach.Reach.{Reach}
 use Rattle.msp430_alu.specs.declared.reach.Reach.TheVariants.{InRegister, InMemory, Fixed}
-use Rattle.msp430_alu.specs.Formats.{single_worked, double_worked, constant_of, relation_of, masked_and, masked_clear, masked_or, written_word, counter_set, is_doubled, carry_of, destination_word, made_of, put_known, put_known_if, next_by, next_if, double_behind, double_worked}
+use Rattle.msp430_alu.specs.Formats.{lowered_known, forming_known, pushed_known, called_next, push_worked, single_worked, double_worked, constant_of, relation_of, masked_and, masked_clear, masked_or, written_word, counter_set, is_doubled, carry_of, destination_word, made_of, put_known, put_known_if, next_by, next_if, double_behind, double_worked}
 use Rattle.msp430_alu.specs.FlagSets.{MadeSet}
 use Rattle.msp430_alu.specs.Memory.{IsDevice, located, word_by, byte_by, program_word, read_one, read_each, read_list, read_known, with_store}
 use Rattle.msp430_alu.specs.Operands.{beside, source_reach, destination_reach, grown_known, operand_word, values_of}
 use Rattle.msp430_alu.specs.Premises.{Premises}
-use Rattle.msp430_alu.specs.Registers.{even_parts, status_set, put_register, register_word, with_flag_bits}
+use Rattle.msp430_alu.specs.Registers.{even_parts, status_set, put_register, register_word, with_flag_bits, with_sp}
 use Rattle.msp430_alu.specs.Results.{double_made, single_made, twice_flags, HasWidth}
 use Rattle.msp430_alu.proofs.Growth.{growth_small}
 use Rattle.msp430_alu.proofs.OperandLemmas.{AreKinds, constant_small, general_word, word_normal}
 use Rattle.msp430_alu.proofs.Parts.{even_parts_form}
 use Rattle.msp430_alu.proofs.Reading.{read_known_normal}
 use Rattle.msp430_alu.proofs.Rows.{double_form, twice_form, single_form}
-use Rattle.msp430_alu.proofs.Shapes.{IsCellWord, no_relation, register_form, flags_form, store_form}
+use Rattle.msp430_alu.proofs.Shapes.{IsCellWord, no_relation, register_form, sp_form, flags_form, store_form}
 
 -- REGISTERS AS OPERANDS
 
@@ -447,3 +448,73 @@ unfolding single_worked
 single_worked_form laws kinds device framed a pc len done width operand is form from_so fits =
     let forms = single_forms laws device framed a is form kinds pc len done width operand from_so fits in
     record { after_so = forms.after_so; next_so = forms.next_so }
+
+-- PUSH AND CALL
+
+lowered_form : (laws : Premises) (lo hi : ℕ) (framed : Bool) (a : Known) → IsKnown lo hi framed a → IsKnown lo hi framed (lowered_known a)
+lowered_form laws lo hi framed a form = sp_form laws lo hi framed a (add 65536 a.sp (single 65534)) (laws.add_normal 65536 a.sp (single 65534) form.sp.normal (laws.single 65536 65534 (omega arith)).0) form
+
+forming_form : (laws : Premises) (lo hi : ℕ) (framed : Bool) (a : Known) (operand : Source) → IsKnown lo hi framed a → IsKnown lo hi framed (forming_known operand a)
+forming_form laws lo hi framed a operand form =
+    let less = add 65536 a.sp (single 65534) in
+    let less_normal = laws.add_normal 65536 a.sp (single 65534) form.sp.normal (laws.single 65536 65534 (omega arith)).0 in
+    cond_both (is_formed_by_stack operand) (with_sp a (join 65536 a.sp less)) a (IsKnown lo hi framed)
+    (λ e. sp_form laws lo hi framed a (join 65536 a.sp less) (laws.join_normal 65536 a.sp less form.sp.normal less_normal) form) (λ e. form)
+
+word_writable : (framed : Bool) (word : Word) → IsWord framed word → IsWritable framed Words word
+word_writable framed word is = record {
+  word_so = is;
+  cell = record {
+    storable = record { normal = is.normal; byte = λ e. absurd (omega (arith, e)) };
+    byte = λ e. absurd (omega (arith, e));
+    entry = is.entry;
+  };
+}
+
+byte_form : (laws : Premises) (framed : Bool) (x : Word) → IsWord framed x → IsWord framed (record { set = pair_set (values_of Byte x) (make 256 0 1 256); entry = None })
+byte_form laws framed x is = record {
+  normal = laws.pair_normal (values_of Byte x) (make 256 0 1 256) (values_form laws framed Byte x is) (laws.whole_normal 256 (omega arith));
+  entry = no_relation framed;
+}
+
+pushed_form : (laws : Premises) (framed : Bool) (done : SingleOperation) (width : Width) (x : Word) (after : ℕ) → after < 65536 → IsWord framed x → IsWord framed (pushed_known done width x after)
+pushed_form laws framed Call width x after small is = record { normal = (laws.single 65536 after small).0; entry = no_relation framed }
+pushed_form laws framed Push Words x after small is = is
+pushed_form laws framed Rrc Words x after small is = is
+pushed_form laws framed Swpb Words x after small is = is
+pushed_form laws framed Rra Words x after small is = is
+pushed_form laws framed Sxt Words x after small is = is
+pushed_form laws framed Push Byte x after small is = byte_form laws framed x is
+pushed_form laws framed Rrc Byte x after small is = byte_form laws framed x is
+pushed_form laws framed Swpb Byte x after small is = byte_form laws framed x is
+pushed_form laws framed Rra Byte x after small is = byte_form laws framed x is
+pushed_form laws framed Sxt Byte x after small is = byte_form laws framed x is
+
+called_form : (laws : Premises) (framed : Bool) (done : SingleOperation) (width : Width) (x : Word) (after : ℕ) → after < 65536 → IsWord framed x → IsNormal 65536 (called_next done width x after)
+called_form laws framed Call width x after small is =
+    let target = written_word width (values_of width x) None in
+    (even_parts_form laws target.set (written_form laws framed width (values_of width x) None (values_form laws framed width x is) (no_relation framed)).word_so.normal).normal
+called_form laws framed other width x after small is = (laws.single 65536 after small).0
+
+pub push_worked_form : (laws : Premises) → AreKinds → (device : Device) (framed : Bool) (a : Known) (pc len : ℕ) (done : SingleOperation) (width : Width) (operand : Source) → IsDevice device
+    → IsKnown device.lo device.hi framed a → IsSource operand
+    → WorkedForm device framed (push_worked device framed a pc len done width operand).after (push_worked device framed a pc len done width operand).next
+unfolding push_worked
+push_worked_form laws kinds device framed a pc len done width operand is form from_so =
+    let after = (pc + len) % 65536 in
+    let small : after < 65536 = omega arith in
+    let counted = single after in
+    let counted_so = (laws.single 65536 after small).0 in
+    let forming = forming_known operand a in
+    let forming_is = forming_form laws device.lo device.hi framed a operand form in
+    let from = source_reach pc forming counted operand in
+    let x = operand_word device forming counted width from in
+    let x_is = operand_form laws device framed forming counted is forming_is counted_so kinds width from (source_small pc forming counted operand from_so) in
+    let grown_so = grown_known a counted width operand in
+    let at = lowered_known grown_so in
+    let at_is = lowered_form laws device.lo device.hi framed grown_so (grown_form laws device.lo device.hi framed a counted form counted_so kinds width operand) in
+    record {
+      after_so = put_form laws device framed at is at_is kinds Words (InMemory at.sp) (pushed_known done width x after) at_is.sp.normal
+          (word_writable framed (pushed_known done width x after) (pushed_form laws framed done width x after small x_is));
+      next_so = called_form laws framed done width x after small x_is;
+    }

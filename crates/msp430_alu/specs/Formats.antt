@@ -8,8 +8,9 @@ use Rattle.entry_value.specs.declared.word.Entry.{Entry}
 use Rattle.entry_value.specs.declared.word.Word.{Word}
 use Rattle.entry_value.specs.Words.{entry_and, entry_or}
 use Rattle.value_set.specs.declared.form.Form.{Form}
+use Rattle.value_set.specs.Form.{make}
 use Rattle.value_set.specs.Joining.{join}
-use Rattle.value_set.specs.Summing.{single}
+use Rattle.value_set.specs.Summing.{add, single}
 use Rattle.value_bits.specs.declared.tri.Tri.{Tri}
 use Rattle.value_bits.specs.declared.tri.Tri.TheVariants.{Either}
 use Rattle.value_bits.specs.Sets.{pair_set}
@@ -20,6 +21,7 @@ use Rattle.msp430_decode.specs.declared.instr.Operation.TheVariants as operation
 use Rattle.msp430_decode.specs.declared.instr.Register.{Register}
 use Rattle.msp430_decode.specs.declared.instr.Register.TheVariants.{Pc, Sp, Sr, R3}
 use Rattle.msp430_decode.specs.declared.instr.SingleOperation.{SingleOperation}
+use Rattle.msp430_decode.specs.declared.instr.SingleOperation.TheVariants.{Call}
 use Rattle.msp430_decode.specs.declared.instr.Source.{Source}
 use Rattle.msp430_decode.specs.declared.instr.Source.TheVariants as source
 use Rattle.msp430_decode.specs.declared.instr.Width.{Width}
@@ -29,7 +31,7 @@ use Rattle.msp430_chip.specs.declared.device.Device.{Device}
 use Rattle.msp430_chip.specs.Arithmetic.{writes_result, reads_destination}
 use Rattle.msp430_chip.specs.Memory.{size_of}
 use Rattle.msp430_chip.specs.Operands.{constant_value}
-use Rattle.msp430_chip.specs.Step.{reads_counter}
+use Rattle.msp430_chip.specs.Step.{reads_counter, is_formed_by_stack}
 use Rattle.msp430_chip.specs.declared.state.ChipState.{ChipState}
 use Rattle.msp430_chip.specs.Step.{Left}
 use Rattle.msp430_state.specs.Forms.{IsKnown}
@@ -41,7 +43,7 @@ use Rattle.msp430_alu.specs.declared.reach.Reach.TheVariants.{InRegister, InMemo
 use Rattle.msp430_alu.specs.FlagSets.{MadeSet, IsResult}
 use Rattle.msp430_alu.specs.Memory.{IsDevice, located, with_store}
 use Rattle.msp430_alu.specs.Operands.{source_reach, destination_reach, grown_known, operand_word, values_of}
-use Rattle.msp430_alu.specs.Registers.{even_parts, put_register, with_flag_bits}
+use Rattle.msp430_alu.specs.Registers.{even_parts, put_register, with_flag_bits, with_sp}
 use Rattle.msp430_alu.specs.Results.{double_made, single_made, twice_flags}
 
 -- WRITES TO A PLACE
@@ -195,6 +197,43 @@ single_worked device framed a pc len done width operand =
 abbrev pub LeavesStatusAlone : Source → Type 0
 LeavesStatusAlone (source.Register Sr) = ⊥
 LeavesStatusAlone other = Unit {0}
+
+-- PUSH AND CALL
+
+-- SP lowered by 2
+abbrev pub lowered_known : Known → Known
+lowered_known a = with_sp a (add 65536 a.sp (single 65534))
+
+-- an operand that is formed by SP, without growth, sees SP and the lowered SP
+abbrev pub forming_known : Source → Known → Known
+forming_known operand a = if is_formed_by_stack operand then with_sp a (join 65536 a.sp (add 65536 a.sp (single 65534))) else a
+
+-- CALL pushes the address behind it, PUSH the operand as it is, and PUSH.B its byte below any byte
+abbrev pub pushed_known : SingleOperation → Width → (x : Word) → (behind : ℕ) → Word
+pushed_known Call width x behind = record { set = single behind; entry = None }
+pushed_known other Words x behind = x
+pushed_known other Byte x behind = record { set = pair_set (values_of Byte x) (make 256 0 1 256); entry = None }
+
+abbrev pub called_next : SingleOperation → Width → (x : Word) → (behind : ℕ) → Form
+called_next Call width x behind = even_parts (written_word width (values_of width x) None).set
+called_next other width x behind = single behind
+
+abbrev pub push_behind : Device → (framed : Bool) → (pc len : ℕ) → SingleOperation → Width → (grown_so : Known) → (from : Reach) → (x : Word) → Worked
+push_behind device framed pc len done width grown_so from x =
+    let at = lowered_known grown_so in
+    record {
+      after = put_known device framed at Words (InMemory at.sp) (pushed_known done width x ((pc + len) % 65536));
+      next = called_next done width x ((pc + len) % 65536);
+      accesses = access_of pc false width from ++ access_of pc true Words (InMemory at.sp);
+      store = store_of true Words (InMemory at.sp);
+    }
+
+unfoldable pub push_worked : Device → (framed : Bool) → Known → (pc len : ℕ) → SingleOperation → Width → Source → Worked
+push_worked device framed a pc len done width operand =
+    let counted = single ((pc + len) % 65536) in
+    let forming = forming_known operand a in
+    let from = source_reach pc forming counted operand in
+    push_behind device framed pc len done width (grown_known a counted width operand) from (operand_word device forming counted width from)
 
 -- SR isn't the destination
 abbrev pub LeavesStatus : Destination → Type 0

@@ -16,9 +16,9 @@ ghost use Rattle.msp430_chip.specs.declared.state.ChipState.{ChipState as AState
 ghost use Rattle.msp430_chip.specs.Outcome.{Outcome};
 ghost use Rattle.msp430_chip.specs.State.{register_of};
 ghost use Rattle.msp430_chip.specs.Arithmetic.{Made, modulus, sum};
-ghost use Rattle.msp430_chip.specs.Leading.{MayDouble, MayMake, MayMakeSingle, MaySingle};
+ghost use Rattle.msp430_chip.specs.Leading.{MayDouble, MayMake, MayMakeSingle, MayPush, MaySingle};
 ghost use Rattle.msp430_alu.specs.FlagSets.{IsResult, HoldsOfMade};
-ghost use Rattle.msp430_alu.specs.Formats.{IsLeft, IsUnder, LeavesStatus, LeavesStatusAlone, double_worked, single_worked};
+ghost use Rattle.msp430_alu.specs.Formats.{IsLeft, IsUnder, LeavesStatus, LeavesStatusAlone, double_worked, push_worked, single_worked};
 ghost use Rattle.msp430_alu.specs.Memory.{IsDevice};
 ghost use Rattle.msp430_state.specs.Forms.{IsKnown};
 ghost use Rattle.msp430_state.specs.Known.{Known};
@@ -113,6 +113,22 @@ pub fn singles_hold()
     ensures next { (device : ADevice) (framed : Bool) (a : Known) (pc len : ℕ) (done : ASingleOperation) (width : AWidth) (operand : ASource)
         → IsDevice device → IsKnown device.lo device.hi framed a → IsSource operand → HasWidth done width
         → IsNormal 65536 (single_worked device framed a pc len done width operand).next }
+{
+    premises_hold();
+    registers_of_five_kinds();
+}
+
+/// The same of PUSH and CALL: `push_worked`.
+pub fn pushes_hold()
+    ensures left { (device : ADevice) (framed : Bool) (a : Known) (s : AState) (first : Option AState) (len : ℕ) (done : ASingleOperation) (width : AWidth) (operand : ASource) (outcome : Outcome AState)
+        → IsUnder device framed a s first → IsSource operand → (may : MayPush device s len done width operand outcome)
+        → IsLeft device (push_worked device framed a (register_of s 0) len done width operand).after first (push_worked device framed a (register_of s 0) len done width operand).next may.left }
+    ensures form { (device : ADevice) (framed : Bool) (a : Known) (pc len : ℕ) (done : ASingleOperation) (width : AWidth) (operand : ASource)
+        → IsDevice device → IsKnown device.lo device.hi framed a → IsSource operand
+        → IsKnown device.lo device.hi framed (push_worked device framed a pc len done width operand).after }
+    ensures next { (device : ADevice) (framed : Bool) (a : Known) (pc len : ℕ) (done : ASingleOperation) (width : AWidth) (operand : ASource)
+        → IsDevice device → IsKnown device.lo device.hi framed a → IsSource operand
+        → IsNormal 65536 (push_worked device framed a pc len done width operand).next }
 {
     premises_hold();
     registers_of_five_kinds();

@@ -6,5 +6,5 @@ mod laws;
 mod reach;
 
 pub use flag_bits::FlagBits;
-pub use laws::{doubles_hold, operations_hold, singles_hold};
+pub use laws::{doubles_hold, operations_hold, pushes_hold, singles_hold};
 pub use reach::Reach;
