@@ -46,6 +46,6 @@ fn rows(rt: HostRuntime) -> Result<(), Fail> {
             count = count.wrapping_add(1);
         }
     }
-    assert_eq!(rt; count, 307);
+    assert_eq!(rt; count, 366);
     Ok(())
 }
