@@ -86,7 +86,7 @@ sp_set laws device framed a counted first registers ram set_so value on is same 
           (sp_written device a first registers ram value set_so on.are.count on.form.fact (even_parts_is laws set_so value is).has on.parts);
     }
 
-lowered_is : (laws : Premises) (device : Device) (framed : Bool) (a : Known) (counted : Form) (first : Option ChipState) (registers ram : List ℕ) → IsOnTheWay device framed a counted first registers ram
+pub lowered_is : (laws : Premises) (device : Device) (framed : Bool) (a : Known) (counted : Form) (first : Option ChipState) (registers ram : List ℕ) → IsOnTheWay device framed a counted first registers ram
     → IsResult 65536 (add 65536 a.sp (single 65534)) (lowered (get_or registers 1 0))
 lowered_is laws device framed a counted first registers ram on =
     add_is laws 65536 (get_or registers 1 0) 65534 a.sp (single 65534) (record { normal = on.form.sp.normal; has = on.parts.sp }) (single_is laws 65536 65534 (omega arith))
@@ -94,7 +94,7 @@ lowered_is laws device framed a counted first registers ram on =
 lowered_even : (registers : List ℕ) → AreRegisters registers → even (lowered (get_or registers 1 0)) ≡ lowered (get_or registers 1 0)
 lowered_even registers are = omega (arith, are.even_sp)
 
-lowered_on : (laws : Premises) (device : Device) (framed : Bool) (a : Known) (counted : Form) (first : Option ChipState) (registers ram : List ℕ) → IsOnTheWay device framed a counted first registers ram
+pub lowered_on : (laws : Premises) (device : Device) (framed : Bool) (a : Known) (counted : Form) (first : Option ChipState) (registers ram : List ℕ) → IsOnTheWay device framed a counted first registers ram
     → IsOnTheWay device framed (lowered_known a) counted first (set registers 1 (lowered (get_or registers 1 0))) ram
 lowered_on laws device framed a counted first registers ram on =
     sp_set laws device framed a counted first registers ram (add 65536 a.sp (single 65534)) (lowered (get_or registers 1 0)) on
@@ -116,7 +116,7 @@ both_seen laws device framed a counted first registers ram option few on =
           (record { normal = normal; has = laws.join_second 65536 a.sp less on.form.sp.normal less_is.normal (lowered (get_or registers 1 0)) less_is.has }) (lowered_even registers on.are))
     ]
 
-forming_on : (laws : Premises) (device : Device) (framed : Bool) (a : Known) (counted : Form) (first : Option ChipState) (registers ram : List ℕ) (operand : Source) (option : ℕ) → IsOption (is_formed_by_stack operand) 2 option
+pub forming_on : (laws : Premises) (device : Device) (framed : Bool) (a : Known) (counted : Form) (first : Option ChipState) (registers ram : List ℕ) (operand : Source) (option : ℕ) → IsOption (is_formed_by_stack operand) 2 option
     → IsOnTheWay device framed a counted first registers ram → IsOnTheWay device framed (forming_known operand a) counted first (with_lowered option registers) ram
 forming_on laws device framed a counted first registers ram operand option formed on =
     cond_both (is_formed_by_stack operand) (with_sp a (join 65536 a.sp (add 65536 a.sp (single 65534)))) a (λ b. IsOnTheWay device framed b counted first (with_lowered option registers) ram)
