@@ -1,12 +1,11 @@
 -- The accesses that an instruction makes are shown, and a store that hits the program is one of the open ones.
-use Rattle.std.proofs.Common.{◌≡◌, ℕ, zero, suc, ◌+◌, ◌-◌, ◌*◌, ◌/◌, ◌%◌, ◌<◌, ◌≤◌, ◌==◌, ◌&&◌, ◌++◌, Bool, true, false, Option, None, Some, List, [], ◌∷◌, length, get_or, set, refl, sym, ap, ◌∙◌, subst, inl, inr, arith, All, Contains}
-use Rattle.std.specs.Prelude.{◌⊎◌, if◌then◌else◌}
-use Rattle.std.specs.Option.{option_map}
+use Rattle.std.proofs.Common.{◌≡◌, ℕ, zero, suc, ◌+◌, ◌-◌, ◌%◌, ◌<◌, ◌++◌, Bool, true, false, Option, None, Some, List, [], ◌∷◌, length, get_or, set, refl, sym, ap, ◌∙◌, subst, inl, inr, arith, Contains}
+use Rattle.std.specs.Prelude.{◌⊎◌}
 use Rattle.std.proofs.lemmas.List.Elements.{Contains-append_left, Contains-append_right}
 use Rattle.std.proofs.Common.{length-append, get_or-append-add, get_or-set_same, get_or-set_other}
 use Rattle.std.proofs.lemmas.List.{get_or_append_left}
 use Rattle.std.proofs.lemmas.Bool.{cases_lt}
-use Rattle.call_context.specs.Single.{Single, Shows, AreShowing}
+use Rattle.call_context.specs.Single.{Single, Shows}
 use Rattle.call_context.specs.Single.Single.{Access}
 use Rattle.call_context.specs.declared.shown.Item.{Item}
 use Rattle.call_context.specs.declared.shown.Item.TheVariants as item
@@ -21,7 +20,7 @@ use Rattle.msp430_decode.specs.declared.instr.SingleOperation.{SingleOperation}
 use Rattle.msp430_decode.specs.declared.instr.SingleOperation.TheVariants.{Rrc, Swpb, Rra, Sxt, Push, Call}
 use Rattle.msp430_decode.specs.declared.instr.Source.{Source}
 use Rattle.msp430_decode.specs.declared.instr.Width.{Width}
-use Rattle.msp430_decode.specs.declared.instr.Width.TheVariants.{Word as Words, Byte}
+use Rattle.msp430_decode.specs.declared.instr.Width.TheVariants.{Word as Words}
 use Rattle.msp430_decode.specs.Operands.{IsSource, IsDestination}
 use Rattle.msp430_chip.specs.declared.device.Device.{Device}
 use Rattle.msp430_chip.specs.declared.place.Place.{Place}
@@ -78,9 +77,11 @@ shown_both items others xs ys h k x within = elim (one_of xs ys x within) [
 -- ACCESSES
 
 access_shown : (laws : Premises) (pc : ℕ) (write : Bool) (width : Width) (reach : Reach) (stands : Place) → IsReached reach stands → AreShown (access_of pc write width reach) (access_to pc write width stands)
-access_shown laws pc write width (InMemory set_so) (place.InMemory address) reached x within =
-    (item.Access pc Mem write (size_of width) (W (located width set_so)), (0, omega arith, refl),
-    subst (Shows (item.Access pc Mem write (size_of width) (W (located width set_so)))) (only (Access pc Mem write (size_of width) (aligned width address)) x within) (refl, refl, refl, refl, (located_is laws width set_so address reached).has))
+access_shown laws pc write width (InMemory set_so) (place.InMemory address) reached x within = (
+  item.Access pc Mem write (size_of width) (W (located width set_so)),
+  (0, omega arith, refl),
+  subst (Shows (item.Access pc Mem write (size_of width) (W (located width set_so)))) (only (Access pc Mem write (size_of width) (aligned width address)) x within) (refl, refl, refl, refl, (located_is laws width set_so address reached).has),
+)
 access_shown laws pc write width (InMemory set_so) (place.InRegister other) reached x within = absurd (none_in x within)
 access_shown laws pc write width (InMemory set_so) (place.Fixed other) reached x within = absurd (none_in x within)
 access_shown laws pc write width (InRegister register) (place.InMemory address) reached x within = absurd reached

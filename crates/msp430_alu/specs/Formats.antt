@@ -1,5 +1,5 @@
 -- What the formats of instructions make of what is known of a state: the two operands, the one operand, PUSH and CALL.
-use Rattle.std.specs.Prelude.{◌≡◌, ℕ, ◌+◌, ◌-◌, ◌%◌, ◌<◌, ◌==◌, ◌&&◌, ◌||◌, if◌then◌else◌, Bool, true, false, Option, None, Some, option_map, List, [], ◌∷◌, ◌++◌, slice_index, slice_index_or, Contains}
+use Rattle.std.specs.Prelude.{◌≡◌, ℕ, ◌+◌, ◌-◌, ◌%◌, ◌==◌, if◌then◌else◌, Bool, true, false, Option, None, Some, option_map, List, [], ◌∷◌, ◌++◌, slice_index, slice_index_or, Contains}
 use Rattle.call_context.specs.Single.{Single, AreShowing}
 use Rattle.call_context.specs.declared.shown.Item.{Item}
 use Rattle.call_context.specs.declared.shown.Item.TheVariants.{Access}
@@ -20,7 +20,7 @@ use Rattle.msp430_decode.specs.declared.instr.Destination.TheVariants as destina
 use Rattle.msp430_decode.specs.declared.instr.Operation.{Operation}
 use Rattle.msp430_decode.specs.declared.instr.Operation.TheVariants as operation
 use Rattle.msp430_decode.specs.declared.instr.Register.{Register}
-use Rattle.msp430_decode.specs.declared.instr.Register.TheVariants.{Pc, Sp, Sr, R3}
+use Rattle.msp430_decode.specs.declared.instr.Register.TheVariants.{Pc, Sr}
 use Rattle.msp430_decode.specs.declared.instr.SingleOperation.{SingleOperation}
 use Rattle.msp430_decode.specs.declared.instr.SingleOperation.TheVariants.{Call}
 use Rattle.msp430_decode.specs.declared.instr.Source.{Source}
@@ -38,7 +38,6 @@ use Rattle.msp430_chip.specs.Step.{Left}
 use Rattle.msp430_state.specs.Forms.{IsKnown}
 use Rattle.msp430_state.specs.Holding.{HoldsOf, HoldsOfParts}
 use Rattle.msp430_state.specs.Known.{Known}
-use Rattle.msp430_alu.specs.declared.flag_bits.FlagBits.{FlagBits}
 use Rattle.msp430_alu.specs.declared.reach.Reach.{Reach}
 use Rattle.msp430_alu.specs.declared.reach.Reach.TheVariants.{InRegister, InMemory, Fixed}
 use Rattle.msp430_alu.specs.FlagSets.{MadeSet, IsResult}
