@@ -1,11 +1,10 @@
 -- Results of two sets and a carry.
-use Rattle.std.proofs.Common.{◌≡◌, ℕ, ◌+◌, ◌-◌, ◌*◌, ◌%◌, ◌^◌, ◌<◌, ◌≤◌, Bool, true, false, List, [], ◌∷◌, length, refl, sym, ap, ◌∙◌, subst, inl, inr, arith}
-use Rattle.std.specs.Prelude.{nat_le}
+use Rattle.std.proofs.Common.{◌≡◌, ℕ, ◌+◌, ◌-◌, ◌%◌, ◌<◌, [], ◌∷◌, refl, sym, ap, ◌∙◌, subst, inl, inr, arith}
 use Rattle.std.proofs.Math.Nat.{add-mod-mod, add-mod_right, mod-lt, mod-eq_of_lt}
 use Rattle.std.proofs.lemmas.Bool.{cond_both, cases_eq}
 use Rattle.value_set.specs.declared.form.Form.{Form}
 use Rattle.value_set.specs.declared.form.Form.TheVariants.{Values}
-use Rattle.value_set.specs.Form.{Has, IsNormal, members}
+use Rattle.value_set.specs.Form.{Has, IsNormal}
 use Rattle.value_set.specs.Operations.{StaysBelow, HasResultsBelow}
 use Rattle.value_set.specs.Summing.{add, combine, single, sub}
 use Rattle.value_bits.specs.declared.tri.Tri.{Tri}

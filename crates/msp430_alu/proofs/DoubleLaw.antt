@@ -1,17 +1,14 @@
 -- The law of instructions with two operands, along their stages.
-use Rattle.std.proofs.Common.{◌≡◌, ℕ, zero, suc, ◌+◌, ◌-◌, ◌*◌, ◌/◌, ◌%◌, ◌<◌, ◌≤◌, ◌==◌, ◌&&◌, ◌++◌, Bool, true, false, Option, None, Some, List, [], ◌∷◌, length, get_or, set, refl, sym, ap, ◌∙◌, subst, inl, inr, arith, All, Contains}
+use Rattle.std.proofs.Common.{◌≡◌, ℕ, suc, ◌+◌, ◌*◌, ◌%◌, ◌<◌, Bool, true, false, Option, None, List, [], ◌∷◌, length, get_or, set, refl, sym, ap, ◌∙◌, subst, arith}
 use Rattle.std.proofs.Common.{get_or-set_same, get_or-set_other}
-use Rattle.std.specs.Prelude.{◌⊎◌, if◌then◌else◌}
+use Rattle.std.specs.Prelude.{if◌then◌else◌}
 use Rattle.std.specs.List.{slice_index_or}
 use Rattle.std.specs.Option.{option_map}
-use Rattle.std.proofs.lemmas.Bool.{cond_both, cond-true, cond-false, and_parts, cases_Bool, false≢true}
+use Rattle.std.proofs.lemmas.Bool.{cond_both, cond-false, and_parts, false≢true}
 use Rattle.std.proofs.lemmas.Option.{same_Some}
-use Rattle.choosing.specs.Asking.{IsOption}
-use Rattle.entry_value.specs.declared.word.Entry.{Entry}
 use Rattle.entry_value.specs.declared.word.Word.{Word}
-use Rattle.entry_value.specs.Words.{Suspended, IsFromEntry, HoldsOfWord}
+use Rattle.entry_value.specs.Words.{Suspended, IsFromEntry}
 use Rattle.value_set.specs.declared.form.Form.{Form}
-use Rattle.value_set.specs.Form.{Has, IsNormal}
 use Rattle.value_set.specs.Summing.{single}
 use Rattle.value_bits.specs.declared.tri.Tri.{Tri}
 use Rattle.value_bits.specs.declared.tri.Tri.TheVariants.{Either}
@@ -21,48 +18,42 @@ use Rattle.msp430_decode.specs.declared.instr.Destination.TheVariants as destina
 use Rattle.msp430_decode.specs.declared.instr.Operation.{Operation}
 use Rattle.msp430_decode.specs.declared.instr.Operation.TheVariants as operation
 use Rattle.msp430_decode.specs.declared.instr.Register.{Register}
-use Rattle.msp430_decode.specs.declared.instr.Register.TheVariants.{Pc, Sp, Sr, R3}
+use Rattle.msp430_decode.specs.declared.instr.Register.TheVariants.{Sr}
 use Rattle.msp430_decode.specs.declared.instr.Source.{Source}
 use Rattle.msp430_decode.specs.declared.instr.Source.TheVariants as source
 use Rattle.msp430_decode.specs.declared.instr.Width.{Width}
 use Rattle.msp430_decode.specs.declared.instr.Width.TheVariants.{Word as Words, Byte}
-use Rattle.msp430_decode.specs.Codes.{number}
 use Rattle.msp430_decode.specs.Operands.{IsSource, IsDestination}
 use Rattle.msp430_chip.specs.declared.device.Device.{Device}
 use Rattle.msp430_chip.specs.declared.place.Place.{Place}
 use Rattle.msp430_chip.specs.declared.place.Place.TheVariants as place
 use Rattle.msp430_chip.specs.declared.state.ChipState.{ChipState}
-use Rattle.msp430_chip.specs.Arithmetic.{Made, modulus, sum, writes_result, reads_destination, sets_flags, with_made_flags}
-use Rattle.msp430_chip.specs.Kinds.{Kind}
-use Rattle.msp430_chip.specs.Leading.{MayCount, MayStandAt, MayStandIf, MayMake, MayLeaveDouble, MayDouble, LeavesFree, at_source, behind_source, origin_of, place_of}
-use Rattle.msp430_chip.specs.Leading.MayCount.{Behind, Within}
+use Rattle.msp430_chip.specs.Arithmetic.{Made, sum, writes_result, reads_destination, sets_flags, with_made_flags}
+use Rattle.msp430_chip.specs.Leading.{MayCount, MayStandAt, MayStandIf, MayMake, MayLeaveDouble, MayDouble, at_source, behind_source, origin_of, place_of}
 use Rattle.msp430_chip.specs.Leading.MayLeaveDouble.{FreeStatus, OfResult}
 use Rattle.msp430_chip.specs.Outcome.{Outcome}
-use Rattle.msp430_chip.specs.Operands.{value_in, grown, source_place, destination_place, has_free_bits, with_free_bits, is_status}
-use Rattle.msp430_chip.specs.State.{register_of, IsChipState}
+use Rattle.msp430_chip.specs.Operands.{grown, source_place, destination_place, with_free_bits, is_status}
+use Rattle.msp430_chip.specs.State.{register_of}
 use Rattle.msp430_chip.specs.Step.{Left, put_if, with_status, behind}
 use Rattle.msp430_state.specs.Forms.{IsKnown}
-use Rattle.msp430_state.specs.Holding.{suspended_of, HoldsOf, HoldsOfParts}
+use Rattle.msp430_state.specs.Holding.{suspended_of}
 use Rattle.msp430_state.specs.Known.{Known}
-use Rattle.msp430_alu.specs.declared.flag_bits.FlagBits.{FlagBits}
 use Rattle.msp430_alu.specs.declared.reach.Reach.{Reach}
-use Rattle.msp430_alu.specs.declared.reach.Reach.TheVariants.{InRegister, InMemory, Fixed}
 use Rattle.msp430_alu.specs.FlagSets.{MadeSet, IsResult, HoldsOfMade}
-use Rattle.msp430_alu.specs.Formats.{constant_of, relation_of, written_word, counter_set, is_doubled, carry_of, destination_word, made_of, put_known_if, next_if, double_behind, double_worked, LeavesStatus, IsUnder, IsLeft}
+use Rattle.msp430_alu.specs.Formats.{constant_of, relation_of, written_word, counter_set, is_doubled, carry_of, destination_word, made_of, put_known_if, next_if, double_worked, LeavesStatus, IsUnder, IsLeft}
 use Rattle.msp430_alu.specs.Memory.{IsDevice}
 use Rattle.msp430_alu.specs.Operands.{source_reach, destination_reach, grown_known, operand_word, values_of, IsReached}
 use Rattle.msp430_alu.specs.Premises.{Premises}
-use Rattle.msp430_alu.specs.Registers.{AreRegisters, with_flag_bits}
+use Rattle.msp430_alu.specs.Registers.{with_flag_bits}
 use Rattle.msp430_alu.specs.Results.{double_made, twice_flags}
 use Rattle.msp430_alu.proofs.Carries.{single_is}
 use Rattle.msp430_alu.proofs.Doubles.{counter_is, related, constant_value_is, written_is, one_register}
-use Rattle.msp430_alu.proofs.Growth.{state_are, on_the_way, grown_on}
+use Rattle.msp430_alu.proofs.Growth.{on_the_way, grown_on}
 use Rattle.msp430_alu.proofs.OperandLemmas.{AreKinds, IsOnTheWay, IsOperand, source_reached, destination_reached, operand_held}
 use Rattle.msp430_alu.proofs.Parts.{parts_counted, flags_written}
 use Rattle.msp430_alu.proofs.Putting.{IsPut, IsReady, put_if_is, counted_are}
 use Rattle.msp430_alu.proofs.Rows.{double_holds, twice_row}
 use Rattle.msp430_alu.proofs.WorkedForms.{double_forms}
-use Rattle.msp430_alu.proofs.Storing.{IsRam}
 
 -- C
 first_bit : (bits : List Tri) (sr n : ℕ) → length bits ≡ suc n → Agrees bits sr → IsBit (slice_index_or bits 0 Either) (sr % 2)

@@ -1,28 +1,19 @@
 -- Instructions with two operands: what they leave stands under what is known behind them.
-use Rattle.std.proofs.Common.{◌≡◌, ℕ, zero, suc, ◌+◌, ◌-◌, ◌*◌, ◌/◌, ◌%◌, ◌<◌, ◌≤◌, ◌==◌, ◌&&◌, ◌++◌, Bool, true, false, Option, None, Some, List, [], ◌∷◌, length, get_or, set, refl, sym, ap, ◌∙◌, subst, inl, inr, arith, All}
-use Rattle.std.proofs.Common.{get_or-set_same, get_or-set_other}
-use Rattle.std.specs.Prelude.{◌⊎◌, bit_and, bit_or, bit_xor, if◌then◌else◌}
-use Rattle.std.specs.List.{slice_index_or}
-use Rattle.std.specs.Option.{option_map}
-use Rattle.std.proofs.Math.Nat.{mod-lt, mod-eq_of_lt}
-use Rattle.std.proofs.lemmas.Bool.{cond_both, cond-true, cond-false, and_parts, cases_Bool, cases_eq, eqb-true, false_from_ne_true, both_ways}
-use Rattle.std.proofs.lemmas.List.{length-set}
+use Rattle.std.proofs.Common.{◌≡◌, ℕ, zero, suc, ◌+◌, ◌-◌, ◌*◌, ◌%◌, ◌<◌, true, Option, None, Some, List, [], ◌∷◌, get_or, refl, sym, ap, ◌∙◌, subst, inl, inr, arith}
+use Rattle.std.specs.Prelude.{◌⊎◌, bit_and, bit_or}
+use Rattle.std.proofs.Math.Nat.{mod-eq_of_lt}
+use Rattle.std.proofs.lemmas.Bool.{cond-true, cond-false, eqb-true}
 use Rattle.std.proofs.lemmas.Option.{same_Some}
 use Rattle.entry_value.specs.declared.word.Entry.{Entry}
-use Rattle.entry_value.specs.declared.word.Word.{Word}
-use Rattle.entry_value.specs.Words.{Suspended, IsFromEntry, HoldsOfWord}
+use Rattle.entry_value.specs.Words.{Suspended, IsFromEntry}
 use Rattle.value_set.specs.declared.form.Form.{Form}
-use Rattle.value_set.specs.Form.{Has, IsNormal}
+use Rattle.value_set.specs.Form.{Has}
 use Rattle.value_set.specs.Joining.{join}
 use Rattle.value_set.specs.Summing.{single}
-use Rattle.value_bits.specs.declared.tri.Tri.{Tri}
-use Rattle.value_bits.specs.declared.tri.Tri.TheVariants.{Either}
-use Rattle.value_bits.specs.Bits.{IsBit, Agrees}
 use Rattle.value_bits.specs.Sets.{pair_set}
 use Rattle.msp430_decode.specs.declared.instr.Constant.{Constant}
 use Rattle.msp430_decode.specs.declared.instr.Constant.TheVariants.{Zero, One, Two, Four, Eight, MinusOne}
 use Rattle.msp430_decode.specs.declared.instr.Destination.{Destination}
-use Rattle.msp430_decode.specs.declared.instr.Destination.TheVariants as destination
 use Rattle.msp430_decode.specs.declared.instr.Operation.{Operation}
 use Rattle.msp430_decode.specs.declared.instr.Operation.TheVariants as operation
 use Rattle.msp430_decode.specs.declared.instr.Register.{Register}
@@ -32,33 +23,20 @@ use Rattle.msp430_decode.specs.declared.instr.Source.TheVariants as source
 use Rattle.msp430_decode.specs.declared.instr.Width.{Width}
 use Rattle.msp430_decode.specs.declared.instr.Width.TheVariants.{Word as Words, Byte}
 use Rattle.msp430_decode.specs.Codes.{number}
-use Rattle.msp430_decode.specs.Operands.{IsSource, IsDestination}
+use Rattle.msp430_decode.specs.Operands.{IsSource}
 use Rattle.msp430_chip.specs.declared.device.Device.{Device}
-use Rattle.msp430_chip.specs.declared.place.Place.{Place}
-use Rattle.msp430_chip.specs.declared.place.Place.TheVariants as place
 use Rattle.msp430_chip.specs.declared.state.ChipState.{ChipState}
-use Rattle.msp430_chip.specs.Arithmetic.{Made, modulus, complement, sum, logic, exclusive, with_made_flags, writes_result, reads_destination, sets_flags}
-use Rattle.msp430_chip.specs.Kinds.{Kind, IsGeneral}
-use Rattle.msp430_chip.specs.Leading.{MayCount, MayStandAt, MayStandIf, MayMake, MayMakeDecimal, MayLeaveDouble, MayDouble}
+use Rattle.msp430_chip.specs.Arithmetic.{Made, modulus, complement, logic}
+use Rattle.msp430_chip.specs.Leading.{MayCount, MayStandAt, MayMake}
 use Rattle.msp430_chip.specs.Leading.MayCount.{Behind, Within}
-use Rattle.msp430_chip.specs.Memory.{size_of}
-use Rattle.msp430_chip.specs.Operands.{constant_value, value_in, source_place, has_free_bits, with_free_bits, is_status}
+use Rattle.msp430_chip.specs.Operands.{constant_value, source_place, with_free_bits}
 use Rattle.msp430_chip.specs.State.{register_of}
-use Rattle.msp430_chip.specs.Step.{behind, reads_counter}
-use Rattle.msp430_state.specs.Holding.{suspended_of}
-use Rattle.msp430_state.specs.Known.{Known}
-use Rattle.msp430_alu.specs.declared.reach.Reach.{Reach}
-use Rattle.msp430_alu.specs.declared.reach.Reach.TheVariants.{InRegister, InMemory, Fixed}
-use Rattle.msp430_alu.specs.FlagSets.{IsResult, HoldsOfMade}
-use Rattle.msp430_alu.specs.Formats.{constant_of, relation_of, masked_and, masked_clear, masked_or, written_word, counter_set, is_one_register, is_doubled, carry_of, destination_word, made_of}
-use Rattle.msp430_alu.specs.Operands.{values_of}
+use Rattle.msp430_chip.specs.Step.{reads_counter}
+use Rattle.msp430_alu.specs.FlagSets.{IsResult}
+use Rattle.msp430_alu.specs.Formats.{constant_of, relation_of, masked_and, masked_clear, masked_or, written_word, counter_set, is_one_register}
 use Rattle.msp430_alu.specs.Premises.{Premises}
-use Rattle.msp430_alu.specs.Results.{double_made, twice_flags}
 use Rattle.msp430_alu.proofs.Carries.{single_is}
-use Rattle.msp430_alu.proofs.OperandLemmas.{IsOperand}
 use Rattle.msp430_alu.proofs.Putting.{IsWritten}
-use Rattle.msp430_alu.proofs.Reading.{IsHeld}
-use Rattle.msp430_alu.proofs.Rows.{double_holds, twice_row}
 
 -- PC AS IT COUNTS
 

@@ -1,5 +1,5 @@
 -- Flags that a set shows, and flags in which all combinations agree.
-use Rattle.std.proofs.Common.{◌≡◌, ℕ, zero, suc, ◌+◌, ◌*◌, ◌/◌, ◌%◌, ◌^◌, ◌<◌, ◌==◌, Bool, true, false, not, List, [], ◌∷◌, length, refl, sym, ap, ◌∙◌, subst, arith}
+use Rattle.std.proofs.Common.{◌≡◌, ℕ, zero, suc, ◌+◌, ◌/◌, ◌%◌, ◌^◌, ◌<◌, ◌==◌, Bool, not, List, [], ◌∷◌, length, refl, sym, ap, ◌∙◌, subst, arith}
 use Rattle.std.specs.Prelude.{nat_le}
 use Rattle.std.proofs.lemmas.Bool.{cond_both, eq-eqb, ne_eqb, eqb-false, le-leb, lt-leb}
 use Rattle.std.proofs.lemmas.Nat.{shr-shr}
@@ -15,7 +15,7 @@ use Rattle.msp430_decode.specs.declared.instr.Width.TheVariants.{Word, Byte}
 use Rattle.msp430_chip.specs.declared.place.Flags.{Flags}
 use Rattle.msp430_chip.specs.Arithmetic.{modulus, is_negative, flags_of}
 use Rattle.msp430_alu.specs.declared.flag_bits.FlagBits.{FlagBits}
-use Rattle.msp430_alu.specs.FlagSets.{AreFlags, bits_of, unless_clear, zero_by, last_or, negative_by, zero_of, negative_of, shown_flags, shown_logic, is_few, all_agree, flags_or, free_overflow, no_flags}
+use Rattle.msp430_alu.specs.FlagSets.{AreFlags, unless_clear, zero_by, last_or, negative_by, zero_of, negative_of, shown_flags, shown_logic, is_few, all_agree, flags_or, free_overflow, no_flags}
 use Rattle.msp430_alu.specs.Premises.{Premises}
 
 -- Z AND N

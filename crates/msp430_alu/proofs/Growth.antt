@@ -1,13 +1,11 @@
 -- Registers on the way through an instruction: PC as it counts, and @Rn+ that has grown.
-use Rattle.std.proofs.Common.{◌≡◌, ℕ, ◌+◌, ◌-◌, ◌*◌, ◌/◌, ◌%◌, ◌<◌, ◌≤◌, ◌==◌, Bool, true, false, Option, None, Some, List, [], ◌∷◌, length, get_or, set, refl, sym, ap, ◌∙◌, subst, inl, inr, arith, All}
+use Rattle.std.proofs.Common.{◌≡◌, ℕ, ◌+◌, ◌-◌, ◌%◌, ◌<◌, Bool, false, Option, None, List, get_or, set, refl, sym, ap, ◌∙◌, subst, arith}
 use Rattle.std.proofs.Common.{get_or-set_same, get_or-set_other}
 use Rattle.std.specs.Option.{option_map}
 use Rattle.entry_value.specs.declared.word.Word.{Word}
 use Rattle.value_set.specs.declared.form.Form.{Form}
-use Rattle.value_set.specs.Form.{Has, IsNormal}
 use Rattle.value_set.specs.Summing.{single, add}
 use Rattle.msp430_decode.specs.declared.instr.Register.{Register}
-use Rattle.msp430_decode.specs.declared.instr.Register.TheVariants.{Pc, Sp, Sr, R3}
 use Rattle.msp430_decode.specs.declared.instr.Source.{Source}
 use Rattle.msp430_decode.specs.declared.instr.Source.TheVariants as source
 use Rattle.msp430_decode.specs.declared.instr.Width.{Width}
@@ -17,18 +15,17 @@ use Rattle.msp430_decode.specs.Operands.{IsPointer, IsSource}
 use Rattle.msp430_chip.specs.declared.device.Device.{Device}
 use Rattle.msp430_chip.specs.declared.place.Place.TheVariants as place
 use Rattle.msp430_chip.specs.declared.state.ChipState.{ChipState}
-use Rattle.msp430_chip.specs.Kinds.{Kind, IsGeneral}
+use Rattle.msp430_chip.specs.Kinds.{Kind}
 use Rattle.msp430_chip.specs.Kinds.Kind.{Counter, Stack, Status, Empty, General}
-use Rattle.msp430_chip.specs.Memory.{size_of}
 use Rattle.msp430_chip.specs.Operands.{growth, grown, is_status, value_in, with_register}
 use Rattle.msp430_chip.specs.State.{IsChipState}
 use Rattle.msp430_state.specs.Forms.{IsKnown}
-use Rattle.msp430_state.specs.Holding.{suspended_of, HoldsOf, HoldsOfParts}
+use Rattle.msp430_state.specs.Holding.{suspended_of, HoldsOf}
 use Rattle.msp430_state.specs.Known.{Known}
 use Rattle.msp430_alu.specs.FlagSets.{IsResult}
 use Rattle.msp430_alu.specs.Operands.{grown_known}
 use Rattle.msp430_alu.specs.Premises.{Premises}
-use Rattle.msp430_alu.specs.Registers.{AreRegisters, put_register, register_word}
+use Rattle.msp430_alu.specs.Registers.{AreRegisters, register_word}
 use Rattle.msp430_alu.proofs.Carries.{single_is, add_is}
 use Rattle.msp430_alu.proofs.OperandLemmas.{AreKinds, IsOnTheWay, pointer_held}
 use Rattle.msp430_alu.proofs.Parts.{parts_counted}

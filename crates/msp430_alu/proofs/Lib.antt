@@ -14,3 +14,4 @@ pub mod DoubleLaw
 pub mod WorkedForms
 pub mod SingleLaw
 pub mod PushLaw
+pub mod Showing

@@ -1,17 +1,16 @@
 -- What an operand may hold holds of it.
-use Rattle.std.proofs.Common.{◌≡◌, ℕ, ◌+◌, ◌-◌, ◌*◌, ◌/◌, ◌%◌, ◌<◌, ◌≤◌, ◌==◌, Bool, true, false, Option, None, Some, List, [], ◌∷◌, length, get_or, set, refl, sym, ap, ◌∙◌, subst, inl, inr, arith, All}
+use Rattle.std.proofs.Common.{◌≡◌, ℕ, ◌+◌, ◌-◌, ◌*◌, ◌%◌, ◌<◌, Bool, false, Option, None, List, length, get_or, refl, sym, ap, ◌∙◌, subst, inl, inr, arith}
 use Rattle.std.specs.Option.{option_map}
 use Rattle.std.proofs.Math.Nat.{mod-eq_of_lt}
 use Rattle.std.proofs.lemmas.List.Elements.{All-get_or}
 use Rattle.std.proofs.lemmas.List.{get_or_past}
 use Rattle.std.proofs.lemmas.Bool.{cases_lt, cond_both}
-use Rattle.choosing.specs.Asking.{IsOption}
 use Rattle.entry_value.specs.declared.word.Word.{Word}
 use Rattle.entry_value.specs.Cells.{unknown}
 use Rattle.entry_value.specs.Words.{Suspended, HoldsOfWord}
 use Rattle.value_set.specs.declared.form.Form.{Form}
 use Rattle.value_set.specs.Form.{Has, IsNormal}
-use Rattle.value_set.specs.Summing.{single, add}
+use Rattle.value_set.specs.Summing.{single}
 use Rattle.value_bits.specs.Sets.{low_set}
 use Rattle.msp430_decode.specs.declared.instr.Constant.{Constant}
 use Rattle.msp430_decode.specs.declared.instr.Constant.TheVariants.{Zero, One, Two, Four, Eight, MinusOne}
@@ -30,10 +29,10 @@ use Rattle.msp430_chip.specs.declared.place.Place.{Place}
 use Rattle.msp430_chip.specs.declared.place.Place.TheVariants as place
 use Rattle.msp430_chip.specs.declared.state.ChipState.{ChipState}
 use Rattle.msp430_chip.specs.Arithmetic.{modulus}
-use Rattle.msp430_chip.specs.Kinds.{Kind, IsGeneral}
+use Rattle.msp430_chip.specs.Kinds.{Kind}
 use Rattle.msp430_chip.specs.Kinds.Kind.{Counter, Stack, Status, Empty, General}
 use Rattle.msp430_chip.specs.Leading.{MayStandAt}
-use Rattle.msp430_chip.specs.Operands.{constant_value, value_in, source_place, destination_place, is_status, has_free_bits, with_free_bits}
+use Rattle.msp430_chip.specs.Operands.{constant_value, value_in, source_place, destination_place, is_status, with_free_bits}
 use Rattle.msp430_state.specs.Forms.{IsWord, IsKnown}
 use Rattle.msp430_state.specs.Holding.{suspended_of, HoldsOfParts}
 use Rattle.msp430_state.specs.Known.{Known, word_of}
@@ -43,7 +42,7 @@ use Rattle.msp430_alu.specs.FlagSets.{IsResult}
 use Rattle.msp430_alu.specs.Memory.{IsDevice, located, read_known}
 use Rattle.msp430_alu.specs.Operands.{beside, source_reach, destination_reach, IsReached, operand_word, values_of}
 use Rattle.msp430_alu.specs.Premises.{Premises}
-use Rattle.msp430_alu.specs.Registers.{AreRegisters, register_word, status_set}
+use Rattle.msp430_alu.specs.Registers.{AreRegisters, register_word}
 use Rattle.msp430_alu.proofs.Carries.{single_is, add_is}
 use Rattle.msp430_alu.proofs.Reading.{IsHeld, IsMemory, known_held, read_below}
 use Rattle.msp430_alu.proofs.StatusWord.{status_set_is}

@@ -1,13 +1,13 @@
 -- What is known of the registers behind a write holds of them.
-use Rattle.std.proofs.Common.{◌≡◌, ◌≢◌, ℕ, zero, suc, ◌+◌, ◌-◌, ◌*◌, ◌/◌, ◌%◌, ◌<◌, ◌≤◌, ◌==◌, Bool, true, false, Option, None, Some, List, [], ◌∷◌, ◌++◌, length, get_or, set, replicate, refl, sym, ap, ◌∙◌, subst, inl, inr, arith, All}
-use Rattle.std.specs.Prelude.{bit_and, bit_or}
+use Rattle.std.proofs.Common.{◌≡◌, ℕ, zero, suc, ◌+◌, ◌-◌, ◌*◌, ◌/◌, ◌%◌, ◌<◌, ◌==◌, Bool, true, false, Option, None, Some, List, [], ◌∷◌, length, get_or, set, refl, sym, ap, ◌∙◌, subst, inl, inr, arith}
+use Rattle.std.specs.Prelude.{bit_and}
 use Rattle.std.specs.Option.{option_map}
 use Rattle.std.proofs.Common.{get_or-set_same, get_or-set_other}
 use Rattle.std.proofs.lemmas.Bool.{cond_both, cases_eq, eqb-false}
 use Rattle.std.proofs.lemmas.Nat.Bits.{and_high_mask}
 use Rattle.entry_value.specs.declared.word.Word.{Word}
 use Rattle.entry_value.specs.Cells.{unknown}
-use Rattle.entry_value.specs.Words.{Suspended, HoldsOfWord}
+use Rattle.entry_value.specs.Words.{HoldsOfWord}
 use Rattle.value_set.specs.declared.form.Form.{Form}
 use Rattle.value_set.specs.Form.{Has, IsNormal}
 use Rattle.value_set.specs.Joining.{is_within}
@@ -27,12 +27,12 @@ use Rattle.msp430_chip.specs.Arithmetic.{modulus, bit_from, with_flags, with_mad
 use Rattle.msp430_chip.specs.State.{even}
 use Rattle.msp430_state.specs.declared.fact.FlagFact.{FlagFact}
 use Rattle.msp430_state.specs.Forms.{AreEvenWords, IsFact}
-use Rattle.msp430_state.specs.Holding.{suspended_of, ram_byte, HasFlagsOf, HoldsOfStatus, HoldsOfFact, KeepsUntouched, HoldsOfParts}
+use Rattle.msp430_state.specs.Holding.{suspended_of, HasFlagsOf, HoldsOfStatus, HoldsOfFact, HoldsOfParts}
 use Rattle.msp430_state.specs.Known.{Known, even_words, word_of}
 use Rattle.msp430_alu.specs.declared.flag_bits.FlagBits.{FlagBits}
 use Rattle.msp430_alu.specs.FlagSets.{AreFlags, HoldsOfFlags, IsResult}
 use Rattle.msp430_alu.specs.Premises.{Premises}
-use Rattle.msp430_alu.specs.Registers.{AreRegisters, even_parts, fact_without, with_word, with_sp, put_flags, with_flag_bits}
+use Rattle.msp430_alu.specs.Registers.{even_parts, fact_without, with_word, with_sp, put_flags, with_flag_bits}
 
 -- REGISTERS THAT ARE ALIKE
 

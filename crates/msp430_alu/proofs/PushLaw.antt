@@ -1,19 +1,16 @@
 -- The law of PUSH and CALL, along their stages.
-use Rattle.std.proofs.Common.{◌≡◌, ℕ, zero, suc, ◌+◌, ◌-◌, ◌*◌, ◌/◌, ◌%◌, ◌<◌, ◌≤◌, ◌==◌, ◌&&◌, ◌++◌, Bool, true, false, Option, None, Some, List, [], ◌∷◌, length, get_or, set, refl, sym, ap, ◌∙◌, subst, inl, inr, arith, All, Contains}
+use Rattle.std.proofs.Common.{◌≡◌, ℕ, ◌+◌, ◌*◌, ◌<◌, Bool, false, Option, None, List, get_or, set, refl, sym, ◌∙◌, subst, inl, inr, arith}
 use Rattle.std.proofs.Common.{get_or-set_same, get_or-set_other}
-use Rattle.std.specs.Prelude.{◌⊎◌, if◌then◌else◌}
 use Rattle.std.specs.Option.{option_map}
 use Rattle.std.proofs.lemmas.Bool.{cond_both}
 use Rattle.choosing.specs.Asking.{IsOption}
-use Rattle.entry_value.specs.declared.word.Entry.{Entry}
 use Rattle.entry_value.specs.declared.word.Word.{Word}
-use Rattle.entry_value.specs.Words.{Suspended, HoldsOfWord}
+use Rattle.entry_value.specs.Words.{Suspended}
 use Rattle.value_set.specs.declared.form.Form.{Form}
-use Rattle.value_set.specs.Form.{Has, IsNormal, make}
+use Rattle.value_set.specs.Form.{Has, make}
 use Rattle.value_set.specs.Joining.{join}
 use Rattle.value_set.specs.Summing.{add, single}
 use Rattle.value_bits.specs.Sets.{pair_set}
-use Rattle.msp430_decode.specs.declared.instr.Register.{Register}
 use Rattle.msp430_decode.specs.declared.instr.SingleOperation.{SingleOperation}
 use Rattle.msp430_decode.specs.declared.instr.SingleOperation.TheVariants.{Rrc, Swpb, Rra, Sxt, Push, Call}
 use Rattle.msp430_decode.specs.declared.instr.Source.{Source}
@@ -21,25 +18,20 @@ use Rattle.msp430_decode.specs.declared.instr.Width.{Width}
 use Rattle.msp430_decode.specs.declared.instr.Width.TheVariants.{Word as Words, Byte}
 use Rattle.msp430_decode.specs.Operands.{IsSource}
 use Rattle.msp430_chip.specs.declared.device.Device.{Device}
-use Rattle.msp430_chip.specs.declared.place.Place.{Place}
 use Rattle.msp430_chip.specs.declared.place.Place.TheVariants as place
 use Rattle.msp430_chip.specs.declared.state.ChipState.{ChipState}
-use Rattle.msp430_chip.specs.Arithmetic.{modulus}
-use Rattle.msp430_chip.specs.Memory.{size_of}
-use Rattle.msp430_chip.specs.Leading.{MayStandAt, MayPushWord, MayLeavePush, MayPush, at_source, behind_source, pushed_place}
+use Rattle.msp430_chip.specs.Leading.{MayPushWord, MayLeavePush, MayPush, at_source, behind_source, pushed_place}
 use Rattle.msp430_chip.specs.Outcome.{Outcome}
-use Rattle.msp430_chip.specs.Operands.{source_place, with_free_bits, grown}
+use Rattle.msp430_chip.specs.Operands.{with_free_bits}
 use Rattle.msp430_chip.specs.State.{register_of, even}
-use Rattle.msp430_chip.specs.Step.{Left, put, behind, is_formed_by_stack, with_lowered, lowered, pushed}
-use Rattle.msp430_state.specs.Forms.{IsKnown}
-use Rattle.msp430_state.specs.Holding.{suspended_of, HoldsOf, HoldsOfParts}
+use Rattle.msp430_chip.specs.Step.{Left, behind, is_formed_by_stack, with_lowered, lowered, pushed}
+use Rattle.msp430_state.specs.Holding.{suspended_of, HoldsOfParts}
 use Rattle.msp430_state.specs.Known.{Known}
-use Rattle.msp430_alu.specs.declared.reach.Reach.{Reach}
-use Rattle.msp430_alu.specs.declared.reach.Reach.TheVariants.{InRegister, InMemory, Fixed}
+use Rattle.msp430_alu.specs.declared.reach.Reach.TheVariants.{InMemory}
 use Rattle.msp430_alu.specs.FlagSets.{IsResult}
-use Rattle.msp430_alu.specs.Formats.{written_word, put_known, lowered_known, forming_known, pushed_known, called_next, push_behind, push_worked, IsUnder, IsLeft}
+use Rattle.msp430_alu.specs.Formats.{written_word, put_known, lowered_known, forming_known, pushed_known, called_next, push_worked, IsUnder, IsLeft}
 use Rattle.msp430_alu.specs.Memory.{IsDevice}
-use Rattle.msp430_alu.specs.Operands.{source_reach, grown_known, operand_word, values_of, IsReached}
+use Rattle.msp430_alu.specs.Operands.{source_reach, grown_known, operand_word, values_of}
 use Rattle.msp430_alu.specs.Premises.{Premises}
 use Rattle.msp430_alu.specs.Registers.{AreRegisters, even_parts, with_sp}
 use Rattle.msp430_alu.proofs.Carries.{single_is, add_is}
@@ -48,7 +40,6 @@ use Rattle.msp430_alu.proofs.Growth.{on_the_way, grown_on, grown_pc}
 use Rattle.msp430_alu.proofs.OperandLemmas.{AreKinds, IsOnTheWay, IsOperand, source_reached, operand_held}
 use Rattle.msp430_alu.proofs.Parts.{even_parts_is, parts_counted, sp_written}
 use Rattle.msp430_alu.proofs.Putting.{IsPut, IsReady, IsWritten, counted_are, sp_are, put_is}
-use Rattle.msp430_alu.proofs.Reading.{IsHeld}
 use Rattle.msp430_alu.proofs.Shapes.{sp_form}
 use Rattle.msp430_alu.proofs.Storing.{IsRam}
 
@@ -86,7 +77,7 @@ sp_set laws device framed a counted first registers ram set_so value on is same 
           (sp_written device a first registers ram value set_so on.are.count on.form.fact (even_parts_is laws set_so value is).has on.parts);
     }
 
-lowered_is : (laws : Premises) (device : Device) (framed : Bool) (a : Known) (counted : Form) (first : Option ChipState) (registers ram : List ℕ) → IsOnTheWay device framed a counted first registers ram
+pub lowered_is : (laws : Premises) (device : Device) (framed : Bool) (a : Known) (counted : Form) (first : Option ChipState) (registers ram : List ℕ) → IsOnTheWay device framed a counted first registers ram
     → IsResult 65536 (add 65536 a.sp (single 65534)) (lowered (get_or registers 1 0))
 lowered_is laws device framed a counted first registers ram on =
     add_is laws 65536 (get_or registers 1 0) 65534 a.sp (single 65534) (record { normal = on.form.sp.normal; has = on.parts.sp }) (single_is laws 65536 65534 (omega arith))
@@ -94,7 +85,7 @@ lowered_is laws device framed a counted first registers ram on =
 lowered_even : (registers : List ℕ) → AreRegisters registers → even (lowered (get_or registers 1 0)) ≡ lowered (get_or registers 1 0)
 lowered_even registers are = omega (arith, are.even_sp)
 
-lowered_on : (laws : Premises) (device : Device) (framed : Bool) (a : Known) (counted : Form) (first : Option ChipState) (registers ram : List ℕ) → IsOnTheWay device framed a counted first registers ram
+pub lowered_on : (laws : Premises) (device : Device) (framed : Bool) (a : Known) (counted : Form) (first : Option ChipState) (registers ram : List ℕ) → IsOnTheWay device framed a counted first registers ram
     → IsOnTheWay device framed (lowered_known a) counted first (set registers 1 (lowered (get_or registers 1 0))) ram
 lowered_on laws device framed a counted first registers ram on =
     sp_set laws device framed a counted first registers ram (add 65536 a.sp (single 65534)) (lowered (get_or registers 1 0)) on
@@ -116,7 +107,7 @@ both_seen laws device framed a counted first registers ram option few on =
           (record { normal = normal; has = laws.join_second 65536 a.sp less on.form.sp.normal less_is.normal (lowered (get_or registers 1 0)) less_is.has }) (lowered_even registers on.are))
     ]
 
-forming_on : (laws : Premises) (device : Device) (framed : Bool) (a : Known) (counted : Form) (first : Option ChipState) (registers ram : List ℕ) (operand : Source) (option : ℕ) → IsOption (is_formed_by_stack operand) 2 option
+pub forming_on : (laws : Premises) (device : Device) (framed : Bool) (a : Known) (counted : Form) (first : Option ChipState) (registers ram : List ℕ) (operand : Source) (option : ℕ) → IsOption (is_formed_by_stack operand) 2 option
     → IsOnTheWay device framed a counted first registers ram → IsOnTheWay device framed (forming_known operand a) counted first (with_lowered option registers) ram
 forming_on laws device framed a counted first registers ram operand option formed on =
     cond_both (is_formed_by_stack operand) (with_sp a (join 65536 a.sp (add 65536 a.sp (single 65534)))) a (λ b. IsOnTheWay device framed b counted first (with_lowered option registers) ram)

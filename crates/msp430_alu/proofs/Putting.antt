@@ -1,15 +1,13 @@
 -- What is known behind a write to a place holds behind it.
-use Rattle.std.proofs.Common.{◌≡◌, ℕ, ◌+◌, ◌-◌, ◌*◌, ◌/◌, ◌%◌, ◌<◌, ◌≤◌, ◌==◌, Bool, true, false, Option, None, Some, List, [], ◌∷◌, length, get_or, set, refl, sym, ap, ◌∙◌, subst, inl, inr, arith, All}
+use Rattle.std.proofs.Common.{◌≡◌, ℕ, ◌%◌, ◌<◌, Bool, true, false, Option, None, List, get_or, set, refl, sym, ap, ◌∙◌, subst, arith}
 use Rattle.std.proofs.Common.{get_or-set_same, get_or-set_other}
 use Rattle.std.specs.Option.{option_map}
-use Rattle.std.proofs.Math.Nat.{mod-lt, mod-eq_of_lt}
-use Rattle.std.proofs.lemmas.Bool.{cond_both, cases_eq}
 use Rattle.std.proofs.lemmas.List.{length-set}
 use Rattle.std.proofs.lemmas.List.Elements.{All-set}
 use Rattle.entry_value.specs.declared.word.Word.{Word}
-use Rattle.entry_value.specs.Words.{Suspended, HoldsOfWord}
+use Rattle.entry_value.specs.Words.{Suspended}
 use Rattle.value_set.specs.declared.form.Form.{Form}
-use Rattle.value_set.specs.Form.{Has, IsNormal}
+use Rattle.value_set.specs.Form.{Has}
 use Rattle.value_set.specs.Summing.{single}
 use Rattle.msp430_decode.specs.declared.instr.Register.{Register}
 use Rattle.msp430_decode.specs.declared.instr.Register.TheVariants.{Pc, Sp, Sr, R3}
@@ -21,9 +19,9 @@ use Rattle.msp430_chip.specs.declared.place.Place.{Place}
 use Rattle.msp430_chip.specs.declared.place.Place.TheVariants as place
 use Rattle.msp430_chip.specs.declared.state.ChipState.{ChipState}
 use Rattle.msp430_chip.specs.Arithmetic.{modulus}
-use Rattle.msp430_chip.specs.Kinds.{Kind, IsGeneral}
+use Rattle.msp430_chip.specs.Kinds.{Kind}
 use Rattle.msp430_chip.specs.Kinds.Kind.{Counter, Stack, Status, Empty, General}
-use Rattle.msp430_chip.specs.Memory.{size_of, with_stored, program_hit}
+use Rattle.msp430_chip.specs.Memory.{size_of}
 use Rattle.msp430_chip.specs.Operands.{is_status, with_register}
 use Rattle.msp430_chip.specs.State.{even}
 use Rattle.msp430_chip.specs.Step.{Left, put, put_if}
@@ -34,12 +32,12 @@ use Rattle.msp430_alu.specs.declared.reach.Reach.{Reach}
 use Rattle.msp430_alu.specs.declared.reach.Reach.TheVariants.{InRegister, InMemory, Fixed}
 use Rattle.msp430_alu.specs.FlagSets.{IsResult}
 use Rattle.msp430_alu.specs.Formats.{put_known, put_known_if, next_by, next_if}
-use Rattle.msp430_alu.specs.Memory.{IsDevice, located, with_store}
+use Rattle.msp430_alu.specs.Memory.{IsDevice, located}
 use Rattle.msp430_alu.specs.Operands.{IsReached}
 use Rattle.msp430_alu.specs.Premises.{Premises}
-use Rattle.msp430_alu.specs.Registers.{AreRegisters, even_parts, put_register, with_word, with_sp}
+use Rattle.msp430_alu.specs.Registers.{AreRegisters, even_parts, put_register, with_word}
 use Rattle.msp430_alu.proofs.Carries.{single_is}
-use Rattle.msp430_alu.proofs.Parts.{parts_alike, parts_counted, word_written, sp_written, even_parts_is}
+use Rattle.msp430_alu.proofs.Parts.{parts_counted, word_written, sp_written, even_parts_is}
 use Rattle.msp430_alu.proofs.Reading.{IsHeld, located_is}
 use Rattle.msp430_alu.proofs.Storing.{IsRam, IsStorable, store_holds}
 

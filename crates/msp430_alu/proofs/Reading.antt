@@ -1,16 +1,14 @@
 -- What is read holds of what stands in memory.
-use Rattle.std.proofs.Common.{◌≡◌, ℕ, zero, suc, ◌+◌, ◌-◌, ◌*◌, ◌/◌, ◌%◌, ◌<◌, ◌≤◌, ◌&&◌, Bool, true, false, Option, None, Some, List, [], ◌∷◌, length, get_or, refl, sym, ap, ◌∙◌, subst, inl, inr, arith, All, Contains}
+use Rattle.std.proofs.Common.{◌≡◌, ℕ, ◌+◌, ◌-◌, ◌*◌, ◌%◌, ◌<◌, ◌≤◌, true, false, Option, None, Some, List, [], ◌∷◌, length, get_or, refl, sym, ap, ◌∙◌, subst, inl, inr, arith, Contains}
 use Rattle.std.specs.Prelude.{◌⊎◌, nat_le}
-use Rattle.std.specs.Option.{option_map}
-use Rattle.std.proofs.lemmas.Bool.{and_parts, and_from, and_cases, cond_both, cond-true, cond-false, cases_Bool, leb-true, leb-false, le-leb, lt-leb}
+use Rattle.std.proofs.lemmas.Bool.{and_parts, and_from, cond_both, cond-true, cond-false, cases_Bool, leb-true, leb-false, le-leb}
 use Rattle.std.proofs.lemmas.List.{get_or_past}
 use Rattle.std.proofs.lemmas.Option.{same_Some}
 use Rattle.std.proofs.lemmas.List.Elements.{All-get_or}
 use Rattle.call_context.specs.Members.{in_none, in_cons}
-use Rattle.entry_value.specs.declared.cells.Cell.{Cell}
 use Rattle.entry_value.specs.declared.word.Word.{Word}
-use Rattle.entry_value.specs.Cells.{AreCells, StandsUnder, any_of, unknown, number_at, read}
-use Rattle.entry_value.specs.Words.{Suspended, IsFromEntry, HoldsOfWord}
+use Rattle.entry_value.specs.Cells.{AreCells, StandsUnder, unknown, number_at, read}
+use Rattle.entry_value.specs.Words.{Suspended, HoldsOfWord}
 use Rattle.ihex_read.specs.Image.{byte_at, IsByte}
 use Rattle.value_set.specs.declared.form.Form.{Form}
 use Rattle.value_set.specs.Form.{Has, IsNormal, members}
@@ -19,13 +17,12 @@ use Rattle.value_set.specs.Summing.{single}
 use Rattle.msp430_decode.specs.declared.instr.Width.{Width}
 use Rattle.msp430_decode.specs.declared.instr.Width.TheVariants.{Word as Words, Byte}
 use Rattle.msp430_chip.specs.declared.device.Device.{Device}
-use Rattle.msp430_chip.specs.declared.state.ChipState.{ChipState}
 use Rattle.msp430_chip.specs.Arithmetic.{modulus}
-use Rattle.msp430_chip.specs.Leading.{MayRead, MayReadByte, MayReadWord}
+use Rattle.msp430_chip.specs.Leading.{MayRead, MayReadByte}
 use Rattle.msp430_chip.specs.Leading.MayReadByte.{OfRam, OfProgram, OfNeither}
 use Rattle.msp430_chip.specs.Memory.{is_ram, size_of, aligned}
 use Rattle.msp430_chip.specs.State.{even}
-use Rattle.msp430_state.specs.Holding.{suspended_of, ram_byte}
+use Rattle.msp430_state.specs.Holding.{ram_byte}
 use Rattle.msp430_state.specs.Known.{Known}
 use Rattle.msp430_alu.specs.FlagSets.{IsResult}
 use Rattle.msp430_alu.specs.Memory.{IsDevice, located, word_by, byte_by, program_word, read_one, read_each, read_list, read_known}

@@ -1,15 +1,14 @@
 -- The result and the flags of each operation, a row an operation.
-use Rattle.std.proofs.Common.{◌≡◌, ℕ, zero, suc, ◌+◌, ◌-◌, ◌*◌, ◌/◌, ◌%◌, ◌^◌, ◌<◌, ◌≤◌, ◌==◌, ◌&&◌, Bool, true, false, not, Option, None, Some, List, [], ◌∷◌, map, length, get_or, min, refl, sym, ap, ◌∙◌, subst, inl, inr, arith}
+use Rattle.std.proofs.Common.{◌≡◌, ℕ, zero, suc, ◌+◌, ◌-◌, ◌*◌, ◌/◌, ◌%◌, ◌^◌, ◌<◌, ◌≤◌, ◌==◌, ◌&&◌, Bool, true, false, not, None, List, [], ◌∷◌, map, length, get_or, min, refl, sym, ap, ◌∙◌, subst, arith}
 use Rattle.std.specs.Prelude.{nat_le, bit_and, bit_or, bit_xor}
 use Rattle.std.specs.Int.{bit_at}
 use Rattle.std.specs.Int.Bits.{and_step}
 use Rattle.std.specs.List.{list_all}
-use Rattle.std.proofs.Math.Nat.{mod-lt, pow-suc}
+use Rattle.std.proofs.Math.Nat.{pow-suc}
 use Rattle.std.proofs.lemmas.Bool.{cond_both, and_from, and_parts}
 use Rattle.std.proofs.lemmas.Nat.{and_le_l}
 use Rattle.std.proofs.lemmas.List.Elements.{Contains-get_or}
 use Rattle.std.proofs.lemmas.Option.{same_Some}
-use Rattle.choosing.specs.Asking.{surely}
 use Rattle.value_set.specs.declared.form.Form.{Form}
 use Rattle.value_set.specs.declared.form.Form.TheVariants.{Values, Run}
 use Rattle.value_set.specs.Form.{Has, IsNormal, members}
@@ -23,7 +22,7 @@ use Rattle.value_bits.specs.declared.tri.Tri.TheVariants.{Zero, One, Either}
 use Rattle.value_bits.specs.Bits.{IsBit, Agrees, known_bits, from_bits, logic_of, tri_and, tri_not}
 use Rattle.value_bits.specs.Flags.{IsFlag}
 use Rattle.value_bits.specs.Numbers.{shifted_right, exchanged, sign_extended, is_decimal, decimal_sum, decimal_carry}
-use Rattle.value_bits.specs.Sets.{IsTop, chosen, combine_or, logic_set, shift_set, exchange_set, sign_extend_set, are_decimal, decimal_add_set}
+use Rattle.value_bits.specs.Sets.{IsTop, chosen, logic_set, shift_set, sign_extend_set, are_decimal, decimal_add_set}
 use Rattle.msp430_decode.specs.declared.instr.Width.{Width}
 use Rattle.msp430_decode.specs.declared.instr.Width.TheVariants.{Word, Byte}
 use Rattle.msp430_decode.specs.declared.instr.Operation.{Operation}
@@ -31,11 +30,11 @@ use Rattle.msp430_decode.specs.declared.instr.Operation.TheVariants as operation
 use Rattle.msp430_decode.specs.declared.instr.SingleOperation.{SingleOperation}
 use Rattle.msp430_decode.specs.declared.instr.SingleOperation.TheVariants.{Rrc, Swpb, Rra, Sxt, Push, Call}
 use Rattle.msp430_chip.specs.declared.place.Flags.{Flags}
-use Rattle.msp430_chip.specs.Arithmetic.{Made, modulus, digits_of, top_place, is_negative, complement, flags_of, made, overflows, sum, logic, exclusive, result_of, single_result}
+use Rattle.msp430_chip.specs.Arithmetic.{Made, modulus, digits_of, top_place, is_negative, complement, flags_of, made, overflows, sum, logic, exclusive}
 use Rattle.msp430_chip.specs.Leading.{MayMake, MayMakeDecimal, MayMakeSingle}
 use Rattle.msp430_chip.specs.Leading.MayMakeDecimal.{Decimal, NotDecimal}
 use Rattle.msp430_state.specs.Pointwise.{each_with}
-use Rattle.msp430_alu.specs.FlagSets.{MadeSet, IsResult, AreFlags, HoldsOfFlags, HoldsOfMade, bits_of, zero_of, shown_flags, shown_logic, all_agree, flags_or, free_overflow, no_flags}
+use Rattle.msp430_alu.specs.FlagSets.{IsResult, AreFlags, HoldsOfMade, bits_of, shown_flags, shown_logic, flags_or, free_overflow, no_flags}
 use Rattle.msp430_alu.specs.Premises.{Premises}
 use Rattle.msp430_alu.specs.Results.{flags_in, add_carry, sub_carry, sum_made, twice_flags, logic_made, clear_answer, clear_set, decimal_flags, decimal_made, double_made, rotated_flags, halved_flags, single_made, HasWidth}
 use Rattle.msp430_alu.proofs.Carries.{combined, single_is, chosen_is, add_is, sub_is, carry_is, borrow_is}

@@ -1,8 +1,8 @@
 -- What is known behind a write has the form of states.
-use Rattle.std.proofs.Common.{◌≡◌, ℕ, ◌+◌, ◌-◌, ◌*◌, ◌/◌, ◌%◌, ◌<◌, ◌≤◌, ◌==◌, ◌&&◌, Bool, true, false, Option, None, Some, List, [], ◌∷◌, length, get_or, set, refl, sym, ap, ◌∙◌, subst, inl, inr, arith, All, Contains}
-use Rattle.std.specs.Prelude.{nat_lt, nat_le, not, ◌||◌, if◌then◌else◌}
+use Rattle.std.proofs.Common.{◌≡◌, ℕ, ◌+◌, ◌-◌, ◌<◌, ◌≤◌, ◌==◌, Bool, true, false, Option, None, Some, List, [], ◌∷◌, length, get_or, set, sym, ap, ◌∙◌, subst, inl, inr, arith, Contains}
+use Rattle.std.specs.Prelude.{nat_lt, not, ◌||◌, if◌then◌else◌}
 use Rattle.std.specs.List.{filter}
-use Rattle.std.proofs.lemmas.Bool.{cond_both, cases_Bool, eqb-true}
+use Rattle.std.proofs.lemmas.Bool.{cond_both, eqb-true}
 use Rattle.std.proofs.lemmas.List.{length-set}
 use Rattle.std.proofs.lemmas.List.Elements.{All-set, Contains-get_or}
 use Rattle.value_set.specs.Remainders.{HasRemainder}
@@ -12,28 +12,26 @@ use Rattle.entry_value.specs.declared.cells.Cell.{Cell}
 use Rattle.entry_value.specs.declared.word.Entry.{Entry}
 use Rattle.entry_value.specs.declared.word.Word.{Word}
 use Rattle.entry_value.specs.Words.{is_same_entry, common_entry, word_join}
-use Rattle.entry_value.specs.Cells.{CellMap, AreCells, is_nothing, meets, insert, with_cell, write_one, write_several, write_any, telling, with_some, kept, meets_beside, cell_behind}
+use Rattle.entry_value.specs.Cells.{CellMap, AreCells, is_nothing, meets, insert, write_one, write_several, write_any, telling, with_some, kept, meets_beside, cell_behind}
 use Rattle.value_set.specs.declared.form.Form.{Form}
 use Rattle.value_set.specs.Form.{Has, IsNormal, members}
 use Rattle.value_set.specs.Joining.{is_in}
 use Rattle.value_set.specs.Summing.{count_of}
 use Rattle.msp430_decode.specs.declared.instr.Register.{Register}
-use Rattle.msp430_decode.specs.declared.instr.Register.TheVariants.{Pc, Sp, Sr, R3}
 use Rattle.msp430_decode.specs.declared.instr.Width.{Width}
-use Rattle.msp430_decode.specs.declared.instr.Width.TheVariants.{Word as Words, Byte}
 use Rattle.msp430_decode.specs.Codes.{number}
 use Rattle.msp430_chip.specs.declared.device.Device.{Device}
-use Rattle.msp430_chip.specs.Kinds.{Kind, IsGeneral}
+use Rattle.msp430_chip.specs.Kinds.{Kind}
 use Rattle.msp430_chip.specs.Kinds.Kind.{Counter, Stack, Status, Empty, General}
 use Rattle.msp430_chip.specs.Memory.{size_of}
 use Rattle.msp430_state.specs.declared.fact.FlagFact.{FlagFact}
-use Rattle.msp430_state.specs.Forms.{AreEvenWords, IsRelation, IsStatusRelation, IsFact, IsWord, IsChipCell, IsKnown}
+use Rattle.msp430_state.specs.Forms.{IsRelation, IsStatusRelation, IsFact, IsWord, IsChipCell, IsKnown}
 use Rattle.msp430_state.specs.Known.{Known}
 use Rattle.msp430_state.specs.Ranges.{AreRanges}
 use Rattle.msp430_alu.specs.declared.flag_bits.FlagBits.{FlagBits}
 use Rattle.msp430_alu.specs.Memory.{IsDevice, touched_behind, with_store}
 use Rattle.msp430_alu.specs.Premises.{Premises}
-use Rattle.msp430_alu.specs.Registers.{fact_without, put_flags, put_register, with_word, with_sp, with_flag_bits}
+use Rattle.msp430_alu.specs.Registers.{fact_without, put_register, with_word, with_sp, with_flag_bits}
 use Rattle.msp430_alu.proofs.Parts.{even_parts_form}
 use Rattle.msp430_alu.proofs.Putting.{general_put}
 use Rattle.msp430_alu.proofs.Storing.{IsStorable, behind_grows, size_is, some_size}

@@ -1,41 +1,28 @@
 -- The law of instructions with one operand, along their stages.
-use Rattle.std.proofs.Common.{◌≡◌, ℕ, zero, suc, ◌+◌, ◌-◌, ◌*◌, ◌/◌, ◌%◌, ◌<◌, ◌≤◌, ◌==◌, ◌&&◌, ◌++◌, Bool, true, false, Option, None, Some, List, [], ◌∷◌, length, get_or, set, refl, sym, ap, ◌∙◌, subst, inl, inr, arith, All, Contains}
-use Rattle.std.proofs.Common.{get_or-set_same, get_or-set_other}
-use Rattle.std.specs.Prelude.{◌⊎◌, if◌then◌else◌}
+use Rattle.std.proofs.Common.{◌≡◌, ℕ, ◌%◌, ◌<◌, Bool, false, Option, None, List, get_or, refl, sym, ◌∙◌, subst, arith}
+use Rattle.std.proofs.Common.{get_or-set_same}
 use Rattle.std.specs.Option.{option_map}
 use Rattle.std.proofs.lemmas.Bool.{and_parts, false≢true}
-use Rattle.choosing.specs.Asking.{IsOption}
-use Rattle.entry_value.specs.declared.word.Entry.{Entry}
-use Rattle.entry_value.specs.declared.word.Word.{Word}
-use Rattle.value_set.specs.declared.form.Form.{Form}
-use Rattle.value_set.specs.Form.{Has, IsNormal}
 use Rattle.value_set.specs.Summing.{single}
-use Rattle.msp430_decode.specs.declared.instr.Register.{Register}
-use Rattle.msp430_decode.specs.declared.instr.Register.TheVariants.{Pc, Sp, Sr, R3}
+use Rattle.msp430_decode.specs.declared.instr.Register.TheVariants.{Sr}
 use Rattle.msp430_decode.specs.declared.instr.SingleOperation.{SingleOperation}
 use Rattle.msp430_decode.specs.declared.instr.Source.{Source}
 use Rattle.msp430_decode.specs.declared.instr.Source.TheVariants as source
 use Rattle.msp430_decode.specs.declared.instr.Width.{Width}
-use Rattle.msp430_decode.specs.declared.instr.Width.TheVariants.{Word as Words, Byte}
 use Rattle.msp430_decode.specs.Operands.{IsSource}
 use Rattle.msp430_chip.specs.declared.device.Device.{Device}
-use Rattle.msp430_chip.specs.declared.place.Place.{Place}
 use Rattle.msp430_chip.specs.declared.state.ChipState.{ChipState}
-use Rattle.msp430_chip.specs.Arithmetic.{Made, modulus, single_sets_flags, with_made_flags}
-use Rattle.msp430_chip.specs.Leading.{MayStandAt, MayMakeSingle, MayLeaveSingle, MaySingle, LeavesFree, at_source, behind_source, origin_of}
+use Rattle.msp430_chip.specs.Arithmetic.{single_sets_flags}
+use Rattle.msp430_chip.specs.Leading.{MayStandAt, MayLeaveSingle, MaySingle, at_source, behind_source, origin_of}
 use Rattle.msp430_chip.specs.Leading.MayLeaveSingle.{FreeStatus, OfResult}
 use Rattle.msp430_chip.specs.Outcome.{Outcome}
-use Rattle.msp430_chip.specs.Operands.{source_place, with_free_bits, is_status, grown}
+use Rattle.msp430_chip.specs.Operands.{source_place, with_free_bits, is_status}
 use Rattle.msp430_chip.specs.State.{register_of}
-use Rattle.msp430_chip.specs.Step.{Left, put, with_status, behind}
-use Rattle.msp430_state.specs.Forms.{IsKnown}
-use Rattle.msp430_state.specs.Holding.{suspended_of, HoldsOf, HoldsOfParts}
+use Rattle.msp430_chip.specs.Step.{Left, put, behind}
+use Rattle.msp430_state.specs.Holding.{suspended_of}
 use Rattle.msp430_state.specs.Known.{Known}
-use Rattle.msp430_alu.specs.declared.reach.Reach.{Reach}
-use Rattle.msp430_alu.specs.FlagSets.{MadeSet, IsResult, HoldsOfMade}
-use Rattle.msp430_alu.specs.Formats.{carry_of, written_word, put_known, next_by, single_behind, single_worked, LeavesStatusAlone, IsUnder, IsLeft}
-use Rattle.msp430_alu.specs.Memory.{IsDevice}
-use Rattle.msp430_alu.specs.Operands.{source_reach, grown_known, operand_word, values_of, IsReached}
+use Rattle.msp430_alu.specs.Formats.{carry_of, written_word, put_known, next_by, single_worked, LeavesStatusAlone, IsUnder, IsLeft}
+use Rattle.msp430_alu.specs.Operands.{source_reach, grown_known, operand_word, values_of}
 use Rattle.msp430_alu.specs.Premises.{Premises}
 use Rattle.msp430_alu.specs.Registers.{with_flag_bits}
 use Rattle.msp430_alu.specs.Results.{single_made, HasWidth}
@@ -43,8 +30,8 @@ use Rattle.msp430_alu.proofs.Carries.{single_is}
 use Rattle.msp430_alu.proofs.DoubleLaw.{carry_bit, flags_put}
 use Rattle.msp430_alu.proofs.Doubles.{written_is}
 use Rattle.msp430_alu.proofs.Growth.{on_the_way, grown_on, grown_pc}
-use Rattle.msp430_alu.proofs.OperandLemmas.{AreKinds, IsOnTheWay, IsOperand, source_reached, operand_held}
-use Rattle.msp430_alu.proofs.Putting.{IsPut, IsReady, put_is}
+use Rattle.msp430_alu.proofs.OperandLemmas.{AreKinds, source_reached, operand_held}
+use Rattle.msp430_alu.proofs.Putting.{IsReady, put_is}
 use Rattle.msp430_alu.proofs.Rows.{single_holds}
 use Rattle.msp430_alu.proofs.WorkedForms.{single_forms}
 

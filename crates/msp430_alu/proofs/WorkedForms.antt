@@ -1,33 +1,32 @@
 -- What is made of a state has the form of states.
-use Rattle.std.proofs.Common.{◌≡◌, ℕ, zero, suc, ◌+◌, ◌-◌, ◌*◌, ◌/◌, ◌%◌, ◌^◌, ◌<◌, ◌≤◌, ◌==◌, ◌&&◌, ◌||◌, ◌++◌, Bool, true, false, Option, None, Some, List, [], ◌∷◌, length, get_or, replicate, refl, sym, ap, ◌∙◌, subst, inl, inr, arith, All, Contains}
-use Rattle.std.specs.Prelude.{bit_and, bit_or, if◌then◌else◌, nat_le}
+use Rattle.std.proofs.Common.{◌≡◌, ℕ, ◌+◌, ◌-◌, ◌%◌, ◌<◌, ◌==◌, ◌&&◌, ◌++◌, Bool, true, false, Option, None, Some, List, [], ◌∷◌, length, replicate, refl, sym, ap, ◌∙◌, subst, inl, inr, arith, Contains}
+use Rattle.std.specs.Prelude.{nat_le}
 use Rattle.std.specs.Option.{option_map}
 use Rattle.std.proofs.lemmas.Bool.{cond_both, cases_lt}
 use Rattle.std.proofs.lemmas.List.{length-append, length-replicate, get_or_past}
 use Rattle.std.proofs.lemmas.List.Elements.{All-get_or}
 use Rattle.std.proofs.lemmas.Nat.{and_le_l, or_lt}
 use Rattle.std.proofs.lemmas.Option.{same_Some}
-use Rattle.call_context.specs.Members.{in_none, in_cons, in_first, in_rest}
+use Rattle.call_context.specs.Members.{in_first, in_rest}
 use Rattle.entry_value.specs.declared.cells.Cell.{Cell}
 use Rattle.entry_value.specs.declared.word.Entry.{Entry}
 use Rattle.entry_value.specs.declared.word.Word.{Word}
 use Rattle.entry_value.specs.Cells.{cell_at, found_or, put_together, read, unknown}
 use Rattle.entry_value.specs.Words.{entry_and, entry_or}
 use Rattle.value_set.specs.declared.form.Form.{Form}
-use Rattle.value_set.specs.Form.{Has, IsNormal, make, members}
+use Rattle.value_set.specs.Form.{IsNormal, make, members}
 use Rattle.value_set.specs.Joining.{join}
 use Rattle.value_set.specs.Remainders.{HasRemainder}
 use Rattle.value_set.specs.Summing.{single, add}
 use Rattle.value_bits.specs.declared.tri.Tri.{Tri}
 use Rattle.value_bits.specs.declared.tri.Tri.TheVariants.{Either}
-use Rattle.value_bits.specs.Sets.{pair_set, low_set}
-use Rattle.msp430_decode.specs.declared.instr.Constant.{Constant}
+use Rattle.value_bits.specs.Sets.{pair_set}
 use Rattle.msp430_decode.specs.declared.instr.Destination.{Destination}
 use Rattle.msp430_decode.specs.declared.instr.Destination.TheVariants as destination
 use Rattle.msp430_decode.specs.declared.instr.Operation.{Operation}
 use Rattle.msp430_decode.specs.declared.instr.Operation.TheVariants as operation
 use Rattle.msp430_decode.specs.declared.instr.Register.{Register}
-use Rattle.msp430_decode.specs.declared.instr.Register.TheVariants.{Pc, Sp, Sr, R3}
+use Rattle.msp430_decode.specs.declared.instr.Register.TheVariants.{Pc}
 use Rattle.msp430_decode.specs.declared.instr.SingleOperation.{SingleOperation}
 use Rattle.msp430_decode.specs.declared.instr.SingleOperation.TheVariants.{Rrc, Swpb, Rra, Sxt, Push, Call}
 use Rattle.msp430_decode.specs.declared.instr.Source.{Source}
@@ -38,7 +37,7 @@ use Rattle.msp430_decode.specs.Codes.{number}
 use Rattle.msp430_decode.specs.Operands.{IsSource, IsDestination}
 use Rattle.msp430_chip.specs.declared.device.Device.{Device}
 use Rattle.msp430_chip.specs.Arithmetic.{modulus, reads_destination, writes_result}
-use Rattle.msp430_chip.specs.Kinds.{Kind, IsGeneral}
+use Rattle.msp430_chip.specs.Kinds.{Kind}
 use Rattle.msp430_chip.specs.Kinds.Kind.{Counter, Stack, Status, Empty, General}
 use Rattle.msp430_chip.specs.Memory.{is_ram, size_of}
 use Rattle.msp430_chip.specs.Operands.{constant_value, growth}
@@ -48,15 +47,15 @@ use Rattle.msp430_state.specs.Forms.{is_place, IsRelation, IsStatusRelation, IsW
 use Rattle.msp430_state.specs.Known.{Known, word_of}
 use Rattle.msp430_alu.specs.declared.reach.Reach.{Reach}
 use Rattle.msp430_alu.specs.declared.reach.Reach.TheVariants.{InRegister, InMemory, Fixed}
-use Rattle.msp430_alu.specs.Formats.{lowered_known, forming_known, pushed_known, called_next, push_worked, single_worked, double_worked, constant_of, relation_of, masked_and, masked_clear, masked_or, written_word, counter_set, is_doubled, carry_of, destination_word, made_of, put_known, put_known_if, next_by, next_if, double_behind, double_worked}
+use Rattle.msp430_alu.specs.Formats.{lowered_known, forming_known, pushed_known, called_next, push_worked, single_worked, double_worked, constant_of, relation_of, masked_and, masked_clear, masked_or, written_word, counter_set, is_doubled, carry_of, destination_word, made_of, put_known, put_known_if, next_by, next_if, double_worked}
 use Rattle.msp430_alu.specs.FlagSets.{MadeSet}
-use Rattle.msp430_alu.specs.Memory.{IsDevice, located, word_by, byte_by, program_word, read_one, read_each, read_list, read_known, with_store}
+use Rattle.msp430_alu.specs.Memory.{IsDevice, located, word_by, byte_by, program_word, read_one, read_each, read_list}
 use Rattle.msp430_alu.specs.Operands.{beside, source_reach, destination_reach, grown_known, operand_word, values_of}
 use Rattle.msp430_alu.specs.Premises.{Premises}
-use Rattle.msp430_alu.specs.Registers.{even_parts, status_set, put_register, register_word, with_flag_bits, with_sp}
+use Rattle.msp430_alu.specs.Registers.{status_set, register_word, with_flag_bits, with_sp}
 use Rattle.msp430_alu.specs.Results.{double_made, single_made, twice_flags, HasWidth}
 use Rattle.msp430_alu.proofs.Growth.{growth_small}
-use Rattle.msp430_alu.proofs.OperandLemmas.{AreKinds, constant_small, general_word, word_normal}
+use Rattle.msp430_alu.proofs.OperandLemmas.{AreKinds, constant_small, general_word}
 use Rattle.msp430_alu.proofs.Parts.{even_parts_form}
 use Rattle.msp430_alu.proofs.Reading.{read_known_normal}
 use Rattle.msp430_alu.proofs.Rows.{double_form, twice_form, single_form}

@@ -1,5 +1,5 @@
 -- What is known of the flags of results (SLAU049, chapter 3, "Status Register").
-use Rattle.std.specs.Prelude.{◌≡◌, ℕ, ◌*◌, nat_le, if◌then◌else◌, Bool, true, false, Option, None, Some, List, [], ◌∷◌}
+use Rattle.std.specs.Prelude.{ℕ, ◌*◌, nat_le, if◌then◌else◌, Bool, Option, None, Some, List, [], ◌∷◌}
 use Rattle.value_set.specs.Form.{Has, IsNormal}
 use Rattle.value_set.specs.Summing.{count_of}
 use Rattle.value_set.specs.declared.form.Form.{Form}

@@ -1,5 +1,6 @@
 -- What the formats of instructions make of what is known of a state: the two operands, the one operand, PUSH and CALL.
-use Rattle.std.specs.Prelude.{◌≡◌, ℕ, ◌+◌, ◌-◌, ◌%◌, ◌<◌, ◌==◌, ◌&&◌, ◌||◌, if◌then◌else◌, Bool, true, false, Option, None, Some, option_map, List, [], ◌∷◌, ◌++◌, slice_index, slice_index_or}
+use Rattle.std.specs.Prelude.{◌≡◌, ℕ, ◌+◌, ◌-◌, ◌%◌, ◌==◌, if◌then◌else◌, Bool, true, false, Option, None, Some, option_map, List, [], ◌∷◌, ◌++◌, slice_index, slice_index_or, Contains}
+use Rattle.call_context.specs.Single.{Single, AreShowing}
 use Rattle.call_context.specs.declared.shown.Item.{Item}
 use Rattle.call_context.specs.declared.shown.Item.TheVariants.{Access}
 use Rattle.call_context.specs.declared.shown.Set.TheVariants.{W}
@@ -8,7 +9,7 @@ use Rattle.entry_value.specs.declared.word.Entry.{Entry}
 use Rattle.entry_value.specs.declared.word.Word.{Word}
 use Rattle.entry_value.specs.Words.{entry_and, entry_or}
 use Rattle.value_set.specs.declared.form.Form.{Form}
-use Rattle.value_set.specs.Form.{make}
+use Rattle.value_set.specs.Form.{Has, make}
 use Rattle.value_set.specs.Joining.{join}
 use Rattle.value_set.specs.Summing.{add, single}
 use Rattle.value_bits.specs.declared.tri.Tri.{Tri}
@@ -19,7 +20,7 @@ use Rattle.msp430_decode.specs.declared.instr.Destination.TheVariants as destina
 use Rattle.msp430_decode.specs.declared.instr.Operation.{Operation}
 use Rattle.msp430_decode.specs.declared.instr.Operation.TheVariants as operation
 use Rattle.msp430_decode.specs.declared.instr.Register.{Register}
-use Rattle.msp430_decode.specs.declared.instr.Register.TheVariants.{Pc, Sp, Sr, R3}
+use Rattle.msp430_decode.specs.declared.instr.Register.TheVariants.{Pc, Sr}
 use Rattle.msp430_decode.specs.declared.instr.SingleOperation.{SingleOperation}
 use Rattle.msp430_decode.specs.declared.instr.SingleOperation.TheVariants.{Call}
 use Rattle.msp430_decode.specs.declared.instr.Source.{Source}
@@ -29,7 +30,7 @@ use Rattle.msp430_decode.specs.declared.instr.Width.TheVariants.{Word as Words, 
 use Rattle.msp430_decode.specs.Codes.{number}
 use Rattle.msp430_chip.specs.declared.device.Device.{Device}
 use Rattle.msp430_chip.specs.Arithmetic.{writes_result, reads_destination}
-use Rattle.msp430_chip.specs.Memory.{size_of}
+use Rattle.msp430_chip.specs.Memory.{aligned, program_hit, size_of}
 use Rattle.msp430_chip.specs.Operands.{constant_value}
 use Rattle.msp430_chip.specs.Step.{reads_counter, is_formed_by_stack}
 use Rattle.msp430_chip.specs.declared.state.ChipState.{ChipState}
@@ -37,7 +38,6 @@ use Rattle.msp430_chip.specs.Step.{Left}
 use Rattle.msp430_state.specs.Forms.{IsKnown}
 use Rattle.msp430_state.specs.Holding.{HoldsOf, HoldsOfParts}
 use Rattle.msp430_state.specs.Known.{Known}
-use Rattle.msp430_alu.specs.declared.flag_bits.FlagBits.{FlagBits}
 use Rattle.msp430_alu.specs.declared.reach.Reach.{Reach}
 use Rattle.msp430_alu.specs.declared.reach.Reach.TheVariants.{InRegister, InMemory, Fixed}
 use Rattle.msp430_alu.specs.FlagSets.{MadeSet, IsResult}
@@ -253,3 +253,12 @@ pub record IsUnder (device : Device) (framed : Bool) (a : Known) (s : ChipState)
 pub record IsLeft (device : Device) (after : Known) (first : Option ChipState) (next : Form) (left : Left) : Type 0 where
   pub next_is : IsResult 65536 next (slice_index left.registers 0)
   pub parts : HoldsOfParts device after first left.registers left.ram
+
+-- a store at one of the addresses of an open store's set hits the program at this byte
+abbrev pub IsHit : Device → Width → (store : Option Form) → (at : ℕ) → Type 0
+IsHit device width None at = ⊥
+IsHit device width (Some set) at = (address : ℕ) × Has 65536 set (aligned width address) × (program_hit device width address ≡ Some at)
+
+-- the items show each access
+abbrev pub AreShown : List Item → List Single → Type 0
+AreShown items singles = (single_so : Single) → Contains singles single_so → AreShowing items single_so

@@ -1,10 +1,9 @@
 -- Memory in what is known of a state: what may be read, and what is known behind a store.
-use Rattle.std.specs.Prelude.{◌≡◌, ℕ, ◌+◌, ◌-◌, ◌*◌, ◌%◌, ◌<◌, ◌≤◌, ◌==◌, ◌&&◌, ◌||◌, nat_lt, nat_le, if◌then◌else◌, Bool, true, false, Option, None, Some, List, [], ◌∷◌, length, All}
-use Rattle.std.specs.List.{fold}
+use Rattle.std.specs.Prelude.{◌≡◌, ℕ, ◌+◌, ◌-◌, ◌*◌, ◌%◌, ◌<◌, ◌≤◌, ◌||◌, nat_lt, nat_le, if◌then◌else◌, Bool, Option, None, Some, List, [], ◌∷◌, length, All}
 use Prim.Native.Nat.{min, max}
 use Rattle.ihex_read.specs.Image.{byte_at, IsByte}
 use Rattle.entry_value.specs.declared.word.Word.{Word}
-use Rattle.entry_value.specs.Cells.{any_of, unknown, read, write_any}
+use Rattle.entry_value.specs.Cells.{unknown, read, write_any}
 use Rattle.value_set.specs.declared.form.Form.{Form}
 use Rattle.value_set.specs.declared.form.Form.TheVariants.{Values, Run}
 use Rattle.value_set.specs.Form.{members}

@@ -1,19 +1,16 @@
 -- The operands of an instruction over what is known of a state (SLAU049, chapter 3, "Addressing Modes").
-use Rattle.std.specs.Prelude.{◌≡◌, ℕ, ◌+◌, ◌-◌, ◌%◌, ◌<◌, Bool, true, false, Option, None, List}
+use Rattle.std.specs.Prelude.{◌≡◌, ℕ, ◌+◌, ◌-◌, ◌%◌, ◌<◌, None}
 use Rattle.entry_value.specs.declared.word.Word.{Word}
 use Rattle.value_set.specs.declared.form.Form.{Form}
-use Rattle.value_set.specs.Form.{Has}
 use Rattle.value_set.specs.Summing.{single, add}
 use Rattle.value_bits.specs.Sets.{low_set}
 use Rattle.msp430_decode.specs.declared.instr.Destination.{Destination}
 use Rattle.msp430_decode.specs.declared.instr.Destination.TheVariants as destination
 use Rattle.msp430_decode.specs.declared.instr.Register.{Register}
-use Rattle.msp430_decode.specs.declared.instr.Register.TheVariants.{Pc, Sp, Sr, R3}
 use Rattle.msp430_decode.specs.declared.instr.Source.{Source}
 use Rattle.msp430_decode.specs.declared.instr.Source.TheVariants as source
 use Rattle.msp430_decode.specs.declared.instr.Width.{Width}
 use Rattle.msp430_decode.specs.declared.instr.Width.TheVariants.{Word as Words, Byte}
-use Rattle.msp430_decode.specs.Codes.{number}
 use Rattle.msp430_chip.specs.declared.device.Device.{Device}
 use Rattle.msp430_chip.specs.declared.place.Place.{Place}
 use Rattle.msp430_chip.specs.declared.place.Place.TheVariants as place

@@ -1,5 +1,5 @@
 -- What the laws of results rest on: laws of sets and of their bits.
-use Rattle.std.specs.Prelude.{◌≡◌, ℕ, ◌+◌, ◌-◌, ◌*◌, ◌%◌, ◌^◌, ◌<◌, ◌≤◌, ◌&&◌, ◌||◌, ◌↔◌, ◌⊎◌, Bool, true, IsFalse, Option, option_map, List, length, bit_and, bit_or}
+use Rattle.std.specs.Prelude.{◌≡◌, ℕ, ◌+◌, ◌-◌, ◌%◌, ◌^◌, ◌<◌, ◌≤◌, ◌&&◌, ◌||◌, ◌↔◌, ◌⊎◌, Bool, true, IsFalse, Option, option_map, List, length, bit_and, bit_or}
 use Rattle.value_set.specs.declared.form.Form.{Form}
 use Rattle.value_set.specs.Form.{Has, Includes, IsNormal, make, members}
 use Rattle.value_set.specs.Joining.{is_within, join}

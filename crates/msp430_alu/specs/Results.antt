@@ -1,7 +1,7 @@
 -- What the instructions make of sets of values, and what is known of the flags that they set (value sets after G.
 -- Balakrishnan and T. Reps, "WYSINWYX: What You See Is Not What You eXecute", 2010; the operations of SLAU049, chapter 3).
 -- Of at most 256 combinations of members all results are gathered, with an unknown carry counted as two.
-use Rattle.std.specs.Prelude.{ℕ, ◌+◌, ◌-◌, ◌%◌, ◌==◌, ◌&&◌, if◌then◌else◌, Bool, true, false, Option, None, Some, List, [], ◌∷◌, map, bit_and}
+use Rattle.std.specs.Prelude.{ℕ, ◌+◌, ◌-◌, ◌%◌, ◌==◌, ◌&&◌, if◌then◌else◌, false, Option, None, Some, [], ◌∷◌, map, bit_and}
 use Rattle.std.specs.Int.{bit_at}
 use Rattle.value_set.specs.declared.form.Form.{Form}
 use Rattle.value_set.specs.declared.form.Form.TheVariants.{Values, Run}
@@ -14,15 +14,15 @@ use Rattle.value_bits.specs.Bits.{known_bits, from_bits, tri_and, tri_not}
 use Rattle.value_bits.specs.Numbers.{shifted_right, decimal_sum, decimal_carry, sign_extended}
 use Rattle.value_bits.specs.Sets.{chosen, combine_or, logic_set, shift_set, exchange_set, sign_extend_set, are_decimal, decimal_add_set}
 use Rattle.msp430_decode.specs.declared.instr.Width.{Width}
-use Rattle.msp430_decode.specs.declared.instr.Width.TheVariants.{Word, Byte}
+use Rattle.msp430_decode.specs.declared.instr.Width.TheVariants.{Byte}
 use Rattle.msp430_decode.specs.declared.instr.Operation.{Operation}
 use Rattle.msp430_decode.specs.declared.instr.Operation.TheVariants as operation
 use Rattle.msp430_decode.specs.declared.instr.SingleOperation.{SingleOperation}
 use Rattle.msp430_decode.specs.declared.instr.SingleOperation.TheVariants.{Rrc, Swpb, Rra, Sxt, Push, Call}
 use Rattle.msp430_chip.specs.declared.place.Flags.{Flags}
-use Rattle.msp430_chip.specs.Arithmetic.{Made, modulus, digits_of, top_place, complement, flags_of, made, sum, logic, exclusive}
+use Rattle.msp430_chip.specs.Arithmetic.{Made, modulus, digits_of, top_place, complement, flags_of, sum, logic, exclusive}
 use Rattle.msp430_state.specs.Pointwise.{each_with}
-use Rattle.msp430_alu.specs.FlagSets.{MadeSet, bits_of, zero_of, negative_of, shown_flags, shown_logic, is_few, all_agree, flags_or, free_overflow, no_flags}
+use Rattle.msp430_alu.specs.FlagSets.{MadeSet, bits_of, shown_flags, shown_logic, all_agree, flags_or, free_overflow, no_flags}
 
 -- THE FLAGS OF NUMBERS
 

@@ -1,6 +1,6 @@
 //! What holds of the operations on sets.
 
-ghost use Rattle.std.specs.Prelude.{◌≡◌, ℕ, Bool, Option};
+ghost use Rattle.std.specs.Prelude.{◌≡◌, ℕ, ◌++◌, Bool, false, true, Option, Some, slice_index};
 ghost use Rattle.value_set.specs.declared.form.Form.{Form as AForm};
 ghost use Rattle.value_set.specs.Form.{IsNormal};
 ghost use Rattle.value_bits.specs.declared.tri.Tri.{Tri as ATri};
@@ -13,12 +13,16 @@ ghost use Rattle.msp430_decode.specs.declared.instr.Width.{Width as AWidth};
 ghost use Rattle.msp430_decode.specs.Operands.{IsSource, IsDestination};
 ghost use Rattle.msp430_chip.specs.declared.device.Device.{Device as ADevice};
 ghost use Rattle.msp430_chip.specs.declared.state.ChipState.{ChipState as AState};
+ghost use Rattle.msp430_chip.specs.declared.place.Place.TheVariants.{InMemory};
+ghost use Rattle.msp430_decode.specs.declared.instr.Width.TheVariants.{Word};
+ghost use Rattle.msp430_chip.specs.Operands.{access_to};
+ghost use Rattle.msp430_chip.specs.Step.{behind, double_accesses, lowered};
 ghost use Rattle.msp430_chip.specs.Outcome.{Outcome};
 ghost use Rattle.msp430_chip.specs.State.{register_of};
 ghost use Rattle.msp430_chip.specs.Arithmetic.{Made, modulus, sum};
-ghost use Rattle.msp430_chip.specs.Leading.{MayDouble, MayMake, MayMakeSingle, MayPush, MaySingle};
+ghost use Rattle.msp430_chip.specs.Leading.{behind_source, origin_of, place_of, pushed_place, MayDouble, MayMake, MayMakeSingle, MayPush, MaySingle};
 ghost use Rattle.msp430_alu.specs.FlagSets.{IsResult, HoldsOfMade};
-ghost use Rattle.msp430_alu.specs.Formats.{IsLeft, IsUnder, LeavesStatus, LeavesStatusAlone, double_worked, push_worked, single_worked};
+ghost use Rattle.msp430_alu.specs.Formats.{AreShown, IsHit, IsLeft, IsUnder, LeavesStatus, LeavesStatusAlone, double_worked, push_worked, single_worked};
 ghost use Rattle.msp430_alu.specs.Memory.{IsDevice};
 ghost use Rattle.msp430_state.specs.Forms.{IsKnown};
 ghost use Rattle.msp430_state.specs.Known.{Known};
@@ -86,11 +90,19 @@ pub fn operations_hold()
 }
 
 /// The law of instructions with two operands, but for those that write SR: a state that stands under what is known may only
-/// lead to one that stands under what `double_worked` says, at one of its next addresses. What it says is in form.
+/// lead to one that stands under what `double_worked` says, at one of its next addresses. Its items show each access, and a
+/// store that hits the program is one of its store's addresses. What it says is in form.
 pub fn doubles_hold()
     ensures left { (device : ADevice) (framed : Bool) (a : Known) (s : AState) (first : Option AState) (len : ℕ) (done : AnOperation) (width : AWidth) (origin : ASource) (target : ADestination) (outcome : Outcome AState)
         → IsUnder device framed a s first → IsSource origin → IsDestination target → LeavesStatus target → (may : MayDouble device s len done width origin target outcome)
         → IsLeft device (double_worked device framed a (register_of s 0) len done width origin target).after first (double_worked device framed a (register_of s 0) len done width origin target).next may.left }
+    ensures shown { (device : ADevice) (framed : Bool) (a : Known) (s : AState) (first : Option AState) (len : ℕ) (done : AnOperation) (width : AWidth) (origin : ASource) (target : ADestination) (outcome : Outcome AState)
+        → IsUnder device framed a s first → IsSource origin → IsDestination target → (may : MayDouble device s len done width origin target outcome)
+        → AreShown (double_worked device framed a (register_of s 0) len done width origin target).accesses
+        (double_accesses (register_of s 0) done width (origin_of s may.counted origin) (place_of s len may.counted width origin target)) }
+    ensures hit { (device : ADevice) (framed : Bool) (a : Known) (s : AState) (first : Option AState) (len : ℕ) (done : AnOperation) (width : AWidth) (origin : ASource) (target : ADestination) (outcome : Outcome AState) (at : ℕ)
+        → IsUnder device framed a s first → IsSource origin → IsDestination target → (may : MayDouble device s len done width origin target outcome) → may.left.hit ≡ Some at
+        → IsHit device width (double_worked device framed a (register_of s 0) len done width origin target).store at }
     ensures form { (device : ADevice) (framed : Bool) (a : Known) (pc len : ℕ) (done : AnOperation) (width : AWidth) (origin : ASource) (target : ADestination)
         → IsDevice device → IsKnown device.lo device.hi framed a → IsSource origin → IsDestination target
         → IsKnown device.lo device.hi framed (double_worked device framed a pc len done width origin target).after }
@@ -107,6 +119,13 @@ pub fn singles_hold()
     ensures left { (device : ADevice) (framed : Bool) (a : Known) (s : AState) (first : Option AState) (len : ℕ) (done : ASingleOperation) (width : AWidth) (operand : ASource) (outcome : Outcome AState)
         → IsUnder device framed a s first → IsSource operand → LeavesStatusAlone operand → HasWidth done width → (may : MaySingle device s len done width operand outcome)
         → IsLeft device (single_worked device framed a (register_of s 0) len done width operand).after first (single_worked device framed a (register_of s 0) len done width operand).next may.left }
+    ensures shown { (device : ADevice) (framed : Bool) (a : Known) (s : AState) (first : Option AState) (len : ℕ) (done : ASingleOperation) (width : AWidth) (operand : ASource)
+        → IsUnder device framed a s first → IsSource operand
+        → AreShown (single_worked device framed a (register_of s 0) len done width operand).accesses
+        (access_to (register_of s 0) false width (origin_of s (behind s len) operand) ++ access_to (register_of s 0) true width (origin_of s (behind s len) operand)) }
+    ensures hit { (device : ADevice) (framed : Bool) (a : Known) (s : AState) (first : Option AState) (len : ℕ) (done : ASingleOperation) (width : AWidth) (operand : ASource) (outcome : Outcome AState) (at : ℕ)
+        → IsUnder device framed a s first → IsSource operand → (may : MaySingle device s len done width operand outcome) → may.left.hit ≡ Some at
+        → IsHit device width (single_worked device framed a (register_of s 0) len done width operand).store at }
     ensures form { (device : ADevice) (framed : Bool) (a : Known) (pc len : ℕ) (done : ASingleOperation) (width : AWidth) (operand : ASource)
         → IsDevice device → IsKnown device.lo device.hi framed a → IsSource operand → HasWidth done width
         → IsKnown device.lo device.hi framed (single_worked device framed a pc len done width operand).after }
@@ -123,6 +142,14 @@ pub fn pushes_hold()
     ensures left { (device : ADevice) (framed : Bool) (a : Known) (s : AState) (first : Option AState) (len : ℕ) (done : ASingleOperation) (width : AWidth) (operand : ASource) (outcome : Outcome AState)
         → IsUnder device framed a s first → IsSource operand → (may : MayPush device s len done width operand outcome)
         → IsLeft device (push_worked device framed a (register_of s 0) len done width operand).after first (push_worked device framed a (register_of s 0) len done width operand).next may.left }
+    ensures shown { (device : ADevice) (framed : Bool) (a : Known) (s : AState) (first : Option AState) (len : ℕ) (done : ASingleOperation) (width : AWidth) (operand : ASource) (outcome : Outcome AState)
+        → IsUnder device framed a s first → IsSource operand → (may : MayPush device s len done width operand outcome)
+        → AreShown (push_worked device framed a (register_of s 0) len done width operand).accesses
+        (access_to (register_of s 0) false width (pushed_place s len may.option operand)
+        ++ access_to (register_of s 0) true Word (InMemory (lowered (slice_index (behind_source s (behind s len) width operand) 1)))) }
+    ensures hit { (device : ADevice) (framed : Bool) (a : Known) (s : AState) (first : Option AState) (len : ℕ) (done : ASingleOperation) (width : AWidth) (operand : ASource) (outcome : Outcome AState) (at : ℕ)
+        → IsUnder device framed a s first → IsSource operand → (may : MayPush device s len done width operand outcome) → may.left.hit ≡ Some at
+        → IsHit device Word (push_worked device framed a (register_of s 0) len done width operand).store at }
     ensures form { (device : ADevice) (framed : Bool) (a : Known) (pc len : ℕ) (done : ASingleOperation) (width : AWidth) (operand : ASource)
         → IsDevice device → IsKnown device.lo device.hi framed a → IsSource operand
         → IsKnown device.lo device.hi framed (push_worked device framed a pc len done width operand).after }

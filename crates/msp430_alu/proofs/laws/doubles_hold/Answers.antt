@@ -1,4 +1,5 @@
 use Rattle.msp430_alu.proofs.DoubleLaw.{double_law}
+use Rattle.msp430_alu.proofs.Showing.{double_shown, double_hit}
 use Rattle.msp430_alu.proofs.WorkedForms.{double_worked_form}
 use Rattle.msp430_alu.proofs.laws.doubles_hold.Goals as goal
 
@@ -8,6 +9,8 @@ returns c =
     let kinds = c.registers_of_five_kinds.ensures in
     record {
       left = double_law laws kinds;
+      shown = double_shown laws kinds;
+      hit = double_hit laws kinds;
       form = λ device framed a pc len done width origin target is form from_so to_so. (double_worked_form laws kinds device framed a pc len done width origin target is form from_so to_so).after_so;
       next = λ device framed a pc len done width origin target is form from_so to_so. (double_worked_form laws kinds device framed a pc len done width origin target is form from_so to_so).next_so;
     }

@@ -1,4 +1,5 @@
 use Rattle.msp430_alu.proofs.PushLaw.{push_law}
+use Rattle.msp430_alu.proofs.Showing.{push_shown, push_hit}
 use Rattle.msp430_alu.proofs.WorkedForms.{push_worked_form}
 use Rattle.msp430_alu.proofs.laws.pushes_hold.Goals as goal
 
@@ -8,6 +9,8 @@ returns c =
     let kinds = c.registers_of_five_kinds.ensures in
     record {
       left = push_law laws kinds;
+      shown = push_shown laws kinds;
+      hit = push_hit laws kinds;
       form = λ device framed a pc len done width operand is form from_so. (push_worked_form laws kinds device framed a pc len done width operand is form from_so).after_so;
       next = λ device framed a pc len done width operand is form from_so. (push_worked_form laws kinds device framed a pc len done width operand is form from_so).next_so;
     }

@@ -1,4 +1,5 @@
 use Rattle.msp430_alu.proofs.SingleLaw.{single_law}
+use Rattle.msp430_alu.proofs.Showing.{single_shown, single_hit}
 use Rattle.msp430_alu.proofs.WorkedForms.{single_worked_form}
 use Rattle.msp430_alu.proofs.laws.singles_hold.Goals as goal
 
@@ -8,6 +9,8 @@ returns c =
     let kinds = c.registers_of_five_kinds.ensures in
     record {
       left = single_law laws kinds;
+      shown = single_shown laws kinds;
+      hit = single_hit laws kinds;
       form = λ device framed a pc len done width operand is form from_so fits. (single_worked_form laws kinds device framed a pc len done width operand is form from_so fits).after_so;
       next = λ device framed a pc len done width operand is form from_so fits. (single_worked_form laws kinds device framed a pc len done width operand is form from_so fits).next_so;
     }
