@@ -4,7 +4,9 @@
 mod flag_bits;
 mod laws;
 mod reach;
+mod registers;
 
 pub use flag_bits::FlagBits;
 pub use laws::{doubles_hold, operations_hold, pushes_hold, singles_hold};
 pub use reach::Reach;
+pub use registers::register_word;
