@@ -4,9 +4,13 @@
 mod flag_bits;
 mod laws;
 mod reach;
+mod counting;
+mod operands;
 mod registers;
 
 pub use flag_bits::FlagBits;
 pub use laws::{doubles_hold, operations_hold, pushes_hold, singles_hold};
 pub use reach::Reach;
+pub use counting::counter_set;
+pub use operands::{destination_reach, located, source_reach};
 pub use registers::register_word;
