@@ -7,6 +7,7 @@ mod reach;
 mod counting;
 mod operands;
 mod registers;
+mod writing;
 
 pub use flag_bits::FlagBits;
 pub use laws::{doubles_hold, operations_hold, pushes_hold, singles_hold};
@@ -14,3 +15,4 @@ pub use reach::Reach;
 pub use counting::counter_set;
 pub use operands::{destination_reach, located, source_reach};
 pub use registers::register_word;
+pub use writing::{put_register, set_flag_bits};
