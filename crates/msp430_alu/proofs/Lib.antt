@@ -3,7 +3,7 @@ pub mod Carries
 pub mod Rows
 pub mod Parts
 pub mod StatusWord
-pub mod Reading
+pub mod ReadingLemmas
 pub mod Storing
 pub mod OperandLemmas
 pub mod Putting

@@ -57,7 +57,7 @@ use Rattle.msp430_alu.specs.Results.{double_made, single_made, twice_flags, HasW
 use Rattle.msp430_alu.proofs.Growth.{growth_small}
 use Rattle.msp430_alu.proofs.OperandLemmas.{AreKinds, constant_small, general_word}
 use Rattle.msp430_alu.proofs.Parts.{even_parts_form}
-use Rattle.msp430_alu.proofs.Reading.{read_known_normal}
+use Rattle.msp430_alu.proofs.ReadingLemmas.{read_known_normal}
 use Rattle.msp430_alu.proofs.Rows.{double_form, twice_form, single_form}
 use Rattle.msp430_alu.proofs.Shapes.{IsCellWord, no_relation, register_form, sp_form, flags_form, store_form}
 

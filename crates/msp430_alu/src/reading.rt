@@ -1,0 +1,65 @@
+//! Reads of RAM and of the program.
+
+ghost use Rattle.std.specs.Prelude.{◌≡◌, ◌+◌, ◌≤◌};
+ghost use Rattle.entry_value.specs.Cells as the_cells;
+ghost use Rattle.msp430_chip.specs.Memory as chip;
+ghost use Rattle.msp430_alu.specs.Memory as memory;
+
+use crate::registers::plain;
+use entry_value::{Cells, Word};
+use msp430_chip::Device;
+use msp430_decode::Width;
+use msp430_state::State;
+use value_set::Vs16;
+
+/// How many bytes an access has.
+pub(crate) fn size_of(width: Width) -> u8
+    ensures { result ≡ chip.size_of width }
+{
+    match width {
+        Width::Word => 2,
+        Width::Byte => 1,
+    }
+}
+
+/// A number of which nothing is known.
+pub(crate) fn unknown(width: Width) -> Word
+    ensures { result ≡ the_cells.unknown (chip.size_of width) }
+{
+    match width {
+        Width::Word => plain(Vs16::any()),
+        Width::Byte => match Vs16::run(0, 1, 256) {
+            Some(bytes) => plain(bytes),
+            None => unreachable!(),
+        },
+    }
+}
+
+/// What stands in the program, or else any number.
+fn program_word(device: &Device, width: Width, at: u16) -> Word
+    requires { at + chip.size_of width ≤ 65536 }
+    ensures { result ≡ memory.program_word device.now width at }
+{
+    let low = device.image.byte(at);
+    match width {
+        Width::Byte => match low {
+            Some(low) => plain(Vs16::one(low as u16)),
+            None => unknown(Width::Byte),
+        },
+        Width::Word => match (low, device.image.byte(at + 1)) {
+            (Some(low), Some(high)) => plain(Vs16::one(low as u16 + 256 * high as u16)),
+            _ => unknown(Width::Word),
+        },
+    }
+}
+
+/// What may be read at one address, that of a word being even.
+pub fn read_one<M: Cells>(device: &Device, state: &State<M>, width: Width, at: u16) -> Word
+    requires { at + chip.size_of width ≤ 65536 }
+    ensures { result ≡ memory.read_one device.now state.now width at }
+{
+    if device.lo <= at && at <= device.hi {
+        return state.cells.read(at, size_of(width));
+    }
+    program_word(device, width, at)
+}
