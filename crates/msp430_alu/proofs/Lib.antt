@@ -15,3 +15,4 @@ pub mod WorkedForms
 pub mod SingleLaw
 pub mod PushLaw
 pub mod Showing
+pub mod ReadLists

@@ -1,6 +1,7 @@
 //! Reads of RAM and of the program.
 
-ghost use Rattle.std.specs.Prelude.{◌≡◌, ◌+◌, ◌≤◌};
+ghost use Rattle.std.specs.Prelude.{◌≡◌, ℕ, ◌+◌, ◌≤◌, drop};
+ghost use Rattle.value_set.specs.Form.{Has, members};
 ghost use Rattle.entry_value.specs.Cells as the_cells;
 ghost use Rattle.msp430_chip.specs.Memory as chip;
 ghost use Rattle.msp430_alu.specs.Memory as memory;
@@ -62,4 +63,33 @@ pub fn read_one<M: Cells>(device: &Device, state: &State<M>, width: Width, at: u
         return state.cells.read(at, size_of(width));
     }
     program_word(device, width, at)
+}
+
+/// The sets that are read from the second address on, joined with the first one.
+fn joined<M: Cells>(device: &Device, state: &State<M>, width: Width, at: &Vs16, first: Vs16) -> Vs16
+    requires { (v : ℕ) → Has 65536 at.now v → v + chip.size_of width ≤ 65536 }
+    ensures { result ≡ memory.read_each device.now state.now width first (drop 1 (members 65536 at.now)) }
+{
+    let mut set = first;
+    for place in 1..at.count() {
+        set = set.join(&read_one(device, state, width, at.nth(place)).set);
+    }
+    set
+}
+
+/// What may be read at an address of a set, those of a word being even. Of more than 256 addresses nothing is known, and a
+/// relation is read from one address alone.
+pub fn read_known<M: Cells>(device: &Device, state: &State<M>, width: Width, at: &Vs16) -> Word
+    requires { (v : ℕ) → Has 65536 at.now v → v + chip.size_of width ≤ 65536 }
+    ensures { result ≡ memory.read_known device.now state.now width at.now }
+{
+    let count = at.count();
+    if count > 256 {
+        return unknown(width);
+    }
+    let first = read_one(device, state, width, at.nth(0));
+    if count == 1 {
+        return first;
+    }
+    plain(joined(device, state, width, at, first.set))
 }
