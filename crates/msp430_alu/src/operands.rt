@@ -16,7 +16,9 @@ use value_set::Vs16;
 fn beside<M: Cells>(state: &State<M>, counted: &Vs16, register: Register, offset: u16) -> Vs16
     ensures { result ≡ operands.beside state.now counted.now register offset }
 {
-    register_word(state, counted, register).set.add(&Vs16::one(offset))
+    register_word(state, counted, register)
+        .set
+        .add(&Vs16::one(offset))
 }
 
 /// The number that a generator of constants gives.

@@ -1,14 +1,16 @@
 //! Writes to registers and flags of a state.
 
 ghost use Rattle.std.specs.Prelude.{◌≡◌, ◌≤◌, ◌<◌};
+ghost use Rattle.msp430_chip.specs.Operands as chip;
+ghost use Rattle.msp430_alu.specs.Operands as operands;
 ghost use Rattle.msp430_alu.specs.Registers as registers;
 
 use crate::flag_bits::FlagBits;
-use crate::registers::even_parts;
+use crate::registers::{even_parts, plain, register_word};
 use entry_value::{Cells, Word};
-use msp430_decode::Register;
+use msp430_decode::{Register, Source, Width};
 use msp430_state::{FlagFact, State};
-
+use value_set::Vs16;
 
 /// A fact, unless it is of this register.
 fn fact_without(register: u8, fact: Option<FlagFact>) -> Option<FlagFact>
@@ -53,5 +55,26 @@ pub fn set_flag_bits<M: Cells>(state: &mut State<M>, flags: Option<FlagBits>)
         state.status.bits[8] = flags.overflow;
         state.status.entry = None;
         state.fact = None;
+    }
+}
+
+/// By how much `@Rn+` grows its register: SP by 2 for bytes as well.
+fn growth(width: Width, register: Register) -> u16
+    ensures { result ≡ chip.growth width register }
+{
+    match (width, register) {
+        (Width::Word, _) | (Width::Byte, Register::Sp) => 2,
+        _ => 1,
+    }
+}
+
+/// Grows the register of `@Rn+`, which then has no relation.
+pub fn grow<M: Cells>(state: &mut State<M>, counted: &Vs16, width: Width, source: Source)
+    ensures { state.new ≡ operands.grown_known state.old counted.now width source }
+{
+    if let Source::IndirectIncrement(register) = source {
+        let more = Vs16::one(growth(width, register));
+        let set = register_word(state, counted, register).set.add(&more);
+        put_register(state, register, plain(set));
     }
 }
