@@ -1,4 +1,18 @@
 //! What the instructions of the MSP430 make of sets of values.
+//!
+//! The stages of an instruction, each exact by a formula of `specs`:
+//!
+//! - [`counter_set`]: what PC may be as an operand.
+//! - [`source_reach`] and [`destination_reach`]: where operands may stand, as a [`Reach`]; [`located`]: the addresses there.
+//! - [`register_word`], [`read_one`], [`read_known`] and [`operand_word`]: what operands may hold.
+//! - [`grow`], [`put_register`] and [`set_flag_bits`]: writes to registers and to flags, as [`FlagBits`].
+//!
+//! What holds of the formulas:
+//!
+//! - [`operations_hold`]: the results of the operations and their flags.
+//! - [`doubles_hold`], [`singles_hold`] and [`pushes_hold`]: instructions with two operands, with one operand, and PUSH and
+//!   CALL, but for those that write SR. What they leave stands under what the formula says, at one of its next addresses,
+//!   each access is shown, and a store that hits the program is at one of the addresses of the formula's store.
 #![tactic(auto)]
 
 mod counting;
