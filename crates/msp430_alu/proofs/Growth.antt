@@ -30,7 +30,7 @@ use Rattle.msp430_alu.proofs.Carries.{single_is, add_is}
 use Rattle.msp430_alu.proofs.OperandLemmas.{AreKinds, IsOnTheWay, pointer_held}
 use Rattle.msp430_alu.proofs.Parts.{parts_counted}
 use Rattle.msp430_alu.proofs.Putting.{counted_are, written_are, register_put}
-use Rattle.msp430_alu.proofs.Reading.{IsHeld}
+use Rattle.msp430_alu.proofs.ReadingLemmas.{IsHeld}
 use Rattle.msp430_alu.proofs.Shapes.{no_relation, register_form}
 
 -- the registers of a state

@@ -3,7 +3,7 @@ pub mod Carries
 pub mod Rows
 pub mod Parts
 pub mod StatusWord
-pub mod Reading
+pub mod ReadingLemmas
 pub mod Storing
 pub mod OperandLemmas
 pub mod Putting
@@ -15,3 +15,5 @@ pub mod WorkedForms
 pub mod SingleLaw
 pub mod PushLaw
 pub mod Showing
+pub mod ReadLists
+pub mod Members

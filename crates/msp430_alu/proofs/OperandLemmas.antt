@@ -44,7 +44,7 @@ use Rattle.msp430_alu.specs.Operands.{beside, source_reach, destination_reach, I
 use Rattle.msp430_alu.specs.Premises.{Premises}
 use Rattle.msp430_alu.specs.Registers.{AreRegisters, register_word}
 use Rattle.msp430_alu.proofs.Carries.{single_is, add_is}
-use Rattle.msp430_alu.proofs.Reading.{IsHeld, IsMemory, known_held, read_below}
+use Rattle.msp430_alu.proofs.ReadingLemmas.{IsHeld, IsMemory, known_held, read_below}
 use Rattle.msp430_alu.proofs.StatusWord.{status_set_is}
 
 -- REGISTERS

@@ -38,7 +38,7 @@ use Rattle.msp430_alu.specs.Premises.{Premises}
 use Rattle.msp430_alu.specs.Registers.{AreRegisters, even_parts, put_register, with_word}
 use Rattle.msp430_alu.proofs.Carries.{single_is}
 use Rattle.msp430_alu.proofs.Parts.{parts_counted, word_written, sp_written, even_parts_is}
-use Rattle.msp430_alu.proofs.Reading.{IsHeld, located_is}
+use Rattle.msp430_alu.proofs.ReadingLemmas.{IsHeld, located_is}
 use Rattle.msp430_alu.proofs.Storing.{IsRam, IsStorable, store_holds}
 
 -- THE REGISTERS BEHIND A WRITE

@@ -48,7 +48,7 @@ use Rattle.msp430_alu.proofs.Doubles.{counter_is}
 use Rattle.msp430_alu.proofs.Growth.{on_the_way, grown_on}
 use Rattle.msp430_alu.proofs.OperandLemmas.{AreKinds, IsOnTheWay, source_reached, destination_reached}
 use Rattle.msp430_alu.proofs.PushLaw.{forming_on, lowered_on}
-use Rattle.msp430_alu.proofs.Reading.{located_is}
+use Rattle.msp430_alu.proofs.ReadingLemmas.{located_is}
 
 -- LISTS
 

@@ -8,7 +8,7 @@ use Rattle.std.proofs.Math.Nat.{mod-eq_of_lt, mul-le-mul_right}
 use Rattle.std.proofs.lemmas.List.FromFn.{length-map-range_with_len, get_or-map-range_with_len}
 use Rattle.std.proofs.lemmas.List.{length-set}
 use Rattle.std.proofs.lemmas.List.Elements.{All-get_or, All-set}
-use Rattle.call_context.specs.Members.{in_none, in_cons}
+use Rattle.msp430_alu.proofs.Members.{in_none, in_cons}
 use Rattle.entry_value.specs.declared.word.Word.{Word}
 use Rattle.entry_value.specs.Cells.{CellMap, AreCells, StandsUnder, write_any, written}
 use Rattle.entry_value.specs.Words.{Suspended, HoldsOfWord}

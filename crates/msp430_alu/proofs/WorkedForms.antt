@@ -7,7 +7,7 @@ use Rattle.std.proofs.lemmas.List.{length-append, length-replicate, get_or_past}
 use Rattle.std.proofs.lemmas.List.Elements.{All-get_or}
 use Rattle.std.proofs.lemmas.Nat.{and_le_l, or_lt}
 use Rattle.std.proofs.lemmas.Option.{same_Some}
-use Rattle.call_context.specs.Members.{in_first, in_rest}
+use Rattle.msp430_alu.proofs.Members.{in_first, in_rest}
 use Rattle.entry_value.specs.declared.cells.Cell.{Cell}
 use Rattle.entry_value.specs.declared.word.Entry.{Entry}
 use Rattle.entry_value.specs.declared.word.Word.{Word}
@@ -57,7 +57,7 @@ use Rattle.msp430_alu.specs.Results.{double_made, single_made, twice_flags, HasW
 use Rattle.msp430_alu.proofs.Growth.{growth_small}
 use Rattle.msp430_alu.proofs.OperandLemmas.{AreKinds, constant_small, general_word}
 use Rattle.msp430_alu.proofs.Parts.{even_parts_form}
-use Rattle.msp430_alu.proofs.Reading.{read_known_normal}
+use Rattle.msp430_alu.proofs.ReadingLemmas.{read_known_normal}
 use Rattle.msp430_alu.proofs.Rows.{double_form, twice_form, single_form}
 use Rattle.msp430_alu.proofs.Shapes.{IsCellWord, no_relation, register_form, sp_form, flags_form, store_form}
 

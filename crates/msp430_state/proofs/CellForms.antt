@@ -2,7 +2,7 @@
 use Rattle.std.proofs.Common.{◌≡◌, ℕ, ◌%◌, ◌==◌, Bool, true, false, Option, None, Some, List, [], ◌∷◌, refl, sym, ap, ◌∙◌, subst, inl, inr, Contains}
 use Rattle.std.proofs.lemmas.Bool.{cond_both}
 use Rattle.std.proofs.lemmas.Option.{same_Some}
-use Rattle.call_context.specs.Members.{in_none, in_cons, in_first, in_rest}
+use Rattle.msp430_state.proofs.Members.{in_none, in_cons, in_first, in_rest}
 use Rattle.entry_value.specs.declared.cells.Cell.{Cell}
 use Rattle.entry_value.specs.declared.word.Entry.{Entry}
 use Rattle.entry_value.specs.declared.word.Word.{Word}

@@ -7,3 +7,4 @@ pub mod Orders
 pub mod CellForms
 pub mod StateForms
 pub mod Covering
+pub mod Members

@@ -1,7 +1,7 @@
 -- The first state and the greatest have the form of states, and joins and widenings keep it.
 use Rattle.std.proofs.Common.{◌≡◌, ℕ, ◌≤◌, Bool, true, false, None, List, [], refl, sym, ◌∙◌, arith}
 use Rattle.std.proofs.lemmas.List.Elements.{All-replicate}
-use Rattle.call_context.specs.Members.{in_none}
+use Rattle.msp430_state.proofs.Members.{in_none}
 use Rattle.entry_value.specs.Words.{word_join, word_widen}
 use Rattle.entry_value.specs.Cells.{unknown}
 use Rattle.msp430_state.specs.Forms.{IsRelation, IsStatusRelation, IsFact, IsWord, IsKnown}

@@ -5,7 +5,7 @@ use Rattle.std.proofs.lemmas.Bool.{and_parts, and_from, cond_both, cond-true, co
 use Rattle.std.proofs.lemmas.List.{get_or_past}
 use Rattle.std.proofs.lemmas.Option.{same_Some}
 use Rattle.std.proofs.lemmas.List.Elements.{All-get_or}
-use Rattle.call_context.specs.Members.{in_none, in_cons}
+use Rattle.msp430_alu.proofs.Members.{in_none, in_cons}
 use Rattle.entry_value.specs.declared.word.Word.{Word}
 use Rattle.entry_value.specs.Cells.{AreCells, StandsUnder, unknown, number_at, read}
 use Rattle.entry_value.specs.Words.{Suspended, HoldsOfWord}

@@ -1,0 +1,91 @@
+//! Where operands stand.
+
+ghost use Rattle.std.specs.Prelude.{◌≡◌, ◌≤◌};
+ghost use Rattle.msp430_chip.specs.Operands as chip;
+ghost use Rattle.msp430_alu.specs.Memory as memory;
+ghost use Rattle.msp430_alu.specs.Operands as operands;
+
+use crate::reach::Reach;
+use crate::registers::{even_parts, register_word};
+use entry_value::Cells;
+use msp430_decode::{Constant, Destination, Register, Source, Width};
+use msp430_state::State;
+use value_set::Vs16;
+
+/// Memory at a register plus a number.
+fn beside<M: Cells>(state: &State<M>, counted: &Vs16, register: Register, offset: u16) -> Vs16
+    ensures { result ≡ operands.beside state.now counted.now register offset }
+{
+    register_word(state, counted, register)
+        .set
+        .add(&Vs16::one(offset))
+}
+
+/// The number that a generator of constants gives.
+fn constant_value(constant: Constant) -> u16
+    ensures { result ≡ chip.constant_value constant }
+{
+    match constant {
+        Constant::Zero => 0,
+        Constant::One => 1,
+        Constant::Two => 2,
+        Constant::Four => 4,
+        Constant::Eight => 8,
+        Constant::MinusOne => 0xFFFF,
+    }
+}
+
+/// Where a source may stand, for an instruction at an address, where PC counts so.
+pub fn source_reach<M: Cells>(pc: u16, state: &State<M>, counted: &Vs16, source: Source) -> Reach
+    ensures { result ≡ operands.source_reach pc state.now counted.now source }
+{
+    match source {
+        Source::Register(register) => Reach::InRegister(register),
+        Source::Indexed { register, offset } => {
+            Reach::InMemory(beside(state, counted, register, offset))
+        }
+        Source::Indirect(register) | Source::IndirectIncrement(register) => {
+            Reach::InMemory(register_word(state, counted, register).set)
+        }
+        Source::Immediate(value) => Reach::Fixed(value),
+        Source::Symbolic(offset) => {
+            Reach::InMemory(Vs16::one(pc.wrapping_add(2).wrapping_add(offset)))
+        }
+        Source::Absolute(address) => Reach::InMemory(Vs16::one(address)),
+        Source::Constant(constant) => Reach::Fixed(constant_value(constant)),
+    }
+}
+
+/// Where a destination may stand, for an instruction of so many bytes at an address. Its extension word is the last one.
+pub fn destination_reach<M: Cells>(
+    pc: u16,
+    len: u8,
+    state: &State<M>,
+    counted: &Vs16,
+    destination: Destination,
+) -> Reach
+    requires { 2 ≤ len }
+    ensures { result ≡ operands.destination_reach pc len state.now counted.now destination }
+{
+    match destination {
+        Destination::Register(register) => Reach::InRegister(register),
+        Destination::Indexed { register, offset } => {
+            Reach::InMemory(beside(state, counted, register, offset))
+        }
+        Destination::Symbolic(offset) => {
+            let address = (pc as u32 + len as u32 - 2 + offset as u32) % 65536;
+            Reach::InMemory(Vs16::one(address as u16))
+        }
+        Destination::Absolute(address) => Reach::InMemory(Vs16::one(address)),
+    }
+}
+
+/// The addresses of an access: those of a word are even.
+pub fn located(width: Width, set: &Vs16) -> Vs16
+    ensures { result ≡ memory.located width set.now }
+{
+    match width {
+        Width::Word => even_parts(set),
+        Width::Byte => *set,
+    }
+}
