@@ -23,13 +23,13 @@ use Rattle.msp430_decode.specs.declared.instr.Source.TheVariants as source
 use Rattle.msp430_decode.specs.declared.instr.Width.{Width}
 use Rattle.msp430_decode.specs.declared.instr.Width.TheVariants.{Word as Words, Byte}
 use Rattle.msp430_decode.specs.Codes.{number}
-use Rattle.msp430_decode.specs.Operands.{IsSource}
+use Rattle.msp430_decode.specs.Operands.{IsSource, constant_value}
 use Rattle.msp430_chip.specs.declared.device.Device.{Device}
 use Rattle.msp430_chip.specs.declared.state.ChipState.{ChipState}
 use Rattle.msp430_chip.specs.Arithmetic.{Made, modulus, complement, logic}
 use Rattle.msp430_chip.specs.Leading.{MayCount, MayStandAt, MayMake}
 use Rattle.msp430_chip.specs.Leading.MayCount.{Behind, Within}
-use Rattle.msp430_chip.specs.Operands.{constant_value, source_place, with_free_bits}
+use Rattle.msp430_chip.specs.Operands.{source_place, with_free_bits}
 use Rattle.msp430_chip.specs.State.{register_of}
 use Rattle.msp430_chip.specs.Step.{reads_counter}
 use Rattle.msp430_alu.specs.FlagSets.{IsResult}

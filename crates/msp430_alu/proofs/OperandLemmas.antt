@@ -23,7 +23,7 @@ use Rattle.msp430_decode.specs.declared.instr.Source.TheVariants as source
 use Rattle.msp430_decode.specs.declared.instr.Width.{Width}
 use Rattle.msp430_decode.specs.declared.instr.Width.TheVariants.{Word as Words, Byte}
 use Rattle.msp430_decode.specs.Codes.{number}
-use Rattle.msp430_decode.specs.Operands.{IsPointer, IsSource, IsDestination}
+use Rattle.msp430_decode.specs.Operands.{IsPointer, IsSource, IsDestination, constant_value}
 use Rattle.msp430_chip.specs.declared.device.Device.{Device}
 use Rattle.msp430_chip.specs.declared.place.Place.{Place}
 use Rattle.msp430_chip.specs.declared.place.Place.TheVariants as place
@@ -32,7 +32,7 @@ use Rattle.msp430_chip.specs.Arithmetic.{modulus}
 use Rattle.msp430_chip.specs.Kinds.{Kind}
 use Rattle.msp430_chip.specs.Kinds.Kind.{Counter, Stack, Status, Empty, General}
 use Rattle.msp430_chip.specs.Leading.{MayStandAt}
-use Rattle.msp430_chip.specs.Operands.{constant_value, value_in, source_place, destination_place, is_status, with_free_bits}
+use Rattle.msp430_chip.specs.Operands.{value_in, source_place, destination_place, is_status, with_free_bits}
 use Rattle.msp430_state.specs.Forms.{IsWord, IsKnown}
 use Rattle.msp430_state.specs.Holding.{suspended_of, HoldsOfParts}
 use Rattle.msp430_state.specs.Known.{Known, word_of}

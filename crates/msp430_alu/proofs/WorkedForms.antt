@@ -34,13 +34,13 @@ use Rattle.msp430_decode.specs.declared.instr.Source.TheVariants as source
 use Rattle.msp430_decode.specs.declared.instr.Width.{Width}
 use Rattle.msp430_decode.specs.declared.instr.Width.TheVariants.{Word as Words, Byte}
 use Rattle.msp430_decode.specs.Codes.{number}
-use Rattle.msp430_decode.specs.Operands.{IsSource, IsDestination}
+use Rattle.msp430_decode.specs.Operands.{IsSource, IsDestination, constant_value}
 use Rattle.msp430_chip.specs.declared.device.Device.{Device}
 use Rattle.msp430_chip.specs.Arithmetic.{modulus, reads_destination, writes_result}
 use Rattle.msp430_chip.specs.Kinds.{Kind}
 use Rattle.msp430_chip.specs.Kinds.Kind.{Counter, Stack, Status, Empty, General}
 use Rattle.msp430_chip.specs.Memory.{is_ram, size_of}
-use Rattle.msp430_chip.specs.Operands.{constant_value, growth}
+use Rattle.msp430_chip.specs.Operands.{growth}
 use Rattle.msp430_chip.specs.Step.{reads_counter, is_formed_by_stack}
 use Rattle.msp430_state.specs.declared.status.Status.{Status as StatusBits}
 use Rattle.msp430_state.specs.Forms.{is_place, IsRelation, IsStatusRelation, IsWord, IsChipCell, IsKnown}

@@ -31,7 +31,7 @@ use Rattle.msp430_decode.specs.Codes.{number}
 use Rattle.msp430_chip.specs.declared.device.Device.{Device}
 use Rattle.msp430_chip.specs.Arithmetic.{writes_result, reads_destination}
 use Rattle.msp430_chip.specs.Memory.{aligned, program_hit, size_of}
-use Rattle.msp430_chip.specs.Operands.{constant_value}
+use Rattle.msp430_decode.specs.Operands.{constant_value}
 use Rattle.msp430_chip.specs.Step.{reads_counter, is_formed_by_stack}
 use Rattle.msp430_chip.specs.declared.state.ChipState.{ChipState}
 use Rattle.msp430_chip.specs.Step.{Left}

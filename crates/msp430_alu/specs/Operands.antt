@@ -14,7 +14,8 @@ use Rattle.msp430_decode.specs.declared.instr.Width.TheVariants.{Word as Words, 
 use Rattle.msp430_chip.specs.declared.device.Device.{Device}
 use Rattle.msp430_chip.specs.declared.place.Place.{Place}
 use Rattle.msp430_chip.specs.declared.place.Place.TheVariants as place
-use Rattle.msp430_chip.specs.Operands.{constant_value, growth}
+use Rattle.msp430_chip.specs.Operands.{growth}
+use Rattle.msp430_decode.specs.Operands.{constant_value}
 use Rattle.msp430_state.specs.Known.{Known}
 use Rattle.msp430_alu.specs.declared.reach.Reach.{Reach}
 use Rattle.msp430_alu.specs.declared.reach.Reach.TheVariants.{InRegister, InMemory, Fixed}

@@ -1,14 +1,13 @@
 //! Where operands stand.
 
 ghost use Rattle.std.specs.Prelude.{◌≡◌, ◌≤◌};
-ghost use Rattle.msp430_chip.specs.Operands as chip;
 ghost use Rattle.msp430_alu.specs.Memory as memory;
 ghost use Rattle.msp430_alu.specs.Operands as operands;
 
 use crate::reach::Reach;
 use crate::registers::{even_parts, register_word};
 use entry_value::Cells;
-use msp430_decode::{Constant, Destination, Register, Source, Width};
+use msp430_decode::{Destination, Register, Source, Width};
 use msp430_state::State;
 use value_set::Vs16;
 
@@ -19,20 +18,6 @@ fn beside<M: Cells>(state: &State<M>, counted: &Vs16, register: Register, offset
     register_word(state, counted, register)
         .set
         .add(&Vs16::one(offset))
-}
-
-/// The number that a generator of constants gives.
-fn constant_value(constant: Constant) -> u16
-    ensures { result ≡ chip.constant_value constant }
-{
-    match constant {
-        Constant::Zero => 0,
-        Constant::One => 1,
-        Constant::Two => 2,
-        Constant::Four => 4,
-        Constant::Eight => 8,
-        Constant::MinusOne => 0xFFFF,
-    }
 }
 
 /// Where a source may stand, for an instruction at an address, where PC counts so.
@@ -52,7 +37,7 @@ pub fn source_reach<M: Cells>(pc: u16, state: &State<M>, counted: &Vs16, source:
             Reach::InMemory(Vs16::one(pc.wrapping_add(2).wrapping_add(offset)))
         }
         Source::Absolute(address) => Reach::InMemory(Vs16::one(address)),
-        Source::Constant(constant) => Reach::Fixed(constant_value(constant)),
+        Source::Constant(constant) => Reach::Fixed(constant.value()),
     }
 }
 
