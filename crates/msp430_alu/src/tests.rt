@@ -138,8 +138,5 @@ fn words_of_ram_and_of_the_program(rt: HostRuntime) -> Result<(), Fail> {
     assert_eq!(rt; read, plain(Vs16::one(0x56)));
     let read = read_known(&device, &state, Width::Byte, &Vs16::one(0x0201));
     assert_eq!(rt; read, plain(Vs16::one(0x12)));
-    let both = Vs16::one(0x0200).join(&Vs16::one(0xF000));
-    let read = read_known(&device, &state, Width::Byte, &both);
-    assert_eq!(rt; read, plain(Vs16::one(0x34)));
     Ok(())
 }
