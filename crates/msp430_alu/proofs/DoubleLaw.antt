@@ -39,20 +39,20 @@ use Rattle.msp430_state.specs.Forms.{IsKnown}
 use Rattle.msp430_state.specs.Holding.{suspended_of}
 use Rattle.msp430_state.specs.Known.{Known}
 use Rattle.msp430_alu.specs.declared.reach.Reach.{Reach}
-use Rattle.msp430_alu.specs.FlagSets.{MadeSet, IsResult, HoldsOfMade}
-use Rattle.msp430_alu.specs.Formats.{constant_of, relation_of, written_word, counter_set, is_doubled, carry_of, destination_word, made_of, put_known_if, next_if, double_worked, LeavesStatus, IsUnder, IsLeft}
+use Rattle.msp430_results.specs.FlagSets.{MadeSet, IsResult, HoldsOfMade}
+use Rattle.msp430_alu.specs.Formats.{constant_of, relation_of, counter_set, is_doubled, carry_of, destination_word, made_of, put_known_if, next_if, double_worked, LeavesStatus, IsUnder, IsLeft}
+use Rattle.msp430_results.specs.Words.{values_of, written_word}
 use Rattle.msp430_alu.specs.Memory.{IsDevice}
-use Rattle.msp430_alu.specs.Operands.{source_reach, destination_reach, grown_known, operand_word, values_of, IsReached}
+use Rattle.msp430_alu.specs.Operands.{source_reach, destination_reach, grown_known, operand_word, IsReached}
 use Rattle.msp430_alu.specs.Premises.{Premises}
 use Rattle.msp430_alu.specs.Registers.{with_flag_bits}
-use Rattle.msp430_alu.specs.Results.{double_made, twice_flags}
-use Rattle.msp430_alu.proofs.Carries.{single_is}
+use Rattle.msp430_results.specs.Results.{double_made, twice_flags}
+use Rattle.msp430_alu.proofs.Numbers.{single_is}
 use Rattle.msp430_alu.proofs.Doubles.{counter_is, related, constant_value_is, written_is, one_register}
 use Rattle.msp430_alu.proofs.Growth.{on_the_way, grown_on}
 use Rattle.msp430_alu.proofs.OperandLemmas.{AreKinds, IsOnTheWay, IsOperand, source_reached, destination_reached, operand_held}
 use Rattle.msp430_alu.proofs.Parts.{parts_counted, flags_written}
 use Rattle.msp430_alu.proofs.Putting.{IsPut, IsReady, put_if_is, counted_are}
-use Rattle.msp430_alu.proofs.Rows.{double_holds, twice_row}
 use Rattle.msp430_alu.proofs.WorkedForms.{double_forms}
 
 -- C
@@ -150,7 +150,7 @@ doubled_row laws first device ram registers pc len done width origin target one 
     let d = with_free_bits width (place.InRegister register) bits y in
     let same : s ≡ d = same_values device ram registers pc len width register x y bits these.stands these.held in
     let is : sum width d s 0 ≡ made_so = same_Some (sum width d s 0) made_so made_by in
-    subst (HoldsOfMade width (twice_flags width (values_of width other))) (ap (λ n. sum width d n 0) (sym same) ∙ is) (twice_row laws width d (values_of width other) these.target_so.values) in
+    subst (HoldsOfMade width (twice_flags width (values_of width other))) (ap (λ n. sum width d n 0) (sym same) ∙ is) (laws.twice_result width d (values_of width other) these.target_so.values) in
     subst (λ o. P o origin target) (sym is_add)
     (subst (λ f. P operation.Add f target) (sym from) (subst (λ t. P operation.Add (source.Register register) t) (sym to) plain)) are may
 
@@ -161,7 +161,7 @@ pub made_holds : (laws : Premises) (first : Option Suspended) (device : Device) 
 made_holds laws first device ram registers pc len done width origin target one other x y bits carry c made_so bit are may =
     cond_both (is_doubled done origin target) (twice_flags width (values_of width other)) (double_made done width (values_of width one) (values_of width other) c) (λ (set_so : MadeSet). HoldsOfMade width set_so made_so)
     (λ e. doubled_row laws first device ram registers pc len done width origin target one other x y bits carry made_so (doubled_is done origin target e) are may)
-    (λ e. double_holds laws done width (with_free_bits width (source_place pc registers origin) bits x) (with_free_bits width (destination_place pc len (grown registers width origin) target) bits y) carry
+    (λ e. laws.double_result done width (with_free_bits width (source_place pc registers origin) bits x) (with_free_bits width (destination_place pc len (grown registers width origin) target) bits y) carry
     (values_of width one) (values_of width other) c made_so are.source.values are.target_so.values bit may)
 
 -- the relation of the result

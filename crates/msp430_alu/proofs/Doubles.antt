@@ -32,10 +32,11 @@ use Rattle.msp430_chip.specs.Leading.MayCount.{Behind, Within}
 use Rattle.msp430_chip.specs.Operands.{source_place, with_free_bits}
 use Rattle.msp430_chip.specs.State.{register_of}
 use Rattle.msp430_chip.specs.Step.{reads_counter}
-use Rattle.msp430_alu.specs.FlagSets.{IsResult}
-use Rattle.msp430_alu.specs.Formats.{constant_of, relation_of, masked_and, masked_clear, masked_or, written_word, counter_set, is_one_register}
+use Rattle.msp430_results.specs.FlagSets.{IsResult}
+use Rattle.msp430_alu.specs.Formats.{constant_of, relation_of, masked_and, masked_clear, masked_or, counter_set, is_one_register}
+use Rattle.msp430_results.specs.Words.{written_word}
 use Rattle.msp430_alu.specs.Premises.{Premises}
-use Rattle.msp430_alu.proofs.Carries.{single_is}
+use Rattle.msp430_alu.proofs.Numbers.{single_is}
 use Rattle.msp430_alu.proofs.Putting.{IsWritten}
 
 -- PC AS IT COUNTS

@@ -22,11 +22,11 @@ use Rattle.msp430_chip.specs.State.{IsChipState}
 use Rattle.msp430_state.specs.Forms.{IsKnown}
 use Rattle.msp430_state.specs.Holding.{suspended_of, HoldsOf}
 use Rattle.msp430_state.specs.Known.{Known}
-use Rattle.msp430_alu.specs.FlagSets.{IsResult}
+use Rattle.msp430_results.specs.FlagSets.{IsResult}
 use Rattle.msp430_alu.specs.Operands.{grown_known}
 use Rattle.msp430_alu.specs.Premises.{Premises}
 use Rattle.msp430_alu.specs.Registers.{AreRegisters, register_word}
-use Rattle.msp430_alu.proofs.Carries.{single_is, add_is}
+use Rattle.msp430_alu.proofs.Numbers.{single_is, add_is}
 use Rattle.msp430_alu.proofs.OperandLemmas.{AreKinds, IsOnTheWay, pointer_held}
 use Rattle.msp430_alu.proofs.Parts.{parts_counted}
 use Rattle.msp430_alu.proofs.Putting.{counted_are, written_are, register_put}

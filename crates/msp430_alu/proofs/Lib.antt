@@ -1,6 +1,4 @@
-pub mod FlagLemmas
-pub mod Carries
-pub mod Rows
+pub mod Numbers
 pub mod Parts
 pub mod StatusWord
 pub mod ReadingLemmas
@@ -17,3 +15,4 @@ pub mod PushLaw
 pub mod Showing
 pub mod ReadLists
 pub mod Members
+pub mod WrittenWords

@@ -38,12 +38,13 @@ use Rattle.msp430_state.specs.Holding.{suspended_of, HoldsOfParts}
 use Rattle.msp430_state.specs.Known.{Known, word_of}
 use Rattle.msp430_alu.specs.declared.reach.Reach.{Reach}
 use Rattle.msp430_alu.specs.declared.reach.Reach.TheVariants.{InRegister, InMemory, Fixed}
-use Rattle.msp430_alu.specs.FlagSets.{IsResult}
+use Rattle.msp430_results.specs.FlagSets.{IsResult}
 use Rattle.msp430_alu.specs.Memory.{IsDevice, located, read_known}
-use Rattle.msp430_alu.specs.Operands.{beside, source_reach, destination_reach, IsReached, operand_word, values_of}
+use Rattle.msp430_alu.specs.Operands.{beside, source_reach, destination_reach, IsReached, operand_word}
+use Rattle.msp430_results.specs.Words.{values_of}
 use Rattle.msp430_alu.specs.Premises.{Premises}
 use Rattle.msp430_alu.specs.Registers.{AreRegisters, register_word}
-use Rattle.msp430_alu.proofs.Carries.{single_is, add_is}
+use Rattle.msp430_alu.proofs.Numbers.{single_is, add_is}
 use Rattle.msp430_alu.proofs.ReadingLemmas.{IsHeld, IsMemory, known_held, read_below}
 use Rattle.msp430_alu.proofs.StatusWord.{status_set_is}
 

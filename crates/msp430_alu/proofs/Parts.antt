@@ -29,8 +29,8 @@ use Rattle.msp430_state.specs.declared.fact.FlagFact.{FlagFact}
 use Rattle.msp430_state.specs.Forms.{AreEvenWords, IsFact}
 use Rattle.msp430_state.specs.Holding.{suspended_of, HasFlagsOf, HoldsOfStatus, HoldsOfFact, HoldsOfParts}
 use Rattle.msp430_state.specs.Known.{Known, even_words, word_of}
-use Rattle.msp430_alu.specs.declared.flag_bits.FlagBits.{FlagBits}
-use Rattle.msp430_alu.specs.FlagSets.{AreFlags, HoldsOfFlags, IsResult}
+use Rattle.msp430_results.specs.declared.flag_bits.FlagBits.{FlagBits}
+use Rattle.msp430_results.specs.FlagSets.{AreFlags, HoldsOfFlags, IsResult}
 use Rattle.msp430_alu.specs.Premises.{Premises}
 use Rattle.msp430_alu.specs.Registers.{even_parts, fact_without, with_word, with_sp, put_flags, with_flag_bits}
 

@@ -28,13 +28,14 @@ use Rattle.msp430_chip.specs.Step.{Left, behind, is_formed_by_stack, with_lowere
 use Rattle.msp430_state.specs.Holding.{suspended_of, HoldsOfParts}
 use Rattle.msp430_state.specs.Known.{Known}
 use Rattle.msp430_alu.specs.declared.reach.Reach.TheVariants.{InMemory}
-use Rattle.msp430_alu.specs.FlagSets.{IsResult}
-use Rattle.msp430_alu.specs.Formats.{written_word, put_known, lowered_known, forming_known, pushed_known, called_next, push_worked, IsUnder, IsLeft}
+use Rattle.msp430_results.specs.FlagSets.{IsResult}
+use Rattle.msp430_alu.specs.Formats.{put_known, lowered_known, forming_known, pushed_known, called_next, push_worked, IsUnder, IsLeft}
+use Rattle.msp430_results.specs.Words.{values_of, written_word}
 use Rattle.msp430_alu.specs.Memory.{IsDevice}
-use Rattle.msp430_alu.specs.Operands.{source_reach, grown_known, operand_word, values_of}
+use Rattle.msp430_alu.specs.Operands.{source_reach, grown_known, operand_word}
 use Rattle.msp430_alu.specs.Premises.{Premises}
 use Rattle.msp430_alu.specs.Registers.{AreRegisters, even_parts, with_sp}
-use Rattle.msp430_alu.proofs.Carries.{single_is, add_is}
+use Rattle.msp430_alu.proofs.Numbers.{single_is, add_is}
 use Rattle.msp430_alu.proofs.Doubles.{two_options, written_is}
 use Rattle.msp430_alu.proofs.Growth.{on_the_way, grown_on, grown_pc}
 use Rattle.msp430_alu.proofs.OperandLemmas.{AreKinds, IsOnTheWay, IsOperand, source_reached, operand_held}

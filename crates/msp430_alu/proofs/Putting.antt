@@ -30,13 +30,13 @@ use Rattle.msp430_state.specs.Holding.{suspended_of, HoldsOfParts}
 use Rattle.msp430_state.specs.Known.{Known}
 use Rattle.msp430_alu.specs.declared.reach.Reach.{Reach}
 use Rattle.msp430_alu.specs.declared.reach.Reach.TheVariants.{InRegister, InMemory, Fixed}
-use Rattle.msp430_alu.specs.FlagSets.{IsResult}
+use Rattle.msp430_results.specs.FlagSets.{IsResult}
 use Rattle.msp430_alu.specs.Formats.{put_known, put_known_if, next_by, next_if}
 use Rattle.msp430_alu.specs.Memory.{IsDevice, located}
 use Rattle.msp430_alu.specs.Operands.{IsReached}
 use Rattle.msp430_alu.specs.Premises.{Premises}
 use Rattle.msp430_alu.specs.Registers.{AreRegisters, even_parts, put_register, with_word}
-use Rattle.msp430_alu.proofs.Carries.{single_is}
+use Rattle.msp430_alu.proofs.Numbers.{single_is}
 use Rattle.msp430_alu.proofs.Parts.{parts_counted, word_written, sp_written, even_parts_is}
 use Rattle.msp430_alu.proofs.ReadingLemmas.{IsHeld, located_is}
 use Rattle.msp430_alu.proofs.Storing.{IsRam, IsStorable, store_holds}

@@ -24,10 +24,10 @@ use Rattle.msp430_chip.specs.Memory.{is_ram, size_of, aligned}
 use Rattle.msp430_chip.specs.State.{even}
 use Rattle.msp430_state.specs.Holding.{ram_byte}
 use Rattle.msp430_state.specs.Known.{Known}
-use Rattle.msp430_alu.specs.FlagSets.{IsResult}
+use Rattle.msp430_results.specs.FlagSets.{IsResult}
 use Rattle.msp430_alu.specs.Memory.{IsDevice, located, word_by, byte_by, program_word, read_one, read_each, read_list, read_known}
 use Rattle.msp430_alu.specs.Premises.{Premises}
-use Rattle.msp430_alu.proofs.Carries.{single_is}
+use Rattle.msp430_alu.proofs.Numbers.{single_is}
 use Rattle.msp430_alu.proofs.Parts.{even_parts_is}
 
 -- UNKNOWN VALUES

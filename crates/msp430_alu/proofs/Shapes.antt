@@ -28,7 +28,7 @@ use Rattle.msp430_state.specs.declared.fact.FlagFact.{FlagFact}
 use Rattle.msp430_state.specs.Forms.{IsRelation, IsStatusRelation, IsFact, IsWord, IsChipCell, IsKnown}
 use Rattle.msp430_state.specs.Known.{Known}
 use Rattle.msp430_state.specs.Ranges.{AreRanges}
-use Rattle.msp430_alu.specs.declared.flag_bits.FlagBits.{FlagBits}
+use Rattle.msp430_results.specs.declared.flag_bits.FlagBits.{FlagBits}
 use Rattle.msp430_alu.specs.Memory.{IsDevice, touched_behind, with_store}
 use Rattle.msp430_alu.specs.Premises.{Premises}
 use Rattle.msp430_alu.specs.Registers.{fact_without, put_register, with_word, with_sp, with_flag_bits}

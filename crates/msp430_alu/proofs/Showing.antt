@@ -38,12 +38,12 @@ use Rattle.msp430_chip.specs.Step.{Left, put, put_if, behind, reads_if, writes_i
 use Rattle.msp430_state.specs.Known.{Known}
 use Rattle.msp430_alu.specs.declared.reach.Reach.{Reach}
 use Rattle.msp430_alu.specs.declared.reach.Reach.TheVariants.{InRegister, InMemory, Fixed}
-use Rattle.msp430_alu.specs.FlagSets.{IsResult}
+use Rattle.msp430_results.specs.FlagSets.{IsResult}
 use Rattle.msp430_alu.specs.Formats.{access_of, access_if, store_of, counter_set, lowered_known, forming_known, double_worked, single_worked, push_worked, IsUnder, IsHit, AreShown}
 use Rattle.msp430_alu.specs.Memory.{located}
 use Rattle.msp430_alu.specs.Operands.{source_reach, destination_reach, grown_known, IsReached}
 use Rattle.msp430_alu.specs.Premises.{Premises}
-use Rattle.msp430_alu.proofs.Carries.{single_is}
+use Rattle.msp430_alu.proofs.Numbers.{single_is}
 use Rattle.msp430_alu.proofs.Doubles.{counter_is}
 use Rattle.msp430_alu.proofs.Growth.{on_the_way, grown_on}
 use Rattle.msp430_alu.proofs.OperandLemmas.{AreKinds, IsOnTheWay, source_reached, destination_reached}

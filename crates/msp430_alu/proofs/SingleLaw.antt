@@ -21,18 +21,18 @@ use Rattle.msp430_chip.specs.State.{register_of}
 use Rattle.msp430_chip.specs.Step.{Left, put, behind}
 use Rattle.msp430_state.specs.Holding.{suspended_of}
 use Rattle.msp430_state.specs.Known.{Known}
-use Rattle.msp430_alu.specs.Formats.{carry_of, written_word, put_known, next_by, single_worked, LeavesStatusAlone, IsUnder, IsLeft}
-use Rattle.msp430_alu.specs.Operands.{source_reach, grown_known, operand_word, values_of}
+use Rattle.msp430_alu.specs.Formats.{carry_of, put_known, next_by, single_worked, LeavesStatusAlone, IsUnder, IsLeft}
+use Rattle.msp430_results.specs.Words.{values_of, written_word}
+use Rattle.msp430_alu.specs.Operands.{source_reach, grown_known, operand_word}
 use Rattle.msp430_alu.specs.Premises.{Premises}
 use Rattle.msp430_alu.specs.Registers.{with_flag_bits}
-use Rattle.msp430_alu.specs.Results.{single_made, HasWidth}
-use Rattle.msp430_alu.proofs.Carries.{single_is}
+use Rattle.msp430_results.specs.Results.{single_made, HasWidth}
+use Rattle.msp430_alu.proofs.Numbers.{single_is}
 use Rattle.msp430_alu.proofs.DoubleLaw.{carry_bit, flags_put}
 use Rattle.msp430_alu.proofs.Doubles.{written_is}
 use Rattle.msp430_alu.proofs.Growth.{on_the_way, grown_on, grown_pc}
 use Rattle.msp430_alu.proofs.OperandLemmas.{AreKinds, source_reached, operand_held}
 use Rattle.msp430_alu.proofs.Putting.{IsReady, put_is}
-use Rattle.msp430_alu.proofs.Rows.{single_holds}
 use Rattle.msp430_alu.proofs.WorkedForms.{single_forms}
 
 no_status : (pc : ℕ) (registers : List ℕ) (operand : Source) → LeavesStatusAlone operand → is_status (source_place pc registers operand) ≡ false
@@ -73,7 +73,7 @@ single_leaves laws kinds device framed a s first len done width operand under fr
     let from_is = source_reached laws device framed a counted_so first (at_source s counted) s.ram on kinds pc operand from_so in
     let held = operand_held laws device framed a counted_so first (at_source s counted) s.ram on kinds under.device_so width from (origin_of s counted operand) x bits from_is reads few in
     let made_set = single_made done width (values_of width one) (carry_of a) in
-    let made_is = single_holds laws done width (with_free_bits width (origin_of s counted operand) bits x) (register_of s 2 % 2) (values_of width one) (carry_of a) made_so fits held.values
+    let made_is = laws.single_result done width (with_free_bits width (origin_of s counted operand) bits x) (register_of s 2 % 2) (values_of width one) (carry_of a) made_so fits held.values
     (carry_bit device framed a s first under) may in
     let word = written_word width made_set.0 None in
     let written = written_is laws suspended width made_set.0 None made_so.0 (record { normal = made_is.normal; has = made_is.result }) (λ e. tt) in

@@ -27,7 +27,7 @@ use Rattle.msp430_state.specs.Forms.{IsKnown}
 use Rattle.msp430_state.specs.Holding.{suspended_of, ram_byte, KeepsUntouched, HoldsOfParts}
 use Rattle.msp430_state.specs.Known.{Known}
 use Rattle.msp430_state.specs.Ranges.{AreRanges, has_address, lies_in, with_range}
-use Rattle.msp430_alu.specs.FlagSets.{IsResult}
+use Rattle.msp430_results.specs.FlagSets.{IsResult}
 use Rattle.msp430_alu.specs.Memory.{IsDevice, touch, touch_each, touched_behind, with_store}
 use Rattle.msp430_alu.specs.Premises.{Premises}
 

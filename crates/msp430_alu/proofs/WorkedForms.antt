@@ -7,7 +7,7 @@ use Rattle.std.proofs.lemmas.List.{length-append, length-replicate, get_or_past}
 use Rattle.std.proofs.lemmas.List.Elements.{All-get_or}
 use Rattle.std.proofs.lemmas.Nat.{and_le_l, or_lt}
 use Rattle.std.proofs.lemmas.Option.{same_Some}
-use Rattle.msp430_alu.proofs.Members.{in_first, in_rest}
+use Rattle.msp430_alu.proofs.Members.{in_cons, in_first, in_none, in_rest}
 use Rattle.entry_value.specs.declared.cells.Cell.{Cell}
 use Rattle.entry_value.specs.declared.word.Entry.{Entry}
 use Rattle.entry_value.specs.declared.word.Word.{Word}
@@ -47,18 +47,18 @@ use Rattle.msp430_state.specs.Forms.{is_place, IsRelation, IsStatusRelation, IsW
 use Rattle.msp430_state.specs.Known.{Known, word_of}
 use Rattle.msp430_alu.specs.declared.reach.Reach.{Reach}
 use Rattle.msp430_alu.specs.declared.reach.Reach.TheVariants.{InRegister, InMemory, Fixed}
-use Rattle.msp430_alu.specs.Formats.{lowered_known, forming_known, pushed_known, called_next, push_worked, single_worked, double_worked, constant_of, relation_of, masked_and, masked_clear, masked_or, written_word, counter_set, is_doubled, carry_of, destination_word, made_of, put_known, put_known_if, next_by, next_if, double_worked}
-use Rattle.msp430_alu.specs.FlagSets.{MadeSet}
+use Rattle.msp430_alu.specs.Formats.{lowered_known, forming_known, pushed_known, called_next, push_worked, single_worked, double_worked, constant_of, relation_of, masked_and, masked_clear, masked_or, counter_set, is_doubled, carry_of, destination_word, made_of, put_known, put_known_if, next_by, next_if, double_worked}
+use Rattle.msp430_results.specs.Words.{values_of, written_word}
+use Rattle.msp430_results.specs.FlagSets.{MadeSet}
 use Rattle.msp430_alu.specs.Memory.{IsDevice, located, word_by, byte_by, program_word, read_one, read_each, read_list}
-use Rattle.msp430_alu.specs.Operands.{beside, source_reach, destination_reach, grown_known, operand_word, values_of}
+use Rattle.msp430_alu.specs.Operands.{beside, source_reach, destination_reach, grown_known, operand_word}
 use Rattle.msp430_alu.specs.Premises.{Premises}
-use Rattle.msp430_alu.specs.Registers.{status_set, register_word, with_flag_bits, with_sp}
-use Rattle.msp430_alu.specs.Results.{double_made, single_made, twice_flags, HasWidth}
+use Rattle.msp430_alu.specs.Registers.{even_parts, status_set, register_word, with_flag_bits, with_sp}
+use Rattle.msp430_results.specs.Results.{double_made, single_made, twice_flags, HasWidth}
 use Rattle.msp430_alu.proofs.Growth.{growth_small}
 use Rattle.msp430_alu.proofs.OperandLemmas.{AreKinds, constant_small, general_word}
 use Rattle.msp430_alu.proofs.Parts.{even_parts_form}
 use Rattle.msp430_alu.proofs.ReadingLemmas.{read_known_normal}
-use Rattle.msp430_alu.proofs.Rows.{double_form, twice_form, single_form}
 use Rattle.msp430_alu.proofs.Shapes.{IsCellWord, no_relation, register_form, sp_form, flags_form, store_form}
 
 -- REGISTERS AS OPERANDS
@@ -309,16 +309,32 @@ pub put_if_form : (laws : Premises) (device : Device) (framed : Bool) (a : Known
 put_if_form laws device framed a is form kinds true width reach word normal writable = put_form laws device framed a is form kinds width reach word normal writable
 put_if_form laws device framed a is form kinds false width reach word normal writable = form
 
--- the next addresses: even, in one form
-next_form : (laws : Premises) (reach : Reach) (word : Word) (behind_so : ℕ) → IsNormal 65536 word.set → behind_so < 65536 → IsNormal 65536 (next_by reach word behind_so)
-next_form laws (InRegister Pc) word behind_so normal small = (even_parts_form laws word.set normal).normal
-next_form laws (InRegister register) word behind_so normal small = (laws.single 65536 behind_so small).0
-next_form laws (InMemory set_so) word behind_so normal small = (laws.single 65536 behind_so small).0
-next_form laws (Fixed value) word behind_so normal small = (laws.single 65536 behind_so small).0
+-- the next addresses are in one form, and even where the address behind is
+pub record AreNext (ahead : ℕ) (next : Form) : Type 0 where
+  pub normal : IsNormal 65536 next
+  pub even : ahead % 2 ≡ 0 → HasRemainder 65536 2 0 next
 
-next_if_form : (laws : Premises) (writes : Bool) (reach : Reach) (word : Word) (behind_so : ℕ) → IsNormal 65536 word.set → behind_so < 65536 → IsNormal 65536 (next_if writes reach word behind_so)
-next_if_form laws true reach word behind_so normal small = next_form laws reach word behind_so normal small
-next_if_form laws false reach word behind_so normal small = (laws.single 65536 behind_so small).0
+ahead_next : (laws : Premises) (ahead : ℕ) → ahead < 65536 → AreNext ahead (single ahead)
+ahead_next laws ahead small = record {
+  normal = (laws.single 65536 ahead small).0;
+  even = λ even v h. elim (in_cons ahead [] v h) [
+    | inl same ↦ subst (λ n. n % 2 ≡ 0) same even
+    | inr none ↦ absurd (in_none v none)
+  ];
+}
+
+parts_next : (laws : Premises) (ahead : ℕ) (set_so : Form) → IsNormal 65536 set_so → AreNext ahead (even_parts set_so)
+parts_next laws ahead set_so normal = let parts = even_parts_form laws set_so normal in record { normal = parts.normal; even = λ even. parts.even }
+
+next_form : (laws : Premises) (reach : Reach) (word : Word) (ahead : ℕ) → IsNormal 65536 word.set → ahead < 65536 → AreNext ahead (next_by reach word ahead)
+next_form laws (InRegister Pc) word ahead normal small = parts_next laws ahead word.set normal
+next_form laws (InRegister register) word ahead normal small = ahead_next laws ahead small
+next_form laws (InMemory set_so) word ahead normal small = ahead_next laws ahead small
+next_form laws (Fixed value) word ahead normal small = ahead_next laws ahead small
+
+next_if_form : (laws : Premises) (writes : Bool) (reach : Reach) (word : Word) (ahead : ℕ) → IsNormal 65536 word.set → ahead < 65536 → AreNext ahead (next_if writes reach word ahead)
+next_if_form laws true reach word ahead normal small = next_form laws reach word ahead normal small
+next_if_form laws false reach word ahead normal small = ahead_next laws ahead small
 
 -- TWO OPERANDS
 
@@ -340,17 +356,17 @@ made_form : (laws : Premises) (framed : Bool) (done : Operation) (width : Width)
     → IsNormal (modulus width) (made_of done width origin target one other c).0
 made_form laws framed done width origin target one other c h k =
     cond_both (is_doubled done origin target) (twice_flags width (values_of width other)) (double_made done width (values_of width one) (values_of width other) c) (λ (made_so : MadeSet). IsNormal (modulus width) made_so.0)
-    (λ e. twice_form laws width (values_of width other) (values_form laws framed width other k))
-    (λ e. double_form laws done width (values_of width one) (values_of width other) c (values_form laws framed width one h) (values_form laws framed width other k))
+    (λ e. laws.twice_result_normal width (values_of width other) (values_form laws framed width other k))
+    (λ e. laws.double_result_normal done width (values_of width one) (values_of width other) c (values_form laws framed width one h) (values_form laws framed width other k))
 
 -- the parts of what an instruction with two operands makes of a state
-pub record DoubleForms (device : Device) (framed : Bool) (width : Width) (one other word : Word) (put_so after : Known) (next : Form) : Type 0 where
+pub record DoubleForms (device : Device) (framed : Bool) (width : Width) (one other word : Word) (put_so after : Known) (ahead : ℕ) (next : Form) : Type 0 where
   pub source : IsWord framed one
   pub target_so : IsWord framed other
   pub writable : IsWritable framed width word
   pub put : IsKnown device.lo device.hi framed put_so
   pub after_so : IsKnown device.lo device.hi framed after
-  pub next_so : IsNormal 65536 next
+  pub next_so : AreNext ahead next
 
 pub double_forms : (laws : Premises) (device : Device) (framed : Bool) (a : Known) → IsDevice device → IsKnown device.lo device.hi framed a → AreKinds → (pc len : ℕ) (done : Operation) (width : Width) (origin : Source) (target : Destination)
     → IsSource origin → IsDestination target
@@ -362,7 +378,7 @@ pub double_forms : (laws : Premises) (device : Device) (framed : Bool) (a : Know
     let made_so = made_of done width origin target one other (carry_of a) in
     let word = written_word width made_so.0 (relation_of done (constant_of origin) one.entry other.entry) in
     let put_so = put_known_if (writes_result done) device framed grown_so width to word in
-    DoubleForms device framed width one other word put_so (with_flag_bits put_so made_so.1) (next_if (writes_result done) to word ((pc + len) % 65536))
+    DoubleForms device framed width one other word put_so (with_flag_bits put_so made_so.1) ((pc + len) % 65536) (next_if (writes_result done) to word ((pc + len) % 65536))
 double_forms laws device framed a is form kinds pc len done width origin target from_so to_so =
     let counted = counter_set pc len origin target in
     let counted_so = counter_form laws pc len origin target in
@@ -392,13 +408,13 @@ double_forms laws device framed a is form kinds pc len done width origin target 
     }
 
 -- the parts of `double_worked`
-pub record WorkedForm (device : Device) (framed : Bool) (after : Known) (next : Form) : Type 0 where
+pub record WorkedForm (device : Device) (framed : Bool) (after : Known) (ahead : ℕ) (next : Form) : Type 0 where
   pub after_so : IsKnown device.lo device.hi framed after
-  pub next_so : IsNormal 65536 next
+  pub next_so : AreNext ahead next
 
 pub double_worked_form : (laws : Premises) → AreKinds → (device : Device) (framed : Bool) (a : Known) (pc len : ℕ) (done : Operation) (width : Width) (origin : Source) (target : Destination) → IsDevice device
     → IsKnown device.lo device.hi framed a → IsSource origin → IsDestination target
-    → WorkedForm device framed (double_worked device framed a pc len done width origin target).after (double_worked device framed a pc len done width origin target).next
+    → WorkedForm device framed (double_worked device framed a pc len done width origin target).after ((pc + len) % 65536) (double_worked device framed a pc len done width origin target).next
 unfolding double_worked
 double_worked_form laws kinds device framed a pc len done width origin target is form from_so to_so =
     let forms = double_forms laws device framed a is form kinds pc len done width origin target from_so to_so in
@@ -407,10 +423,10 @@ double_worked_form laws kinds device framed a pc len done width origin target is
 -- ONE OPERAND
 
 -- the parts of what an instruction with one operand makes of a state
-pub record SingleForms (device : Device) (framed : Bool) (put_so after : Known) (next : Form) : Type 0 where
+pub record SingleForms (device : Device) (framed : Bool) (put_so after : Known) (ahead : ℕ) (next : Form) : Type 0 where
   pub put : IsKnown device.lo device.hi framed put_so
   pub after_so : IsKnown device.lo device.hi framed after
-  pub next_so : IsNormal 65536 next
+  pub next_so : AreNext ahead next
 
 pub single_forms : (laws : Premises) (device : Device) (framed : Bool) (a : Known) → IsDevice device → IsKnown device.lo device.hi framed a → AreKinds → (pc len : ℕ) (done : SingleOperation) (width : Width) (operand : Source)
     → IsSource operand → HasWidth done width
@@ -420,7 +436,7 @@ pub single_forms : (laws : Premises) (device : Device) (framed : Bool) (a : Know
     let made_so = single_made done width (values_of width (operand_word device a counted width from)) (carry_of a) in
     let word = written_word width made_so.0 None in
     let put_so = put_known device framed grown_so width from word in
-    SingleForms device framed put_so (with_flag_bits put_so made_so.1) (next_by from word ((pc + len) % 65536))
+    SingleForms device framed put_so (with_flag_bits put_so made_so.1) ((pc + len) % 65536) (next_by from word ((pc + len) % 65536))
 single_forms laws device framed a is form kinds pc len done width operand from_so fits =
     let counted = single ((pc + len) % 65536) in
     let counted_so = (laws.single 65536 ((pc + len) % 65536) (omega arith)).0 in
@@ -431,7 +447,7 @@ single_forms laws device framed a is form kinds pc len done width operand from_s
     let one_is = operand_form laws device framed a counted is form counted_so kinds width from (source_small pc a counted operand from_so) in
     let made_so = single_made done width (values_of width one) (carry_of a) in
     let word = written_word width made_so.0 None in
-    let writable = written_form laws framed width made_so.0 None (single_form laws done width (values_of width one) (carry_of a) fits (values_form laws framed width one one_is)) (no_relation framed) in
+    let writable = written_form laws framed width made_so.0 None (laws.single_result_normal done width (values_of width one) (carry_of a) fits (values_form laws framed width one one_is)) (no_relation framed) in
     let put_is = put_form laws device framed grown_so is grown_is kinds width from word (source_form laws device.lo device.hi framed a counted form counted_so kinds pc operand from_so) writable in
     let put_so = put_known device framed grown_so width from word in
     record {
@@ -442,7 +458,7 @@ single_forms laws device framed a is form kinds pc len done width operand from_s
 
 pub single_worked_form : (laws : Premises) → AreKinds → (device : Device) (framed : Bool) (a : Known) (pc len : ℕ) (done : SingleOperation) (width : Width) (operand : Source) → IsDevice device
     → IsKnown device.lo device.hi framed a → IsSource operand → HasWidth done width
-    → WorkedForm device framed (single_worked device framed a pc len done width operand).after (single_worked device framed a pc len done width operand).next
+    → WorkedForm device framed (single_worked device framed a pc len done width operand).after ((pc + len) % 65536) (single_worked device framed a pc len done width operand).next
 unfolding single_worked
 single_worked_form laws kinds device framed a pc len done width operand is form from_so fits =
     let forms = single_forms laws device framed a is form kinds pc len done width operand from_so fits in
@@ -489,15 +505,15 @@ pushed_form laws framed Swpb Byte x after small is = byte_form laws framed x is
 pushed_form laws framed Rra Byte x after small is = byte_form laws framed x is
 pushed_form laws framed Sxt Byte x after small is = byte_form laws framed x is
 
-called_form : (laws : Premises) (framed : Bool) (done : SingleOperation) (width : Width) (x : Word) (after : ℕ) → after < 65536 → IsWord framed x → IsNormal 65536 (called_next done width x after)
+called_form : (laws : Premises) (framed : Bool) (done : SingleOperation) (width : Width) (x : Word) (after : ℕ) → after < 65536 → IsWord framed x → AreNext after (called_next done width x after)
 called_form laws framed Call width x after small is =
     let target = written_word width (values_of width x) None in
-    (even_parts_form laws target.set (written_form laws framed width (values_of width x) None (values_form laws framed width x is) (no_relation framed)).word_so.normal).normal
-called_form laws framed other width x after small is = (laws.single 65536 after small).0
+    parts_next laws after target.set (written_form laws framed width (values_of width x) None (values_form laws framed width x is) (no_relation framed)).word_so.normal
+called_form laws framed other width x after small is = ahead_next laws after small
 
 pub push_worked_form : (laws : Premises) → AreKinds → (device : Device) (framed : Bool) (a : Known) (pc len : ℕ) (done : SingleOperation) (width : Width) (operand : Source) → IsDevice device
     → IsKnown device.lo device.hi framed a → IsSource operand
-    → WorkedForm device framed (push_worked device framed a pc len done width operand).after (push_worked device framed a pc len done width operand).next
+    → WorkedForm device framed (push_worked device framed a pc len done width operand).after ((pc + len) % 65536) (push_worked device framed a pc len done width operand).next
 unfolding push_worked
 push_worked_form laws kinds device framed a pc len done width operand is form from_so =
     let after = (pc + len) % 65536 in

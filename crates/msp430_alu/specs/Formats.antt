@@ -40,11 +40,12 @@ use Rattle.msp430_state.specs.Holding.{HoldsOf, HoldsOfParts}
 use Rattle.msp430_state.specs.Known.{Known}
 use Rattle.msp430_alu.specs.declared.reach.Reach.{Reach}
 use Rattle.msp430_alu.specs.declared.reach.Reach.TheVariants.{InRegister, InMemory, Fixed}
-use Rattle.msp430_alu.specs.FlagSets.{MadeSet, IsResult}
+use Rattle.msp430_results.specs.FlagSets.{MadeSet, IsResult}
 use Rattle.msp430_alu.specs.Memory.{IsDevice, located, with_store}
-use Rattle.msp430_alu.specs.Operands.{source_reach, destination_reach, grown_known, operand_word, values_of}
+use Rattle.msp430_alu.specs.Operands.{source_reach, destination_reach, grown_known, operand_word}
+use Rattle.msp430_results.specs.Words.{values_of, written_word}
 use Rattle.msp430_alu.specs.Registers.{even_parts, put_register, with_flag_bits, with_sp}
-use Rattle.msp430_alu.specs.Results.{double_made, single_made, twice_flags}
+use Rattle.msp430_results.specs.Results.{double_made, single_made, twice_flags}
 
 -- WRITES TO A PLACE
 
@@ -95,11 +96,6 @@ relation_of operation.And constant s d = masked_and constant d
 relation_of operation.Bic constant s d = masked_clear constant d
 relation_of operation.Bis constant s d = masked_or constant d
 relation_of other constant s d = None
-
--- a byte result has the high byte 0 and no relation
-abbrev pub written_word : Width → Form → Option Entry → Word
-written_word Words set entry = record { set = set; entry = entry }
-written_word Byte set entry = record { set = pair_set set (single 0); entry = None }
 
 -- TWO OPERANDS
 

@@ -1,5 +1,3 @@
-pub mod FlagSets
-pub mod Results
 pub mod Registers
 pub mod Memory
 pub mod Operands

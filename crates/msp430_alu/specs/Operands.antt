@@ -3,14 +3,12 @@ use Rattle.std.specs.Prelude.{◌≡◌, ℕ, ◌+◌, ◌-◌, ◌%◌, ◌<◌
 use Rattle.entry_value.specs.declared.word.Word.{Word}
 use Rattle.value_set.specs.declared.form.Form.{Form}
 use Rattle.value_set.specs.Summing.{single, add}
-use Rattle.value_bits.specs.Sets.{low_set}
 use Rattle.msp430_decode.specs.declared.instr.Destination.{Destination}
 use Rattle.msp430_decode.specs.declared.instr.Destination.TheVariants as destination
 use Rattle.msp430_decode.specs.declared.instr.Register.{Register}
 use Rattle.msp430_decode.specs.declared.instr.Source.{Source}
 use Rattle.msp430_decode.specs.declared.instr.Source.TheVariants as source
 use Rattle.msp430_decode.specs.declared.instr.Width.{Width}
-use Rattle.msp430_decode.specs.declared.instr.Width.TheVariants.{Word as Words, Byte}
 use Rattle.msp430_chip.specs.declared.device.Device.{Device}
 use Rattle.msp430_chip.specs.declared.place.Place.{Place}
 use Rattle.msp430_chip.specs.declared.place.Place.TheVariants as place
@@ -19,7 +17,7 @@ use Rattle.msp430_decode.specs.Operands.{constant_value}
 use Rattle.msp430_state.specs.Known.{Known}
 use Rattle.msp430_alu.specs.declared.reach.Reach.{Reach}
 use Rattle.msp430_alu.specs.declared.reach.Reach.TheVariants.{InRegister, InMemory, Fixed}
-use Rattle.msp430_alu.specs.FlagSets.{IsResult}
+use Rattle.msp430_results.specs.FlagSets.{IsResult}
 use Rattle.msp430_alu.specs.Memory.{located, read_known}
 use Rattle.msp430_alu.specs.Registers.{put_register, register_word}
 
@@ -72,8 +70,3 @@ abbrev pub operand_word : Device → Known → (counted : Form) → Width → Re
 operand_word device a counted width (InRegister register) = register_word a counted register
 operand_word device a counted width (InMemory set) = read_known device a width (located width set)
 operand_word device a counted width (Fixed value) = record { set = single value; entry = None }
-
--- the numbers of the width: a byte operand is the low byte
-abbrev pub values_of : Width → Word → Form
-values_of Words word = word.set
-values_of Byte word = low_set word.set

@@ -15,7 +15,7 @@ use Rattle.msp430_decode.specs.Codes.{number}
 use Rattle.msp430_state.specs.declared.fact.FlagFact.{FlagFact}
 use Rattle.msp430_state.specs.declared.status.Status.{Status}
 use Rattle.msp430_state.specs.Known.{Known, even_words, word_of}
-use Rattle.msp430_alu.specs.declared.flag_bits.FlagBits.{FlagBits}
+use Rattle.msp430_results.specs.declared.flag_bits.FlagBits.{FlagBits}
 
 -- SINGLE STATES ON THE WAY THROUGH AN INSTRUCTION
 

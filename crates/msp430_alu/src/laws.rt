@@ -1,10 +1,8 @@
-//! What holds of the operations on sets.
+//! What holds of what instructions make of what is known of a state.
 
-ghost use Rattle.std.specs.Prelude.{◌≡◌, ℕ, ◌++◌, Bool, false, true, Option, Some, slice_index};
-ghost use Rattle.value_set.specs.declared.form.Form.{Form as AForm};
+ghost use Rattle.std.specs.Prelude.{◌≡◌, ◌+◌, ◌%◌, ℕ, ◌++◌, Bool, false, true, Option, Some, slice_index};
 ghost use Rattle.value_set.specs.Form.{IsNormal};
-ghost use Rattle.value_bits.specs.declared.tri.Tri.{Tri as ATri};
-ghost use Rattle.value_bits.specs.Bits.{IsBit};
+ghost use Rattle.value_set.specs.Remainders.{HasRemainder};
 ghost use Rattle.msp430_decode.specs.declared.instr.Destination.{Destination as ADestination};
 ghost use Rattle.msp430_decode.specs.declared.instr.Source.{Source as ASource};
 ghost use Rattle.msp430_decode.specs.declared.instr.Operation.{Operation as AnOperation};
@@ -19,44 +17,37 @@ ghost use Rattle.msp430_chip.specs.Operands.{access_to};
 ghost use Rattle.msp430_chip.specs.Step.{behind, double_accesses, lowered};
 ghost use Rattle.msp430_chip.specs.Outcome.{Outcome};
 ghost use Rattle.msp430_chip.specs.State.{register_of};
-ghost use Rattle.msp430_chip.specs.Arithmetic.{Made, modulus, sum};
-ghost use Rattle.msp430_chip.specs.Leading.{behind_source, origin_of, place_of, pushed_place, MayDouble, MayMake, MayMakeSingle, MayPush, MaySingle};
-ghost use Rattle.msp430_alu.specs.FlagSets.{IsResult, HoldsOfMade};
+ghost use Rattle.msp430_chip.specs.Leading.{behind_source, origin_of, place_of, pushed_place, MayDouble, MayPush, MaySingle};
 ghost use Rattle.msp430_alu.specs.Formats.{AreShown, IsHit, IsLeft, IsUnder, LeavesStatus, LeavesStatusAlone, double_worked, push_worked, single_worked};
 ghost use Rattle.msp430_alu.specs.Memory.{IsDevice};
 ghost use Rattle.msp430_state.specs.Forms.{IsKnown};
 ghost use Rattle.msp430_state.specs.Known.{Known};
 ghost use Rattle.msp430_alu.specs.Premises.{Premises};
-ghost use Rattle.msp430_alu.specs.Results.{HasWidth, double_made, single_made, twice_flags};
+ghost use Rattle.msp430_results.specs.Results.{HasWidth};
 
 use entry_value::{
     bytes_stay_bytes, cells_speak_of_ram, reads_hold, reads_keep_form, relations_hold,
     writes_cover, writes_keep_form,
 };
 use msp430_chip::registers_of_five_kinds;
+use msp430_results::operations_hold;
 use msp430_state::ranges_hold;
-use value_bits::{
-    bits_hold, decimals_hold, evens_stay, flags_agree, halves_hold, logic_holds, moves_hold,
-};
+use value_bits::{bits_hold, evens_stay, halves_hold, logic_holds};
 use value_set::{
     inclusion_is_tested, joins_include_both, made_of_one_remainder, members_are_below,
-    results_hold, sets_have_members, single_and_whole_sets, sums_hold,
+    sets_have_members, single_and_whole_sets, sums_hold,
 };
 
-/// The laws of sets that those below rest on.
-fn premises_hold()
+/// The laws of sets, of states and of results that those below rest on.
+pub(crate) fn premises_hold()
     ensures { Premises }
 {
     members_are_below();
     sets_have_members();
     single_and_whole_sets();
-    results_hold();
     sums_hold();
     logic_holds();
-    moves_hold();
-    decimals_hold();
     bits_hold();
-    flags_agree();
     evens_stay();
     inclusion_is_tested();
     made_of_one_remainder();
@@ -70,28 +61,12 @@ fn premises_hold()
     ranges_hold();
     relations_hold();
     bytes_stay_bytes();
-}
-
-/// Each operation: where the operands' sets have the values, the set of results has the result that the chip may make, and
-/// what is known of the flags holds of those that it sets. The sets of results are in normal form.
-pub fn operations_hold()
-    ensures double { (done : AnOperation) (width : AWidth) (s d carry : ℕ) (a b : AForm) (c : ATri) (made_so : Made) → IsResult (modulus width) a s → IsResult (modulus width) b d
-        → IsBit c carry → MayMake done width s d carry made_so → HoldsOfMade width (double_made done width a b c) made_so }
-    ensures double_normal { (done : AnOperation) (width : AWidth) (a b : AForm) (c : ATri) → IsNormal (modulus width) a → IsNormal (modulus width) b
-        → IsNormal (modulus width) (double_made done width a b c).0 }
-    ensures twice { (width : AWidth) (x : ℕ) (a : AForm) → IsResult (modulus width) a x → HoldsOfMade width (twice_flags width a) (sum width x x 0) }
-    ensures twice_normal { (width : AWidth) (a : AForm) → IsNormal (modulus width) a → IsNormal (modulus width) (twice_flags width a).0 }
-    ensures single { (done : ASingleOperation) (width : AWidth) (x carry : ℕ) (a : AForm) (c : ATri) (made_so : Made) → HasWidth done width → IsResult (modulus width) a x
-        → IsBit c carry → MayMakeSingle done width x carry made_so → HoldsOfMade width (single_made done width a c) made_so }
-    ensures single_normal { (done : ASingleOperation) (width : AWidth) (a : AForm) (c : ATri) → HasWidth done width → IsNormal (modulus width) a
-        → IsNormal (modulus width) (single_made done width a c).0 }
-{
-    premises_hold();
+    operations_hold();
 }
 
 /// The law of instructions with two operands, but for those that write SR: a state that stands under what is known may only
 /// lead to one that stands under what `double_worked` says, at one of its next addresses. Its items show each access, and a
-/// store that hits the program is one of its store's addresses. What it says is in form.
+/// store that hits the program is one of its store's addresses. What it says is in form, and the next addresses are even where the one behind is.
 pub fn doubles_hold()
     ensures left { (device : ADevice) (framed : Bool) (a : Known) (s : AState) (first : Option AState) (len : ℕ) (done : AnOperation) (width : AWidth) (origin : ASource) (target : ADestination) (outcome : Outcome AState)
         → IsUnder device framed a s first → IsSource origin → IsDestination target → LeavesStatus target → (may : MayDouble device s len done width origin target outcome)
@@ -109,6 +84,9 @@ pub fn doubles_hold()
     ensures next { (device : ADevice) (framed : Bool) (a : Known) (pc len : ℕ) (done : AnOperation) (width : AWidth) (origin : ASource) (target : ADestination)
         → IsDevice device → IsKnown device.lo device.hi framed a → IsSource origin → IsDestination target
         → IsNormal 65536 (double_worked device framed a pc len done width origin target).next }
+    ensures even { (device : ADevice) (framed : Bool) (a : Known) (pc len : ℕ) (done : AnOperation) (width : AWidth) (origin : ASource) (target : ADestination)
+        → IsDevice device → IsKnown device.lo device.hi framed a → IsSource origin → IsDestination target
+        → (pc + len) % 65536 % 2 ≡ 0 → HasRemainder 65536 2 0 (double_worked device framed a pc len done width origin target).next }
 {
     premises_hold();
     registers_of_five_kinds();
@@ -132,6 +110,9 @@ pub fn singles_hold()
     ensures next { (device : ADevice) (framed : Bool) (a : Known) (pc len : ℕ) (done : ASingleOperation) (width : AWidth) (operand : ASource)
         → IsDevice device → IsKnown device.lo device.hi framed a → IsSource operand → HasWidth done width
         → IsNormal 65536 (single_worked device framed a pc len done width operand).next }
+    ensures even { (device : ADevice) (framed : Bool) (a : Known) (pc len : ℕ) (done : ASingleOperation) (width : AWidth) (operand : ASource)
+        → IsDevice device → IsKnown device.lo device.hi framed a → IsSource operand → HasWidth done width
+        → (pc + len) % 65536 % 2 ≡ 0 → HasRemainder 65536 2 0 (single_worked device framed a pc len done width operand).next }
 {
     premises_hold();
     registers_of_five_kinds();
@@ -156,6 +137,9 @@ pub fn pushes_hold()
     ensures next { (device : ADevice) (framed : Bool) (a : Known) (pc len : ℕ) (done : ASingleOperation) (width : AWidth) (operand : ASource)
         → IsDevice device → IsKnown device.lo device.hi framed a → IsSource operand
         → IsNormal 65536 (push_worked device framed a pc len done width operand).next }
+    ensures even { (device : ADevice) (framed : Bool) (a : Known) (pc len : ℕ) (done : ASingleOperation) (width : AWidth) (operand : ASource)
+        → IsDevice device → IsKnown device.lo device.hi framed a → IsSource operand
+        → (pc + len) % 65536 % 2 ≡ 0 → HasRemainder 65536 2 0 (push_worked device framed a pc len done width operand).next }
 {
     premises_hold();
     registers_of_five_kinds();

@@ -1,37 +1,45 @@
-//! What the instructions of the MSP430 make of sets of values.
+//! What the instructions of the MSP430 make of what is known of a state.
 //!
 //! The stages of an instruction, each exact by a formula of `specs`:
 //!
 //! - [`counter_set`]: what PC may be as an operand.
 //! - [`source_reach`] and [`destination_reach`]: where operands may stand, as a [`Reach`]; [`located`]: the addresses there.
 //! - [`register_word`], [`read_one`], [`read_known`] and [`operand_word`]: what operands may hold.
-//! - [`grow`], [`put_register`] and [`set_flag_bits`]: writes to registers and to flags, as [`FlagBits`].
+//! - [`grow`], [`put_register`] and [`set_flag_bits`]: writes to registers and to flags.
+//! - [`store`]: stores to memory.
 //!
-//! What holds of the formulas:
+//! [`double`], [`single`] and [`push`] run them around the operations of `msp430_results`, as an instruction with two operands
+//! does, one with one operand, and PUSH and CALL: what they make of a state is [`Worked`], exact by `double_worked`,
+//! `single_worked` and `push_worked`. They copy the state once.
 //!
-//! - [`operations_hold`]: the results of the operations and their flags.
-//! - [`doubles_hold`], [`singles_hold`] and [`pushes_hold`]: instructions with two operands, with one operand, and PUSH and
-//!   CALL, but for those that write SR. What they leave stands under what the formula says, at one of its next addresses,
-//!   each access is shown, and a store that hits the program is at one of the addresses of the formula's store.
+//! [`doubles_hold`], [`singles_hold`] and [`pushes_hold`] say what holds of the formulas, for instructions with two operands,
+//! with one operand, and PUSH and CALL, but for those that write SR. What they leave stands under what the formula says, at
+//! one of its next addresses, each access is shown, and a store that hits the program is at one of the addresses of the
+//! formula's store.
 #![tactic(auto)]
 
 mod counting;
-mod flag_bits;
+mod formats;
 mod laws;
 mod operands;
 mod reach;
 mod reading;
 mod registers;
+mod stores;
+mod worked;
 mod writing;
 
 pub use counting::counter_set;
-pub use flag_bits::FlagBits;
-pub use laws::{doubles_hold, operations_hold, pushes_hold, singles_hold};
+pub use laws::{doubles_hold, pushes_hold, singles_hold};
 pub use operands::{destination_reach, located, source_reach};
 pub use reach::Reach;
 pub use reading::{operand_word, read_known, read_one};
 pub use registers::register_word;
+pub use stores::store;
+pub use worked::{Worked, double, push, single};
 pub use writing::{grow, put_register, set_flag_bits};
 
 #[cfg(test)]
 mod tests;
+#[cfg(test)]
+mod worked_rows;

@@ -1,7 +1,7 @@
 //! Operands against rows worked by hand.
 
 use crate::{
-    FlagBits, Reach, counter_set, located, put_register, read_known, register_word, set_flag_bits,
+    Reach, counter_set, located, put_register, read_known, register_word, set_flag_bits,
     source_reach,
 };
 use abs_memory::CellList;
@@ -9,6 +9,7 @@ use entry_value::{Cells, Word};
 use ihex_read::Image;
 use msp430_chip::Device;
 use msp430_decode::{Destination, Register, Source, Width};
+use msp430_results::FlagBits;
 use msp430_state::{FlagFact, State};
 use std::alloc::Global;
 use std::test::Fail;

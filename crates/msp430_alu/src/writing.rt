@@ -5,10 +5,10 @@ ghost use Rattle.msp430_chip.specs.Operands as chip;
 ghost use Rattle.msp430_alu.specs.Operands as operands;
 ghost use Rattle.msp430_alu.specs.Registers as registers;
 
-use crate::flag_bits::FlagBits;
 use crate::registers::{even_parts, plain, register_word};
 use entry_value::{Cells, Word};
 use msp430_decode::{Register, Source, Width};
+use msp430_results::FlagBits;
 use msp430_state::{FlagFact, State};
 use value_set::Vs16;
 

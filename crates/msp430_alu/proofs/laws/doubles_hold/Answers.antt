@@ -12,5 +12,6 @@ returns c =
       shown = double_shown laws kinds;
       hit = double_hit laws kinds;
       form = λ device framed a pc len done width origin target is form from_so to_so. (double_worked_form laws kinds device framed a pc len done width origin target is form from_so to_so).after_so;
-      next = λ device framed a pc len done width origin target is form from_so to_so. (double_worked_form laws kinds device framed a pc len done width origin target is form from_so to_so).next_so;
+      next = λ device framed a pc len done width origin target is form from_so to_so. (double_worked_form laws kinds device framed a pc len done width origin target is form from_so to_so).next_so.normal;
+      even = λ device framed a pc len done width origin target is form from_so to_so. (double_worked_form laws kinds device framed a pc len done width origin target is form from_so to_so).next_so.even;
     }

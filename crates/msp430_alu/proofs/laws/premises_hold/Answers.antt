@@ -3,39 +3,20 @@ use Rattle.msp430_alu.proofs.laws.premises_hold.Goals as goal
 
 pub returns : goal.returns
 returns c =
-    let results = c.results_hold.ensures in
     let sums = c.sums_hold.ensures in
     let logics = c.logic_holds.ensures in
-    let moves = c.moves_hold.ensures in
-    let decimals = c.decimals_hold.ensures in
     let bits = c.bits_hold.ensures in
+    let operations = c.operations_hold.ensures in
     record {
       below = c.members_are_below.ensures;
       some = c.sets_have_members.ensures;
       single = c.single_and_whole_sets.ensures.single;
-      combine_normal = results.normal;
-      combine = results.holds;
       add_normal = sums.add_normal;
       add = sums.add;
-      sub_normal = sums.sub_normal;
-      sub = sums.sub;
-      twice_normal = sums.twice_normal;
-      twice = sums.twice;
       logic_normal = logics.normal;
       logic = logics.holds;
-      exchange_normal = moves.exchange_normal;
-      exchange = moves.exchange;
-      sign_normal = moves.sign_normal;
-      sign = moves.sign;
-      shift_normal = moves.shift_normal;
-      shift = moves.shift;
-      decimal_normal = decimals.add_normal;
-      decimal = decimals.add;
-      decimal_free = decimals.free;
-      bits = bits.known;
       from_normal = bits.from_normal;
       from = bits.from;
-      flags = c.flags_agree.ensures.holds;
       tested = c.inclusion_is_tested.ensures;
       even_and = c.evens_stay.ensures.and;
       even_words = c.made_of_one_remainder.ensures.run 65536 2 0 2 32768 refl refl;
@@ -60,4 +41,10 @@ returns c =
       pair_normal = c.halves_hold.ensures.pair_normal;
       pair = c.halves_hold.ensures.pair;
       pair_byte = c.bytes_stay_bytes.ensures.pair;
+      double_result = operations.double;
+      double_result_normal = operations.double_normal;
+      twice_result = operations.twice;
+      twice_result_normal = operations.twice_normal;
+      single_result = operations.single;
+      single_result_normal = operations.single_normal;
     }

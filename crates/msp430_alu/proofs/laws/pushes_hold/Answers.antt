@@ -12,5 +12,6 @@ returns c =
       shown = push_shown laws kinds;
       hit = push_hit laws kinds;
       form = λ device framed a pc len done width operand is form from_so. (push_worked_form laws kinds device framed a pc len done width operand is form from_so).after_so;
-      next = λ device framed a pc len done width operand is form from_so. (push_worked_form laws kinds device framed a pc len done width operand is form from_so).next_so;
+      next = λ device framed a pc len done width operand is form from_so. (push_worked_form laws kinds device framed a pc len done width operand is form from_so).next_so.normal;
+      even = λ device framed a pc len done width operand is form from_so. (push_worked_form laws kinds device framed a pc len done width operand is form from_so).next_so.even;
     }

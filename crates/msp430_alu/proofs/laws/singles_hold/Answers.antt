@@ -12,5 +12,6 @@ returns c =
       shown = single_shown laws kinds;
       hit = single_hit laws kinds;
       form = λ device framed a pc len done width operand is form from_so fits. (single_worked_form laws kinds device framed a pc len done width operand is form from_so fits).after_so;
-      next = λ device framed a pc len done width operand is form from_so fits. (single_worked_form laws kinds device framed a pc len done width operand is form from_so fits).next_so;
+      next = λ device framed a pc len done width operand is form from_so fits. (single_worked_form laws kinds device framed a pc len done width operand is form from_so fits).next_so.normal;
+      even = λ device framed a pc len done width operand is form from_so fits. (single_worked_form laws kinds device framed a pc len done width operand is form from_so fits).next_so.even;
     }

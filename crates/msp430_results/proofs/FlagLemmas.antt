@@ -14,9 +14,9 @@ use Rattle.msp430_decode.specs.declared.instr.Width.{Width}
 use Rattle.msp430_decode.specs.declared.instr.Width.TheVariants.{Word, Byte}
 use Rattle.msp430_chip.specs.declared.place.Flags.{Flags}
 use Rattle.msp430_chip.specs.Arithmetic.{modulus, is_negative, flags_of}
-use Rattle.msp430_alu.specs.declared.flag_bits.FlagBits.{FlagBits}
-use Rattle.msp430_alu.specs.FlagSets.{AreFlags, unless_clear, zero_by, last_or, negative_by, zero_of, negative_of, shown_flags, shown_logic, is_few, all_agree, flags_or, free_overflow, no_flags}
-use Rattle.msp430_alu.specs.Premises.{Premises}
+use Rattle.msp430_results.specs.declared.flag_bits.FlagBits.{FlagBits}
+use Rattle.msp430_results.specs.FlagSets.{AreFlags, unless_clear, zero_by, last_or, negative_by, zero_of, negative_of, shown_flags, shown_logic, is_few, all_agree, flags_or, free_overflow, no_flags}
+use Rattle.msp430_results.specs.Premises.{Premises}
 
 -- Z AND N
 

@@ -1,5 +1,5 @@
-use Rattle.msp430_alu.proofs.Rows.{double_holds, double_form, twice_row, twice_form, single_holds, single_form}
-use Rattle.msp430_alu.proofs.laws.operations_hold.Goals as goal
+use Rattle.msp430_results.proofs.Rows.{double_holds, double_form, twice_row, twice_form, single_holds, single_form}
+use Rattle.msp430_results.proofs.laws.operations_hold.Goals as goal
 
 pub returns : goal.returns
 returns c =

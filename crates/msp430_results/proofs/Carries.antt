@@ -11,9 +11,9 @@ use Rattle.value_bits.specs.declared.tri.Tri.{Tri}
 use Rattle.value_bits.specs.declared.tri.Tri.TheVariants.{Zero, One, Either}
 use Rattle.value_bits.specs.Bits.{IsBit}
 use Rattle.value_bits.specs.Sets.{chosen, combine_or}
-use Rattle.msp430_alu.specs.FlagSets.{IsResult, is_few}
-use Rattle.msp430_alu.specs.Premises.{Premises}
-use Rattle.msp430_alu.specs.Results.{carry_answer, borrow_answer, borrowed, add_carry, sub_carry}
+use Rattle.msp430_results.specs.FlagSets.{IsResult, is_few}
+use Rattle.msp430_results.specs.Premises.{Premises}
+use Rattle.msp430_results.specs.Results.{carry_answer, borrow_answer, borrowed, add_carry, sub_carry}
 
 pub combined : (laws : Premises) (m : ℕ) (answer : ℕ → ℕ → ℕ → ℕ) (a b c otherwise : Form) (x y z : ℕ) → StaysBelow m answer → IsResult m a x → IsResult m b y → IsResult m c z
     → IsResult m otherwise (answer x y z) → IsResult m (combine_or m answer a b c otherwise) (answer x y z)

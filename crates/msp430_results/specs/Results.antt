@@ -22,7 +22,7 @@ use Rattle.msp430_decode.specs.declared.instr.SingleOperation.TheVariants.{Rrc, 
 use Rattle.msp430_chip.specs.declared.place.Flags.{Flags}
 use Rattle.msp430_chip.specs.Arithmetic.{Made, modulus, digits_of, top_place, complement, flags_of, sum, logic, exclusive}
 use Rattle.msp430_state.specs.Pointwise.{each_with}
-use Rattle.msp430_alu.specs.FlagSets.{MadeSet, bits_of, shown_flags, shown_logic, all_agree, flags_or, free_overflow, no_flags}
+use Rattle.msp430_results.specs.FlagSets.{MadeSet, bits_of, shown_flags, shown_logic, all_agree, flags_or, free_overflow, no_flags}
 
 -- THE FLAGS OF NUMBERS
 

@@ -11,7 +11,7 @@ use Rattle.msp430_decode.specs.declared.instr.Width.{Width}
 use Rattle.msp430_decode.specs.declared.instr.Width.TheVariants.{Word, Byte}
 use Rattle.msp430_chip.specs.declared.place.Flags.{Flags}
 use Rattle.msp430_chip.specs.Arithmetic.{Made, modulus}
-use Rattle.msp430_alu.specs.declared.flag_bits.FlagBits.{FlagBits}
+use Rattle.msp430_results.specs.declared.flag_bits.FlagBits.{FlagBits}
 
 -- RESULTS AND FLAGS IN SETS
 

@@ -34,11 +34,11 @@ use Rattle.msp430_chip.specs.Arithmetic.{Made, modulus, digits_of, top_place, is
 use Rattle.msp430_chip.specs.Leading.{MayMake, MayMakeDecimal, MayMakeSingle}
 use Rattle.msp430_chip.specs.Leading.MayMakeDecimal.{Decimal, NotDecimal}
 use Rattle.msp430_state.specs.Pointwise.{each_with}
-use Rattle.msp430_alu.specs.FlagSets.{IsResult, AreFlags, HoldsOfMade, bits_of, shown_flags, shown_logic, flags_or, free_overflow, no_flags}
-use Rattle.msp430_alu.specs.Premises.{Premises}
-use Rattle.msp430_alu.specs.Results.{flags_in, add_carry, sub_carry, sum_made, twice_flags, logic_made, clear_answer, clear_set, decimal_flags, decimal_made, double_made, rotated_flags, halved_flags, single_made, HasWidth}
-use Rattle.msp430_alu.proofs.Carries.{combined, single_is, chosen_is, add_is, sub_is, carry_is, borrow_is}
-use Rattle.msp430_alu.proofs.FlagLemmas.{known_length, shown_hold, shown_logic_hold, all_hold, either_hold, free_hold, none_hold}
+use Rattle.msp430_results.specs.FlagSets.{IsResult, AreFlags, HoldsOfMade, bits_of, shown_flags, shown_logic, flags_or, free_overflow, no_flags}
+use Rattle.msp430_results.specs.Premises.{Premises}
+use Rattle.msp430_results.specs.Results.{flags_in, add_carry, sub_carry, sum_made, twice_flags, logic_made, clear_answer, clear_set, decimal_flags, decimal_made, double_made, rotated_flags, halved_flags, single_made, HasWidth}
+use Rattle.msp430_results.proofs.Carries.{combined, single_is, chosen_is, add_is, sub_is, carry_is, borrow_is}
+use Rattle.msp430_results.proofs.FlagLemmas.{known_length, shown_hold, shown_logic_hold, all_hold, either_hold, free_hold, none_hold}
 
 -- WIDTHS
 

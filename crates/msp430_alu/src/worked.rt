@@ -1,0 +1,397 @@
+//! What instructions make of what is known of a state.
+
+ghost use Rattle.std.specs.Prelude.{◌≡◌, ℕ, ◌+◌, ◌<◌, ◌≤◌, ◌++◌, true, false, None, slice_index_or, OnOk, IfOk};
+ghost use Rattle.value_bits.specs.declared.tri.Tri.TheVariants.{Either};
+ghost use Rattle.value_set.specs.Form.{Has, IsNormal};
+ghost use Rattle.msp430_chip.specs.Arithmetic as arithmetic;
+ghost use Rattle.msp430_chip.specs.Memory as chip;
+ghost use Rattle.msp430_alu.specs.Formats as formats;
+ghost use Rattle.msp430_alu.specs.Memory as memory;
+ghost use Rattle.msp430_alu.specs.Operands as operands;
+ghost use Rattle.msp430_results.specs.Results as results;
+ghost use Rattle.msp430_results.specs.Words as words;
+
+use crate::counting::counter_set;
+use crate::formats::{
+    called_next, is_doubled, lower, next_by, pushed, put, reads_destination, relation_of,
+    see_lowered, show, store_of, writes_result,
+};
+use crate::laws::premises_hold;
+use crate::operands::{destination_reach, located, source_reach};
+use crate::reach::Reach;
+use crate::reading::{operand_word, read_known};
+use crate::registers::plain;
+use crate::writing::{grow, set_flag_bits};
+use call_context::{Item, Sequence};
+use entry_value::{Cells, Word};
+use msp430_chip::Device;
+use msp430_decode::{Destination, Operation, SingleOperation, Source, Width};
+use msp430_results::{FlagBits, double_made, single_made, twice_made};
+use msp430_state::State;
+use std::alloc::Global;
+use std::marker::Model;
+use value_bits::Tri;
+use value_set::Vs16;
+use vsa_io::Memory;
+
+/// What an instruction makes of what is known of a state.
+#[derive(Drop)]
+pub struct Worked<M: Cells> {
+    /// What is known of the state behind it.
+    pub after: State<M>,
+    /// The addresses that it may go on to.
+    pub next: Vs16,
+    /// Its accesses to memory.
+    pub accesses: Sequence<Item>,
+    /// The addresses of its store, if it stores.
+    pub store: Option<Vs16>,
+}
+
+impl<M: Cells> Model for Worked<M> {
+    ghost use Rattle.msp430_alu.specs.Formats as formats;
+
+    ghost Value = { formats.Worked };
+
+    ghost view = { λ w. record { after = w.after; next = w.next; accesses = w.accesses; store = w.store } };
+}
+
+/// The set of a word is in normal form.
+fn keeps_form(word: &Word)
+    ensures { IsNormal 65536 word.now.set }
+{
+    let _form = word.set.form();
+}
+
+/// The bytes of an access stand below 65536.
+fn accesses_fit(width: Width, set: &Vs16)
+    ensures { (v : ℕ) → Has 65536 (memory.located width set.now) v → v + chip.size_of width ≤ 65536 }
+{
+    premises_hold();
+    let _form = set.form();
+}
+
+/// What an operand may hold as a word.
+fn held<M: Cells>(
+    device: &Device,
+    state: &State<M>,
+    counted: &Vs16,
+    width: Width,
+    reach: &Reach,
+) -> Word
+    ensures { result ≡ operands.operand_word device.now state.now counted.now width reach.now }
+{
+    match reach {
+        Reach::InMemory(set) => {
+            accesses_fit(width, set);
+            read_known(device, state, width, &located(width, set))
+        }
+        _ => operand_word(device, state, counted, width, *reach),
+    }
+}
+
+/// What a destination holds, where the operation reads it.
+fn destination_word<M: Cells>(
+    device: &Device,
+    state: &State<M>,
+    counted: &Vs16,
+    operation: Operation,
+    width: Width,
+    reach: &Reach,
+) -> Word
+    ensures { result ≡ formats.destination_word device.now state.now counted.now operation width reach.now }
+{
+    if reads_destination(operation) {
+        return held(device, state, counted, width, reach);
+    }
+    plain(Vs16::one(0))
+}
+
+/// What an operation makes of two operands, as a word, and the flags that it sets.
+fn double_result(
+    operation: Operation,
+    width: Width,
+    origin: Source,
+    target: Destination,
+    source: &Word,
+    destination: &Word,
+    carry: Tri,
+) -> (Word, Option<FlagBits>)
+    ensures word { result.0 ≡ words.written_word width (formats.made_of operation width origin target source.now destination.now carry).0 (formats.relation_of operation (formats.constant_of origin) source.now.entry destination.now.entry) }
+    ensures flags { result.1 ≡ (formats.made_of operation width origin target source.now destination.now carry).1 }
+    ensures byte { chip.size_of width ≡ 1 → (v : ℕ) → Has 65536 result.0.set v → v < 256 }
+{
+    premises_hold();
+    keeps_form(source);
+    keeps_form(destination);
+    let entry = relation_of(operation, origin, source.entry, destination.entry);
+    if is_doubled(operation, origin, target) {
+        return twice_made(width, destination, entry);
+    }
+    double_made(operation, width, source, destination, carry, entry)
+}
+
+/// What an operation makes of one operand, as a word, and the flags that it sets.
+fn single_result(
+    operation: SingleOperation,
+    width: Width,
+    operand: &Word,
+    carry: Tri,
+) -> (Word, Option<FlagBits>)
+    requires { results.HasWidth operation width }
+    ensures word { result.0 ≡ words.written_word width (results.single_made operation width (words.values_of width operand.now) carry).0 None }
+    ensures flags { result.1 ≡ (results.single_made operation width (words.values_of width operand.now) carry).1 }
+    ensures byte { chip.size_of width ≡ 1 → (v : ℕ) → Has 65536 result.0.set v → v < 256 }
+{
+    premises_hold();
+    keeps_form(operand);
+    single_made(operation, width, operand, carry, None)
+}
+
+/// Writes a result, if the operation does.
+fn put_result<M: Cells>(
+    device: &Device,
+    framed: bool,
+    state: &mut State<M>,
+    operation: Operation,
+    width: Width,
+    reach: &Reach,
+    word: Word,
+) -> Result<(), Memory>
+    requires ram { device.now.lo ≤ device.now.hi }
+    requires byte { chip.size_of width ≡ 1 → (v : ℕ) → Has 65536 word.set v → v < 256 }
+    ensures { OnOk result (state.new ≡ formats.put_known_if (arithmetic.writes_result operation) device.now framed state.old width reach.now word) }
+{
+    if writes_result(operation) {
+        return put(device, framed, state, width, reach, word);
+    }
+    Ok(())
+}
+
+/// The next address behind an operation with two operands.
+fn double_next(operation: Operation, reach: &Reach, word: &Word, behind: u16) -> Vs16
+    ensures { result ≡ formats.next_if (arithmetic.writes_result operation) reach.now word.now behind }
+{
+    if writes_result(operation) {
+        return next_by(reach, word, behind);
+    }
+    Vs16::one(behind)
+}
+
+/// The addresses of the store of an operation with two operands.
+fn double_store(operation: Operation, width: Width, reach: &Reach) -> Option<Vs16>
+    ensures { result ≡ formats.store_of (arithmetic.writes_result operation) width reach.now }
+{
+    if writes_result(operation) {
+        return store_of(width, reach);
+    }
+    None
+}
+
+/// Adds an access to a place, if there is one.
+fn show_if(
+    accesses: &mut Sequence<Item>,
+    is_one: bool,
+    pc: u16,
+    write: bool,
+    width: Width,
+    reach: &Reach,
+) -> Result<(), Memory>
+    ensures { OnOk result (accesses.new ≡ accesses.old ++ formats.access_if is_one pc write width reach.now) }
+{
+    if is_one {
+        return show(accesses, pc, write, width, reach);
+    }
+    Ok(())
+}
+
+/// The accesses of an operation with two operands.
+fn double_accesses(
+    alloc: Global,
+    pc: u16,
+    operation: Operation,
+    width: Width,
+    from: &Reach,
+    to: &Reach,
+) -> Result<Sequence<Item>, Memory>
+    ensures { IfOk result (λ all. all ≡ formats.access_of pc false width from.now ++ formats.access_if (arithmetic.reads_destination operation) pc false width to.now ++ formats.access_if (arithmetic.writes_result operation) pc true width to.now) }
+{
+    let mut all = Sequence::new(alloc);
+    show(&mut all, pc, false, width, from)?;
+    let reads = reads_destination(operation);
+    show_if(&mut all, reads, pc, false, width, to)?;
+    let writes = writes_result(operation);
+    show_if(&mut all, writes, pc, true, width, to)?;
+    Ok(all)
+}
+
+/// The accesses of an instruction that reads at one place and writes at another.
+fn two_accesses(
+    alloc: Global,
+    pc: u16,
+    width: Width,
+    from: &Reach,
+    wide: Width,
+    to: &Reach,
+) -> Result<Sequence<Item>, Memory>
+    ensures { IfOk result (λ all. all ≡ formats.access_of pc false width from.now ++ formats.access_of pc true wide to.now) }
+{
+    let mut all = Sequence::new(alloc);
+    show(&mut all, pc, false, width, from)?;
+    show(&mut all, pc, true, wide, to)?;
+    Ok(all)
+}
+
+/// The lowest bit.
+fn lowest(bits: &[Tri; 9]) -> Tri
+    ensures { result ≡ slice_index_or bits.now 0 Either }
+{
+    bits[0]
+}
+
+/// What is known of C.
+fn carry_of<M: Cells>(state: &State<M>) -> Tri
+    ensures { result ≡ formats.carry_of state.now }
+{
+    lowest(&state.status.bits)
+}
+
+/// What an instruction with two operands makes of what is known of a state, for one of so many bytes at an address: at least
+/// 2, which are those of the first word. It fails where memory runs out.
+#[tactic(auto, unfolding(crate::specs::Formats::double_worked))]
+pub fn double<M: Cells>(
+    alloc: Global,
+    device: &Device,
+    framed: bool,
+    state: &State<M>,
+    pc: u16,
+    len: u8,
+    operation: Operation,
+    width: Width,
+    source: Source,
+    destination: Destination,
+) -> Result<Worked<M>, Memory>
+    requires ram { device.now.lo ≤ device.now.hi }
+    requires long { 2 ≤ len }
+    ensures { IfOk result (λ worked. worked ≡ formats.double_worked device.now framed state.now pc len operation width source destination) }
+{
+    let counted = counter_set(pc, len, source, destination);
+    let from = source_reach(pc, state, &counted, source);
+    let origin = held(device, state, &counted, width, &from);
+    let mut after = state.copy(alloc)?;
+    grow(&mut after, &counted, width, source);
+    let to = destination_reach(pc, len, &after, &counted, destination);
+    let target = destination_word(device, &after, &counted, operation, width, &to);
+    let carry = carry_of(state);
+    let (word, flags) = double_result(
+        operation,
+        width,
+        source,
+        destination,
+        &origin,
+        &target,
+        carry,
+    );
+    put_result(device, framed, &mut after, operation, width, &to, word)?;
+    set_flag_bits(&mut after, flags);
+    Ok(Worked {
+        after,
+        next: double_next(operation, &to, &word, pc.wrapping_add(len as u16)),
+        accesses: double_accesses(alloc, pc, operation, width, &from, &to)?,
+        store: double_store(operation, width, &to),
+    })
+}
+
+/// What an instruction with one operand makes of what is known of a state, but for PUSH and CALL, which [`push`] makes. SWPB
+/// and SXT work on words alone. It fails where memory runs out.
+#[tactic(auto, unfolding(crate::specs::Formats::single_worked))]
+pub fn single<M: Cells>(
+    alloc: Global,
+    device: &Device,
+    framed: bool,
+    state: &State<M>,
+    pc: u16,
+    len: u8,
+    operation: SingleOperation,
+    width: Width,
+    operand: Source,
+) -> Result<Worked<M>, Memory>
+    requires ram { device.now.lo ≤ device.now.hi }
+    requires width { results.HasWidth operation width }
+    ensures { IfOk result (λ worked. worked ≡ formats.single_worked device.now framed state.now pc len operation width operand) }
+{
+    let behind = pc.wrapping_add(len as u16);
+    let counted = Vs16::one(behind);
+    let from = source_reach(pc, state, &counted, operand);
+    let held_so = held(device, state, &counted, width, &from);
+    let (word, flags) = single_result(operation, width, &held_so, carry_of(state));
+    let mut after = state.copy(alloc)?;
+    grow(&mut after, &counted, width, operand);
+    put(device, framed, &mut after, width, &from, word)?;
+    set_flag_bits(&mut after, flags);
+    Ok(Worked {
+        after,
+        next: next_by(&from, &word, behind),
+        accesses: two_accesses(alloc, pc, width, &from, width, &from)?,
+        store: store_of(width, &from),
+    })
+}
+
+/// Where the operand of PUSH or CALL stands and what it holds. Behind it SP is as before.
+fn formed<M: Cells>(
+    device: &Device,
+    state: &mut State<M>,
+    pc: u16,
+    counted: &Vs16,
+    width: Width,
+    operand: Source,
+) -> (Reach, Word)
+    ensures kept { state.new ≡ state.old }
+    ensures reach { result.0 ≡ operands.source_reach pc (formats.forming_known operand state.old) counted.now operand }
+    ensures word { result.1 ≡ operands.operand_word device.now (formats.forming_known operand state.old) counted.now width result.0 }
+{
+    let sp = state.sp;
+    see_lowered(operand, state);
+    let from = source_reach(pc, state, counted, operand);
+    let word = held(device, state, counted, width, &from);
+    state.sp = sp;
+    (from, word)
+}
+
+/// What PUSH or CALL makes of what is known of a state. It fails where memory runs out.
+#[tactic(auto, unfolding(crate::specs::Formats::push_worked))]
+pub fn push<M: Cells>(
+    alloc: Global,
+    device: &Device,
+    framed: bool,
+    state: &State<M>,
+    pc: u16,
+    len: u8,
+    operation: SingleOperation,
+    width: Width,
+    operand: Source,
+) -> Result<Worked<M>, Memory>
+    requires ram { device.now.lo ≤ device.now.hi }
+    ensures { IfOk result (λ worked. worked ≡ formats.push_worked device.now framed state.now pc len operation width operand) }
+{
+    let behind = pc.wrapping_add(len as u16);
+    let counted = Vs16::one(behind);
+    let mut after = state.copy(alloc)?;
+    let (from, word) = formed(device, &mut after, pc, &counted, width, operand);
+    grow(&mut after, &counted, width, operand);
+    lower(&mut after);
+    let top = Reach::InMemory(after.sp);
+    put(
+        device,
+        framed,
+        &mut after,
+        Width::Word,
+        &top,
+        pushed(operation, width, word, behind),
+    )?;
+    Ok(Worked {
+        after,
+        next: called_next(operation, width, &word, behind),
+        accesses: two_accesses(alloc, pc, width, &from, Width::Word, &top)?,
+        store: store_of(Width::Word, &top),
+    })
+}

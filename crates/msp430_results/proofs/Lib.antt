@@ -1,0 +1,6 @@
+pub mod FlagLemmas
+pub mod Carries
+pub mod Rows
+pub mod DecimalLemmas
+pub mod Pairs
+pub mod Twice

@@ -1,0 +1,370 @@
+//! Sets of the numbers of a width.
+
+ghost use Rattle.std.specs.Prelude.{◌≡◌, ◌<◌, true, [], ◌∷◌, length, map};
+ghost use Rattle.value_set.specs.declared.form.Form.{Form};
+ghost use Rattle.value_set.specs.declared.form.Form.TheVariants as the_form;
+ghost use Rattle.value_set.specs.Summing as sums;
+ghost use Rattle.value_bits.specs.declared.tri.Logic.TheVariants as logic;
+ghost use Rattle.value_bits.specs.Bits as bits;
+ghost use Rattle.value_bits.specs.Flags as flags;
+ghost use Rattle.value_bits.specs.Sets as sets;
+ghost use Rattle.msp430_decode.specs.declared.instr.Width.TheVariants.{Word};
+ghost use Rattle.msp430_decode.specs.declared.instr.Width.{Width as AWidth};
+ghost use Rattle.msp430_chip.specs.Arithmetic.{modulus, top_place, digits_of};
+ghost use Rattle.msp430_state.specs.Pointwise.{each_with};
+ghost use Rattle.msp430_results.specs.FlagSets as flag_sets;
+ghost use Rattle.msp430_results.specs.Results as results;
+
+use crate::decimal::is_decimal;
+use msp430_decode::Width;
+use value_bits::{Flag, Top, Tri, w8, w16};
+use value_set::{Form, Operation, Vs8, Vs16};
+
+/// Sets of words, or sets of bytes.
+pub(crate) trait Sets: Copy {
+    ghost width: { AWidth };
+
+    ghost form: { Self → Form };
+
+    /// The width of the members.
+    fn own_width() -> Width
+        ensures { result ≡ width };
+
+    /// What an unknown bit may be, as a set.
+    fn chosen(bit: Tri) -> Self
+        ensures { form result ≡ sets.chosen bit };
+
+    /// The carry, less one.
+    fn borrowed(carry: Tri) -> Self
+        ensures { form result ≡ results.borrowed (modulus width) carry };
+
+    /// The list or the run.
+    fn list_or_run(&self) -> Form
+        ensures { result ≡ form self.now };
+
+    fn plus(&self, other: &Self) -> Self
+        ensures { form result ≡ sums.add (modulus width) (form self.now) (form other.now) };
+
+    fn minus(&self, other: &Self) -> Self
+        ensures { form result ≡ sums.sub (modulus width) (form self.now) (form other.now) };
+
+    fn doubled(&self) -> Self
+        ensures { form result ≡ sums.twice (modulus width) (form self.now) };
+
+    fn and(&self, other: &Self) -> Self
+        ensures { form result ≡ sets.logic_set (flag_sets.bits_of width) logic.And (form self.now) (form other.now) };
+
+    fn or(&self, other: &Self) -> Self
+        ensures { form result ≡ sets.logic_set (flag_sets.bits_of width) logic.Or (form self.now) (form other.now) };
+
+    fn xor(&self, other: &Self) -> Self
+        ensures { form result ≡ sets.logic_set (flag_sets.bits_of width) logic.Xor (form self.now) (form other.now) };
+
+    /// The numbers with the known bits of the members, less those of the other set.
+    fn without_bits(&self, other: &Self) -> Self
+        ensures { form result ≡ bits.from_bits (flag_sets.bits_of width) (each_with bits.tri_and (bits.known_bits (flag_sets.bits_of width) (form self.now)) (map bits.tri_not (bits.known_bits (flag_sets.bits_of width) (form other.now)))) };
+
+    /// Each member moved down by one place.
+    fn shifted(&self, top: Top) -> Self
+        ensures { form result ≡ sets.shift_set (top_place width) (form self.now) top };
+
+    fn decimal_plus(&self, other: &Self, carry: Tri) -> Self
+        ensures { form result ≡ sets.decimal_add_set (digits_of width) (form self.now) (form other.now) carry };
+
+    /// Whether each digit of each member is at most 9.
+    fn are_decimal(&self) -> bool
+        ensures { result ≡ sets.are_decimal (digits_of width) (form self.now) };
+
+    /// Whether sets have at most 256 combinations.
+    fn is_few(first: &Self, second: &Self, carry: &Self) -> bool
+        ensures { result ≡ flag_sets.is_few (modulus width) (form first.now) (form second.now) (form carry.now) };
+
+    /// All results of an operation.
+    fn combined<O: Operation>(operation: &O, first: &Self, second: &Self, carry: &Self) -> Self
+        requires same { O.modulus operation.now ≡ modulus width }
+        requires few { flag_sets.is_few (modulus width) (form first.now) (form second.now) (form carry.now) ≡ true }
+        ensures { form result ≡ sums.combine (modulus width) (O.answer operation.now) (form first.now) (form second.now) (form carry.now) };
+
+    /// What is known of a flag, over at most 256 combinations.
+    fn agreed<F: Flag>(flag: &F, first: &Self, second: &Self, carry: Tri) -> Tri
+        requires { F.modulus flag.now ≡ modulus width }
+        ensures { result ≡ flags.agreed (modulus width) (F.value flag.now) (form first.now) (form second.now) (sets.chosen carry) };
+
+    /// Z, by the known bits.
+    fn zero(&self) -> Tri
+        ensures { result ≡ flag_sets.zero_of width (form self.now) };
+
+    /// N, by the known bits.
+    fn negative(&self) -> Tri
+        ensures { result ≡ flag_sets.negative_of width (form self.now) };
+}
+
+/// Z: clear where a bit is set, and set where all are clear.
+fn zero_by(bits: &[Tri]) -> Tri
+    ensures { result ≡ flag_sets.zero_by bits.now }
+{
+    match bits {
+        [] => Tri::One,
+        [Tri::One, ..] => Tri::Zero,
+        [Tri::Zero, rest @ ..] => zero_by(rest),
+        [Tri::Either, rest @ ..] => match zero_by(rest) {
+            Tri::Zero => Tri::Zero,
+            _ => Tri::Either,
+        },
+    }
+}
+
+/// A bit that is kept where the other one is clear.
+fn bit_without(bit: Tri, cleared: Tri) -> Tri
+    ensures { result ≡ bits.tri_and bit (bits.tri_not cleared) }
+{
+    match (bit, cleared) {
+        (Tri::Zero, _) | (_, Tri::One) => Tri::Zero,
+        (Tri::One, Tri::Zero) => Tri::One,
+        _ => Tri::Either,
+    }
+}
+
+/// Bits less others.
+fn clear(held: &mut [Tri], others: &[Tri])
+    requires { length held.old ≡ length others.now }
+    ensures { held.new ≡ each_with bits.tri_and held.old (map bits.tri_not others.now) }
+{
+    for place in 0..held.len() {
+        held[place] = bit_without(held[place], others[place]);
+    }
+}
+
+/// The set of two words.
+fn two_words(low: u16, high: u16) -> Vs16
+    requires { low < high }
+    ensures { result ≡ the_form.Values (low ∷ high ∷ []) }
+{
+    match Vs16::gather(&[low, high]) {
+        Some(set) => set,
+        None => unreachable!(),
+    }
+}
+
+/// The set of two bytes.
+fn two_bytes(low: u8, high: u8) -> Vs8
+    requires { low < high }
+    ensures { result ≡ the_form.Values (low ∷ high ∷ []) }
+{
+    match Vs8::gather(&[low, high]) {
+        Some(set) => set,
+        None => unreachable!(),
+    }
+}
+
+/// Whether each digit of each word is at most 9.
+fn are_decimal_words(words: &Vs16) -> bool
+    ensures { result ≡ sets.are_decimal 4 words.now }
+{
+    for place in 0..words.count() {
+        if !is_decimal(4, words.nth(place)) {
+            return false;
+        }
+    }
+    true
+}
+
+/// Whether each digit of each byte is at most 9.
+fn are_decimal_bytes(bytes: &Vs8) -> bool
+    ensures { result ≡ sets.are_decimal 2 bytes.now }
+{
+    for place in 0..bytes.count() {
+        if !is_decimal(2, bytes.nth(place) as u16) {
+            return false;
+        }
+    }
+    true
+}
+
+impl Sets for Vs16 {
+    ghost use Rattle.msp430_decode.specs.declared.instr.Width.TheVariants.{Word};
+
+    ghost width = { Word };
+
+    ghost form = { λ set. set };
+
+    fn own_width() -> Width {
+        Width::Word
+    }
+
+    fn chosen(bit: Tri) -> Self {
+        match bit {
+            Tri::Zero => Vs16::one(0),
+            Tri::One => Vs16::one(1),
+            Tri::Either => two_words(0, 1),
+        }
+    }
+
+    fn borrowed(carry: Tri) -> Self {
+        match carry {
+            Tri::Zero => Vs16::one(0xFFFF),
+            Tri::One => Vs16::one(0),
+            Tri::Either => two_words(0, 0xFFFF),
+        }
+    }
+
+    fn list_or_run(&self) -> Form {
+        self.form()
+    }
+
+    fn plus(&self, other: &Self) -> Self {
+        self.add(other)
+    }
+
+    fn minus(&self, other: &Self) -> Self {
+        self.sub(other)
+    }
+
+    fn doubled(&self) -> Self {
+        self.twice()
+    }
+
+    fn and(&self, other: &Self) -> Self {
+        w16::and(self, other)
+    }
+
+    fn or(&self, other: &Self) -> Self {
+        w16::or(self, other)
+    }
+
+    fn xor(&self, other: &Self) -> Self {
+        w16::xor(self, other)
+    }
+
+    fn without_bits(&self, other: &Self) -> Self {
+        let mut bits = w16::bits(self);
+        clear(&mut bits, &w16::bits(other));
+        w16::from_bits(&bits)
+    }
+
+    fn shifted(&self, top: Top) -> Self {
+        w16::shift_right(self, top)
+    }
+
+    fn decimal_plus(&self, other: &Self, carry: Tri) -> Self {
+        w16::decimal_add(self, other, carry)
+    }
+
+    fn are_decimal(&self) -> bool {
+        are_decimal_words(self)
+    }
+
+    fn is_few(first: &Self, second: &Self, carry: &Self) -> bool {
+        first.count() as u64 * (second.count() as u64 * carry.count() as u64) <= 256
+    }
+
+    fn combined<O: Operation>(operation: &O, first: &Self, second: &Self, carry: &Self) -> Self {
+        Vs16::combine(operation, first, second, carry)
+    }
+
+    fn agreed<F: Flag>(flag: &F, first: &Self, second: &Self, carry: Tri) -> Tri {
+        w16::agreed(flag, first, second, carry)
+    }
+
+    fn zero(&self) -> Tri {
+        zero_by(&w16::bits(self))
+    }
+
+    fn negative(&self) -> Tri {
+        w16::bits(self)[15]
+    }
+}
+
+impl Sets for Vs8 {
+    ghost use Rattle.msp430_decode.specs.declared.instr.Width.TheVariants.{Byte};
+
+    ghost width = { Byte };
+
+    ghost form = { λ set. set };
+
+    fn own_width() -> Width {
+        Width::Byte
+    }
+
+    fn chosen(bit: Tri) -> Self {
+        match bit {
+            Tri::Zero => Vs8::one(0),
+            Tri::One => Vs8::one(1),
+            Tri::Either => two_bytes(0, 1),
+        }
+    }
+
+    fn borrowed(carry: Tri) -> Self {
+        match carry {
+            Tri::Zero => Vs8::one(0xFF),
+            Tri::One => Vs8::one(0),
+            Tri::Either => two_bytes(0, 0xFF),
+        }
+    }
+
+    fn list_or_run(&self) -> Form {
+        self.form()
+    }
+
+    fn plus(&self, other: &Self) -> Self {
+        self.add(other)
+    }
+
+    fn minus(&self, other: &Self) -> Self {
+        self.sub(other)
+    }
+
+    fn doubled(&self) -> Self {
+        self.twice()
+    }
+
+    fn and(&self, other: &Self) -> Self {
+        w8::and(self, other)
+    }
+
+    fn or(&self, other: &Self) -> Self {
+        w8::or(self, other)
+    }
+
+    fn xor(&self, other: &Self) -> Self {
+        w8::xor(self, other)
+    }
+
+    fn without_bits(&self, other: &Self) -> Self {
+        let mut bits = w8::bits(self);
+        clear(&mut bits, &w8::bits(other));
+        w8::from_bits(&bits)
+    }
+
+    fn shifted(&self, top: Top) -> Self {
+        w8::shift_right(self, top)
+    }
+
+    fn decimal_plus(&self, other: &Self, carry: Tri) -> Self {
+        w8::decimal_add(self, other, carry)
+    }
+
+    fn are_decimal(&self) -> bool {
+        are_decimal_bytes(self)
+    }
+
+    fn is_few(first: &Self, second: &Self, carry: &Self) -> bool {
+        first.count() as u64 * (second.count() as u64 * carry.count() as u64) <= 256
+    }
+
+    fn combined<O: Operation>(operation: &O, first: &Self, second: &Self, carry: &Self) -> Self {
+        Vs8::combine(operation, first, second, carry)
+    }
+
+    fn agreed<F: Flag>(flag: &F, first: &Self, second: &Self, carry: Tri) -> Tri {
+        w8::agreed(flag, first, second, carry)
+    }
+
+    fn zero(&self) -> Tri {
+        zero_by(&w8::bits(self))
+    }
+
+    fn negative(&self) -> Tri {
+        w8::bits(self)[7]
+    }
+}
