@@ -1,0 +1,12 @@
+use Rattle.msp430_branch.proofs.Outcomes.{cut_holds, cut_interrupts, state_cut, cut_in_form}
+use Rattle.msp430_branch.proofs.laws.cuts_hold.Goals as goal
+
+pub returns : goal.returns
+returns c =
+    let laws = c.premises_hold.ensures in
+    record {
+      parts = cut_holds laws;
+      state = state_cut laws;
+      form = cut_in_form laws;
+      interrupts = cut_interrupts;
+    }
