@@ -1,0 +1,4 @@
+pub mod BitLemmas
+pub mod Accesses
+pub mod Moves
+pub mod StatusLaw

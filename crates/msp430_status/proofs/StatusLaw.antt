@@ -1,0 +1,343 @@
+-- The law of MOV, BIC and BIS with the destination SR.
+use Rattle.std.proofs.Common.{◌≡◌, ℕ, suc, zero, ◌+◌, ◌-◌, ◌*◌, ◌%◌, ◌<◌, ◌++◌, ◌≢◌, Bool, true, false, Option, None, Some, List, [], length, get_or, set, refl, sym, ap, ◌∙◌, subst, inl, inr, arith}
+use Rattle.std.proofs.Common.{get_or-set_same, get_or-set_other}
+use Rattle.std.specs.Option.{option_map}
+use Rattle.std.specs.Prelude.{bit_and, bit_or, All}
+use Rattle.std.proofs.lemmas.Bool.{cases_lt}
+use Rattle.std.proofs.lemmas.List.{get_or_past, length-set, length-take-le, append-nil}
+use Rattle.std.proofs.lemmas.List.Elements.{All-get_or}
+use Rattle.std.proofs.lemmas.List.FromFn.{length-map-range_with_len}
+use Rattle.std.proofs.lemmas.Option.{same_Some}
+use Rattle.ihex_read.specs.Image.{byte_at, IsByte}
+use Rattle.entry_value.specs.Words.{HoldsOfWord}
+use Rattle.entry_value.specs.declared.word.Word.{Word}
+use Rattle.value_set.specs.Form.{Has, IsNormal}
+use Rattle.value_set.specs.Remainders.{HasRemainder}
+use Rattle.value_set.specs.Summing.{single}
+use Rattle.value_bits.specs.declared.tri.Tri.{Tri}
+use Rattle.value_bits.specs.Bits.{Agrees, known_bit, known_bits}
+use Rattle.msp430_decode.specs.declared.instr.Destination.TheVariants as destination
+use Rattle.msp430_decode.specs.declared.instr.Operation.{Operation}
+use Rattle.msp430_decode.specs.declared.instr.Operation.TheVariants as operation
+use Rattle.msp430_decode.specs.declared.instr.Register.{Register}
+use Rattle.msp430_decode.specs.declared.instr.Register.TheVariants.{Sr}
+use Rattle.msp430_decode.specs.declared.instr.Source.{Source}
+use Rattle.msp430_decode.specs.declared.instr.Source.TheVariants as source
+use Rattle.msp430_decode.specs.declared.instr.Width.{Width}
+use Rattle.msp430_decode.specs.declared.instr.Width.TheVariants.{Word as Words, Byte}
+use Rattle.msp430_decode.specs.Codes.{number}
+use Rattle.msp430_decode.specs.Operands.{IsPointer, IsSource}
+use Rattle.msp430_chip.specs.declared.device.Device.{Device}
+use Rattle.msp430_chip.specs.declared.place.Place.{Place}
+use Rattle.msp430_chip.specs.declared.place.Place.TheVariants as place
+use Rattle.msp430_chip.specs.declared.state.ChipState.{ChipState}
+use Rattle.msp430_chip.specs.Arithmetic.{Made, complement, modulus, reads_destination, sets_flags, writes_result}
+use Rattle.msp430_chip.specs.Kinds.Kind.{Counter, Stack, Status, Empty, General}
+use Rattle.msp430_chip.specs.Leading.{MayDouble, MayLeaveDouble, MayReadByte, MayStandAt, MayStandIf, at_source, behind_source, origin_of, place_of}
+use Rattle.msp430_chip.specs.Leading.MayLeaveDouble.{FreeStatus, OfResult}
+use Rattle.msp430_chip.specs.Leading.MayReadByte.{OfRam, OfProgram, OfNeither}
+use Rattle.msp430_chip.specs.Operands.{grown, growth, value_in, with_free_bits, with_register}
+use Rattle.msp430_chip.specs.Outcome.{Outcome}
+use Rattle.msp430_chip.specs.State.{even, register_of}
+use Rattle.msp430_chip.specs.Step.{Left, double_accesses, put_if, with_status}
+use Rattle.msp430_results.specs.FlagSets.{IsResult}
+use Rattle.msp430_results.specs.Words.{values_of, written_word}
+use Rattle.msp430_state.specs.Forms.{IsKnown}
+use Rattle.msp430_state.specs.Holding.{suspended_of, HoldsOfParts}
+use Rattle.msp430_state.specs.Known.{Known, word_of}
+use Rattle.msp430_alu.specs.declared.reach.Reach.TheVariants.{InRegister}
+use Rattle.msp430_alu.specs.Formats.{AreShown, IsLeft, IsUnder, access_if, access_of, counter_set, double_worked}
+use Rattle.msp430_alu.specs.Memory.{IsDevice}
+use Rattle.msp430_alu.specs.Operands.{grown_known, operand_word, source_reach}
+use Rattle.msp430_status.specs.Status.{lowest_bits, source_bits, status_bits, status_worked, with_status_bits}
+use Rattle.msp430_status.proofs.BitLemmas.{AgreesBelow, held_agrees, length_status, number_behind, places, status_agrees}
+use Rattle.msp430_status.proofs.Moves.{StatusLaws, registers_behind, source_number, behind_length, counter_one, grown_form, grown_parts, source_known}
+
+-- BYTES
+
+ram_small : (ram : List ℕ) (at : ℕ) → All (λ b. b < 256) ram → get_or ram at 0 < 256
+ram_small ram at bytes = elim (cases_lt at (length ram)) [
+  | inl inside ↦ All-get_or (λ b. b < 256) ram at 0 inside bytes
+  | inr past ↦ subst (λ b. b < 256) (sym (get_or_past ram at 0 past)) (omega arith)
+]
+
+image_small : (device : Device) → IsDevice device → (at byte : ℕ) → byte_at device.image at ≡ Some byte → byte < 256
+image_small device is at byte e = elim (cases_lt at (length device.image)) [
+  | inl inside ↦ subst IsByte e (All-get_or IsByte device.image at None inside is.bytes)
+  | inr past ↦ let none : byte_at device.image at ≡ None = get_or_past device.image at None past in absurd (cc)
+]
+
+read_small : (device : Device) (ram : List ℕ) → IsDevice device → All (λ b. b < 256) ram → (at byte : ℕ) → MayReadByte device ram at byte → byte < 256
+read_small device ram is bytes at byte (OfRam inside e) = subst (λ b. b < 256) (sym e) (ram_small ram (at - device.lo) bytes)
+read_small device ram is bytes at byte (OfProgram outside e) = image_small device is at byte e
+read_small device ram is bytes at byte (OfNeither outside e few) = few
+
+byte_small : (device : Device) (ram registers : List ℕ) → IsDevice device → All (λ b. b < 256) ram → (stands : Place) (x : ℕ) → MayStandAt device ram registers Byte stands x → x < 256
+byte_small device ram registers is bytes (place.InRegister register) x e = omega (arith, e)
+byte_small device ram registers is bytes (place.InMemory address) x reads = read_small device ram is bytes address x reads
+byte_small device ram registers is bytes (place.Fixed value) x e = omega (arith, e)
+
+source_small : (laws : StatusLaws) (device : Device) (framed : Bool) (a : Known) (s : ChipState) (first : Option ChipState) (len : ℕ) (done : Operation) (width : Width) (origin : Source) (outcome : Outcome ChipState)
+    → IsUnder device framed a s first → IsSource origin → (may : MayDouble device s len done width origin (destination.Register Sr) outcome)
+    → source_number s may.counted width origin may.bits may.x < modulus width
+source_small laws device framed a s first len done Words origin outcome under from_so may = (source_known laws device framed a s first len done Words origin outcome under from_so may).below
+source_small laws device framed a s first len done Byte origin outcome under from_so may =
+    byte_small device s.ram (at_source s may.counted) under.device_so under.holds.state.bytes (origin_of s may.counted origin) may.x may.reads
+
+-- WHAT SR HELD
+
+pointer_status : (laws : StatusLaws) (registers : List ℕ) (register : Register) (value : ℕ) → IsPointer register → get_or (with_register registers register value) 2 0 ≡ get_or registers 2 0
+pointer_status laws registers register value pointer = elim (laws.kinds register) [
+  | Counter e ↦ absurd (subst IsPointer e pointer)
+  | Stack e ↦ ap (λ r. get_or (with_register registers r value) 2 0) e ∙ get_or-set_other registers 1 2 (even value) 0 (λ e. omega (arith, e))
+  | Status e ↦ absurd (subst IsPointer e pointer)
+  | Empty e ↦ absurd (subst IsPointer e pointer)
+  | General is ↦ ap (λ list. get_or list 2 0) (is.set registers value) ∙ get_or-set_other registers (number register) 2 value 0 (λ e. let low = is.above in omega (arith, e, low))
+]
+
+grown_status : (laws : StatusLaws) (registers : List ℕ) (width : Width) (origin : Source) → IsSource origin → get_or (grown registers width origin) 2 0 ≡ get_or registers 2 0
+grown_status laws registers width (source.IndirectIncrement register) is = pointer_status laws registers register ((value_in registers register + growth width register) % 65536) is
+grown_status laws registers width (source.Register register) is = refl
+grown_status laws registers width (source.Indexed register offset) is = refl
+grown_status laws registers width (source.Indirect register) is = refl
+grown_status laws registers width (source.Immediate value) is = refl
+grown_status laws registers width (source.Symbolic offset) is = refl
+grown_status laws registers width (source.Absolute address) is = refl
+grown_status laws registers width (source.Constant constant) is = refl
+
+held_number : (reads : Bool) (device : Device) (ram registers : List ℕ) (width : Width) (y : ℕ) → MayStandIf reads device ram registers width (place.InRegister Sr) y → reads ≡ true → y ≡ get_or registers 2 0 % modulus width
+held_number true device ram registers width y held e = held
+held_number false device ram registers width y held e = absurd (cc)
+
+-- the bits of SR that nothing holds
+abbrev bits_above : Width → ℕ → ℕ
+bits_above Words bits = bits
+bits_above Byte bits = 0
+
+no_bits_above : (width : Width) (bits : ℕ) → width ≡ Byte → bits_above width bits ≡ 0
+no_bits_above Words bits e = absurd (cc)
+no_bits_above Byte bits e = refl
+
+free_above : (width : Width) (bits y : ℕ) → with_free_bits width (place.InRegister Sr) bits y ≡ y + 512 * bits_above width bits
+free_above Words bits y = refl
+free_above Byte bits y = omega arith
+
+-- WHAT IS LEFT
+
+abbrev status_left : (registers ram : List ℕ) → (v : ℕ) → Left
+status_left registers ram v = with_status None (record { registers = set registers 2 (v % 512); ram = ram; hit = None })
+
+result_left : (device : Device) (ram registers : List ℕ) (width : Width) (v : ℕ) (made_so : Made) (left : Left) → (v, None) ≡ made_so
+    → left ≡ with_status made_so.1 (put_if true device registers ram width (place.InRegister Sr) made_so.0) → left ≡ status_left registers ram v
+result_left device ram registers width v made_so left same is =
+    is ∙ ap (λ (m : Made). with_status m.1 (put_if true device registers ram width (place.InRegister Sr) m.0)) (sym same)
+
+left_is : (device : Device) (ram registers : List ℕ) (done : Operation) (width : Width) (x y carry : ℕ) (left : Left) → sets_flags done ≡ false
+    → MayLeaveDouble device ram registers done width (place.InRegister Sr) x y carry left → left ≡ status_left registers ram (number_behind done x y (complement width x))
+left_is device ram registers operation.Mov width x y carry left none (FreeStatus free freed) = absurd (cc)
+left_is device ram registers operation.Mov width x y carry left none (OfResult other made_so may is) = result_left device ram registers width x made_so left (same_Some (x, None) made_so may) is
+left_is device ram registers operation.Bic width x y carry left none (FreeStatus free freed) = absurd (cc)
+left_is device ram registers operation.Bic width x y carry left none (OfResult other made_so may is) =
+    let v = bit_and y (complement width x) in result_left device ram registers width v made_so left (same_Some (v, None) made_so may) is
+left_is device ram registers operation.Bis width x y carry left none (FreeStatus free freed) = absurd (cc)
+left_is device ram registers operation.Bis width x y carry left none (OfResult other made_so may is) =
+    let v = bit_or y x in result_left device ram registers width v made_so left (same_Some (v, None) made_so may) is
+left_is device ram registers operation.Add width x y carry left none leaves = absurd (cc)
+left_is device ram registers operation.Addc width x y carry left none leaves = absurd (cc)
+left_is device ram registers operation.Subc width x y carry left none leaves = absurd (cc)
+left_is device ram registers operation.Sub width x y carry left none leaves = absurd (cc)
+left_is device ram registers operation.Cmp width x y carry left none leaves = absurd (cc)
+left_is device ram registers operation.Dadd width x y carry left none leaves = absurd (cc)
+left_is device ram registers operation.Bit width x y carry left none leaves = absurd (cc)
+left_is device ram registers operation.Xor width x y carry left none leaves = absurd (cc)
+left_is device ram registers operation.And width x y carry left none leaves = absurd (cc)
+
+put_hit : (writes : Bool) (device : Device) (registers ram : List ℕ) (width : Width) (v : ℕ) → (put_if writes device registers ram width (place.InRegister Sr) v).hit ≡ None
+put_hit true device registers ram width v = refl
+put_hit false device registers ram width v = refl
+
+leaves_hit : (device : Device) (ram registers : List ℕ) (done : Operation) (width : Width) (x y carry : ℕ) (left : Left) → MayLeaveDouble device ram registers done width (place.InRegister Sr) x y carry left → left.hit ≡ None
+leaves_hit device ram registers done width x y carry left (FreeStatus free freed) = ap (λ (l : Left). l.hit) freed.left_is
+leaves_hit device ram registers done width x y carry left (OfResult other made_so may is) = ap (λ (l : Left). l.hit) is ∙ put_hit (writes_result done) device registers ram width made_so.0
+
+pub status_hit : (device : Device) (s : ChipState) (len : ℕ) (done : Operation) (width : Width) (origin : Source) (outcome : Outcome ChipState)
+    → (may : MayDouble device s len done width origin (destination.Register Sr) outcome) → may.left.hit ≡ None
+status_hit device s len done width origin outcome may = leaves_hit device s.ram (registers_behind s len may.counted width origin) done width _ _ (register_of s 2 % 2) may.left may.leaves
+
+-- each register but SR is as it was
+left_alike : (registers : List ℕ) (c d e r : ℕ) → r ≢ 2 → get_or (set registers 2 c) r 0 ≡ get_or (set (set registers 2 d) 2 e) r 0
+left_alike registers c d e r other = get_or-set_other registers 2 r c 0 other ∙ sym (get_or-set_other (set registers 2 d) 2 r e 0 other ∙ get_or-set_other registers 2 r d 0 other)
+
+left_status : (registers ram : List ℕ) (v : ℕ) → length registers ≡ 16 → get_or (status_left registers ram v).registers 2 0 ≡ v % 512
+left_status registers ram v long =
+    let inner : get_or (set registers 2 (v % 512)) 2 0 ≡ v % 512 = get_or-set_same registers 2 (v % 512) 0 (omega (arith, long)) in
+    get_or-set_same (set registers 2 (v % 512)) 2 (get_or (set registers 2 (v % 512)) 2 0) 0 (omega (arith, long, length-set registers 2 (v % 512))) ∙ inner
+
+-- what holds but for SR holds with its bits
+with_bits : (device : Device) (a : Known) (first : Option ChipState) (registers ram : List ℕ) (bits : List Tri) (c v : ℕ) → length registers ≡ 16 → Agrees bits (v % 512)
+    → HoldsOfParts device a first (set registers 2 c) ram → HoldsOfParts device (with_status_bits a bits) first (status_left registers ram v).registers ram
+with_bits device a first registers ram bits c v long agrees holds =
+    let d = v % 512 in
+    let e = get_or (set registers 2 d) 2 0 in
+    record {
+      sp = subst (Has 65536 a.sp) (left_alike registers c d e 1 (λ h. omega (arith, h))) holds.sp;
+      status = record { bits = subst (Agrees bits) (sym (left_status registers ram v long)) agrees; entry = tt };
+      words = λ register low high. subst (HoldsOfWord (option_map suspended_of first) (word_of a register)) (left_alike registers c d e register (λ h. omega (arith, h, low))) (holds.words register low high);
+      fact = tt;
+      cells = holds.cells;
+      untouched = holds.untouched;
+    }
+
+-- THE BITS
+
+lowest_length : (width : Width) (word : Word) → length (lowest_bits width word) ≡ 9
+lowest_length width word =
+    let set = (written_word width (values_of width word) None).set in
+    length-take-le 9 (known_bits 16 set) (omega (arith, length-map-range_with_len (λ place. known_bit 16 place set) 0 16))
+
+source_length : (a : Known) (width : Width) (origin : Source) (word : Word) → length a.status.bits ≡ 9 → length (source_bits a width origin word) ≡ 9
+source_length a width (source.Register Sr) word nine = nine
+source_length a width (source.Register register) word nine = lowest_length width word
+source_length a width (source.Indexed register offset) word nine = lowest_length width word
+source_length a width (source.Indirect register) word nine = lowest_length width word
+source_length a width (source.IndirectIncrement register) word nine = lowest_length width word
+source_length a width (source.Immediate value) word nine = lowest_length width word
+source_length a width (source.Symbolic offset) word nine = lowest_length width word
+source_length a width (source.Absolute address) word nine = lowest_length width word
+source_length a width (source.Constant constant) word nine = lowest_length width word
+
+-- SR as the source has the bits that it holds
+status_source : (a : Known) (s : ChipState) (counted : ℕ) (width : Width) (bits x : ℕ) → Agrees a.status.bits (register_of s 2) → x ≡ get_or (at_source s counted) 2 0 % modulus width
+    → AgreesBelow (places width) a.status.bits (with_free_bits width (place.InRegister Sr) bits x)
+status_source a s counted width bits x agrees is =
+    let kept : get_or (at_source s counted) 2 0 ≡ register_of s 2 = get_or-set_other s.registers 0 2 counted 0 (λ e. omega (arith, e)) in
+    held_agrees width a.status.bits (with_free_bits width (place.InRegister Sr) bits x) (register_of s 2) (bits_above width bits) agrees
+    (free_above width bits x ∙ ap (λ n. n + 512 * bits_above width bits) (is ∙ ap (λ n. n % modulus width) kept)) (no_bits_above width bits)
+
+source_agrees : (a : Known) (s : ChipState) (counted : ℕ) (width : Width) (origin : Source) (device : Device) (word : Word) (bits x : ℕ) → Agrees a.status.bits (register_of s 2)
+    → MayStandAt device s.ram (at_source s counted) width (origin_of s counted origin) x → AgreesBelow (places width) (lowest_bits width word) (source_number s counted width origin bits x)
+    → AgreesBelow (places width) (source_bits a width origin word) (source_number s counted width origin bits x)
+source_agrees a s counted width (source.Register Sr) device word bits x agrees reads lowest = status_source a s counted width bits x agrees reads
+source_agrees a s counted width (source.Register register) device word bits x agrees reads lowest = lowest
+source_agrees a s counted width (source.Indexed register offset) device word bits x agrees reads lowest = lowest
+source_agrees a s counted width (source.Indirect register) device word bits x agrees reads lowest = lowest
+source_agrees a s counted width (source.IndirectIncrement register) device word bits x agrees reads lowest = lowest
+source_agrees a s counted width (source.Immediate value) device word bits x agrees reads lowest = lowest
+source_agrees a s counted width (source.Symbolic offset) device word bits x agrees reads lowest = lowest
+source_agrees a s counted width (source.Absolute address) device word bits x agrees reads lowest = lowest
+source_agrees a s counted width (source.Constant constant) device word bits x agrees reads lowest = lowest
+
+byte_held : (width : Width) (bits y sr : ℕ) → y ≡ sr % modulus width → width ≡ Byte → with_free_bits width (place.InRegister Sr) bits y < 256
+byte_held Words bits y sr is e = absurd (cc)
+byte_held Byte bits y sr is e = omega (arith, is)
+
+bits_agree : (laws : StatusLaws) (device : Device) (framed : Bool) (a : Known) (s : ChipState) (first : Option ChipState) (len : ℕ) (done : Operation) (width : Width) (origin : Source) (outcome : Outcome ChipState)
+    → sets_flags done ≡ false → IsUnder device framed a s first → IsSource origin → (may : MayDouble device s len done width origin (destination.Register Sr) outcome)
+    → let counted = single ((register_of s 0 + len) % 65536) in let word = operand_word device a counted width (source_reach (register_of s 0) a counted origin) in
+    let x = source_number s may.counted width origin may.bits may.x in let y = with_free_bits width (place.InRegister Sr) may.bits may.y in
+    Agrees (status_bits done width (source_bits a width origin word) a.status.bits) (number_behind done x y (complement width x) % 512)
+bits_agree laws device framed a s first len done width origin outcome none under from_so may =
+    let pc = register_of s 0 in
+    let counted = single ((pc + len) % 65536) in
+    let word = operand_word device a counted width (source_reach pc a counted origin) in
+    let x = source_number s may.counted width origin may.bits may.x in
+    let y = with_free_bits width (place.InRegister Sr) may.bits may.y in
+    let known = source_known laws device framed a s first len done width origin outcome under from_so may in
+    let sr = register_of s 2 in
+    let kept : get_or (behind_source s may.counted width origin) 2 0 ≡ sr =
+    grown_status laws (at_source s may.counted) width origin from_so ∙ get_or-set_other s.registers 0 2 may.counted 0 (λ e. omega (arith, e)) in
+    let held : reads_destination done ≡ true → may.y ≡ sr % modulus width =
+    λ e. held_number (reads_destination done) device s.ram (behind_source s may.counted width origin) width may.y may.held e ∙ ap (λ n. n % modulus width) kept in
+    let agrees = under.holds.parts.status.bits in
+    status_agrees done width (source_bits a width origin word) a.status.bits x y none (source_length a width origin word under.form.bits) under.form.bits
+    (source_small laws device framed a s first len done width origin outcome under from_so may)
+    (source_agrees a s may.counted width origin device word may.bits may.x agrees may.reads known.agrees)
+    (λ e. held_agrees width a.status.bits y sr (bits_above width may.bits) agrees (free_above width may.bits may.y ∙ ap (λ n. n + 512 * bits_above width may.bits) (held e)) (no_bits_above width may.bits))
+    (λ e. byte_held width may.bits may.y sr (held e))
+
+-- THE LAW
+
+pub status_law : (laws : StatusLaws) (device : Device) (framed : Bool) (a : Known) (s : ChipState) (first : Option ChipState) (len : ℕ) (done : Operation) (width : Width) (origin : Source) (outcome : Outcome ChipState)
+    → sets_flags done ≡ false → IsUnder device framed a s first → IsSource origin → (may : MayDouble device s len done width origin (destination.Register Sr) outcome)
+    → IsLeft device (status_worked device framed a (register_of s 0) len done width origin).after first (status_worked device framed a (register_of s 0) len done width origin).next may.left
+unfolding status_worked
+status_law laws device framed a s first len done width origin outcome none under from_so may =
+    let pc = register_of s 0 in
+    let next = (pc + len) % 65536 in
+    let counted = single next in
+    let grown_so = grown_known a counted width origin in
+    let bits = status_bits done width (source_bits a width origin (operand_word device a counted width (source_reach pc a counted origin))) a.status.bits in
+    let x = source_number s may.counted width origin may.bits may.x in
+    let y = with_free_bits width (place.InRegister Sr) may.bits may.y in
+    let v = number_behind done x y (complement width x) in
+    let registers = registers_behind s len may.counted width origin in
+    let long : length registers ≡ 16 = behind_length laws s len may.counted width origin ∙ under.holds.state.registers in
+    let agrees = bits_agree laws device framed a s first len done width origin outcome none under from_so may in
+    let is = left_is device s.ram registers done width x y (register_of s 2 % 2) may.left none may.leaves in
+    let one = laws.single 65536 next (omega arith) in
+    let grown_long : 0 < length (behind_source s may.counted width origin) = omega (arith, long, length-set (behind_source s may.counted width origin) 0 next) in
+    let at_next : next ≡ get_or (status_left registers s.ram v).registers 0 0 =
+    sym (get_or-set_same (behind_source s may.counted width origin) 0 next 0 grown_long)
+    ∙ sym (get_or-set_other (set registers 2 (v % 512)) 2 0 (get_or (set registers 2 (v % 512)) 2 0) 0 (λ e. omega (arith, e)) ∙ get_or-set_other registers 2 0 (v % 512) 0 (λ e. omega (arith, e))) in
+    let left_so : IsLeft device (with_status_bits grown_so bits) first counted (status_left registers s.ram v) = record {
+      next_is = subst (IsResult 65536 counted) at_next (record { normal = one.0; has = one.1 });
+      parts = with_bits device grown_so first registers s.ram bits (get_or registers 2 0) v long agrees (grown_parts laws device framed a s first len done width origin outcome under from_so may);
+    } in
+    subst (IsLeft device (with_status_bits grown_so bits) first counted) (sym is) left_so
+
+no_access : (there : Bool) (pc : ℕ) (write : Bool) (width : Width) (register : Register) → access_if there pc write width (InRegister register) ≡ []
+no_access true pc write width register = refl
+no_access false pc write width register = refl
+
+pub status_shown : (laws : StatusLaws) (device : Device) (framed : Bool) (a : Known) (s : ChipState) (first : Option ChipState) (len : ℕ) (done : Operation) (width : Width) (origin : Source) (outcome : Outcome ChipState)
+    → IsUnder device framed a s first → IsSource origin → (may : MayDouble device s len done width origin (destination.Register Sr) outcome)
+    → AreShown (status_worked device framed a (register_of s 0) len done width origin).accesses
+    (double_accesses (register_of s 0) done width (origin_of s may.counted origin) (place_of s len may.counted width origin (destination.Register Sr)))
+unfolding double_worked status_worked
+status_shown laws device framed a s first len done width origin outcome under from_so may =
+    let pc = register_of s 0 in
+    let counted = counter_set pc len origin (destination.Register Sr) in
+    let reads = access_of pc false width (source_reach pc a counted origin) in
+    let singles = double_accesses pc done width (origin_of s may.counted origin) (place_of s len may.counted width origin (destination.Register Sr)) in
+    let shown : AreShown (reads ++ access_if (reads_destination done) pc false width (InRegister Sr) ++ access_if (writes_result done) pc true width (InRegister Sr)) singles =
+    laws.shown device framed a s first len done width origin (destination.Register Sr) outcome under from_so tt may in
+    let first_so = subst (λ list. AreShown (reads ++ list ++ access_if (writes_result done) pc true width (InRegister Sr)) singles) (no_access (reads_destination done) pc false width Sr) shown in
+    let second_so = subst (λ list. AreShown (reads ++ [] ++ list) singles) (no_access (writes_result done) pc true width Sr) first_so in
+    let alone : AreShown reads singles = subst (λ list. AreShown list singles) (append-nil (reads ++ []) ∙ append-nil reads) second_so in
+    subst (λ set. AreShown (access_of pc false width (source_reach pc a set origin)) singles) (counter_one laws pc len origin Sr) alone
+
+pub status_form : (laws : StatusLaws) (device : Device) (framed : Bool) (a : Known) (pc len : ℕ) (done : Operation) (width : Width) (origin : Source) → IsDevice device → IsKnown device.lo device.hi framed a → IsSource origin
+    → IsKnown device.lo device.hi framed (status_worked device framed a pc len done width origin).after
+unfolding status_worked
+status_form laws device framed a pc len done width origin is form from_so =
+    let counted = single ((pc + len) % 65536) in
+    let word = operand_word device a counted width (source_reach pc a counted origin) in
+    let grown_is = grown_form laws device framed a pc len width origin is form from_so in
+    record {
+      sp = grown_is.sp;
+      bits = length_status done width (source_bits a width origin word) a.status.bits (source_length a width origin word form.bits) form.bits;
+      status = tt;
+      count = grown_is.count;
+      registers = grown_is.registers;
+      fact = tt;
+      from = grown_is.from;
+      up_to = grown_is.up_to;
+      cells = grown_is.cells;
+      each_cell = grown_is.each_cell;
+      touched = grown_is.touched;
+      none_touched = grown_is.none_touched;
+    }
+
+pub status_next : (laws : StatusLaws) (device : Device) (framed : Bool) (a : Known) (pc len : ℕ) (done : Operation) (width : Width) (origin : Source)
+    → IsNormal 65536 (status_worked device framed a pc len done width origin).next
+unfolding status_worked
+status_next laws device framed a pc len done width origin = (laws.single 65536 ((pc + len) % 65536) (omega arith)).0
+
+single_rest : (n : ℕ) → n % 2 ≡ 0 → HasRemainder 65536 2 0 (single n)
+single_rest n rest v (zero, lt, is) = let same : n ≡ v = is in subst (λ n. n % 2 ≡ 0) same rest
+single_rest n rest v (suc k, lt, is) = absurd (omega (arith, lt))
+
+pub status_even : (device : Device) (framed : Bool) (a : Known) (pc len : ℕ) (done : Operation) (width : Width) (origin : Source)
+    → (pc + len) % 65536 % 2 ≡ 0 → HasRemainder 65536 2 0 (status_worked device framed a pc len done width origin).next
+unfolding status_worked
+status_even device framed a pc len done width origin rest = single_rest ((pc + len) % 65536) rest

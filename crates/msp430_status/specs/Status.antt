@@ -1,0 +1,67 @@
+-- MOV, BIC and BIS whose destination is SR (SLAU049, chapter 3, "Status Register" and "Instruction Set"): its nine bits, each by
+-- the known bits of both operands. CLRC and DINT are BIC, and SETC and EINT are BIS.
+use Rattle.std.specs.Prelude.{ℕ, ◌+◌, ◌%◌, Bool, false, None, List, take, slice_set}
+use Rattle.entry_value.specs.declared.word.Word.{Word}
+use Rattle.value_set.specs.Summing.{single}
+use Rattle.value_bits.specs.declared.tri.Tri.{Tri}
+use Rattle.value_bits.specs.declared.tri.Tri.TheVariants.{Zero, Either}
+use Rattle.value_bits.specs.Bits.{known_bits, tri_and, tri_not, tri_or}
+use Rattle.msp430_decode.specs.declared.instr.Operation.{Operation}
+use Rattle.msp430_decode.specs.declared.instr.Operation.TheVariants.{Mov, Bic, Bis}
+use Rattle.msp430_decode.specs.declared.instr.Register.TheVariants.{Sr}
+use Rattle.msp430_decode.specs.declared.instr.Source.{Source}
+use Rattle.msp430_decode.specs.declared.instr.Source.TheVariants as source
+use Rattle.msp430_decode.specs.declared.instr.Width.{Width}
+use Rattle.msp430_decode.specs.declared.instr.Width.TheVariants.{Word as Words, Byte}
+use Rattle.msp430_chip.specs.declared.device.Device.{Device}
+use Rattle.msp430_results.specs.Words.{values_of, written_word}
+use Rattle.msp430_state.specs.Known.{Known}
+use Rattle.msp430_state.specs.Pointwise.{each_with}
+use Rattle.msp430_alu.specs.Formats.{Worked, access_of}
+use Rattle.msp430_alu.specs.Operands.{source_reach, grown_known, operand_word}
+
+-- a bit of the result, by that of the source and that of SR
+abbrev pub bit_behind : Operation → (given held : Tri) → Tri
+bit_behind Mov given held = given
+bit_behind Bic given held = tri_and held (tri_not given)
+bit_behind Bis given held = tri_or held given
+bit_behind other given held = Either
+
+-- SR holds nine bits, the lowest one first. A byte has no bit 8.
+abbrev pub status_bits : Operation → Width → (given held : List Tri) → List Tri
+status_bits done Words given held = each_with (bit_behind done) given held
+status_bits done Byte given held = slice_set (each_with (bit_behind done) given held) 8 Zero
+
+-- the lowest nine bits of a word, with the high byte of a byte 0
+abbrev pub lowest_bits : Width → Word → List Tri
+lowest_bits width word = take 9 (known_bits 16 (written_word width (values_of width word) None).set)
+
+-- those of a source, by its word; SR as the source has the bits that it holds
+abbrev pub source_bits : Known → Width → Source → Word → List Tri
+source_bits a width (source.Register Sr) word = a.status.bits
+source_bits a width other word = lowest_bits width word
+
+-- SR has these bits. Its relation goes, and so does the fact.
+abbrev pub with_status_bits : Known → List Tri → Known
+with_status_bits a bits = record {
+  sp = a.sp;
+  status = record { bits = bits; entry = None };
+  late = a.late;
+  registers = a.registers;
+  fact = None;
+  cells = a.cells;
+  touched = a.touched;
+}
+
+-- PC as the source is behind the instruction
+unfoldable pub status_worked : Device → (framed : Bool) → Known → (pc len : ℕ) → Operation → Width → Source → Worked
+status_worked device framed a pc len done width origin =
+    let counted = single ((pc + len) % 65536) in
+    let from = source_reach pc a counted origin in
+    let word = operand_word device a counted width from in
+    record {
+      after = with_status_bits (grown_known a counted width origin) (status_bits done width (source_bits a width origin word) a.status.bits);
+      next = counted;
+      accesses = access_of pc false width from;
+      store = None;
+    }
