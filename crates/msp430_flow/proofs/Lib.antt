@@ -1,6 +1,12 @@
-pub mod CoverLemmas
+pub mod CallStrings
+pub mod GateLemmas
+pub mod Landing
+pub mod Lawful
 pub mod MarksLemmas
 pub mod Members
-pub mod SetLemmas
-pub mod StepLemmas
-pub mod SteppingLemmas
+pub mod Premises
+pub mod Quiet
+pub mod Runs
+pub mod Stepping
+pub mod Stores
+pub mod WayLists

@@ -1,6 +1,6 @@
 pub mod Built
+pub mod Labels
+pub mod Running
 pub mod Chip
-pub mod Cover
 pub mod Machine
 pub mod Marks
-pub mod State

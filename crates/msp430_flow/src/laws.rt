@@ -1,18 +1,18 @@
 //! The laws of the chip.
 
 ghost use Rattle.msp430_flow.specs.Chip.{IsProgram};
-ghost use Rattle.msp430_flow.specs.Cover.{CoversState};
 ghost use Rattle.msp430_flow.specs.Machine.{msp430_machine};
+ghost use Rattle.msp430_state.specs.Holding.{Covers};
 
 use crate::chip::Msp430Chip;
 use chip_law::LawfulChip;
-use msp430_chip::ChipState;
+use msp430_alu::{doubles_hold, pushes_hold, singles_hold};
+use msp430_branch::{cuts_hold, facts_hold};
+use msp430_chip::{ChipState, one_front, steps_keep_form, steps_lead};
 use msp430_decode::decoded_is_the_answer;
-use value_bits::{evens_stay, logic_holds};
-use value_set::{
-    inclusion_is_tested, joins_include_both, members_are_below, remainders_stay,
-    single_and_whole_sets, widenings_include_both,
-};
+use msp430_state::{states_are_ordered, states_cover, states_keep_form};
+use msp430_status::statuses_hold;
+use value_set::members_are_below;
 
 impl LawfulChip for Msp430Chip {
     type State = ChipState;
@@ -21,7 +21,7 @@ impl LawfulChip for Msp430Chip {
 
     ghost machine = { msp430_machine };
 
-    ghost covers = { CoversState };
+    ghost covers = { Covers };
 
     ghost program = { IsProgram };
 
@@ -33,14 +33,19 @@ impl LawfulChip for Msp430Chip {
 
     fn laws() {
         members_are_below();
-        single_and_whole_sets();
-        inclusion_is_tested();
-        joins_include_both();
-        widenings_include_both();
-        remainders_stay();
-        logic_holds();
-        evens_stay();
+        doubles_hold();
+        singles_hold();
+        pushes_hold();
+        statuses_hold();
+        cuts_hold();
+        facts_hold();
+        steps_lead();
+        one_front();
+        steps_keep_form();
         decoded_is_the_answer();
+        states_are_ordered();
+        states_keep_form();
+        states_cover();
     }
 
     fn alike_laws() {}

@@ -1,7 +1,7 @@
-//! The MSP430 as an analysis sees it, with its first instructions.
+//! The MSP430 as an analysis sees it, with all of its data instructions, over registers and memory.
 //!
 //! `specs/Machine.antt` says what the chip does, in single states; `specs/Chip.antt` what the analysis makes of a program,
-//! in sets; `specs/Cover.antt` when a set of states stands for a single one.
+//! in sets; `specs/Built.antt` which instructions are built.
 //!
 //! Proved:
 //!
@@ -11,16 +11,17 @@
 //!   is broken.
 #![tactic(auto)]
 
-mod action;
 mod chip;
+mod gate;
+mod labels;
 mod laws;
 mod marks;
-mod sets;
-mod state;
+mod meeting;
+mod running;
 mod text;
+mod ways;
 
 pub use chip::Msp430Chip;
-pub use state::State;
 pub use text::Msp430Text;
 
 #[cfg(test)]

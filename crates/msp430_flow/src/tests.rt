@@ -1,13 +1,10 @@
-//! Marks, and states that are widened to them.
+//! Marks.
 
 use crate::marks::marks_of;
-use crate::sets::even_words;
-use crate::state::State;
 use ihex_read::Image;
 use msp430_chip::Device;
 use std::alloc::{AllocError, Global};
 use std::test::Fail;
-use value_set::Vs16;
 
 /// A device with RAM from 0200h to 09FFh and these bytes from F000h on.
 fn device_with(alloc: Global, code: &[u8]) -> Result<Device, AllocError> {
@@ -55,16 +52,4 @@ fn rows_of_marks(rt: HostRuntime) -> Result<(), Fail> {
         assert_eq!(rt; found.as_slice(), marks);
     }
     Ok(())
-}
-
-#[test]
-fn a_stack_pointer_is_widened(rt: HostRuntime) {
-    let mut held = State::unknown();
-    held.sp = Vs16::one(0x0280);
-    let mut new = held;
-    new.sp = Vs16::one(0x027E);
-    let to_marks = held.widened(&new, &[0, 1, 0x0200, 0x0A00]);
-    assert_eq!(rt; Some(to_marks.sp), Vs16::run(0x0200, 2, 0x41));
-    assert_eq!(rt; held.widened(&new, &[]).sp, even_words());
-    assert_eq!(rt; Some(held.joined(&new).sp), Vs16::gather(&[0x027E, 0x0280]));
 }

@@ -1,23 +1,68 @@
-use Rattle.std.proofs.Common.{refl, arith}
-use Rattle.value_bits.specs.declared.tri.Logic.TheVariants.{And}
-use Rattle.msp430_flow.proofs.CoverLemmas.{lawful}
+use Rattle.msp430_flow.proofs.Lawful.{lawful}
 use Rattle.msp430_flow.proofs.laws.Msp430ChipLawfulChip.laws.Goals as goal
 
 pub returns : goal.returns
 returns c = lawful record {
-  below = c.members_are_below.ensures 65536;
-  one = c.single_and_whole_sets.ensures.single 65536;
-  whole = c.single_and_whole_sets.ensures.whole 65536;
-  tested = c.inclusion_is_tested.ensures 65536;
-  join_words = c.joins_include_both.ensures.normal 65536;
-  join_first = c.joins_include_both.ensures.first 65536;
-  join_second = c.joins_include_both.ensures.second 65536;
-  widen_words = c.widenings_include_both.ensures.normal 65536;
-  widen_held = c.widenings_include_both.ensures.held 65536;
-  widen_new = c.widenings_include_both.ensures.new 65536;
-  and_words = c.logic_holds.ensures.normal 16 And;
-  join_even = λ a b f g. c.remainders_stay.ensures.join 65536 2 0 a b refl f.0 g.0 f.1 g.1;
-  widen_even = λ a b marks f g. c.remainders_stay.ensures.widen 65536 2 0 a b marks refl f.0 g.0 f.1 g.1;
-  and_even = λ a b f g. c.evens_stay.ensures.and 16 a b (omega arith) f g.0 g.1;
-  and_has = λ x y a b f g h k. c.logic_holds.ensures.holds 16 x y And a b f g h k;
-} c.decoded_is_the_answer.ensures.instruction c.decoded_is_the_answer.ensures.answer c.decoded_is_the_answer.ensures.one
+  sets = record { below = c.members_are_below.ensures 65536 };
+  formats = record {
+    double_left = c.doubles_hold.ensures.left;
+    double_shown = c.doubles_hold.ensures.shown;
+    double_hit = c.doubles_hold.ensures.hit;
+    double_form = c.doubles_hold.ensures.form;
+    double_next = c.doubles_hold.ensures.next;
+    double_even = c.doubles_hold.ensures.even;
+    single_left = c.singles_hold.ensures.left;
+    single_shown = c.singles_hold.ensures.shown;
+    single_hit = c.singles_hold.ensures.hit;
+    single_form = c.singles_hold.ensures.form;
+    single_next = c.singles_hold.ensures.next;
+    single_even = c.singles_hold.ensures.even;
+    push_left = c.pushes_hold.ensures.left;
+    push_shown = c.pushes_hold.ensures.shown;
+    push_hit = c.pushes_hold.ensures.hit;
+    push_form = c.pushes_hold.ensures.form;
+    push_next = c.pushes_hold.ensures.next;
+    push_even = c.pushes_hold.ensures.even;
+  };
+  statuses = record {
+    left = c.statuses_hold.ensures.left;
+    shown = c.statuses_hold.ensures.shown;
+    hit = c.statuses_hold.ensures.hit;
+    form = c.statuses_hold.ensures.form;
+    next = c.statuses_hold.ensures.next;
+    even = c.statuses_hold.ensures.even;
+  };
+  branches = record {
+    parts = c.cuts_hold.ensures.parts;
+    form = c.cuts_hold.ensures.form;
+    interrupts = c.cuts_hold.ensures.interrupts;
+    fact = c.facts_hold.ensures.holds;
+    fact_form = c.facts_hold.ensures.form;
+  };
+  steps = record {
+    lead = c.steps_lead.ensures.step;
+    front = c.one_front.ensures.front;
+    keep = c.steps_keep_form.ensures;
+  };
+  decoding = record {
+    answer = c.decoded_is_the_answer.ensures.answer;
+    one = c.decoded_is_the_answer.ensures.one;
+    instruction = c.decoded_is_the_answer.ensures.instruction;
+  };
+  states = record {
+    itself = c.states_are_ordered.ensures.itself;
+    along = c.states_are_ordered.ensures.along;
+    join_held = c.states_are_ordered.ensures.join_held;
+    join_new = c.states_are_ordered.ensures.join_new;
+    widen_held = c.states_are_ordered.ensures.widen_held;
+    widen_new = c.states_are_ordered.ensures.widen_new;
+    greatest = c.states_are_ordered.ensures.greatest;
+    first_form = c.states_keep_form.ensures.first;
+    top_form = c.states_keep_form.ensures.greatest;
+    join_form = c.states_keep_form.ensures.join;
+    widen_form = c.states_keep_form.ensures.widen;
+    parts = c.states_cover.ensures.parts;
+    more = c.states_cover.ensures.more;
+    reset = c.states_cover.ensures.reset;
+  };
+}

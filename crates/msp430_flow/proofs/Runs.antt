@@ -1,0 +1,379 @@
+-- What an instruction that is built may lead to, from a state that stands under what is known.
+use Rattle.std.proofs.Common.{◌≡◌, ℕ, ◌+◌, ◌%◌, ◌<◌, ◌++◌, ◌==◌, ◌||◌, ◌⊎◌, not, inl, inr, cond, Bool, true, false, Option, None, Some, List, [], ◌∷◌, length, slice_index, slice_set, refl, sym, ap, ◌∙◌, subst, arith, Contains}
+use Rattle.std.proofs.lemmas.Bool.{cases_eq, cond-true, cond-false}
+use Rattle.std.proofs.lemmas.Bool.Decides.{nat_tests}
+use Rattle.std.proofs.lemmas.List.{get_or-set_same, get_or-set_other}
+use Rattle.call_context.specs.Single.{Single}
+use Rattle.std.specs.Option.{option_map}
+use Rattle.entry_value.specs.Words.{HoldsOfWord}
+use Rattle.value_bits.specs.declared.tri.Tri.{Tri}
+use Rattle.value_set.specs.Form.{Has, members}
+use Rattle.value_set.specs.Summing.{single}
+use Rattle.msp430_decode.specs.declared.instr.Condition.{Condition}
+use Rattle.msp430_decode.specs.declared.instr.Destination.{Destination}
+use Rattle.msp430_decode.specs.declared.instr.Destination.TheVariants as destination
+use Rattle.msp430_decode.specs.declared.instr.Register.TheVariants.{Sr}
+use Rattle.msp430_status.specs.Status.{status_worked}
+use Rattle.msp430_decode.specs.Operands.{IsSource}
+use Rattle.msp430_decode.specs.declared.instr.Instr.{Instr}
+use Rattle.msp430_decode.specs.declared.instr.Instr.TheVariants as instr
+use Rattle.msp430_decode.specs.declared.instr.Operation.{Operation}
+use Rattle.msp430_decode.specs.declared.instr.SingleOperation.{SingleOperation}
+use Rattle.msp430_decode.specs.declared.instr.SingleOperation.TheVariants.{Rrc, Swpb, Rra, Sxt, Push, Call}
+use Rattle.msp430_decode.specs.declared.instr.Source.{Source}
+use Rattle.msp430_decode.specs.declared.instr.Width.{Width}
+use Rattle.msp430_decode.specs.declared.instr.Width.TheVariants.{Word, Byte}
+use Rattle.msp430_decode.specs.Table.{IsInstr, length_of, target_of}
+use Rattle.msp430_chip.specs.Arithmetic.{modulus, sets_flags}
+use Rattle.msp430_chip.specs.declared.device.Device.{Device}
+use Rattle.msp430_chip.specs.declared.place.Place.TheVariants.{InMemory}
+use Rattle.msp430_chip.specs.declared.state.ChipState.{ChipState}
+use Rattle.msp430_chip.specs.Leading.{behind_source, origin_of, place_of, pushed_place, MayDouble, MayPush, MayRun, MaySingle}
+use Rattle.msp430_chip.specs.Operands.{access_to}
+use Rattle.msp430_chip.specs.Outcome.{Outcome}
+use Rattle.msp430_chip.specs.State.{register_of}
+use Rattle.msp430_chip.specs.Step.{Left, behind, done, double_accesses, is_taken, jump, lowered}
+use Rattle.msp430_state.specs.declared.fact.FlagFact.{FlagFact}
+use Rattle.msp430_state.specs.Forms.{IsFact, IsKnown}
+use Rattle.msp430_state.specs.Holding.{HoldsOfFact, HoldsOfParts, HoldsOfStatus, HasFlagsOf, suspended_of}
+use Rattle.msp430_state.specs.Known.{Known, known_joined, word_of}
+use Rattle.msp430_alu.specs.Formats.{AreShown, IsHit, IsLeft, IsUnder, Worked, double_worked, push_worked, single_worked}
+use Rattle.msp430_results.specs.Results.{HasWidth}
+use Rattle.msp430_flow.specs.Built.{is_built, is_built_operand, is_built_target, moves_status}
+use Rattle.msp430_branch.specs.Cuts.{known_cut}
+use Rattle.msp430_flow.specs.Running.{Way, all_ways, fact_of, followed, gie_of, known_behind, stored_width, ways_behind, ways_of, ways_to, worked}
+use Rattle.msp430_flow.proofs.GateLemmas.{built_leaves_status, built_leaves_operand, double_is, target_view}
+use Rattle.msp430_flow.proofs.Premises.{Laws}
+use Rattle.msp430_flow.proofs.Members.{in_none, in_cons, in_first, in_rest}
+
+-- one of some ways goes to an address, and the registers and RAM stand under what is known there
+abbrev pub HasWay : Device → Option ChipState → List Way → (to : ℕ) → (registers ram : List ℕ) → Type 0
+HasWay device first all to registers ram = (way : Way) × Contains all way × (way.0 ≡ to) × HoldsOfParts device way.1 first registers ram
+
+-- what an instruction comes to that goes on behind itself, by what is made of what is known and the width of its store
+pub record ComesTo (device : Device) (s : ChipState) (first : Option ChipState) (instr_so : Instr) (made_so : Worked) (width : Width) (outcome : Outcome ChipState) : Type 0 where
+  pub left : Left
+  pub accesses : List Single
+  pub outcome_is : outcome ≡ done s instr_so accesses left
+  pub left_so : IsLeft device made_so.after first made_so.next left
+  pub fact : HoldsOfFact (fact_of instr_so made_so.after) left.registers
+  pub shown : AreShown made_so.accesses accesses
+  pub hit : (at : ℕ) → left.hit ≡ Some at → IsHit device width made_so.store at
+
+-- what the instruction at PC comes to
+pub record IsRun (device : Device) (framed : Bool) (a : Known) (s : ChipState) (first : Option ChipState) (instr_so : Instr) (outcome : Outcome ChipState) : Type 0 where
+  pub left : Left
+  pub accesses : List Single
+  pub outcome_is : outcome ≡ done s instr_so accesses left
+  pub way : HasWay device first (all_ways device framed a (register_of s 0) instr_so) (slice_index left.registers 0) left.registers left.ram
+  pub shown : AreShown (worked device framed a (register_of s 0) instr_so).accesses accesses
+  pub hit : (at : ℕ) → left.hit ≡ Some at → IsHit device (stored_width instr_so) (worked device framed a (register_of s 0) instr_so).store at
+
+to_way : (tos : List ℕ) (a : Known) (v : ℕ) → Contains tos v → Contains {X = Way} (ways_to tos a) (v, a)
+to_way [] a v h = absurd (in_none v h)
+to_way (to ∷ tos) a v h = elim (in_cons to tos v h) [
+  | inl same ↦ subst (λ n. Contains {X = Way} ((to, a) ∷ ways_to tos a) (n, a)) same (in_first {X = Way} (to, a) (ways_to tos a))
+  | inr rest ↦ in_rest {X = Way} (to, a) (ways_to tos a) (v, a) (to_way tos a v rest)
+]
+
+parts_followed : (device : Device) (late : Tri) (fact : Option FlagFact) (b : Known) (first : Option ChipState) (registers ram : List ℕ) → HoldsOfParts device b first registers ram
+    → HoldsOfFact fact registers → HoldsOfParts device (followed late fact b) first registers ram
+parts_followed device late fact b first registers ram h told =
+    record { sp = h.sp; status = h.status; words = h.words; fact = told; cells = h.cells; untouched = h.untouched }
+
+-- an instruction that goes to each address that PC may have
+by_next : (device : Device) (framed : Bool) (a : Known) (s : ChipState) (first : Option ChipState) (instr_so : Instr) (outcome : Outcome ChipState)
+    → all_ways device framed a (register_of s 0) instr_so ≡ ways_to (members 65536 (worked device framed a (register_of s 0) instr_so).next) (known_behind device framed a (register_of s 0) instr_so)
+    → ComesTo device s first instr_so (worked device framed a (register_of s 0) instr_so) (stored_width instr_so) outcome
+    → IsRun device framed a s first instr_so outcome
+by_next device framed a s first instr_so outcome is comes =
+    let pc = register_of s 0 in
+    let to = slice_index comes.left.registers 0 in
+    let after = (worked device framed a pc instr_so).after in
+    let next = (worked device framed a pc instr_so).next in
+    let behind_so = known_behind device framed a pc instr_so in
+    let way : Way = (to, behind_so) in
+    record {
+      left = comes.left;
+      accesses = comes.accesses;
+      outcome_is = comes.outcome_is;
+      way = (
+        way,
+        subst (λ all. Contains all way) (sym is) (to_way (members 65536 next) behind_so to comes.left_so.next_is.has),
+        refl,
+        parts_followed device (gie_of a) (fact_of instr_so after) after first comes.left.registers comes.left.ram comes.left_so.parts comes.fact,
+      );
+      shown = comes.shown;
+      hit = comes.hit;
+    }
+
+-- TWO OPERANDS
+
+not_true : (b : Bool) → not b ≡ true → b ≡ false
+not_true true h = absurd (cc)
+not_true false h = refl
+
+double_comes : Laws → (device : Device) (framed : Bool) (a : Known) (s : ChipState) (first : Option ChipState) (operation : Operation) (width : Width) (origin : Source) (target : Destination) (outcome : Outcome ChipState)
+    → IsUnder device framed a s first → IsInstr (instr.Double operation width origin target) → is_built_target target ≡ true
+    → MayDouble device s (length_of (instr.Double operation width origin target)) operation width origin target outcome
+    → ComesTo device s first (instr.Double operation width origin target) (double_worked device framed a (register_of s 0) (length_of (instr.Double operation width origin target)) operation width origin target) width outcome
+double_comes laws device framed a s first operation width origin target outcome under fits built may =
+    let len = length_of (instr.Double operation width origin target) in
+    let pc = register_of s 0 in
+    let left_so = laws.formats.double_left device framed a s first len operation width origin target outcome under fits.0 fits.1 (built_leaves_status target built) may in
+    record {
+      left = may.left;
+      accesses = double_accesses pc operation width (origin_of s may.counted origin) (place_of s len may.counted width origin target);
+      outcome_is = may.outcome_is;
+      left_so = left_so;
+      fact = laws.branches.fact device (double_worked device framed a pc len operation width origin target).after s first len operation width origin target outcome under.holds.state may left_so.parts;
+      shown = laws.formats.double_shown device framed a s first len operation width origin target outcome under fits.0 fits.1 may;
+      hit = λ at hits. laws.formats.double_hit device framed a s first len operation width origin target outcome at under fits.0 fits.1 may hits;
+    }
+
+-- SR as the destination
+status_comes : Laws → (device : Device) (framed : Bool) (a : Known) (s : ChipState) (first : Option ChipState) (operation : Operation) (width : Width) (origin : Source) (outcome : Outcome ChipState)
+    → IsUnder device framed a s first → IsSource origin → sets_flags operation ≡ false
+    → MayDouble device s (length_of (instr.Double operation width origin (destination.Register Sr))) operation width origin (destination.Register Sr) outcome
+    → ComesTo device s first (instr.Double operation width origin (destination.Register Sr))
+    (worked device framed a (register_of s 0) (instr.Double operation width origin (destination.Register Sr))) width outcome
+status_comes laws device framed a s first operation width origin outcome under fits plain may =
+    let target = destination.Register Sr in
+    let len = length_of (instr.Double operation width origin target) in
+    let pc = register_of s 0 in
+    let left_so = laws.statuses.left device framed a s first len operation width origin outcome plain under fits may in
+    record {
+      left = may.left;
+      accesses = double_accesses pc operation width (origin_of s may.counted origin) (place_of s len may.counted width origin target);
+      outcome_is = may.outcome_is;
+      left_so = left_so;
+      fact = laws.branches.fact device (status_worked device framed a pc len operation width origin).after s first len operation width origin target outcome under.holds.state may left_so.parts;
+      shown = laws.statuses.shown device framed a s first len operation width origin outcome under fits may;
+      hit = λ at hits. let none = laws.statuses.hit device s len operation width origin outcome may in absurd (cc);
+    }
+
+status_run : Laws → (device : Device) (framed : Bool) (a : Known) (s : ChipState) (first : Option ChipState) (operation : Operation) (width : Width) (origin : Source) (target : Destination) (outcome : Outcome ChipState)
+    → IsUnder device framed a s first → IsInstr (instr.Double operation width origin target)
+    → (is_built (instr.Double operation width origin target) || moves_status (instr.Double operation width origin target)) ≡ true
+    → MayDouble device s (length_of (instr.Double operation width origin target)) operation width origin target outcome
+    → target ≡ destination.Register Sr
+    → IsRun device framed a s first (instr.Double operation width origin target) outcome
+status_run laws device framed a s first operation width origin target outcome under fits built may status =
+    subst (λ t. IsInstr (instr.Double operation width origin t) → (is_built (instr.Double operation width origin t) || moves_status (instr.Double operation width origin t)) ≡ true
+    → MayDouble device s (length_of (instr.Double operation width origin t)) operation width origin t outcome → IsRun device framed a s first (instr.Double operation width origin t) outcome) (sym status)
+    (λ f b m. by_next device framed a s first (instr.Double operation width origin (destination.Register Sr)) outcome refl
+    (status_comes laws device framed a s first operation width origin outcome under f.0 (not_true (sets_flags operation) b) m)) fits built may
+
+-- either of them
+double_run : Laws → (device : Device) (framed : Bool) (a : Known) (s : ChipState) (first : Option ChipState) (operation : Operation) (width : Width) (origin : Source) (target : Destination) (outcome : Outcome ChipState)
+    → IsUnder device framed a s first → IsInstr (instr.Double operation width origin target)
+    → (is_built (instr.Double operation width origin target) || moves_status (instr.Double operation width origin target)) ≡ true
+    → MayDouble device s (length_of (instr.Double operation width origin target)) operation width origin target outcome
+    → (is_built_target target ≡ true) ⊎ (target ≡ destination.Register Sr)
+    → IsRun device framed a s first (instr.Double operation width origin target) outcome
+double_run laws device framed a s first operation width origin target outcome under fits built may (inl ordinary) =
+    let len = length_of (instr.Double operation width origin target) in
+    by_next device framed a s first (instr.Double operation width origin target) outcome refl
+    (subst (λ (w : Worked). ComesTo device s first (instr.Double operation width origin target) w width outcome)
+    (sym (double_is device framed a (register_of s 0) len operation width origin target ordinary))
+    (double_comes laws device framed a s first operation width origin target outcome under fits ordinary may))
+double_run laws device framed a s first operation width origin target outcome under fits built may (inr status) =
+    status_run laws device framed a s first operation width origin target outcome under fits built may status
+
+-- ONE OPERAND
+
+pub width_of : (operation : SingleOperation) (width : Width) (operand : Source) → IsInstr (instr.Single operation width operand) → HasWidth operation width
+width_of Rrc width operand fits = tt
+width_of Swpb Word operand fits = tt
+width_of Swpb Byte operand fits = absurd fits.1.0
+width_of Rra width operand fits = tt
+width_of Sxt Word operand fits = tt
+width_of Sxt Byte operand fits = absurd fits.1.0
+width_of Push width operand fits = tt
+width_of Call width operand fits = tt
+
+single_comes : Laws → (device : Device) (framed : Bool) (a : Known) (s : ChipState) (first : Option ChipState) (operation : SingleOperation) (width : Width) (operand : Source) (outcome : Outcome ChipState)
+    → IsUnder device framed a s first → IsInstr (instr.Single operation width operand) → is_built_operand operand ≡ true
+    → MaySingle device s (length_of (instr.Single operation width operand)) operation width operand outcome
+    → ComesTo device s first (instr.Single operation width operand) (single_worked device framed a (register_of s 0) (length_of (instr.Single operation width operand)) operation width operand) width outcome
+single_comes laws device framed a s first operation width operand outcome under fits built may =
+    let len = length_of (instr.Single operation width operand) in
+    let place = origin_of s (behind s len) operand in
+    let left_so = laws.formats.single_left device framed a s first len operation width operand outcome under fits.0 (built_leaves_operand operand built) (width_of operation width operand fits) may in
+    record {
+      left = may.left;
+      accesses = access_to (register_of s 0) false width place ++ access_to (register_of s 0) true width place;
+      outcome_is = may.outcome_is;
+      left_so = left_so;
+      fact = left_so.parts.fact;
+      shown = laws.formats.single_shown device framed a s first len operation width operand under fits.0;
+      hit = λ at hits. laws.formats.single_hit device framed a s first len operation width operand outcome at under fits.0 may hits;
+    }
+
+push_comes : Laws → (device : Device) (framed : Bool) (a : Known) (s : ChipState) (first : Option ChipState) (operation : SingleOperation) (width : Width) (operand : Source) (outcome : Outcome ChipState)
+    → IsUnder device framed a s first → IsInstr (instr.Single operation width operand)
+    → MayPush device s (length_of (instr.Single operation width operand)) operation width operand outcome
+    → ComesTo device s first (instr.Single operation width operand) (push_worked device framed a (register_of s 0) (length_of (instr.Single operation width operand)) operation width operand) Word outcome
+push_comes laws device framed a s first operation width operand outcome under fits may =
+    let len = length_of (instr.Single operation width operand) in
+    let left_so = laws.formats.push_left device framed a s first len operation width operand outcome under fits.0 may in
+    record {
+      left = may.left;
+      accesses = access_to (register_of s 0) false width (pushed_place s len may.option operand)
+          ++ access_to (register_of s 0) true Word (InMemory (lowered (slice_index (behind_source s (behind s len) width operand) 1)));
+      outcome_is = may.outcome_is;
+      left_so = left_so;
+      fact = left_so.parts.fact;
+      shown = laws.formats.push_shown device framed a s first len operation width operand outcome under fits.0 may;
+      hit = λ at hits. laws.formats.push_hit device framed a s first len operation width operand outcome at under fits.0 may hits;
+    }
+
+-- JUMPS
+
+-- a fact speaks of SR and of one of R4 to R15
+jumped_fact : (fact : Option FlagFact) (registers : List ℕ) (next : ℕ) → IsFact fact → HoldsOfFact fact registers → HoldsOfFact fact (slice_set registers 0 next)
+jumped_fact None registers next is h = tt
+jumped_fact (Some fact) registers next is h =
+    let low : 3 < fact.register = is.0 in
+    let value = get_or-set_other registers 0 fact.register next 0 (λ e. omega arith) in
+    let sr = get_or-set_other registers 0 2 next 0 (λ e. omega arith) in
+    subst (λ v. HasFlagsOf fact.width ((v + fact.added) % modulus fact.width) fact.compared (slice_index (slice_set registers 0 next) 2) × (fact.width ≡ Byte → v < 256)) (sym value)
+    (subst (λ r. HasFlagsOf fact.width ((slice_index registers fact.register + fact.added) % modulus fact.width) fact.compared r × (fact.width ≡ Byte → slice_index registers fact.register < 256)) (sym sr) h)
+
+-- registers with another PC
+jumped_parts : (device : Device) (a : Known) (s : ChipState) (first : Option ChipState) (next : ℕ) → IsFact a.fact → HoldsOfParts device a first s.registers s.ram
+    → HoldsOfParts device a first (slice_set s.registers 0 next) s.ram
+jumped_parts device a s first next is h =
+    let sp = get_or-set_other s.registers 0 1 next 0 (λ e. omega arith) in
+    let sr = get_or-set_other s.registers 0 2 next 0 (λ e. omega arith) in
+    record {
+      sp = subst (λ v. Has 65536 a.sp v) (sym sp) h.sp;
+      status = subst (HoldsOfStatus (option_map suspended_of first) a.status) (sym sr) h.status;
+      words = λ register low high. subst (HoldsOfWord (option_map suspended_of first) (word_of a register))
+          (sym (get_or-set_other s.registers 0 register next 0 (λ e. omega arith))) (h.words register low high);
+      fact = jumped_fact a.fact s.registers next is h.fact;
+      cells = h.cells;
+      untouched = h.untouched;
+    }
+
+jump_is : (s : ChipState) (condition : Condition) (offset : ℕ) (taken : Bool) → is_taken condition (register_of s 2) ≡ taken
+    → jump s condition offset ≡ done s (instr.Jump condition offset) [] (record { registers = slice_set s.registers 0 (cond taken (target_of (register_of s 0) offset) (behind s 2)); ram = s.ram; hit = None })
+unfolding jump
+jump_is s condition offset taken e =
+    ap (λ t. done s (instr.Jump condition offset) [] (record { registers = slice_set s.registers 0 (cond t (target_of (register_of s 0) offset) (behind s 2)); ram = s.ram; hit = None })) e
+
+module _ (laws : Laws) (device : Device) (framed : Bool) (first : Option ChipState) (registers ram : List ℕ) where
+  -- what is known on one of two ways that are joined
+  joined_first : (a b : Known) → IsKnown device.lo device.hi framed a → IsKnown device.lo device.hi framed b → HoldsOfParts device a first registers ram
+      → HoldsOfParts device (known_joined a b) first registers ram
+  joined_first a b f g h = laws.states.parts device device.lo device.hi framed a (known_joined a b) first registers ram f (laws.states.join_held device.lo device.hi framed a b f g) h
+
+  joined_second : (a b : Known) → IsKnown device.lo device.hi framed a → IsKnown device.lo device.hi framed b → HoldsOfParts device b first registers ram
+      → HoldsOfParts device (known_joined a b) first registers ram
+  joined_second a b f g h = laws.states.parts device device.lo device.hi framed b (known_joined a b) first registers ram g (laws.states.join_new device.lo device.hi framed a b f g) h
+
+  abbrev AreKnown : Option Known → Type 0
+  AreKnown None = Unit {0}
+  AreKnown (Some a) = IsKnown device.lo device.hi framed a
+
+  way_jumped : (ahead target : ℕ) (on : Option Known) (b : Known) → AreKnown on → IsKnown device.lo device.hi framed b → HoldsOfParts device b first registers ram
+      → HasWay device first (ways_of ahead target on (Some b)) target registers ram
+  way_jumped ahead target None b f g h = ((target, b), in_first (target, b) [], refl, h)
+  way_jumped ahead target (Some a) b f g h = elim (cases_eq ahead target) [
+    | inl same ↦ subst (λ all. HasWay device first all target registers ram) (sym (cond-true (ahead == target) ((ahead, known_joined a b) ∷ []) ((ahead, a) ∷ (target, b) ∷ []) (grind (arith, nat_tests, same))))
+        ((ahead, known_joined a b), in_first (ahead, known_joined a b) [], same, joined_second a b f g h)
+    | inr other ↦ subst (λ all. HasWay device first all target registers ram) (sym (cond-false (ahead == target) ((ahead, known_joined a b) ∷ []) ((ahead, a) ∷ (target, b) ∷ []) (grind (arith, nat_tests, other))))
+        ((target, b), in_rest (ahead, a) ((target, b) ∷ []) (target, b) (in_first (target, b) []), refl, h)
+  ]
+
+  way_on : (ahead target : ℕ) (a : Known) (jumped : Option Known) → IsKnown device.lo device.hi framed a → AreKnown jumped → HoldsOfParts device a first registers ram
+      → HasWay device first (ways_of ahead target (Some a) jumped) ahead registers ram
+  way_on ahead target a None f g h = ((ahead, a), in_first (ahead, a) [], refl, h)
+  way_on ahead target a (Some b) f g h = elim (cases_eq ahead target) [
+    | inl same ↦ subst (λ all. HasWay device first all ahead registers ram) (sym (cond-true (ahead == target) ((ahead, known_joined a b) ∷ []) ((ahead, a) ∷ (target, b) ∷ []) (grind (arith, nat_tests, same))))
+        ((ahead, known_joined a b), in_first (ahead, known_joined a b) [], refl, joined_first a b f g h)
+    | inr other ↦ subst (λ all. HasWay device first all ahead registers ram) (sym (cond-false (ahead == target) ((ahead, known_joined a b) ∷ []) ((ahead, a) ∷ (target, b) ∷ []) (grind (arith, nat_tests, other))))
+        ((ahead, a), in_first (ahead, a) ((target, b) ∷ []), refl, h)
+  ]
+
+  cut_known : (condition : Condition) (taken : Bool) (a : Known) (found : Option Known) → IsKnown device.lo device.hi framed a → known_cut condition taken a ≡ found → AreKnown found
+  cut_known condition taken a None f e = tt
+  cut_known condition taken a (Some b) f e = laws.branches.form device.lo device.hi framed a b condition taken f e
+
+  -- the way that a jump takes
+  way_of_jump : (pc offset : ℕ) (condition : Condition) (taken : Bool) (a b : Known) → IsKnown device.lo device.hi framed a → known_cut condition taken a ≡ Some b → HoldsOfParts device b first registers ram
+      → HasWay device first (ways_behind pc (instr.Jump condition offset) (single ((pc + 2) % 65536)) a) (cond taken (target_of pc offset) ((pc + 2) % 65536)) registers ram
+  way_of_jump pc offset condition true a b f e h =
+      let on = known_cut condition false a in
+      subst (λ found. HasWay device first (ways_of ((pc + 2) % 65536) (target_of pc offset) on found) (target_of pc offset) registers ram) (sym e)
+      (way_jumped ((pc + 2) % 65536) (target_of pc offset) on b (cut_known condition false a on f refl) (laws.branches.form device.lo device.hi framed a b condition true f e) h)
+  way_of_jump pc offset condition false a b f e h =
+      let jumped = known_cut condition true a in
+      subst (λ found. HasWay device first (ways_of ((pc + 2) % 65536) (target_of pc offset) found jumped) ((pc + 2) % 65536) registers ram) (sym e)
+      (way_on ((pc + 2) % 65536) (target_of pc offset) b jumped (laws.branches.form device.lo device.hi framed a b condition false f e) (cut_known condition true a jumped f refl) h)
+
+pub late_form : (lo hi : ℕ) (framed : Bool) (late : Tri) (fact : Option FlagFact) (b : Known) → IsFact fact → IsKnown lo hi framed b → IsKnown lo hi framed (followed late fact b)
+late_form lo hi framed late fact b told form = record {
+  sp = form.sp;
+  bits = form.bits;
+  status = form.status;
+  count = form.count;
+  registers = form.registers;
+  fact = told;
+  from = form.from;
+  up_to = form.up_to;
+  cells = form.cells;
+  each_cell = form.each_cell;
+  touched = form.touched;
+  none_touched = form.none_touched;
+}
+
+jump_run : Laws → (device : Device) (framed : Bool) (a : Known) (s : ChipState) (first : Option ChipState) (condition : Condition) (offset : ℕ) (outcome : Outcome ChipState)
+    → IsUnder device framed a s first → outcome ≡ jump s condition offset
+    → IsRun device framed a s first (instr.Jump condition offset) outcome
+jump_run laws device framed a s first condition offset outcome under is =
+    let pc = register_of s 0 in
+    let taken = is_taken condition (register_of s 2) in
+    let next = cond taken (target_of pc offset) ((pc + 2) % 65536) in
+    let registers = slice_set s.registers 0 next in
+    let ahead = followed (gie_of a) a.fact a in
+    let form = late_form device.lo device.hi framed (gie_of a) a.fact a under.form.fact under.form in
+    let (b, cut_so, parts) = laws.branches.parts device device.lo device.hi framed ahead first s.registers s.ram condition form
+    (parts_followed device (gie_of a) a.fact a first s.registers s.ram under.holds.parts under.holds.parts.fact) in
+    let fact : IsFact b.fact = (laws.branches.form device.lo device.hi framed ahead b condition taken form cut_so).fact in
+    let long : 0 < length s.registers = omega (arith, under.holds.state.registers) in
+    let way = way_of_jump laws device framed first registers s.ram pc offset condition taken ahead b form cut_so (jumped_parts device b s first next fact parts) in
+    record {
+      left = record { registers = registers; ram = s.ram; hit = None };
+      accesses = [];
+      outcome_is = is ∙ jump_is s condition offset taken refl;
+      way = subst (λ to. HasWay device first (ways_behind pc (instr.Jump condition offset) (single ((pc + 2) % 65536)) ahead) to registers s.ram) (sym (get_or-set_same s.registers 0 next 0 long)) way;
+      shown = λ single_so there. absurd (in_none single_so there);
+      hit = λ at none. absurd (cc);
+    }
+
+-- EVERY INSTRUCTION
+
+or_none : (b : Bool) → (b || false) ≡ true → b ≡ true
+or_none true h = refl
+or_none false h = absurd (cc)
+
+pub instr_run : Laws → (device : Device) (framed : Bool) (a : Known) (s : ChipState) (first : Option ChipState) (instr_so : Instr) (outcome : Outcome ChipState)
+    → IsUnder device framed a s first → IsInstr instr_so → (is_built instr_so || moves_status instr_so) ≡ true → MayRun device s instr_so (length_of instr_so) outcome
+    → IsRun device framed a s first instr_so outcome
+instr_run laws device framed a s first (instr.Double operation width origin target) outcome under fits built may =
+    double_run laws device framed a s first operation width origin target outcome under fits built may (target_view target)
+instr_run laws device framed a s first (instr.Single Push width operand) outcome under fits built may =
+    by_next device framed a s first (instr.Single Push width operand) outcome refl (push_comes laws device framed a s first Push width operand outcome under fits may)
+instr_run laws device framed a s first (instr.Single Call width operand) outcome under fits built may =
+    by_next device framed a s first (instr.Single Call width operand) outcome refl (push_comes laws device framed a s first Call width operand outcome under fits may)
+instr_run laws device framed a s first (instr.Single Rrc width operand) outcome under fits built may =
+    by_next device framed a s first (instr.Single Rrc width operand) outcome refl (single_comes laws device framed a s first Rrc width operand outcome under fits (or_none (is_built_operand operand) built) may)
+instr_run laws device framed a s first (instr.Single Swpb width operand) outcome under fits built may =
+    by_next device framed a s first (instr.Single Swpb width operand) outcome refl (single_comes laws device framed a s first Swpb width operand outcome under fits (or_none (is_built_operand operand) built) may)
+instr_run laws device framed a s first (instr.Single Rra width operand) outcome under fits built may =
+    by_next device framed a s first (instr.Single Rra width operand) outcome refl (single_comes laws device framed a s first Rra width operand outcome under fits (or_none (is_built_operand operand) built) may)
+instr_run laws device framed a s first (instr.Single Sxt width operand) outcome under fits built may =
+    by_next device framed a s first (instr.Single Sxt width operand) outcome refl (single_comes laws device framed a s first Sxt width operand outcome under fits (or_none (is_built_operand operand) built) may)
+instr_run laws device framed a s first (instr.Jump condition offset) outcome under fits built may = jump_run laws device framed a s first condition offset outcome under may
+instr_run laws device framed a s first instr.ReturnFromInterrupt outcome under fits built may = absurd (cc)

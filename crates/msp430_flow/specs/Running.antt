@@ -1,0 +1,152 @@
+-- What an instruction makes of what is known of a state.
+use Rattle.std.specs.Prelude.{ℕ, ◌+◌, ◌%◌, ◌==◌, ◌||◌, nat_lt, if◌then◌else◌, Bool, true, false, Option, None, Some, List, [], ◌∷◌, is_some}
+use Rattle.std.specs.List.{slice_index_or, list_any}
+use Rattle.value_bits.specs.declared.tri.Tri.{Tri}
+use Rattle.value_bits.specs.declared.tri.Tri.TheVariants.{Zero, One, Either}
+use Rattle.value_set.specs.declared.form.Form.{Form}
+use Rattle.value_set.specs.Form.{members}
+use Rattle.value_set.specs.Summing.{count_of, single}
+use Rattle.msp430_decode.specs.declared.instr.Instr.{Instr}
+use Rattle.msp430_decode.specs.declared.instr.Instr.TheVariants.{Double, Jump, Single as OneOperand, ReturnFromInterrupt}
+use Rattle.msp430_decode.specs.declared.instr.SingleOperation.{SingleOperation}
+use Rattle.msp430_decode.specs.declared.instr.SingleOperation.TheVariants.{Push, Call}
+use Rattle.msp430_decode.specs.declared.instr.Source.{Source}
+use Rattle.msp430_decode.specs.declared.instr.Width.{Width}
+use Rattle.msp430_decode.specs.declared.instr.Width.TheVariants.{Word}
+use Rattle.msp430_decode.specs.Table.{length_of, target_of}
+use Rattle.msp430_chip.specs.declared.device.Device.{Device}
+use Rattle.msp430_chip.specs.Memory.{program_hit}
+use Rattle.msp430_state.specs.declared.fact.FlagFact.{FlagFact}
+use Rattle.msp430_state.specs.Known.{Known, known_joined}
+use Rattle.msp430_decode.specs.declared.instr.Destination.{Destination}
+use Rattle.msp430_decode.specs.declared.instr.Destination.TheVariants as destination
+use Rattle.msp430_decode.specs.declared.instr.Operation.{Operation}
+use Rattle.msp430_decode.specs.declared.instr.Register.TheVariants.{Sr}
+use Rattle.msp430_status.specs.Status.{status_worked}
+use Rattle.msp430_flow.specs.Built.{is_built}
+use Rattle.msp430_branch.specs.Cuts.{known_cut}
+use Rattle.msp430_branch.specs.Facts.{fact_behind}
+use Rattle.msp430_alu.specs.Formats.{Worked, double_worked, single_worked, push_worked}
+
+-- THE FORMATS
+
+abbrev pub single_or_push : Device → (framed : Bool) → Known → (pc len : ℕ) → SingleOperation → Width → Source → Worked
+single_or_push device framed a pc len Push width operand = push_worked device framed a pc len Push width operand
+single_or_push device framed a pc len Call width operand = push_worked device framed a pc len Call width operand
+single_or_push device framed a pc len other width operand = single_worked device framed a pc len other width operand
+
+-- a jump changes PC alone, and shows no access; its ways are told apart
+abbrev pub unchanged : Known → (next : ℕ) → Worked
+unchanged a next = record { after = a; next = single next; accesses = []; store = None }
+
+abbrev pub double_or_status : Device → (framed : Bool) → Known → (pc len : ℕ) → Operation → Width → Source → Destination → Worked
+double_or_status device framed a pc len operation width origin (destination.Register Sr) = status_worked device framed a pc len operation width origin
+double_or_status device framed a pc len operation width origin other = double_worked device framed a pc len operation width origin other
+
+abbrev pub worked : Device → (framed : Bool) → Known → ℕ → Instr → Worked
+worked device framed a pc (Double operation width origin target) =
+    double_or_status device framed a pc (length_of (Double operation width origin target)) operation width origin target
+worked device framed a pc (OneOperand operation width operand) =
+    single_or_push device framed a pc (length_of (OneOperand operation width operand)) operation width operand
+worked device framed a pc (Jump condition offset) = unchanged a ((pc + 2) % 65536)
+worked device framed a pc ReturnFromInterrupt = unchanged a ((pc + 2) % 65536)
+
+-- WHAT IS KNOWN BEHIND
+
+-- CMP and SUB with a constant leave a fact
+abbrev pub fact_of : Instr → Known → Option FlagFact
+fact_of (Double operation width origin target) after = fact_behind operation width origin target after
+fact_of (OneOperand operation width operand) after = after.fact
+fact_of (Jump condition offset) after = after.fact
+fact_of ReturnFromInterrupt after = after.fact
+
+-- GIE, bit 3 of SR
+abbrev pub gie_of : Known → Tri
+gie_of a = slice_index_or a.status.bits 3 Either
+
+-- Where GIE was set in front of an instruction, an interrupt may still come behind it.
+abbrev pub followed : (late : Tri) → Option FlagFact → Known → Known
+followed late fact a = record {
+  sp = a.sp;
+  status = a.status;
+  late = late;
+  registers = a.registers;
+  fact = fact;
+  cells = a.cells;
+  touched = a.touched;
+}
+
+abbrev pub known_behind : Device → (framed : Bool) → Known → ℕ → Instr → Known
+known_behind device framed a pc instr = let after = (worked device framed a pc instr).after in followed (gie_of a) (fact_of instr after) after
+
+-- WHERE IT GOES ON
+
+-- an address, with what is known there
+abbrev pub Way : Type 0
+Way = ℕ × Known
+
+-- the way on and the way of a jump, where they can be; two that lead to one address are joined
+abbrev pub ways_of : (behind target : ℕ) → (on jumped : Option Known) → List Way
+ways_of behind target None None = []
+ways_of behind target (Some a) None = (behind, a) ∷ []
+ways_of behind target None (Some b) = (target, b) ∷ []
+ways_of behind target (Some a) (Some b) = if behind == target then (behind, known_joined a b) ∷ [] else (behind, a) ∷ (target, b) ∷ []
+
+-- what is known stands at each of some addresses
+abbrev pub ways_to : List ℕ → Known → List Way
+ways_to [] a = []
+ways_to (to ∷ others) a = (to, a) ∷ ways_to others a
+
+-- a jump goes two ways, and all else to each address that PC may have then
+abbrev pub ways_behind : ℕ → Instr → (next : Form) → (behind : Known) → List Way
+ways_behind pc (Jump condition offset) next a =
+    ways_of ((pc + 2) % 65536) (target_of pc offset) (known_cut condition false a) (known_cut condition true a)
+ways_behind pc other next a = ways_to (members 65536 next) a
+
+abbrev pub all_ways : Device → (framed : Bool) → Known → ℕ → Instr → List Way
+all_ways device framed a pc instr = ways_behind pc instr (worked device framed a pc instr).next (known_behind device framed a pc instr)
+
+-- the most addresses that are followed
+abbrev pub target_limit : ℕ
+target_limit = 64
+
+-- more addresses than are followed
+abbrev pub are_too_many : Form → Bool
+are_too_many next = nat_lt target_limit (count_of 65536 next)
+
+-- those that are followed, by what the instruction makes of what is known
+abbrev pub ways_by : Known → ℕ → Instr → Worked → List Way
+ways_by a pc instr made =
+    if are_too_many made.next then [] else ways_behind pc instr made.next (followed (gie_of a) (fact_of instr made.after) made.after)
+
+abbrev pub ways : Device → (framed : Bool) → Known → ℕ → Instr → List Way
+ways device framed a pc instr = ways_by a pc instr (worked device framed a pc instr)
+
+-- THE GATE
+
+abbrev pub is_clear : Tri → Bool
+is_clear Zero = true
+is_clear One = false
+is_clear Either = false
+
+-- an instruction that is built, or behind which GIE is known to be 0
+abbrev pub passes : Device → (framed : Bool) → Known → ℕ → Instr → Bool
+passes device framed a pc instr = is_built instr || is_clear (gie_of (worked device framed a pc instr).after)
+
+-- STORES
+
+abbrev pub pushed_width : SingleOperation → Width → Width
+pushed_width Push width = Word
+pushed_width Call width = Word
+pushed_width other width = width
+
+-- the width of what an instruction stores; PUSH and CALL store words
+abbrev pub stored_width : Instr → Width
+stored_width (Double operation width origin target) = width
+stored_width (OneOperand operation width operand) = pushed_width operation width
+stored_width (Jump condition offset) = Word
+stored_width ReturnFromInterrupt = Word
+
+-- a store at one of some addresses may write a byte of the program
+abbrev pub may_hit : Device → Width → Form → Bool
+may_hit device width set = list_any (λ at. is_some (program_hit device width at)) (members 65536 set)

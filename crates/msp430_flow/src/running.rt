@@ -1,0 +1,168 @@
+//! Instructions over what is known of a state.
+
+ghost use Rattle.std.specs.Prelude.{◌≡◌, ◌≤◌, [], IfOk};
+ghost use Rattle.msp430_decode.specs.Table.{IsInstr};
+ghost use Rattle.msp430_flow.specs.Running as running;
+
+use abs_memory::CellList;
+use call_context::Sequence;
+use msp430_alu::{Worked, double, push, single};
+use msp430_branch::fact_behind;
+use msp430_chip::Device;
+use msp430_decode::{Destination, Instr, Operation, Register, SingleOperation, Source, Width};
+use msp430_state::{FlagFact, State};
+use msp430_status::status;
+use std::alloc::Global;
+use value_set::Vs16;
+use vsa_io::Memory;
+
+/// The width of what an instruction stores; PUSH and CALL store words.
+pub fn stored_width(instr: &Instr) -> Width
+    ensures { result ≡ running.stored_width instr.now }
+{
+    match instr {
+        Instr::Double { width, .. } => *width,
+        Instr::Single {
+            operation: SingleOperation::Push | SingleOperation::Call,
+            ..
+        } => Width::Word,
+        Instr::Single { width, .. } => *width,
+        Instr::Jump { .. } | Instr::ReturnFromInterrupt => Width::Word,
+    }
+}
+
+/// A jump changes PC alone, and shows no access; its ways are told apart.
+fn unchanged(alloc: Global, at: &State<CellList>, next: u16) -> Result<Worked<CellList>, Memory>
+    ensures { IfOk result (λ worked. worked ≡ running.unchanged at.now next) }
+{
+    Ok(Worked {
+        after: at.copy(alloc)?,
+        next: Vs16::one(next),
+        accesses: Sequence::new(alloc),
+        store: None,
+    })
+}
+
+/// An instruction with one operand.
+fn one_operand(
+    alloc: Global,
+    device: &Device,
+    framed: bool,
+    at: &State<CellList>,
+    pc: u16,
+    len: u8,
+    operation: SingleOperation,
+    width: Width,
+    operand: Source,
+) -> Result<Worked<CellList>, Memory>
+    requires ram { device.now.lo ≤ device.now.hi }
+    requires row { IsInstr (Instr.Single operation width operand) }
+    ensures { IfOk result (λ worked. worked ≡ running.single_or_push device.now framed at.now pc len operation width operand) }
+{
+    match operation {
+        SingleOperation::Push | SingleOperation::Call => {
+            push(
+                alloc, device, framed, at, pc, len, operation, width, operand,
+            )
+        }
+        _ => single(
+            alloc, device, framed, at, pc, len, operation, width, operand,
+        ),
+    }
+}
+
+/// An instruction with two operands.
+fn two_operands(
+    alloc: Global,
+    device: &Device,
+    framed: bool,
+    at: &State<CellList>,
+    pc: u16,
+    len: u8,
+    operation: Operation,
+    width: Width,
+    source: Source,
+    destination: Destination,
+) -> Result<Worked<CellList>, Memory>
+    requires ram { device.now.lo ≤ device.now.hi }
+    requires long { 2 ≤ len }
+    ensures { IfOk result (λ worked. worked ≡ running.double_or_status device.now framed at.now pc len operation width source destination) }
+{
+    match destination {
+        Destination::Register(Register::Sr) => {
+            status(alloc, device, framed, at, pc, len, operation, width, source)
+        }
+        _ => double(
+            alloc,
+            device,
+            framed,
+            at,
+            pc,
+            len,
+            operation,
+            width,
+            source,
+            destination,
+        ),
+    }
+}
+
+/// What an instruction at an address makes of what is known of a state.
+pub fn run(
+    alloc: Global,
+    device: &Device,
+    framed: bool,
+    at: &State<CellList>,
+    pc: u16,
+    instr: &Instr,
+) -> Result<Worked<CellList>, Memory>
+    requires ram { device.now.lo ≤ device.now.hi }
+    requires row { IsInstr instr.now }
+    ensures { IfOk result (λ worked. worked ≡ running.worked device.now framed at.now pc instr.now) }
+{
+    let len = instr.length();
+    match *instr {
+        Instr::Double {
+            operation,
+            width,
+            source,
+            destination,
+        } => two_operands(
+            alloc,
+            device,
+            framed,
+            at,
+            pc,
+            len,
+            operation,
+            width,
+            source,
+            destination,
+        ),
+        Instr::Single {
+            operation,
+            width,
+            operand,
+        } => one_operand(
+            alloc, device, framed, at, pc, len, operation, width, operand,
+        ),
+        Instr::Jump { .. } | Instr::ReturnFromInterrupt => {
+            unchanged(alloc, at, pc.wrapping_add(2))
+        }
+    }
+}
+
+/// What the flags say of a register behind an instruction: CMP and SUB with a constant leave a fact.
+pub fn fact_of(instr: &Instr, after: &State<CellList>) -> Option<FlagFact>
+    ensures { result ≡ running.fact_of instr.now after.now }
+{
+    match *instr {
+        Instr::Double {
+            operation,
+            width,
+            source,
+            destination,
+        } => fact_behind(after, operation, width, source, destination),
+        _ => after.fact,
+    }
+}
