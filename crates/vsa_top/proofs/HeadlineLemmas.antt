@@ -9,7 +9,7 @@ use Rattle.ihex_read.specs.declared.rule_set.Rules.{Rules}
 use Rattle.ihex_read.specs.declared.rule_set.Rules.TheVariants.{Msp430}
 use Rattle.ihex_read.specs.declared.rule_set.Tail.{Tail}
 use Rattle.ihex_read.specs.declared.rule_set.Tail.TheVariants.{Blank, Second}
-use Rattle.ihex_read.specs.ImageText.{Denotes, FirstFault}
+use Rattle.ihex_read.specs.ImageText.{Denotes, FirstFault, IsRamRange}
 use Rattle.ihex_read.specs.Kept.{IsReadUnder}
 use Rattle.ihex_read.specs.Lines as texts
 use Rattle.ihex_read.specs.Reading.{HasEnded}
@@ -39,7 +39,7 @@ use Rattle.vsa_top.specs.declared.words.Ram.{Ram}
 use Rattle.vsa_top.specs.declared.words.Reading.{Reading}
 use Rattle.vsa_top.specs.declared.words.Reading.TheVariants.{Analyse, Disasm, Run}
 use Rattle.vsa_top.specs.declared.words.Target.{Target}
-use Rattle.vsa_top.specs.Words.{rules_of, device_of}
+use Rattle.vsa_top.specs.Words.{EndsInMemory, rules_of, device_of}
 use Rattle.vsa_top.proofs.InputLemmas.{front_goes_on}
 
 -- the reply that an answer gives whole
@@ -116,25 +116,31 @@ analysed one ram input second answered report journal text image other gives rep
     subst (λ i. IsAnalysed instr_text (msp430_analysis (device_of ram i)) answered report journal)
     (same_image one (RulesOf ram) input text image other e denoted (gives_image (RulesOf ram) input second other gives)) reply
 
-closed_reply : CoverRuns → HaveRules → HaveOneImage → (ram : Ram) (input : Option (List ℕ)) (report : List ℕ) (journal : List Event)
+-- the device with an image that was read is a program
+program_of : HaveRules → (ram : Ram) (text : List ℕ) (image : List (Option ℕ)) → IsRamRange (RulesOf ram) → EndsInMemory (RulesOf ram)
+    → Denotes (RulesOf ram) Blank (texts.lines_of text) image → IsProgram (device_of ram image)
+program_of rules ram text image range end denoted =
+    record { read = rules (RulesOf ram) Blank (texts.lines_of text) image denoted; ram = range; top = end }
+
+closed_reply : CoverRuns → HaveRules → HaveOneImage → (ram : Ram) → IsRamRange (RulesOf ram) → EndsInMemory (RulesOf ram) → (input : Option (List ℕ)) (report : List ℕ) (journal : List Event)
     → IsReply (Analyse ram) input Done report journal → (text : List ℕ) (image : List (Option ℕ)) → input ≡ Some text
     → Denotes (RulesOf ram) Blank (texts.lines_of text) image → CoversEveryRun (msp430_machine (device_of ram image)) instr_text report
-closed_reply cover rules one ram input report journal (of_image other second gives reply) text image e denoted =
+closed_reply cover rules one ram range end input report journal (of_image other second gives reply) text image e denoted =
     let device = device_of ram image in
     let is = analysed one ram input second Done report journal text image other gives reply e denoted in
-    let program : IsProgram device = rules (RulesOf ram) Blank (texts.lines_of text) image denoted in
+    let program = program_of rules ram text image range end denoted in
     let none_left = closed_is (are_closed (last_works (msp430_analysis device) journal)) is.status_is in
     subst (CoversEveryRun (msp430_machine device) instr_text) (sym is.text_is)
     (cover device instr_text journal program is.is_analysis.legal is.is_analysis.finished none_left)
-closed_reply cover rules one ram input report journal (of_bad line fault bad is line_is none) text image e denoted = absurd (cc)
-closed_reply cover rules one ram input report journal (of_long long is line_is none) text image e denoted = absurd (cc)
+closed_reply cover rules one ram range end input report journal (of_bad line fault bad is line_is none) text image e denoted = absurd (cc)
+closed_reply cover rules one ram range end input report journal (of_long long is line_is none) text image e denoted = absurd (cc)
 
 pub closed_lem : CoverRuns → HaveRules → HaveOneImage → (ram : Ram) (input before after : Option (List ℕ)) (journal : List Event)
-    → Answers (Analyse ram) Done input before after journal →
+    → IsRamRange (RulesOf ram) → EndsInMemory (RulesOf ram) → Answers (Analyse ram) Done input before after journal →
     ReportsOn ram input before after (λ device report. CoversEveryRun (msp430_machine device) instr_text report)
-closed_lem cover rules one ram input before after journal answers text image e denoted =
+closed_lem cover rules one ram input before after journal range end answers text image e denoted =
     let given = gives_reply (Analyse ram) Done input before after journal answers ((λ f. cc f), (λ f. cc f)) (λ f. cc f) in
-    (given.text, given.held, closed_reply cover rules one ram input given.text journal given.reply text image e denoted)
+    (given.text, given.held, closed_reply cover rules one ram range end input given.text journal given.reply text image e denoted)
 
 end_ends : (target : Target) (steps : ℕ) (end : End) → Ends (Run target steps) (status_of_end end)
 end_ends target steps ended.Ran = ran_on target steps
@@ -178,17 +184,17 @@ open_is_analysis reading input report journal (of_image other second gives reply
 open_is_analysis reading input report journal (of_bad line fault bad is line_is none) = absurd (cc)
 open_is_analysis reading input report journal (of_long long is line_is none) = absurd (cc)
 
-open_reply : ShowSites → HaveRules → HaveOneImage → (ram : Ram) (input : Option (List ℕ)) (report : List ℕ) (journal : List Event)
+open_reply : ShowSites → HaveRules → HaveOneImage → (ram : Ram) → IsRamRange (RulesOf ram) → EndsInMemory (RulesOf ram) → (input : Option (List ℕ)) (report : List ℕ) (journal : List Event)
     → IsReply (Analyse ram) input Open report journal → (text : List ℕ) (image : List (Option ℕ)) → input ≡ Some text
     → Denotes (RulesOf ram) Blank (texts.lines_of text) image → ShowsOpenSites (msp430_analysis (device_of ram image)) journal report
-open_reply shows rules one ram input report journal (of_image other second gives reply) text image e denoted =
+open_reply shows rules one ram range end input report journal (of_image other second gives reply) text image e denoted =
     let device = device_of ram image in
     let is = analysed one ram input second Open report journal text image other gives reply e denoted in
-    let program : IsProgram device = rules (RulesOf ram) Blank (texts.lines_of text) image denoted in
+    let program = program_of rules ram text image range end denoted in
     let left = open_is (are_closed (last_works (msp430_analysis device) journal)) is.status_is in
     subst (ShowsOpenSites (msp430_analysis device) journal) (sym is.text_is) (shows device instr_text journal program is.is_analysis.legal left)
-open_reply shows rules one ram input report journal (of_bad line fault bad is line_is none) text image e denoted = absurd (cc)
-open_reply shows rules one ram input report journal (of_long long is line_is none) text image e denoted = absurd (cc)
+open_reply shows rules one ram range end input report journal (of_bad line fault bad is line_is none) text image e denoted = absurd (cc)
+open_reply shows rules one ram range end input report journal (of_long long is line_is none) text image e denoted = absurd (cc)
 
 -- what an answer that is told as open says of its reading
 abbrev ShowsOpen : Reading → (input before after : Option (List ℕ)) → List Event → Type 0
@@ -196,17 +202,17 @@ ShowsOpen reading input before after journal =
     (ram : Ram) × (reading ≡ Analyse ram) × ReportsOn ram input before after (λ device report. ShowsOpenSites (msp430_analysis device) journal report)
 
 open_shown : ShowSites → HaveRules → HaveOneImage → (reading : Reading) (input before after : Option (List ℕ)) (journal : List Event)
-    → GivesReply reading Open input before after journal → (ram : Ram) → reading ≡ Analyse ram → ShowsOpen reading input before after journal
-open_shown shows rules one reading input before after journal given ram is =
+    → IsRamRange (rules_of reading) → EndsInMemory (rules_of reading) → GivesReply reading Open input before after journal → (ram : Ram) → reading ≡ Analyse ram → ShowsOpen reading input before after journal
+open_shown shows rules one reading input before after journal range end given ram is =
     let reply : IsReply (Analyse ram) input Open given.text journal = subst (λ r. IsReply r input Open given.text journal) is given.reply in
-    (ram, is, λ text image e denoted. (given.text, given.held, open_reply shows rules one ram input given.text journal reply text image e denoted))
+    (ram, is, λ text image e denoted. (given.text, given.held, open_reply shows rules one ram (subst (λ r. IsRamRange (rules_of r)) is range) (subst (λ r. EndsInMemory (rules_of r)) is end) input given.text journal reply text image e denoted))
 
 pub open_lem : ShowSites → HaveRules → HaveOneImage → (reading : Reading) (input before after : Option (List ℕ)) (journal : List Event)
-    → Answers reading Open input before after journal → ShowsOpen reading input before after journal
-open_lem shows rules one reading input before after journal answers =
+    → IsRamRange (rules_of reading) → EndsInMemory (rules_of reading) → Answers reading Open input before after journal → ShowsOpen reading input before after journal
+open_lem shows rules one reading input before after journal range end answers =
     let given = gives_reply reading Open input before after journal answers ((λ f. cc f), (λ f. cc f)) (λ f. cc f) in
     let is = open_is_analysis reading input given.text journal given.reply in
-    open_shown shows rules one reading input before after journal given is.0 is.1
+    open_shown shows rules one reading input before after journal range end given is.0 is.1
 
 abbrev HaveNotBoth : Type 0
 HaveNotBoth = (rules : Rules) (tail : Tail) (lines : List (List ℕ)) (image : List (Option ℕ)) (line : ℕ) (fault : HexFault)

@@ -1,5 +1,7 @@
 -- What the words ask: numbers of steps, options, and readings, of which there is at most one.
-use Rattle.std.proofs.Common.{◌≡◌, ℕ, ◌+◌, ◌-◌, ◌*◌, ◌<◌, ◌≤◌, List, [], ◌∷◌, Option, None, Some, refl, sym, ◌∙◌, ap, ap₂, subst, arith, All}
+use Rattle.std.proofs.lemmas.Bool.Decides.{nat_tests}
+use Rattle.std.proofs.lemmas.Bool.{cond_both}
+use Rattle.std.proofs.Common.{◌≡◌, ◌&&◌, cond, nat_le, drop, ℕ, ◌+◌, ◌-◌, ◌*◌, ◌<◌, ◌≤◌, List, [], ◌∷◌, Option, None, Some, refl, sym, ◌∙◌, ap, ap₂, subst, arith, All}
 use Rattle.std.proofs.lemmas.List.{length-map}
 use Rattle.std.proofs.lemmas.List.Elements.{All-cons, All-tail}
 use Rattle.std.specs.Prelude.{IfNone, IfSome, length, MatchOption, map, codes, string_bytes}
@@ -7,7 +9,9 @@ use Rattle.std.specs.List.{IsFirstAndRest}
 use Rattle.std.specs.declared.string.String.{String}
 use Rattle.std.specs.declared.alloc.Global.{Global}
 use Rattle.ihex_read.specs.declared.rule_set.Rules.TheVariants as rules
+use Rattle.hex.specs.Hex.{hex_digit_value}
 use Rattle.ihex_read.specs.ImageText.{IsRamRange}
+use Rattle.ihex_read.specs.declared.rule_set.Rules.{Rules}
 use Rattle.vsa_top.specs.declared.words.Chip.{Chip}
 use Rattle.vsa_top.specs.declared.words.Chip.TheVariants as chip
 use Rattle.vsa_top.specs.declared.words.Mode.{Mode}
@@ -17,7 +21,7 @@ use Rattle.vsa_top.specs.declared.words.Ram.{Ram}
 use Rattle.vsa_top.specs.declared.words.Reading.{Reading}
 use Rattle.vsa_top.specs.declared.words.Target.{Target}
 use Rattle.vsa_top.specs.declared.words.Target.TheVariants.{Msp430, Mcs51}
-use Rattle.vsa_top.specs.Words.{Adds, IsDigit, IsNumberBehind, IsRange, IsSteps, Reads, Say, asked, chip_word, number_behind, mode_word, reading_by, reading_with, target_by, target_rules, with_range, with_number, or_else, rules_of, usual}
+use Rattle.vsa_top.specs.Words.{Adds, EndsInMemory, IsDigit, IsNumberBehind, IsRange, IsSteps, Reads, Say, asked, chip_word, number_behind, number_from, number_of, mode_word, reading_by, reading_with, target_by, target_rules, with_range, with_number, or_else, rules_of, usual}
 use Rattle.vsa_top.specs.Words.Adds.{ranged, stepped}
 
 -- NUMBERS
@@ -298,12 +302,39 @@ reads_alone words first second rest (Some mode) (Some chip) (Some options) found
     (λ other reads. same ∙ asked_alone mode chip options first second rest other is named said (parts_of words first second rest other two reads))
 
 -- RAM stands where it may
+abbrev IsRam : Rules → Type 0
+IsRam rules_so = IsRamRange rules_so × EndsInMemory rules_so
+
 abbrev RangeOf : Option Ram → Type 0
 RangeOf None = Unit {0}
-RangeOf (Some ram) = IsRamRange (rules.Msp430 ram.lo ram.hi)
+RangeOf (Some ram) = IsRam (rules.Msp430 ram.lo ram.hi)
+
+digit_below : (c : ℕ) → IfSome (hex_digit_value c) (λ v. v < 16)
+digit_below c =
+    cond_both (nat_le 65 c && nat_le c 70) (Some (c - 55)) (cond (nat_le 97 c && nat_le c 102) (Some (c - 87)) (cond (nat_le 48 c && nat_le c 57) (Some (c - 48)) None)) (λ o. IfSome o (λ v. v < 16))
+    (λ e. grind (arith, nat_tests))
+    (λ _. cond_both (nat_le 97 c && nat_le c 102) (Some (c - 87)) (cond (nat_le 48 c && nat_le c 57) (Some (c - 48)) None) (λ o. IfSome o (λ v. v < 16))
+    (λ e. grind (arith, nat_tests))
+    (λ _. cond_both (nat_le 48 c && nat_le c 57) (Some (c - 48)) None (λ o. IfSome o (λ v. v < 16)) (λ e. grind (arith, nat_tests)) (λ _. tt)))
+
+four_below : (a b c d : Option ℕ) → IfSome a (λ v. v < 16) → IfSome b (λ v. v < 16) → IfSome c (λ v. v < 16) → IfSome d (λ v. v < 16)
+    → IfSome (number_from a b c d) (λ n. n < 65536)
+four_below (Some a) (Some b) (Some c) (Some d) h i j k = omega arith
+four_below (Some a) (Some b) (Some c) None h i j k = tt
+four_below (Some a) (Some b) None d h i j k = tt
+four_below (Some a) None c d h i j k = tt
+four_below None b c d h i j k = tt
+
+number_below : (digits : List ℕ) → IfSome (number_of digits) (λ n. n < 65536)
+number_below [] = tt
+number_below (a ∷ []) = tt
+number_below (a ∷ b ∷ []) = tt
+number_below (a ∷ b ∷ c ∷ []) = tt
+number_below (a ∷ b ∷ c ∷ d ∷ []) = four_below (hex_digit_value a) (hex_digit_value b) (hex_digit_value c) (hex_digit_value d) (digit_below a) (digit_below b) (digit_below c) (digit_below d)
+number_below (a ∷ b ∷ c ∷ d ∷ e ∷ digits) = tt
 
 range_added : (option text : List ℕ) (behind options : Options) → RangeOf behind.ram → Adds option text behind options → RangeOf options.ram
-range_added option text behind _ held (ranged ram name none range) = range.allowed
+range_added option text behind _ held (ranged ram name none range) = (range.allowed, subst (λ o. IfSome o (λ n. n < 65536)) range.last (number_below (drop 5 text)))
 range_added option text behind _ held (stepped steps name none number) = held
 
 range_said : (words : List (List ℕ)) (options : Options) → Say words options → RangeOf options.ram
@@ -311,21 +342,21 @@ range_said [] options said = subst (λ (o : Options). RangeOf o.ram) (sym said) 
 range_said (option ∷ []) options said = elim said [ ]
 range_said (option ∷ text ∷ words) options said = range_added option text said.0 options (range_said words said.0 said.1) said.2
 
-range_or_usual : (held : Option Ram) → RangeOf held → IsRamRange (rules.Msp430 (or_else held usual).lo (or_else held usual).hi)
-range_or_usual None held = (refl, refl, omega arith, omega arith)
+range_or_usual : (held : Option Ram) → RangeOf held → IsRam (rules.Msp430 (or_else held usual).lo (or_else held usual).hi)
+range_or_usual None held = ((refl, refl, omega arith, omega arith), omega arith)
 range_or_usual (Some ram) held = held
 
 abbrev RangeIn : Option Target → Type 0
 RangeIn None = Unit {0}
-RangeIn (Some target) = IsRamRange (target_rules target)
+RangeIn (Some target) = IsRam (target_rules target)
 
 target_range : (chip : Chip) (ram : Option Ram) → RangeOf ram → RangeIn (target_by chip ram)
 target_range chip.Msp430 ram held = range_or_usual ram held
-target_range chip.Mcs51 None held = tt
+target_range chip.Mcs51 None held = (tt, tt)
 target_range chip.Mcs51 (Some ram) held = tt
 
 reading_range : (mode : Mode) (target : Option Target) (steps : Option ℕ) → RangeIn target
-    → IfSome (reading_by mode target steps) (λ reading. IsRamRange (rules_of reading))
+    → IfSome (reading_by mode target steps) (λ reading. IsRam (rules_of reading))
 reading_range mode None steps held = tt
 reading_range mode.Analyse (Some (Msp430 ram)) None held = held
 reading_range mode.Analyse (Some (Msp430 ram)) (Some steps) held = tt
@@ -334,11 +365,15 @@ reading_range mode.Disasm (Some target) None held = held
 reading_range mode.Disasm (Some target) (Some steps) held = tt
 reading_range mode.Run (Some target) steps held = held
 
-pub reads_range : (words : List (String Global)) (reading : Reading) → Reads words reading → IsRamRange (rules_of reading)
+pub reads_range : (words : List (String Global)) (reading : Reading) → Reads words reading → IsRam (rules_of reading)
 reads_range words reading reads =
     let held = target_range reads.chip reads.options.ram (range_said reads.said reads.options reads.say) in
-    subst (λ found. IfSome found (λ r. IsRamRange (rules_of r))) reads.is (reading_range reads.mode (target_by reads.chip reads.options.ram) reads.options.steps held)
+    subst (λ found. IfSome found (λ r. IsRam (rules_of r))) reads.is (reading_range reads.mode (target_by reads.chip reads.options.ram) reads.options.steps held)
 
 pub found_range : (words : List (String Global)) (found : Option Reading) → IfSome found (Reads words) → IfSome found (λ reading. IsRamRange (rules_of reading))
 found_range words None reads = tt
-found_range words (Some reading) reads = reads_range words reading reads
+found_range words (Some reading) reads = (reads_range words reading reads).0
+
+pub found_end : (words : List (String Global)) (found : Option Reading) → IfSome found (Reads words) → IfSome found (λ reading. EndsInMemory (rules_of reading))
+found_end words None reads = tt
+found_end words (Some reading) reads = (reads_range words reading reads).1

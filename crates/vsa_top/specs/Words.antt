@@ -32,6 +32,11 @@ target_rules Mcs51 = rules.Mcs51
 abbrev pub rules_of : Reading → Rules
 rules_of reading = target_rules (target_of reading)
 
+-- RAM ends in memory
+abbrev pub EndsInMemory : Rules → Type 0
+EndsInMemory (rules.Msp430 lo hi) = hi < 65536
+EndsInMemory rules.Mcs51 = Unit {0}
+
 -- the MSP430 with an image and this RAM
 abbrev pub device_of : Ram → List (Option ℕ) → Device
 device_of ram image = record { image = image; lo = ram.lo; hi = ram.hi }

@@ -10,7 +10,8 @@ ghost use Rattle.vsa_top.specs.declared.outcome.Status.TheVariants.{Done, Memory
 ghost use Rattle.vsa_top.specs.declared.outcome.Status.{Status as AStatus};
 ghost use Rattle.vsa_top.specs.Answer.{Answers, Ends};
 ghost use Rattle.vsa_top.specs.Input.{Gives, tail_of};
-ghost use Rattle.vsa_top.specs.Words.{rules_of};
+ghost use Rattle.vsa_top.specs.Words.{EndsInMemory, rules_of};
+ghost use Rattle.ihex_read.specs.ImageText.{IsRamRange};
 ghost use Rattle.vsa_top.specs.declared.words.Ram.{Ram as ARam};
 ghost use Rattle.vsa_top.specs.declared.words.Reading.TheVariants.{Analyse};
 ghost use Rattle.vsa_top.specs.declared.words.Reading.{Reading as AReading};
@@ -24,10 +25,10 @@ use report_text::{closed_reports_cover_runs, open_reports_show_sites};
 /// sites. An image within the limit gets what is asked of it where nothing fails and memory is there.
 pub(crate) fn reports_hold()
     ensures closed { (ram : ARam) (input before after : Option (List ℕ)) (journal : List AnEvent)
-        → Answers (Analyse ram) Done input before after journal →
+        → IsRamRange (rules_of (Analyse ram)) → EndsInMemory (rules_of (Analyse ram)) → Answers (Analyse ram) Done input before after journal →
         ReportsOn ram input before after (λ device report. CoversEveryRun (msp430_machine device) instr_text report) }
     ensures open { (reading : AReading) (input before after : Option (List ℕ)) (journal : List AnEvent)
-        → Answers reading Open input before after journal →
+        → IsRamRange (rules_of reading) → EndsInMemory (rules_of reading) → Answers reading Open input before after journal →
         (ram : ARam) × (reading ≡ Analyse ram) × ReportsOn ram input before after (λ device report. ShowsOpenSites (msp430_analysis device) journal report) }
     ensures complete { (reading : AReading) (answered : AStatus) (input before after : Option (List ℕ)) (journal : List AnEvent) (text : List ℕ) (image : List (Option ℕ)) (second : List ℕ)
         → Answers reading answered input before after journal → input ≡ Some text → Gives (rules_of reading) (tail_of reading) text image second

@@ -16,6 +16,8 @@ pub use top::vsa;
 pub use worker_rounds::{Gate, NoGate};
 
 #[cfg(test)]
+mod analysis_rows;
+#[cfg(test)]
 mod mcs51_rows;
 #[cfg(test)]
 mod run_rows;

@@ -167,21 +167,26 @@ fn rows_open(rt: HostRuntime) -> Result<(), Fail> {
         ),
         (
             ":02F000000343C8\n:02FFFE0000F011\n:00000001FF\n",
-            "OPEN\nO F000 Unbuilt\nS F000 0000/2/8000\nT none 1\n",
+            "OPEN\nE F000 F002\nI F000 0343 MOV #0,R3\nO F002 Fetch\nS F000 0000/2/8000\nS F002 0000/2/8000\nT none 2\n",
         ),
         // an excluded word
         (
             ":02F0000000000E\n:02FFFE0000F011\n:00000001FF\n",
             "OPEN\nO F000 Fetch\nS F000 0000/2/8000\nT none 1\n",
         ),
-        // MOV.B R4,R4, and MOV #0280h,PC
+        // RETI, and BIS #8,SR
         (
-            ":02F00000444486\n:02FFFE0000F011\n:00000001FF\n",
+            ":02F000000013FB\n:02FFFE0000F011\n:00000001FF\n",
             "OPEN\nO F000 Unbuilt\nS F000 0000/2/8000\nT none 1\n",
         ),
         (
-            ":04F00000304080021A\n:02FFFE0000F011\n:00000001FF\n",
+            ":04F0000032D2FF3FCA\n:02FFFE0000F011\n:00000001FF\n",
             "OPEN\nO F000 Unbuilt\nS F000 0000/2/8000\nT none 1\n",
+        ),
+        // MOV #0280h,PC
+        (
+            ":04F00000304080021A\n:02FFFE0000F011\n:00000001FF\n",
+            "OPEN\nE F000 0280\nI F000 30408002 MOV #0280h,PC\nO 0280 Fetch\nS 0280 0000/2/8000\nS F000 0000/2/8000\nT none 2\n",
         ),
         // MOV #1234h,R4 without its extension word
         (

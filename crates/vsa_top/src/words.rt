@@ -10,7 +10,7 @@ ghost use Rattle.vsa_top.specs.declared.words.Mode.{Mode as AMode};
 ghost use Rattle.vsa_top.specs.declared.words.Options.{Options as AOptions};
 ghost use Rattle.vsa_top.specs.declared.words.Ram.{Ram as ARam};
 ghost use Rattle.vsa_top.specs.declared.words.Reading.{Reading as AReading};
-ghost use Rattle.vsa_top.specs.Words.{IsNumberBehind, IsRange, IsSteps, Reads, Say, chip_word, mode_word, number_of as the_number, reading_by as the_reading_by, reading_with as all_three, rules_of, target_by as the_target_by, target_of, target_rules, with_number, with_range};
+ghost use Rattle.vsa_top.specs.Words.{EndsInMemory, IsNumberBehind, IsRange, IsSteps, Reads, Say, chip_word, mode_word, number_of as the_number, reading_by as the_reading_by, reading_with as all_three, rules_of, target_by as the_target_by, target_of, target_rules, with_number, with_range};
 
 use ihex_read::{Rules, Tail};
 
@@ -328,6 +328,7 @@ fn reading_with(mode: Option<Mode>, chip: Option<Chip>, options: Option<Options>
 pub fn reading_of(words: &[String]) -> Option<Reading>
     ensures reads { IfSome result (Reads words.now) }
     ensures range { IfSome result (λ reading. IsRamRange (rules_of reading)) }
+    ensures end { IfSome result (λ reading. EndsInMemory (rules_of reading)) }
     ensures alone { IfSome result (λ reading. (other : AReading) → Reads words.now other → other ≡ reading) }
     ensures none { IfNone result ((reading : AReading) → ¬ Reads words.now reading) }
 {

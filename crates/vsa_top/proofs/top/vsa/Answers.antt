@@ -1,5 +1,7 @@
 use Rattle.std.proofs.Common.{◌≡◌, sym, subst}
+use Rattle.ihex_read.specs.ImageText.{IsRamRange}
 use Rattle.vsa_top.specs.Answer.{Answers}
+use Rattle.vsa_top.specs.Words.{EndsInMemory, rules_of}
 use Rattle.vsa_top.specs.declared.words.Reading.TheVariants.{Analyse}
 use Rattle.vsa_top.proofs.top.vsa.Goals as goal
 
@@ -13,6 +15,7 @@ returns-clause-headline g c = λ ram reads done.
     let after = g.K.Sink.held c.answer.new.sink in
     let same : Analyse ram ≡ c.in-Some.reading = c.in-Some.ensures.alone (Analyse ram) reads in
     c.reports_hold.ensures.closed ram input before after c.answer.result.journal.items
+    (subst (λ r. IsRamRange (rules_of r)) (sym same) c.in-Some.ensures.range) (subst (λ r. EndsInMemory (rules_of r)) (sym same) c.in-Some.ensures.end)
     (subst (λ status. Answers (Analyse ram) status input before after c.answer.result.journal.items) done
     (subst (λ r. Answers r c.answer.result.status input before after c.answer.result.journal.items) (sym same) c.answer.ensures.answer))
 
@@ -23,6 +26,7 @@ returns-clause-open_sites g c = λ reading reads open_status.
     let after = g.K.Sink.held c.answer.new.sink in
     let same : reading ≡ c.in-Some.reading = c.in-Some.ensures.alone reading reads in
     c.reports_hold.ensures.open reading input before after c.answer.result.journal.items
+    (subst (λ r. IsRamRange (rules_of r)) (sym same) c.in-Some.ensures.range) (subst (λ r. EndsInMemory (rules_of r)) (sym same) c.in-Some.ensures.end)
     (subst (λ status. Answers reading status input before after c.answer.result.journal.items) open_status
     (subst (λ r. Answers r c.answer.result.status input before after c.answer.result.journal.items) (sym same) c.answer.ensures.answer))
 
