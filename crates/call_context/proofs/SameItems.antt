@@ -8,7 +8,7 @@ use Rattle.std.proofs.Math.Dec.{eqb}
 use Rattle.std.proofs.lemmas.Bool.Decides.{Decides-eqb, Decides-and, Decides-like}
 use Rattle.std.proofs.lemmas.Slice.Eq.{slice_eq-Decides}
 use Rattle.call_context.specs.declared.shown.Cause.{Cause}
-use Rattle.call_context.specs.declared.shown.Cause.TheVariants.{Fetch, Targets, Store, Unbuilt}
+use Rattle.call_context.specs.declared.shown.Cause.TheVariants.{Fetch, Targets, Store}
 use Rattle.call_context.specs.declared.shown.Item.{Item}
 use Rattle.call_context.specs.declared.shown.Item.TheVariants.{Instr, Edge, Access, Stack}
 use Rattle.call_context.specs.declared.shown.Set.{Set}
@@ -121,19 +121,12 @@ pub cause_same : (a b : Cause) → Decides (cause_eq a b) (a ≡ b)
 cause_same Fetch Fetch = (λ e. refl, λ e. refl)
 cause_same (Targets x) (Targets y) = Decides-like _ (ap Targets) (λ e. cc e) (form_same x y)
 cause_same (Store x) (Store y) = Decides-like _ (ap Store) (λ e. cc e) (form_same x y)
-cause_same Unbuilt Unbuilt = (λ e. refl, λ e. refl)
 cause_same Fetch (Targets y) = apart (λ e. cc e)
 cause_same Fetch (Store y) = apart (λ e. cc e)
-cause_same Fetch Unbuilt = apart (λ e. cc e)
 cause_same (Targets x) Fetch = apart (λ e. cc e)
 cause_same (Targets x) (Store y) = apart (λ e. cc e)
-cause_same (Targets x) Unbuilt = apart (λ e. cc e)
 cause_same (Store x) Fetch = apart (λ e. cc e)
 cause_same (Store x) (Targets y) = apart (λ e. cc e)
-cause_same (Store x) Unbuilt = apart (λ e. cc e)
-cause_same Unbuilt Fetch = apart (λ e. cc e)
-cause_same Unbuilt (Targets y) = apart (λ e. cc e)
-cause_same Unbuilt (Store y) = apart (λ e. cc e)
 
 pub item_same : (a b : Item) → Decides (item_eq a b) (a ≡ b)
 item_same (Instr pc bytes) (Instr pc' bytes') = Decides-like _

@@ -30,8 +30,6 @@ pub enum Cause {
     Targets(Vs16),
     /// A store whose set of addresses has one of the image.
     Store(Vs16),
-    /// The analysis of the instruction isn't built yet.
-    Unbuilt,
 }
 
 /// A value set of either width.

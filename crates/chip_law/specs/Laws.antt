@@ -8,7 +8,7 @@ use Rattle.call_context.specs.declared.node.Node.TheVariants.{Exit}
 use Rattle.call_context.specs.declared.node.Unit.{Unit as WorkUnit}
 use Rattle.call_context.specs.declared.node.Unit.TheVariants.{One, Back}
 use Rattle.call_context.specs.declared.shown.Cause.{Cause}
-use Rattle.call_context.specs.declared.shown.Cause.TheVariants.{Fetch, Targets, Store, Unbuilt}
+use Rattle.call_context.specs.declared.shown.Cause.TheVariants.{Fetch, Targets, Store}
 use Rattle.call_context.specs.Nodes.{pc_of, frame_of, IsLocation}
 use Rattle.chip_law.specs.declared.chip.Work.{Work}
 use Rattle.chip_law.specs.Analysis.{Analysis, AreFormed, KeepsForm, IsOrdered}
@@ -40,14 +40,13 @@ abbrev pub location_of : WorkUnit → Node
 location_of (One node) = node
 location_of (Back node exit) = node
 
--- The cause of an open tells why a step leads out of the model. Of an instruction that isn't built it may be either.
+-- the cause of an open tells why a step leads out of the model
 abbrev pub Tells : Cause → Leaving → Type 0
 Tells Fetch no_instruction = Unit {0}
 Tells Fetch (program_written at) = ⊥
 Tells (Store values) no_instruction = ⊥
 Tells (Store values) (program_written at) = Unit {0}
 Tells (Targets values) why = ⊥
-Tells Unbuilt why = Unit {0}
 
 -- some open of the work tells it
 abbrev pub IsTold : {A : Type 0} → Work A → Leaving → Type 0

@@ -6,7 +6,7 @@ use Rattle.call_context.specs.declared.shown.Set.TheVariants.{B, W}
 use Rattle.call_context.specs.declared.shown.Space.{Space}
 use Rattle.call_context.specs.declared.shown.Space.TheVariants.{Mem, Ram, Sfr, Xram, Code}
 use Rattle.call_context.specs.declared.shown.Cause.{Cause}
-use Rattle.call_context.specs.declared.shown.Cause.TheVariants.{Fetch, Targets, Store, Unbuilt}
+use Rattle.call_context.specs.declared.shown.Cause.TheVariants.{Fetch, Targets, Store}
 use Rattle.call_context.specs.declared.shown.Item.{Item}
 use Rattle.call_context.specs.declared.shown.Item.TheVariants.{Instr, Edge, Access, Stack}
 use Rattle.chip_law.specs.Digits.{hex, short_hex}
@@ -63,4 +63,3 @@ abbrev pub open_line_of : ℕ → Cause → List ℕ
 open_line_of pc Fetch = codes "O " ++ hex 4 pc ++ codes " Fetch"
 open_line_of pc (Targets values) = codes "O " ++ hex 4 pc ++ codes " Targets " ++ word_set_text values
 open_line_of pc (Store values) = codes "O " ++ hex 4 pc ++ codes " Store " ++ word_set_text values
-open_line_of pc Unbuilt = codes "O " ++ hex 4 pc ++ codes " Unbuilt"

@@ -189,7 +189,6 @@ pub fn open_line(alloc: Global, pc: u16, cause: &Cause) -> Result<Vec<u8>, Memor
             line.extend_from_slice(b" Store ")?;
             push_word_set(&mut line, values)?;
         }
-        Cause::Unbuilt => line.extend_from_slice(b" Unbuilt")?,
     }
     Ok(line)
 }

@@ -11,7 +11,7 @@ use Rattle.report_lines.specs.declared.line.Space.TheVariants.{Mem, Ram, Sfr, Xr
 use Rattle.report_lines.specs.declared.line.Kind.{Kind}
 use Rattle.report_lines.specs.declared.line.Kind.TheVariants.{ReadOne, ReadTwo, WriteOne, WriteTwo}
 use Rattle.report_lines.specs.declared.line.Cause.{Cause}
-use Rattle.report_lines.specs.declared.line.Cause.TheVariants.{Fetch, Unbuilt, Targets, Store}
+use Rattle.report_lines.specs.declared.line.Cause.TheVariants.{Fetch, Targets, Store}
 use Rattle.report_lines.specs.declared.line.Line.{Line}
 use Rattle.report_lines.specs.declared.line.Line.TheVariants as line
 
@@ -39,7 +39,6 @@ access_text a = hex 4 a.pc ++ codes " " ++ space_text a.space ++ codes " " ++ ki
 
 abbrev pub cause_text : Cause → List ℕ
 cause_text Fetch = codes "Fetch"
-cause_text Unbuilt = codes "Unbuilt"
 cause_text (Targets set) = codes "Targets" ++ 32 ∷ set.text.now
 cause_text (Store set) = codes "Store" ++ 32 ∷ set.text.now
 

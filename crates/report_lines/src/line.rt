@@ -68,7 +68,6 @@ pub struct Access<'a> {
 #[derive(Clone, Copy, Debug, PartialEq, Eq)]
 pub enum Cause<'a> {
     Fetch,
-    Unbuilt,
     Targets(Set<'a>),
     Store(Set<'a>),
 }
@@ -229,7 +228,6 @@ fn cause_of(rest: &[u8]) -> Option<Cause<'_>>
 {
     match rest {
         b"Fetch" => Some(Cause::Fetch),
-        b"Unbuilt" => Some(Cause::Unbuilt),
         _ => set_cause_of(rest),
     }
 }

@@ -42,7 +42,7 @@ impl Why {
             Why::Instr => "An I line is `I address bytes text`, with one to six bytes.",
             Why::Access => "An M line is `M address space kind set`.",
             Why::Open => {
-                "An O line is `O address cause`, with the cause Fetch, Unbuilt, Targets set or Store set."
+                "An O line is `O address cause`, with the cause Fetch, Targets set or Store set."
             }
             Why::Stack => "An S line is `S address set`.",
             Why::Summary => "A T line is `T value count`, and the value may be none.",

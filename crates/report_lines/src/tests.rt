@@ -126,8 +126,8 @@ fn sets(rt: HostRuntime) -> Result<(), Fail> {
 #[test]
 fn lines_of_both_chips(rt: HostRuntime) -> Result<(), Fail> {
     let text =
-        "OPEN\nE 0039 000B\nI 0057 08 INC R0\nM 0057 code r1 0123\nM 0057 mem w2 027E\nM 0057 ram w1 08\nM 0057 sfr r1 99\nM 0057 xram r1 *\nO 0057 Fetch\nO 0057 Store FFFE\nO 0057 Targets 0000/2/8000\nO 0057 Unbuilt\nS 0062 33,35\nT 35 0\n";
+        "OPEN\nE 0039 000B\nI 0057 08 INC R0\nM 0057 code r1 0123\nM 0057 mem w2 027E\nM 0057 ram w1 08\nM 0057 sfr r1 99\nM 0057 xram r1 *\nO 0057 Fetch\nO 0057 Store FFFE\nO 0057 Targets 0000/2/8000\nS 0062 33,35\nT 35 0\n";
     let report = read(rt.alloc(), text.as_bytes())?;
-    assert_eq!(rt; report.lines.len(), 12);
+    assert_eq!(rt; report.lines.len(), 11);
     Ok(())
 }

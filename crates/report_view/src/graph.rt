@@ -74,7 +74,6 @@ fn row(graph: &mut Markup, site: &Site<'_>) -> Result<(), Memory> {
     for cause in site.causes.iter() {
         graph.put(match cause {
             Cause::Fetch => " (open: no instruction)",
-            Cause::Unbuilt => " (open: not known yet)",
             Cause::Targets(_) => " (open: too many targets)",
             Cause::Store(_) => " (open: may write the program)",
         })?;

@@ -180,7 +180,6 @@ fn cause(page: &mut Markup, cause: &Cause<'_>) -> Result<(), Memory> {
         Cause::Fetch => page.put(
             "Control can come here, and no instruction stands here: bytes of it are missing, or no instruction begins so.",
         ),
-        Cause::Unbuilt => page.put("The analyser doesn't know this instruction yet."),
         Cause::Targets(set) => {
             page.put("Control can go from here to more addresses than the analysis follows: ")?;
             write_set(page, set)?;
