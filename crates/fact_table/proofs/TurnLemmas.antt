@@ -1,0 +1,170 @@
+-- Turns of a seat at the book.
+use Rattle.std.proofs.Common.{◌≡◌, ◌≢◌, ℕ, ◌==◌, Bool, true, false, cond, List, [], ◌∷◌, ◌++◌, length, Some, Result, Ok, Err, IfOk, OnOk, OnErr, sym, refl, ap, ◌∙◌, subst, append-nil, arith, length-append, eq-eqb, true≢false}
+use Rattle.std.proofs.Math.Path.{ap₂}
+use Rattle.std.proofs.Math.Seq.{drop-append_seam}
+use Rattle.std.proofs.lemmas.List.{nil_from_length}
+use Rattle.std.proofs.lemmas.List.Elements.{All-nil, All-cons, filter-append}
+use Rattle.std.proofs.lemmas.Option.{same_Some}
+use Rattle.call_context.specs.declared.node.Unit.{Unit as WorkUnit}
+use Rattle.chip_law.specs.Analysis.{Analysis}
+use Rattle.fact_table.specs.Seats.{looked, claimed_seat, Looks, IsOutTo, Ends, Claims}
+use Rattle.round_core.specs.Answers.{AnswersClaim}
+use Rattle.round_core.specs.Counts.{seat_of, NoneOfSeat}
+use Rattle.round_core.specs.Kept.{Kept, with_event, IsOutOf}
+use Rattle.round_core.specs.Machine.{Out, out_at, replay, IsLegalJournal}
+use Rattle.round_core.specs.declared.event.Event.{Event}
+use Rattle.round_core.specs.declared.event.Event.TheVariants.{Claim}
+use Rattle.round_core.specs.declared.ticket.Claimed.{Claimed}
+use Rattle.round_core.specs.declared.ticket.Claimed.TheVariants.{Ticket, Idle, Finished}
+use Rattle.turn_table.specs.Events.{StartsWith, AllOf, events_of}
+use Rattle.turn_table.specs.Shown.{ShownSeat, IsOwn, turn_begun, turn_ended}
+
+-- an event that doesn't count as the seat's is another's
+other_of : (number : ℕ) (x : Event) (rest : List Event) (b : Bool) → (seat_of x == number) ≡ b → cond b (x ∷ rest) rest ≡ []
+    → (seat_of x ≢ number) × (rest ≡ [])
+other_of number x rest true e h = absurd (cc)
+other_of number x rest false e h = ((λ s. true≢false (sym (eq-eqb (seat_of x) number s) ∙ e)), h)
+
+none_of : (number : ℕ) (events : List Event) → events_of seat_of number events ≡ [] → NoneOfSeat number events
+none_of number [] e = tt
+none_of number (x ∷ xs) e = let o = other_of number x (events_of seat_of number xs) (seat_of x == number) refl e in (o.0, none_of number xs o.1)
+
+-- behind a front that has all events of a seat there are none
+none_since : (number : ℕ) (seen rest mine : List Event) → events_of seat_of number seen ≡ mine → events_of seat_of number (seen ++ rest) ≡ mine
+    → NoneOfSeat number rest
+none_since number seen rest mine a b =
+    let ev : List Event → List Event = events_of seat_of number in
+    let parts : ev (seen ++ rest) ≡ ev seen ++ ev rest = filter-append (λ e. seat_of e == number) seen rest in
+    none_of number rest (nil_from_length (ev rest) (omega (arith, ap length parts, ap length a, ap length b, length-append (ev seen) (ev rest))))
+
+-- what is out to a seat stays out through the events of others
+abbrev pub Stays : {A : Type 0} → Analysis A → Type 0
+Stays {A = A} m = (journal more : List Event) (unit : WorkUnit) (o : Out A) → IsLegalJournal m (journal ++ more)
+    → out_at (replay m journal).out unit ≡ Some o → NoneOfSeat o.seat more → out_at (replay m (journal ++ more)).out unit ≡ Some o
+
+-- so a ticket that is out to a seat is out when its turn begins
+pub out_still : {A : Type 0} (m : Analysis A) (number : ℕ) (seen log mine : List Event) (ticket : Out A) → Stays m → StartsWith log seen
+    → events_of seat_of number seen ≡ mine → events_of seat_of number log ≡ mine → IsLegalJournal m log
+    → IsOutOf (replay m seen) ticket → ticket.seat ≡ number → IsOutOf (replay m log) ticket
+out_still m number seen log mine ticket stays begins a b legal out seat =
+    let more = begins.0 in
+    let none : NoneOfSeat number more = none_since number seen more mine a (subst (λ l. events_of seat_of number l ≡ mine) begins.1 b) in
+    subst (λ l. IsOutOf (replay m l) ticket) (sym begins.1)
+    (stays seen more ticket.unit ticket (subst (IsLegalJournal m) begins.1 legal) out (subst (λ n. NoneOfSeat n more) (sym seat) none))
+
+-- the seat behind a turn that added these events
+pub behind_turn : {B : Type 0} (old begun new : ShownSeat Event B) (log added journal : List Event) → old.holds ≡ false → begun ≡ turn_begun old log
+    → new ≡ turn_ended begun journal → journal ≡ log ++ added → new ≡ record old { seen = log ++ added; mine = old.mine ++ added }
+behind_turn old begun new log added journal idle b n j =
+    n ∙ ap₂ (λ s l. turn_ended s l) b j
+    ∙ ap₂ (λ h l. record old { holds = h; seen = log ++ added; mine = old.mine ++ l }) (sym idle) (drop-append_seam log added)
+
+pub looked_turn : {B : Type 0} (old begun new : ShownSeat Event B) (log journal : List Event) → old.holds ≡ false → begun ≡ turn_begun old log
+    → new ≡ turn_ended begun journal → journal ≡ log → new ≡ looked old log
+looked_turn old begun new log journal idle b n j =
+    behind_turn old begun new log [] journal idle b n (j ∙ sym (append-nil log))
+    ∙ ap₂ (λ s m. record old { seen = s; mine = m }) (append-nil log) (append-nil old.mine)
+
+-- what a call adds to the book's journal, all of it the seat's
+abbrev pub Grows : {B : Type 0} → ℕ → Kept B → Kept B → Type 0
+Grows number k k' = (added : List Event) × (k'.journal ≡ k.journal ++ added) × AllOf seat_of number added
+
+module _ {B : Type 0} where
+  pub grows_not : (number : ℕ) (k k' : Kept B) → k' ≡ k → Grows number k k'
+  grows_not number k k' e = ([], ap (λ b. b.journal) e ∙ sym (append-nil k.journal), All-nil (λ x. seat_of x ≡ number))
+
+  pub grows_by : (number : ℕ) (k k' : Kept B) (event : Event) → k' ≡ with_event k event → seat_of event ≡ number → Grows number k k'
+  grows_by number k k' event e s = (event ∷ [], ap (λ b. b.journal) e, All-cons (λ x. seat_of x ≡ number) event [] s (All-nil (λ x. seat_of x ≡ number)))
+
+  module _ {A : Type 0} (m : Analysis A) where
+    pub grows_claim : {C X : Type 0} (number : ℕ) (k k' : Kept B) (r : Result (Claimed C B A) X) → IfOk r (λ claimed. AnswersClaim m k k' number claimed)
+        → OnErr r (k' ≡ k) → Grows number k k'
+    grows_claim number k k' (Ok (Ticket t)) a e = grows_by number k k' (Claim number t.unit) a.2 refl
+    grows_claim number k k' (Ok Idle) a e = grows_not number k k' a.0
+    grows_claim number k k' (Ok Finished) a e = grows_not number k k' a.0
+    grows_claim number k k' (Err x) a e = grows_not number k k' e
+
+  -- a seat's turn at the book, and what the call made of both
+  pub record IsTurn (old begun new : ShownSeat Event B) (k k' : Kept B) : Type 0 where
+    pub base : Some k.base ≡ old.base
+    pub idle : old.holds ≡ false
+    pub begun_is : begun ≡ turn_begun old k.journal
+    pub new_is : new ≡ turn_ended begun k'.journal
+    pub begins : StartsWith k.journal old.seen
+
+  module _ {A : Type 0} (analysis : B → Analysis A) where
+    pub looks : (old begun new : ShownSeat Event B) (k k' : Kept B) → IsTurn old begun new k k' → k' ≡ k → Looks old new
+    looks old begun new k k' t e = record {
+      log = k.journal;
+      begins = t.begins;
+      seat = looked_turn old begun new k.journal k'.journal t.idle t.begun_is t.new_is (ap (λ b. b.journal) e);
+    }
+
+    pub ends : (old begun new : ShownSeat Event B) (k k' : Kept B) (ticket : Out A) (event : Event) → IsTurn old begun new k k'
+        → IsOutOf (replay (analysis k.base) k.journal) ticket → k' ≡ with_event k event → Ends analysis old ticket event new
+    ends old begun new k k' ticket event t out e = record {
+      base = k.base;
+      base_is = t.base;
+      log = k.journal;
+      begins = t.begins;
+      out = out;
+      seat = behind_turn old begun new k.journal (event ∷ []) k'.journal t.idle t.begun_is t.new_is (ap (λ b. b.journal) e);
+    }
+
+    -- the answer of the book, told of the seat
+    claims_as : {C : Type 0} (old new : ShownSeat Event B) (k k' : Kept B) (claimed : Claimed C B A) → Some k.base ≡ old.base → StartsWith k.journal old.seen
+        → k'.base ≡ k.base → k'.journal ≡ new.seen → AnswersClaim (analysis k.base) k k' old.number claimed → new ≡ claimed_seat old k.journal claimed
+        → Claims analysis old claimed new
+    claims_as old new k k' claimed base begins b j a s = record {
+      base = k.base;
+      base_is = base;
+      log = k.journal;
+      begins = begins;
+      answer = subst (λ x. AnswersClaim (analysis k.base) k x old.number claimed) (ap₂ (λ c l. record { base = c; journal = l }) b j) a;
+      seat = s;
+    }
+
+    pub claims : {C X : Type 0} (old begun new : ShownSeat Event B) (k k' : Kept B) (r : Result (Claimed C B A) X) → IsTurn old begun new k k'
+        → IfOk r (λ claimed. AnswersClaim (analysis k.base) k k' old.number claimed) → IfOk r (λ claimed. Claims analysis old claimed new)
+    claims old begun new k k' (Ok (Ticket ticket)) t a =
+        let s = behind_turn old begun new k.journal (Claim old.number ticket.unit ∷ []) k'.journal t.idle t.begun_is t.new_is (ap (λ b. b.journal) a.2) in
+        claims_as old new k k' (Ticket ticket) t.base t.begins (ap (λ b. b.base) a.2) (ap (λ b. b.journal) a.2 ∙ sym (ap (λ x. x.seen) s)) a s
+    claims old begun new k k' (Ok Idle) t a =
+        let s = looked_turn old begun new k.journal k'.journal t.idle t.begun_is t.new_is (ap (λ b. b.journal) a.0) in
+        claims_as old new k k' Idle t.base t.begins (ap (λ b. b.base) a.0) (ap (λ b. b.journal) a.0 ∙ sym (ap (λ x. x.seen) s)) a s
+    claims old begun new k k' (Ok Finished) t a =
+        let s = looked_turn old begun new k.journal k'.journal t.idle t.begun_is t.new_is (ap (λ b. b.journal) a.0) in
+        claims_as old new k k' Finished t.base t.begins (ap (λ b. b.base) a.0) (ap (λ b. b.journal) a.0 ∙ sym (ap (λ x. x.seen) s)) a s
+    claims old begun new k k' (Err x) t a = a
+
+    pub out_at_turn : (old begun : ShownSeat Event B) (k : Kept B) (ticket : Out A) → ((base : B) → Stays (analysis base)) → Some k.base ≡ old.base
+        → begun ≡ turn_begun old k.journal → StartsWith k.journal old.seen → IsOwn seat_of old → IsOwn seat_of begun
+        → IsLegalJournal (analysis k.base) k.journal → IsOutTo analysis old ticket → IsOutOf (replay (analysis k.base) k.journal) ticket
+    out_at_turn old begun k ticket stays base b begins own own' legal out =
+        let same : out.base ≡ k.base = same_Some out.base k.base (out.base_is ∙ sym base) in
+        out_still (analysis k.base) old.number old.seen k.journal old.mine ticket (stays k.base) begins own (subst (IsOwn seat_of) b own') legal
+        (subst (λ c. IsOutOf (replay (analysis c) old.seen) ticket) same out.out) out.seat
+
+    pub still_out : (old begun new : ShownSeat Event B) (k k' : Kept B) (ticket : Out A) → IsTurn old begun new k k' → k' ≡ k
+        → IsOutOf (replay (analysis k.base) k.journal) ticket → IsOutTo analysis old ticket → IsOutTo analysis new ticket
+    still_out old begun new k k' ticket t e out was =
+        let s = looked_turn old begun new k.journal k'.journal t.idle t.begun_is t.new_is (ap (λ b. b.journal) e) in
+        subst (λ x. IsOutTo analysis x ticket) (sym s) (record { base = k.base; base_is = t.base; out = out; seat = was.seat })
+
+pub on_ok : {X Y P Q : Type 0} (r : Result X Y) → OnOk r P → (P → Q) → OnOk r Q
+on_ok (Ok x) p f = f p
+on_ok (Err x) p f = p
+
+pub on_err : {X Y P Q : Type 0} (r : Result X Y) → OnErr r P → (P → Q) → OnErr r Q
+on_err (Ok x) p f = p
+on_err (Err x) p f = f p
+
+pub grows_post : {B X Y : Type 0} (number : ℕ) (k k' : Kept B) (event : Event) (r : Result X Y) → OnOk r (k' ≡ with_event k event) → OnErr r (k' ≡ k)
+    → seat_of event ≡ number → Grows number k k'
+grows_post number k k' event (Ok x) a e s = grows_by number k k' event a s
+grows_post number k k' event (Err y) a e s = grows_not number k k' e
+
+-- so the turn may be passed
+pub pass_adds : {B : Type 0} (old begun : ShownSeat Event B) (k k' : Kept B) → begun ≡ turn_begun old k.journal → Grows begun.number k k'
+    → (added : List Event) × (k'.journal ≡ begun.seen ++ added) × AllOf seat_of begun.number added
+pass_adds old begun k k' b grows = (grows.0, grows.1 ∙ ap (λ s. s.seen ++ grows.0) (sym b), grows.2)

@@ -1,0 +1,25 @@
+use Rattle.fact_table.proofs.TurnLemmas.{IsTurn, ends, out_at_turn}
+use Rattle.round_core.specs.declared.event.Event.TheVariants.{GiveBack}
+use Rattle.fact_table.proofs.calls.give_back_at.Goals as goal
+
+pub give_back-requires-after_bounds : goal.give_back-requires-after_bounds
+give_back-requires-after_bounds g c κs within =
+    let turn = c.turn-turn in
+    out_at_turn g.C.Chip.analysis c.args.seat.now turn.new.seat turn.result.value.book c.args.ticket c.outs_stay.ensures turn.ensures.base turn.ensures.seat turn.ensures.begins
+    c.number.ensures.own turn.ensures.own c.journal.ensures.legal c.requires.ticket
+
+pub returns : goal.returns
+returns g c =
+    let k = c.turn-turn.result.value.book in
+    let k' = c.give_back.new.self in
+    let ticket = c.args.ticket in
+    let turn : IsTurn c.args.seat.now c.turn-turn.new.seat c.pass.new.seat k k' = record {
+      base = c.turn-turn.ensures.base;
+      idle = c.requires.idle;
+      begun_is = c.turn-turn.ensures.seat;
+      new_is = c.pass.ensures.seat;
+      begins = c.turn-turn.ensures.begins;
+    } in
+    let out = out_at_turn g.C.Chip.analysis c.args.seat.now c.turn-turn.new.seat k ticket c.outs_stay.ensures turn.base turn.begun_is turn.begins
+    c.number.ensures.own c.turn-turn.ensures.own c.journal.ensures.legal c.requires.ticket in
+    record { given_back = ends g.C.Chip.analysis c.args.seat.now c.turn-turn.new.seat c.pass.new.seat k k' ticket (GiveBack ticket.seat ticket.unit) turn out c.give_back.ensures }

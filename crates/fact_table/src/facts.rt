@@ -1,0 +1,31 @@
+//! The book under the lock.
+
+use chip_law::Chip;
+use round_core::{Book, Event};
+use turn_table::{Journaled, TurnTable};
+
+/// The book that the workers share.
+#[derive(Drop)]
+pub struct Facts<C: Chip> {
+    pub(crate) book: Book<C>,
+}
+
+impl<C: Chip> Journaled for Facts<C> {
+    ghost use Rattle.round_core.specs.Counts.{seat_of};
+
+    type Event = Event;
+
+    type Base = C::Base;
+
+    ghost history = { λ facts. facts.book.journal };
+
+    ghost base = { λ facts. facts.book.base };
+
+    ghost seat_of = { seat_of };
+}
+
+/// The lock around the book, which threads share.
+pub type Turns<C> = TurnTable<Facts<C>>;
+
+/// A seat at the book.
+pub type Seat<C> = turn_table::Seat<Facts<C>>;
