@@ -19,26 +19,25 @@ use Rattle.msp430_state.specs.Forms.{IsKnown}
 use Rattle.msp430_state.specs.Holding.{suspended_of, ram_byte, HoldsOfStatus, HoldsOfFact, KeepsUntouched, HoldsOfParts, HoldsOf, Covers}
 use Rattle.msp430_state.specs.Known.{Known, word_of, first_known, known_within}
 use Rattle.msp430_state.specs.Premises.{Premises}
-use Rattle.msp430_state.specs.Ranges.{has_address, ranges_within}
+use Rattle.irq_frames.specs.Ranges.{has_address, ranges_within}
 use Rattle.msp430_state.specs.Status.{status_of}
 use Rattle.msp430_state.proofs.BitLemmas.{agrees_more, flag_more, zeros_agree}
 use Rattle.msp430_state.proofs.EvenWords.{even_words_have}
 use Rattle.msp430_state.proofs.FactLemmas.{fact_more}
 use Rattle.msp430_state.proofs.Orders.{partwise}
 use Rattle.msp430_state.proofs.Pointwise.{passes_at}
-use Rattle.msp430_state.proofs.RangeLemmas.{within_one}
 
 -- ONE WITHIN ANOTHER
 
-has_more : (a b : List (ℕ × ℕ)) (at : ℕ) → ranges_within a b ≡ true → has_address b at ≡ false → has_address a at ≡ false
-has_more a b at within none = elim (cases_Bool (has_address a at)) [
-  | inl some ↦ let there : has_address b at ≡ true = within_one (at, at) a b within some in absurd (cc)
+has_more : Premises → (a b : List (ℕ × ℕ)) (at : ℕ) → ranges_within a b ≡ true → has_address b at ≡ false → has_address a at ≡ false
+has_more laws a b at within none = elim (cases_Bool (has_address a at)) [
+  | inl some ↦ let there : has_address b at ≡ true = laws.ranges.has at a b within some in absurd (cc)
   | inr lacks ↦ lacks
 ]
 
-untouched_more : (device : Device) (a b : List (ℕ × ℕ)) (ram : List ℕ) (first : Option ChipState) → ranges_within a b ≡ true → KeepsUntouched device a ram first → KeepsUntouched device b ram first
-untouched_more device a b ram None within keeps = tt
-untouched_more device a b ram (Some f) within keeps = λ at none. keeps at (has_more a b at within none)
+untouched_more : Premises → (device : Device) (a b : List (ℕ × ℕ)) (ram : List ℕ) (first : Option ChipState) → ranges_within a b ≡ true → KeepsUntouched device a ram first → KeepsUntouched device b ram first
+untouched_more laws device a b ram None within keeps = tt
+untouched_more laws device a b ram (Some f) within keeps = λ at none. keeps at (has_more laws a b at within none)
 
 pub parts_more : (laws : Premises) (device : Device) (lo hi : ℕ) (framed : Bool) (a b : Known) (first : Option ChipState) (registers ram : List ℕ) → IsKnown lo hi framed a → known_within a b ≡ true
     → HoldsOfParts device a first registers ram → HoldsOfParts device b first registers ram
@@ -57,13 +56,14 @@ parts_more laws device lo hi framed a b first registers ram form within holds =
           (passes_at word_within a.registers b.registers (register - 4) (unknown 2) inside parts.words) (holds.words register low high);
       fact = fact_more (λ fact. HoldsOfFact fact registers) a.fact b.fact parts.fact tt holds.fact;
       cells = laws.cells.holds under (ram_byte device ram) a.cells.cells b.cells.cells parts.cells holds.cells;
-      untouched = untouched_more device a.touched b.touched ram first parts.touched holds.untouched;
+      untouched = untouched_more laws device a.touched b.touched ram first parts.touched holds.untouched;
     }
 
 pub holds_more : (laws : Premises) (device : Device) (lo hi : ℕ) (framed : Bool) (a b : Known) (s : ChipState) (first : Option ChipState) → IsKnown lo hi framed a → known_within a b ≡ true
     → HoldsOf device a s first → HoldsOf device b s first
 holds_more laws device lo hi framed a b s first form within holds = record {
   state = holds.state;
+  suspended = holds.suspended;
   late = flag_more a.late b.late s.late (partwise a b within).late holds.late;
   parts = parts_more laws device lo hi framed a b first s.registers s.ram form within holds.parts;
 }
@@ -93,6 +93,7 @@ reset_holds laws device s reset =
     let cleared : HoldsOfStatus None (status_of Zero) 0 = record { bits = zeros_agree 9; entry = tt } in
     record {
       state = reset.state;
+      suspended = tt;
       late = reset.not_late;
       parts = record {
         sp = even_words_have (register_of s 1) (All-get_or (λ r. r < 65536) s.registers 1 0 one reset.state.words) reset.state.even_sp;

@@ -1,5 +1,4 @@
 pub mod Pointwise
-pub mod RangeLemmas
 pub mod BitLemmas
 pub mod FactLemmas
 pub mod EvenWords

@@ -13,13 +13,12 @@ use Rattle.msp430_state.specs.Forms.{IsWord, IsKnown}
 use Rattle.msp430_state.specs.Known.{Known, even_words, top_known, all_touched, known_joined, known_widened, known_within}
 use Rattle.msp430_state.specs.Pointwise.{each_passes}
 use Rattle.msp430_state.specs.Premises.{AreMarks, Premises}
-use Rattle.msp430_state.specs.Ranges.{AreRanges, ranges_within}
+use Rattle.irq_frames.specs.Ranges.{AreRanges, ranges_within}
 use Rattle.msp430_state.specs.Status.{common_bit, is_bit_within}
 use Rattle.msp430_state.proofs.BitLemmas.{bit_itself, bit_along, bit_first, bit_second, bit_top}
 use Rattle.msp430_state.proofs.EvenWords.{even_words_have}
 use Rattle.msp430_state.proofs.FactLemmas.{fact_itself, fact_along, fact_first, fact_second, fact_top}
 use Rattle.msp430_state.proofs.Pointwise.{ArePairs, passes_itself, passes_along, passes_first, passes_second, passes_top}
-use Rattle.msp430_state.proofs.RangeLemmas.{within_along, within_itself, within_united_first, within_united_second, within_whole}
 
 -- THE PARTS OF THE ORDER
 
@@ -92,7 +91,7 @@ known_itself laws lo hi framed a form = within_by a a record {
   words = passes_itself word_within laws.words.itself a.registers;
   fact = fact_itself a.fact;
   cells = laws.cells.itself lo hi lo a.cells.cells form.cells;
-  touched = within_itself a.touched;
+  touched = laws.ranges.itself a.touched;
 }
 
 pub known_along : (laws : Premises) (a b c : Known) → known_within a b ≡ true → known_within b c ≡ true → known_within a c ≡ true
@@ -107,7 +106,7 @@ known_along laws a b c h k =
       words = passes_along word_within laws.words.along a.registers b.registers c.registers one.words two.words;
       fact = fact_along a.fact b.fact c.fact one.fact two.fact;
       cells = laws.cells.along a.cells.cells b.cells.cells c.cells.cells one.cells two.cells;
-      touched = within_along a.touched b.touched c.touched one.touched two.touched;
+      touched = laws.ranges.along a.touched b.touched c.touched one.touched two.touched;
     }
 
 -- BOTH ARE WITHIN WHAT IS MADE OF THEM
@@ -133,7 +132,7 @@ join_held laws lo hi framed a b f g = within_by a (known_joined a b) record {
   words = passes_first word_within word_join (IsWord framed) (λ x y h k. laws.words.join_first x y h.normal k.normal) a.registers b.registers (word_pairs lo hi framed a b f g);
   fact = fact_first a.fact b.fact;
   cells = laws.cells.join_held lo hi lo lo hi lo a.cells.cells b.cells.cells f.cells g.cells;
-  touched = within_united_first a.touched b.touched;
+  touched = laws.ranges.unite_first a.touched b.touched;
 }
 
 pub join_new : (laws : Premises) (lo hi : ℕ) (framed : Bool) (a b : Known) → IsKnown lo hi framed a → IsKnown lo hi framed b → known_within b (known_joined a b) ≡ true
@@ -146,7 +145,7 @@ join_new laws lo hi framed a b f g = within_by b (known_joined a b) record {
   words = passes_second word_within word_join (IsWord framed) (λ x y h k. laws.words.join_second x y h.normal k.normal) a.registers b.registers (word_pairs lo hi framed a b f g);
   fact = fact_second a.fact b.fact;
   cells = laws.cells.join_new lo hi lo lo hi lo a.cells.cells b.cells.cells f.cells g.cells;
-  touched = within_united_second a.touched b.touched;
+  touched = laws.ranges.unite_second a.touched b.touched;
 }
 
 pub widen_held : (laws : Premises) (lo hi : ℕ) (framed : Bool) (marks : List ℕ) → AreMarks marks → (a b : Known) → IsKnown lo hi framed a → IsKnown lo hi framed b → known_within a (known_widened marks a b) ≡ true
@@ -159,7 +158,7 @@ widen_held laws lo hi framed marks below a b f g = within_by a (known_widened ma
   words = passes_first word_within (λ x y. word_widen x y marks) (IsWord framed) (λ x y h k. laws.words.widen_held x y marks h.normal k.normal below) a.registers b.registers (word_pairs lo hi framed a b f g);
   fact = fact_first a.fact b.fact;
   cells = laws.cells.widen_held lo hi lo lo hi lo a.cells.cells b.cells.cells marks f.cells g.cells below;
-  touched = within_united_first a.touched b.touched;
+  touched = laws.ranges.unite_first a.touched b.touched;
 }
 
 pub widen_new : (laws : Premises) (lo hi : ℕ) (framed : Bool) (marks : List ℕ) → AreMarks marks → (a b : Known) → IsKnown lo hi framed a → IsKnown lo hi framed b → known_within b (known_widened marks a b) ≡ true
@@ -172,7 +171,7 @@ widen_new laws lo hi framed marks below a b f g = within_by b (known_widened mar
   words = passes_second word_within (λ x y. word_widen x y marks) (IsWord framed) (λ x y h k. laws.words.widen_new x y marks h.normal k.normal below) a.registers b.registers (word_pairs lo hi framed a b f g);
   fact = fact_second a.fact b.fact;
   cells = laws.cells.widen_new lo hi lo lo hi lo a.cells.cells b.cells.cells marks f.cells g.cells below;
-  touched = within_united_second a.touched b.touched;
+  touched = laws.ranges.unite_second a.touched b.touched;
 }
 
 -- THE GREATEST
@@ -184,9 +183,9 @@ bits_top bits long = subst (λ n. each_passes is_bit_within bits (replicate n Ei
 entry_top : (entry : Option Entry) → is_entry_within entry None ≡ true
 entry_top entry = refl
 
-touched_top : (lo hi : ℕ) (framed : Bool) (touched : List (ℕ × ℕ)) → AreRanges lo hi touched → (framed ≡ false → touched ≡ []) → ranges_within touched (all_touched framed lo hi) ≡ true
-touched_top lo hi true touched are none = within_whole lo lo hi touched (omega arith) are
-touched_top lo hi false touched are none = subst (λ ranges. ranges_within ranges [] ≡ true) (sym (none refl)) refl
+touched_top : Premises → (lo hi : ℕ) (framed : Bool) (touched : List (ℕ × ℕ)) → AreRanges lo hi touched → (framed ≡ false → touched ≡ []) → ranges_within touched (all_touched framed lo hi) ≡ true
+touched_top laws lo hi true touched are none = laws.ranges.whole lo hi touched are
+touched_top laws lo hi false touched are none = subst (λ ranges. ranges_within ranges [] ≡ true) (sym (none refl)) refl
 
 pub within_top : (laws : Premises) (lo hi : ℕ) (framed : Bool) (a : Known) → IsKnown lo hi framed a → known_within a (top_known lo hi framed) ≡ true
 within_top laws lo hi framed a form = within_by a (top_known lo hi framed) record {
@@ -198,5 +197,5 @@ within_top laws lo hi framed a form = within_by a (top_known lo hi framed) recor
       (passes_top word_within (IsWord framed) (unknown 2) (λ word is. laws.words.whole word is.normal) a.registers form.registers);
   fact = fact_top a.fact;
   cells = refl;
-  touched = touched_top lo hi framed a.touched form.touched form.none_touched;
+  touched = touched_top laws lo hi framed a.touched form.touched form.none_touched;
 }

@@ -1,5 +1,5 @@
 -- The first state and the greatest have the form of states, and joins and widenings keep it.
-use Rattle.std.proofs.Common.{◌≡◌, ℕ, ◌≤◌, Bool, true, false, None, List, [], refl, sym, ◌∙◌, arith}
+use Rattle.std.proofs.Common.{◌≡◌, ℕ, ◌≤◌, Bool, true, false, None, List, [], refl, sym, ◌∙◌, subst, arith}
 use Rattle.std.proofs.lemmas.List.Elements.{All-replicate}
 use Rattle.msp430_state.proofs.Members.{in_none}
 use Rattle.entry_value.specs.Words.{word_join, word_widen}
@@ -7,14 +7,13 @@ use Rattle.entry_value.specs.Cells.{unknown}
 use Rattle.msp430_state.specs.Forms.{IsRelation, IsStatusRelation, IsFact, IsWord, IsKnown}
 use Rattle.msp430_state.specs.Known.{Known, first_known, top_known, all_touched, known_joined, known_widened}
 use Rattle.msp430_state.specs.Premises.{AreMarks, Premises}
-use Rattle.msp430_state.specs.Ranges.{AreRanges}
+use Rattle.irq_frames.specs.Ranges.{AreRanges, united}
 use Rattle.msp430_state.specs.Status.{common_bit}
 use Rattle.msp430_state.proofs.CellForms.{common_entry_keeps, no_relation, join_cell_form, widen_cell_form}
 use Rattle.msp430_state.proofs.EvenWords.{even_words_form}
 use Rattle.msp430_state.proofs.FactLemmas.{common_fact_keeps}
 use Rattle.msp430_state.proofs.Orders.{word_pairs}
 use Rattle.msp430_state.proofs.Pointwise.{length-each_with, All-each_with}
-use Rattle.msp430_state.proofs.RangeLemmas.{united_form, united_none}
 
 -- THE FIRST AND THE GREATEST
 
@@ -67,6 +66,9 @@ top_form laws lo hi framed le = record {
 
 -- WHAT IS MADE OF TWO
 
+united_none : (a b : List (ℕ × ℕ)) → a ≡ [] → b ≡ [] → united a b ≡ []
+united_none a b e f = subst (λ xs. united a xs ≡ []) (sym f) e
+
 pub join_form : Premises → (lo hi : ℕ) (framed : Bool) (a b : Known) → IsKnown lo hi framed a → IsKnown lo hi framed b → IsKnown lo hi framed (known_joined a b)
 unfolding known_joined
 join_form laws lo hi framed a b f g = record {
@@ -86,7 +88,7 @@ join_form laws lo hi framed a b f g = record {
   up_to = f.up_to;
   cells = laws.cells.join_form lo hi lo lo hi lo a.cells.cells b.cells.cells f.cells g.cells;
   each_cell = join_cell_form framed a.cells.cells b.cells.cells f.each_cell;
-  touched = united_form lo hi a.touched b.touched f.touched lo (omega arith) g.touched;
+  touched = laws.ranges.unite_form lo hi a.touched b.touched f.touched g.touched;
   none_touched = λ base. united_none a.touched b.touched (f.none_touched base) (g.none_touched base);
 }
 
@@ -109,6 +111,6 @@ widen_form laws lo hi framed marks below a b f g = record {
   up_to = f.up_to;
   cells = laws.cells.widen_form lo hi lo lo hi lo a.cells.cells b.cells.cells marks f.cells g.cells below;
   each_cell = widen_cell_form framed marks a.cells.cells b.cells.cells f.each_cell;
-  touched = united_form lo hi a.touched b.touched f.touched lo (omega arith) g.touched;
+  touched = laws.ranges.unite_form lo hi a.touched b.touched f.touched g.touched;
   none_touched = λ base. united_none a.touched b.touched (f.none_touched base) (g.none_touched base);
 }

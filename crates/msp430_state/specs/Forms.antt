@@ -17,7 +17,7 @@ use Rattle.value_set.specs.Remainders.{HasRemainder}
 use Rattle.msp430_chip.specs.Arithmetic.{modulus}
 use Rattle.msp430_state.specs.declared.fact.FlagFact.{FlagFact}
 use Rattle.msp430_state.specs.Known.{Known, is_interrupt}
-use Rattle.msp430_state.specs.Ranges.{AreRanges}
+use Rattle.irq_frames.specs.Ranges.{AreRanges}
 
 -- VALUES
 

@@ -21,7 +21,7 @@ use Rattle.msp430_chip.specs.State.{register_of, IsChipState}
 use Rattle.msp430_state.specs.declared.fact.FlagFact.{FlagFact}
 use Rattle.msp430_state.specs.declared.status.Status.{Status}
 use Rattle.msp430_state.specs.Known.{Known, word_of}
-use Rattle.msp430_state.specs.Ranges.{has_address}
+use Rattle.irq_frames.specs.Ranges.{has_address}
 
 -- THE SUSPENDED STATE
 
@@ -71,8 +71,14 @@ pub record HoldsOfParts (device : Device) (a : Known) (first : Option ChipState)
 
 -- STATES AT NODES
 
+-- an interrupt suspends a state of the chip
+abbrev pub IsSuspendedState : Device → Option ChipState → Type 0
+IsSuspendedState device None = Unit {0}
+IsSuspendedState device (Some f) = IsChipState device f
+
 pub record HoldsOf (device : Device) (a : Known) (s : ChipState) (first : Option ChipState) : Type 0 where
   pub state : IsChipState device s
+  pub suspended : IsSuspendedState device first
   pub late : IsFlag a.late s.late
   pub parts : HoldsOfParts device a first s.registers s.ram
 

@@ -18,7 +18,7 @@ use Rattle.msp430_state.specs.declared.fact.FlagFact.{FlagFact}
 use Rattle.msp430_state.specs.declared.status.Status.{Status}
 use Rattle.msp430_state.specs.Facts.{common_fact, is_fact_within}
 use Rattle.msp430_state.specs.Pointwise.{each_with, each_passes}
-use Rattle.msp430_state.specs.Ranges.{ranges_within, united}
+use Rattle.irq_frames.specs.Ranges.{ranges_within, united}
 use Rattle.msp430_state.specs.Status.{common_bit, is_bit_within, status_joined, status_within, status_of}
 
 pub record Known : Type 0 where

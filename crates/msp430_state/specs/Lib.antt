@@ -1,5 +1,4 @@
 pub mod Pointwise
-pub mod Ranges
 pub mod Status
 pub mod Facts
 pub mod Known

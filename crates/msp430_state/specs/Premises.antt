@@ -1,5 +1,6 @@
--- What the laws of states rest on: laws of sets, bits, words and cells.
-use Rattle.std.specs.Prelude.{◌≡◌, ℕ, ◌%◌, ◌<◌, ◌↔◌, true, Option, List, [], All}
+-- What the laws of states rest on: laws of sets, bits, words, cells and ranges.
+use Rattle.std.specs.Prelude.{◌≡◌, ℕ, ◌%◌, ◌<◌, ◌↔◌, true, Option, List, [], ◌∷◌, All}
+use Rattle.irq_frames.specs.Ranges.{AreRanges, has_address, ranges_within, united}
 use Rattle.entry_value.specs.declared.cells.Cell.{Cell}
 use Rattle.entry_value.specs.declared.word.Entry.{Entry}
 use Rattle.entry_value.specs.declared.word.Word.{Word}
@@ -64,8 +65,18 @@ pub record CellsOfRam : Type 0 where
   pub widen_new : (lo hi from low high start : ℕ) (held new : List Cell) (marks : List ℕ) → AreCells lo hi from held → AreCells low high start new
       → AreMarks marks → are_within new (widen_cells held new marks) ≡ true
 
+pub record OfRanges : Type 0 where
+  pub unite_form : (lo hi : ℕ) (ranges others : List (ℕ × ℕ)) → AreRanges lo hi ranges → AreRanges lo hi others → AreRanges lo hi (united ranges others)
+  pub unite_first : (ranges others : List (ℕ × ℕ)) → ranges_within ranges (united ranges others) ≡ true
+  pub unite_second : (ranges others : List (ℕ × ℕ)) → ranges_within others (united ranges others) ≡ true
+  pub has : (at : ℕ) (ranges others : List (ℕ × ℕ)) → ranges_within ranges others ≡ true → has_address ranges at ≡ true → has_address others at ≡ true
+  pub itself : (ranges : List (ℕ × ℕ)) → ranges_within ranges ranges ≡ true
+  pub along : (a b c : List (ℕ × ℕ)) → ranges_within a b ≡ true → ranges_within b c ≡ true → ranges_within a c ≡ true
+  pub whole : (lo hi : ℕ) (ranges : List (ℕ × ℕ)) → AreRanges lo hi ranges → ranges_within ranges ((lo, hi) ∷ []) ≡ true
+
 pub record Premises : Type 0 where
   pub sets : Sets
   pub words : Words
   pub entries : Entries
   pub cells : CellsOfRam
+  pub ranges : OfRanges

@@ -11,18 +11,18 @@ ghost use Rattle.msp430_state.specs.Forms.{IsKnown};
 ghost use Rattle.msp430_state.specs.Holding.{Covers, HoldsOfParts};
 ghost use Rattle.msp430_state.specs.Known.{Known, first_known, top_known, known_joined, known_widened, known_within};
 ghost use Rattle.msp430_state.specs.Premises.{AreMarks, Premises};
-ghost use Rattle.msp430_state.specs.Ranges.{AreRanges, has_address, lies_in, ranges_within, united, with_range};
 
 use entry_value::{
     cells_are_ordered, cells_speak_of_ram, inclusion_covers, relations_hold, unions_keep_form,
     words_are_ordered, words_hold,
 };
+use irq_frames::ranges_hold;
 use value_set::{
     inclusion_is_tested, joins_include_both, members_are_below, remainders_stay,
     single_and_whole_sets, widenings_include_both,
 };
 
-/// The laws of sets, words and cells that those below rest on.
+/// The laws of sets, words, cells and ranges that those below rest on.
 fn premises_hold()
     ensures { Premises }
 {
@@ -39,6 +39,7 @@ fn premises_hold()
     cells_speak_of_ram();
     inclusion_covers();
     unions_keep_form();
+    ranges_hold();
 }
 
 /// Being within another is an order, in which two states are within their join, within the first one widened by the
@@ -79,15 +80,3 @@ pub fn states_cover()
 {
     premises_hold();
 }
-
-/// A range that is added, and two lists of ranges that are united, give ascending ranges with the addresses of both. Ranges
-/// within others have no address that these lack.
-pub fn ranges_hold()
-    ensures add_form { (from hi low high : ℕ) (ranges : List (ℕ × ℕ)) → from ≤ low → low ≤ high → high ≤ hi → AreRanges from hi ranges → AreRanges from hi (with_range low high ranges) }
-    ensures add { (from hi at low high : ℕ) (ranges : List (ℕ × ℕ)) → low ≤ high → AreRanges from hi ranges
-        → has_address (with_range low high ranges) at ≡ (has_address ranges at || lies_in (at, at) (low, high)) }
-    ensures unite_form { (lo hi : ℕ) (ranges others : List (ℕ × ℕ)) → AreRanges lo hi ranges → AreRanges lo hi others → AreRanges lo hi (united ranges others) }
-    ensures unite_first { (ranges others : List (ℕ × ℕ)) → ranges_within ranges (united ranges others) ≡ true }
-    ensures unite_second { (ranges others : List (ℕ × ℕ)) → ranges_within others (united ranges others) ≡ true }
-    ensures within { (at : ℕ) (ranges others : List (ℕ × ℕ)) → ranges_within ranges others ≡ true → has_address ranges at ≡ true → has_address others at ≡ true }
-{}

@@ -1,7 +1,7 @@
 //! What an analysis of the MSP430 knows of a state.
 //!
 //! A [`State`] has a set of values for SP and for each of R4 to R15, the bits of SR as far as they are known, the [`FlagFact`]
-//! that a comparison left, cells of RAM over any representation of them, and the [`Ranges`] of RAM that an interrupt's
+//! that a comparison left, cells of RAM over any representation of them, and the [`Ranges`](irq_frames::Ranges) of RAM that an interrupt's
 //! handler may have touched. A value may remember how it came from the state that the interrupt suspended. Contracts see
 //! one plain value, `Known` (`specs/Known.antt`), whatever represents the cells.
 //!
@@ -15,21 +15,15 @@
 //! - [`states_keep_form`]: the first state and the greatest have the form, and joins and widenings keep it.
 //! - [`states_cover`]: what stands under a state stands under all that this is within, and each state behind a reset stands
 //!   under the first one.
-//! - [`ranges_hold`]: ranges that are added or united have the addresses of both.
 #![tactic(auto)]
 
 mod fact;
 mod laws;
-mod ranges;
 mod state;
 mod status;
 mod words;
 
 pub use fact::FlagFact;
-pub use laws::{ranges_hold, states_are_ordered, states_cover, states_keep_form};
-pub use ranges::Ranges;
+pub use laws::{states_are_ordered, states_cover, states_keep_form};
 pub use state::State;
 pub use status::Status;
-
-#[cfg(test)]
-mod tests;

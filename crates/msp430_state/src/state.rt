@@ -5,11 +5,11 @@ ghost use Rattle.entry_value.specs.Cells as the_cells;
 ghost use Rattle.msp430_state.specs.Known as known;
 
 use crate::fact::{FlagFact, common_fact, is_fact_within};
-use crate::ranges::Ranges;
 use crate::status::{Status, common_bit, is_bit_within};
 use crate::words::{are_within, copy_all, join_all, unknown, widen_all};
 use call_context::Frame;
 use entry_value::{Cells, Word};
+use irq_frames::Ranges;
 use std::alloc::Global;
 use std::marker::Model;
 use value_bits::Tri;
@@ -54,7 +54,7 @@ fn even_words() -> Vs16
 }
 
 /// One range.
-#[tactic(auto, unfolding(crate::specs::Ranges::with_range))]
+#[tactic(auto, unfolding(irq_frames::specs::Ranges::with_range))]
 fn range(alloc: Global, lo: u16, hi: u16) -> Result<Ranges, Memory>
     requires { lo ≤ hi }
     ensures { IfOk result (λ touched. touched ≡ (lo, hi) ∷ []) }

@@ -11,6 +11,7 @@ returns c =
     let relations = c.relations_hold.ensures in
     let cells = c.cells_are_ordered.ensures in
     let unions = c.unions_keep_form.ensures in
+    let ranges = c.ranges_hold.ensures in
     let ram = c.cells_speak_of_ram.ensures in
     record {
       sets = record {
@@ -57,5 +58,14 @@ returns c =
         join_new = cells.join_new;
         widen_held = cells.widen_held;
         widen_new = cells.widen_new;
+      };
+      ranges = record {
+        unite_form = ranges.unite_form;
+        unite_first = ranges.unite_first;
+        unite_second = ranges.unite_second;
+        has = ranges.within;
+        itself = ranges.itself;
+        along = ranges.along;
+        whole = ranges.whole;
       };
     }

@@ -1,0 +1,4 @@
+pub mod RangeLemmas
+pub mod Walking
+pub mod Premises
+pub mod Resumption

@@ -1,0 +1,353 @@
+-- What holds of what goes on behind a handler.
+use Rattle.std.proofs.Common.{◌≡◌, ℕ, zero, suc, max, ◌+◌, ◌-◌, ◌*◌, ◌/◌, ◌%◌, ◌<◌, ◌≤◌, Bool, true, Option, None, Some, List, [], ◌∷◌, map, refl, sym, ◌∙◌, ap, subst, inl, inr, arith, nat_lt, bit_and, bit_or}
+use Rattle.std.specs.Prelude.{◌⊎◌, ◌==◌, ◌||◌, not, Contains}
+use Rattle.std.specs.Int.{bit_at}
+use Rattle.std.specs.List.{filter}
+use Rattle.std.proofs.lemmas.Bool.{cases_Bool, cond-true, and_parts, eqb-true, not-true}
+use Rattle.std.proofs.lemmas.Nat.{and_mask}
+use Rattle.std.proofs.lemmas.Nat.Bits.{same_from_bits, bit_at_or, bit_at-zero}
+use Rattle.value_set.specs.Form.{Has, IsNormal}
+use Rattle.entry_value.specs.declared.cells.Cell.{Cell}
+use Rattle.entry_value.specs.declared.word.Entry.{Entry}
+use Rattle.entry_value.specs.declared.word.Word.{Word}
+use Rattle.entry_value.specs.Words.{Suspended, IsFromEntry, HoldsOfWord, word_and}
+use Rattle.entry_value.specs.Cells.{CellMap, IsCell, AreCells, StandsUnder, number_at, written, insert, with_cell, is_nothing, meets, write_one}
+use Rattle.irq_frames.specs.Ranges.{has_address}
+use Rattle.irq_frames.specs.Resuming.{is_unmasked, masked_by, resumed_by, resumed_sized, resumed_word, resumed_cell, is_all_touched, is_untouched, untouched_cells, touched_cells, with_written, resumed_cells, HasMasks, IsBehind, Tells, AreNormal, EachTells, IsCellMap, CanResume, AgreeOutside, IsFromEither}
+use Rattle.irq_frames.proofs.Premises.{Masks, Writes}
+use Rattle.irq_frames.proofs.Walking.{Each, each_then}
+
+-- WORDS
+
+greatest : (x : ℕ) → max x 0 ≡ x
+greatest x = omega arith
+
+nothing_set : (x : ℕ) → bit_or x 0 ≡ x
+nothing_set x = same_from_bits (bit_or x 0) x (λ i.
+    let both : bit_at (bit_or x 0) i ≡ max (bit_at x i) (bit_at 0 i) = bit_at_or x 0 i in
+    let none : bit_at 0 i ≡ 0 = bit_at-zero i in
+    both ∙ ap (max (bit_at x i)) none ∙ greatest (bit_at x i))
+
+within_word : (word : ℕ) → word < 65536 → word % 65536 ≡ word
+within_word word below = omega arith
+
+-- an unmasked relation is the number itself
+unmasked_is : (entry : Entry) (word : ℕ) → word < 65536 → is_unmasked entry ≡ true → bit_or (bit_and word entry.and) entry.or ≡ word
+unmasked_is entry word below unmasked =
+    let parts = and_parts (entry.and == 65535) (entry.or == 0) unmasked in
+    let all : bit_and word entry.and ≡ word = ap (bit_and word) (eqb-true entry.and 65535 parts.0) ∙ and_mask word 16 ∙ within_word word below in
+    ap (bit_or (bit_and word entry.and)) (eqb-true entry.or 0 parts.1) ∙ nothing_set (bit_and word entry.and) ∙ all
+
+masked_holds : (laws : Masks) (first : Option Suspended) (entry : Entry) (held : Word) (word : ℕ) → HasMasks (Some entry) → IsNormal 65536 held.set → word < 65536
+    → HoldsOfWord first held word → HoldsOfWord first (masked_by entry held) (bit_or (bit_and word entry.and) entry.or)
+masked_holds laws first entry held word masks normal below holds = elim (cases_Bool (is_unmasked entry)) [
+  | inl whole ↦ rw whole (subst (λ (v : ℕ). HoldsOfWord first held v) (sym (unmasked_is entry word below whole)) holds)
+  | inr some ↦ rw some (laws.or first entry.or (bit_and word entry.and) (word_and entry.and held) masks.1 (laws.and_normal entry.and held masks.0 normal)
+      (laws.and first entry.and word held masks.0 normal holds))
+]
+
+by_holds : (laws : Masks) (places : ℕ → Word) (f : Suspended) (first : Option Suspended) (exit : Word) (entry : Option Entry) (v : ℕ) → exit.entry ≡ entry → AreNormal places
+    → HasMasks entry → Tells places f first entry → HoldsOfWord (Some f) exit v → HoldsOfWord first (resumed_by places exit entry) v
+by_holds laws places f first exit None v is normal masks tells holds = (holds.0, subst (λ (entry : Option Entry). IsFromEntry first entry v) (sym is) tt)
+by_holds laws places f first exit (Some entry) v is normal masks tells holds =
+    let from : IsFromEntry (Some f) (Some entry) v = subst (λ (one : Option Entry). IsFromEntry (Some f) one v) is holds.1 in
+    subst (λ (n : ℕ). HoldsOfWord first (masked_by entry (places entry.place)) n) (sym from.2)
+    (masked_holds laws first entry (places entry.place) from.0 masks (normal entry.place) from.1.0 (tells from.0 from.1))
+
+pub word_holds : (laws : Masks) (places : ℕ → Word) (f : Suspended) (first : Option Suspended) (exit : Word) (v : ℕ) → AreNormal places
+    → HasMasks exit.entry → Tells places f first exit.entry → HoldsOfWord (Some f) exit v → HoldsOfWord first (resumed_word places exit) v
+word_holds laws places f first exit v normal masks tells holds = by_holds laws places f first exit exit.entry v refl normal masks tells holds
+
+masked_normal : (laws : Masks) (entry : Entry) (held : Word) → HasMasks (Some entry) → IsNormal 65536 held.set → IsNormal 65536 (masked_by entry held).set
+masked_normal laws entry held masks normal = elim (cases_Bool (is_unmasked entry)) [
+  | inl whole ↦ rw whole normal
+  | inr some ↦ rw some (laws.or_normal entry.or (word_and entry.and held) masks.1 (laws.and_normal entry.and held masks.0 normal))
+]
+
+by_normal : (laws : Masks) (places : ℕ → Word) (exit : Word) (entry : Option Entry) → AreNormal places → HasMasks entry → IsNormal 65536 exit.set → IsNormal 65536 (resumed_by places exit entry).set
+by_normal laws places exit None normal masks own = own
+by_normal laws places exit (Some entry) normal masks own = masked_normal laws entry (places entry.place) masks (normal entry.place)
+
+pub word_normal : (laws : Masks) (places : ℕ → Word) (exit : Word) → AreNormal places → HasMasks exit.entry → IsNormal 65536 exit.set → IsNormal 65536 (resumed_word places exit).set
+word_normal laws places exit = by_normal laws places exit exit.entry
+
+-- its relation
+by_none : (places : ℕ → Word) (exit : Word) (entry : Option Entry) → exit.entry ≡ None → entry ≡ None → (resumed_by places exit entry).entry ≡ None
+by_none places exit None is same = is
+by_none places exit (Some entry) is same = absurd (cc)
+
+pub word_none : (places : ℕ → Word) (exit : Word) → exit.entry ≡ None → (resumed_word places exit).entry ≡ None
+word_none places exit is = by_none places exit exit.entry is is
+
+masked_entry : (entry : Entry) (held : Word) → IsBehind entry held.entry (masked_by entry held).entry
+masked_entry entry held = elim (cases_Bool (is_unmasked entry)) [
+  | inl whole ↦ inl (rw whole refl)
+  | inr some ↦ inr (rw some refl)
+]
+
+pub word_entry : (places : ℕ → Word) (exit : Word) (entry : Entry) → exit.entry ≡ Some entry → IsBehind entry (places entry.place).entry (resumed_word places exit).entry
+word_entry places exit entry is = subst (λ (one : Option Entry). IsBehind entry (places entry.place).entry (resumed_by places exit one).entry) (sym is) (masked_entry entry (places entry.place))
+
+-- FACTS OF EACH CELL
+
+each_from : (P : Cell → Type 0) (cells : List Cell) → ((cell : Cell) → Contains cells cell → P cell) → Each P cells
+each_from P [] h = tt
+each_from P (cell ∷ cells) h = (h cell (0, omega arith, refl), each_from P cells (λ other k. h other (suc k.0, omega (arith, k.1), k.2)))
+
+each_in : (P : Cell → Type 0) (cells : List Cell) → Each P cells → (cell : Cell) → Contains cells cell → P cell
+each_in P [] h cell k = absurd (omega (arith, k.1))
+each_in P (c ∷ cells) h cell (zero, below, is) = subst P is h.0
+each_in P (c ∷ cells) h cell (suc k, below, is) = each_in P cells h.1 cell (k, omega arith, is)
+
+each_both : (P Q : Cell → Type 0) (cells : List Cell) → Each P cells → Each Q cells → Each (λ cell. P cell × Q cell) cells
+each_both P Q [] h k = tt
+each_both P Q (cell ∷ cells) h k = ((h.0, k.0), each_both P Q cells h.1 k.1)
+
+each_filter : (P : Cell → Type 0) (test : Cell → Bool) (cells : List Cell) → Each P cells → Each (λ cell. P cell × (test cell ≡ true)) (filter test cells)
+each_filter P test [] h = tt
+each_filter P test (cell ∷ cells) h = elim (cases_Bool (test cell)) [
+  | inl passes ↦ rw passes ((h.0, passes), each_filter P test cells h.1)
+  | inr fails ↦ rw fails (each_filter P test cells h.1)
+]
+
+each_map : (P Q : Cell → Type 0) (g : Cell → Cell) (cells : List Cell) → ((cell : Cell) → P cell → Q (g cell)) → Each P cells → Each Q (map g cells)
+each_map P Q g [] f h = tt
+each_map P Q g (cell ∷ cells) f h = (f cell h.0, each_map P Q g cells f h.1)
+
+each_insert : (P : Cell → Type 0) (cell : Cell) (cells : List Cell) → P cell → Each P cells → Each P (insert cell cells)
+each_insert P cell [] h k = (h, tt)
+each_insert P cell (c ∷ cells) h k = elim (cases_Bool (nat_lt cell.place c.place)) [
+  | inl before ↦ rw before (h, k)
+  | inr behind ↦ rw behind (k.0, each_insert P cell cells h k.1)
+]
+
+each_cell : (lo hi from : ℕ) (cells : List Cell) → AreCells lo hi from cells → Each (IsCell lo hi) cells
+each_cell lo hi from [] h = tt
+each_cell lo hi from (cell ∷ cells) h = (h.0, each_cell lo hi (cell.place + cell.size) cells h.2)
+
+-- CELLS THAT ARE WRITTEN
+
+with_each : (P : Cell → Type 0) (lo hi : ℕ) (cell : Cell) (cells : List Cell) → P cell → Each P cells → Each P (with_cell lo hi cell cells)
+with_each P lo hi cell cells h k = elim (cases_Bool (nat_lt cell.place lo || nat_lt hi (cell.place + cell.size - 1) || is_nothing cell.size cell.word)) [
+  | inl left_out ↦ rw left_out k
+  | inr put ↦ rw put (each_insert P cell cells h k)
+]
+
+one_each : (P : Cell → Type 0) (held : CellMap) (cell : Cell) → P cell → Each P held.cells → Each P (write_one held cell.place cell.size cell.word).cells
+unfolding write_one
+one_each P held cell h k =
+    let left = filter (λ c. not (meets cell.place cell.size c)) held.cells in
+    with_each P held.lo held.hi cell left h
+    (each_then (λ c. P c × (not (meets cell.place cell.size c) ≡ true)) P left (λ c both. both.0) (each_filter P (λ c. not (meets cell.place cell.size c)) held.cells k))
+
+all_each : (P : Cell → Type 0) (cells : List Cell) (held : CellMap) → Each P cells → Each P held.cells → Each P (with_written cells held).cells
+all_each P [] held h k = k
+all_each P (cell ∷ cells) held h k = all_each P cells (write_one held cell.place cell.size cell.word) h.1 (one_each P held cell h.0 k)
+
+-- a cell behind a write is the one that was written, or was there
+pub each_behind : (P : Cell → Type 0) (held : CellMap) (cell : Cell) → P cell → ((c : Cell) → Contains held.cells c → P c)
+    → (c : Cell) → Contains (write_one held cell.place cell.size cell.word).cells c → P c
+each_behind P held cell h k =
+    each_in P (write_one held cell.place cell.size cell.word).cells (one_each P held cell h (each_from P held.cells k))
+
+record IsWritten (cell : Cell) : Type 0 where
+  size : (cell.size ≡ 1) ⊎ (cell.size ≡ 2)
+  high : cell.place < 65536
+  normal : IsNormal 65536 cell.word.set
+  byte : cell.size ≡ 1 → (v : ℕ) → Has 65536 cell.word.set v → v < 256
+
+abbrev StandsAt : Option Suspended → (ℕ → ℕ) → Cell → Type 0
+StandsAt first ram cell = HoldsOfWord first cell.word (number_at ram cell.place cell.size)
+
+-- a RAM stays behind a write of what stands in it
+low_alone : (x : ℕ) → x < 256 → x % 256 ≡ x
+low_alone x h = omega arith
+
+low_of : (x y : ℕ) → x < 256 → (x + 256 * y) % 256 ≡ x
+low_of x y h = omega arith
+
+high_of : (x y : ℕ) → x < 256 → (x + 256 * y) / 256 ≡ y
+high_of x y h = omega arith
+
+rewritten_byte : (ram : ℕ → ℕ) (at address : ℕ) → ((b : ℕ) → ram b < 256) → written ram at 1 (ram at) address ≡ ram address
+unfolding written
+rewritten_byte ram at address bytes = elim (cases_Bool (address == at)) [
+  | inl same ↦ rw same (low_alone (ram at) (bytes at) ∙ ap ram (sym (eqb-true address at same)))
+  | inr other ↦ rw other refl
+]
+
+rewritten_word : (ram : ℕ → ℕ) (at address : ℕ) → ((b : ℕ) → ram b < 256) → written ram at 2 (ram at + 256 * ram ((at + 1) % 65536)) address ≡ ram address
+unfolding written
+rewritten_word ram at address bytes = elim (cases_Bool (address == at)) [
+  | inl same ↦ rw same (low_of (ram at) (ram ((at + 1) % 65536)) (bytes at) ∙ ap ram (sym (eqb-true address at same)))
+  | inr other ↦ rw other (elim (cases_Bool (address == (at + 1) % 65536)) [
+    | inl next ↦ rw next (high_of (ram at) (ram ((at + 1) % 65536)) (bytes at) ∙ ap ram (sym (eqb-true address ((at + 1) % 65536) next)))
+    | inr beyond ↦ rw beyond refl
+  ])
+]
+
+rewritten : (ram : ℕ → ℕ) (at size address : ℕ) → ((b : ℕ) → ram b < 256) → (size ≡ 1) ⊎ (size ≡ 2) → written ram at size (number_at ram at size) address ≡ ram address
+rewritten ram at size address bytes (inl one) = subst (λ (s : ℕ). written ram at s (number_at ram at s) address ≡ ram address) (sym one) (rewritten_byte ram at address bytes)
+rewritten ram at size address bytes (inr two) = subst (λ (s : ℕ). written ram at s (number_at ram at s) address ≡ ram address) (sym two) (rewritten_word ram at address bytes)
+
+one_formed : (laws : Writes) (held : CellMap) (cell : Cell) → IsCellMap held → IsWritten cell → IsCellMap (write_one held cell.place cell.size cell.word)
+unfolding write_one
+one_formed laws held cell form is = record {
+  high = form.high;
+  are = laws.form held.lo cell.place cell.size held cell.word form.high (omega arith) form.are is.size is.normal is.byte;
+}
+
+one_stands : (laws : Writes) (first : Option Suspended) (ram : ℕ → ℕ) (held : CellMap) (cell : Cell) → IsCellMap held → IsWritten cell → StandsAt first ram cell
+    → StandsUnder first held.cells ram → StandsUnder first (write_one held cell.place cell.size cell.word).cells ram
+one_stands laws first ram held cell form is stands under =
+    let at = cell.place in
+    let size = cell.size in
+    let v = number_at ram at size in
+    laws.agree first (written ram at size v) ram held.lo held.hi held.lo (write_one held at size cell.word).cells form.high
+    (laws.form held.lo at size held cell.word form.high (omega arith) form.are is.size is.normal is.byte)
+    under.0 (λ b low high. rewritten ram at size b under.0 is.size)
+    (laws.covers first ram held.lo at size v held cell.word form.high form.are is.high is.size is.normal is.byte under stands)
+
+all_formed : (laws : Writes) (cells : List Cell) (held : CellMap) → IsCellMap held → Each IsWritten cells → IsCellMap (with_written cells held)
+all_formed laws [] held form each = form
+all_formed laws (cell ∷ cells) held form each = all_formed laws cells (write_one held cell.place cell.size cell.word) (one_formed laws held cell form each.0) each.1
+
+all_stand : (laws : Writes) (first : Option Suspended) (ram : ℕ → ℕ) (cells : List Cell) (held : CellMap) → IsCellMap held → Each (λ cell. IsWritten cell × StandsAt first ram cell) cells
+    → StandsUnder first held.cells ram → StandsUnder first (with_written cells held).cells ram
+all_stand laws first ram [] held form each under = under
+all_stand laws first ram (cell ∷ cells) held form each under = all_stand laws first ram cells (write_one held cell.place cell.size cell.word)
+    (one_formed laws held cell form each.0.0) each.1 (one_stands laws first ram held cell form each.0.0 each.0.1 under)
+
+same_ends : (cells : List Cell) (held : CellMap) → ((with_written cells held).lo ≡ held.lo) × ((with_written cells held).hi ≡ held.hi)
+unfolding write_one
+same_ends [] held = (refl, refl)
+same_ends (cell ∷ cells) held = same_ends cells (write_one held cell.place cell.size cell.word)
+
+-- WHAT NO HANDLER TOUCHED
+
+lowered : (lo hi from low : ℕ) (cells : List Cell) → low ≤ from → AreCells lo hi from cells → AreCells lo hi low cells
+lowered lo hi from low [] h are = tt
+lowered lo hi from low (cell ∷ cells) h are = (are.0, omega (arith, h, are.1), are.2)
+
+filtered_form : (lo hi from : ℕ) (test : Cell → Bool) (cells : List Cell) → AreCells lo hi from cells → AreCells lo hi from (filter test cells)
+filtered_form lo hi from test [] h = tt
+filtered_form lo hi from test (cell ∷ cells) h = elim (cases_Bool (test cell)) [
+  | inl passes ↦ rw passes (h.0, h.1, filtered_form lo hi (cell.place + cell.size) test cells h.2)
+  | inr fails ↦ rw fails (lowered lo hi (cell.place + cell.size) from (filter test cells) (omega (arith, h.1)) (filtered_form lo hi (cell.place + cell.size) test cells h.2))
+]
+
+untouched_form : (touched : List (ℕ × ℕ)) (at : CellMap) → IsCellMap at → IsCellMap (record at { cells = untouched_cells touched at.cells })
+untouched_form touched at form = record {
+  high = form.high;
+  are = filtered_form at.lo at.hi at.lo (λ cell. is_untouched touched cell.place cell.size) at.cells form.are;
+}
+
+within_turn : (place : ℕ) → place + 2 ≤ 65536 → (place + 1) % 65536 ≡ place + 2 - 1
+within_turn place h = omega arith
+
+same_place : (touched : List (ℕ × ℕ)) (now then_ : ℕ → ℕ) (place size : ℕ) → (size ≡ 1) ⊎ (size ≡ 2) → place + size ≤ 65536 → AgreeOutside touched now then_
+    → is_untouched touched place size ≡ true → number_at now place size ≡ number_at then_ place size
+same_place touched now then_ place size sized whole agree none =
+    let parts = and_parts (not (has_address touched place)) (not (has_address touched (place + size - 1))) none in
+    let first : now place ≡ then_ place = agree place (not-true (has_address touched place) parts.0) in
+    let last : now (place + size - 1) ≡ then_ (place + size - 1) = agree (place + size - 1) (not-true (has_address touched (place + size - 1)) parts.1) in
+    elim sized [
+      | inl one ↦ subst (λ (s : ℕ). number_at now place s ≡ number_at then_ place s) (sym one) first
+      | inr two ↦
+          let at = within_turn place (omega (arith, two, whole)) in
+          let next : now (place + 2 - 1) ≡ then_ (place + 2 - 1) = subst (λ (s : ℕ). now (place + s - 1) ≡ then_ (place + s - 1)) two last in
+          let high : now ((place + 1) % 65536) ≡ then_ ((place + 1) % 65536) = ap now at ∙ next ∙ ap then_ (sym at) in
+          subst (λ (s : ℕ). number_at now place s ≡ number_at then_ place s) (sym two)
+          (ap (λ (b : ℕ). b + 256 * now ((place + 1) % 65536)) first ∙ ap (λ (b : ℕ). then_ place + 256 * b) high)
+    ]
+
+untouched_stand : (first : Option Suspended) (touched : List (ℕ × ℕ)) (now then_ : ℕ → ℕ) (at : CellMap) → IsCellMap at → ((b : ℕ) → now b < 256) → AgreeOutside touched now then_
+    → StandsUnder first at.cells then_ → StandsUnder first (untouched_cells touched at.cells) now
+untouched_stand first touched now then_ at form bytes agree under =
+    let test = λ (cell : Cell). is_untouched touched cell.place cell.size in
+    let each = each_both (StandsAt first then_) (IsCell at.lo at.hi) at.cells (each_from (StandsAt first then_) at.cells under.1) (each_cell at.lo at.hi at.lo at.cells form.are) in
+    let kept = each_then (λ cell. (StandsAt first then_ cell × IsCell at.lo at.hi cell) × (test cell ≡ true)) (StandsAt first now) (filter test at.cells)
+    (λ cell h. subst (λ (n : ℕ). HoldsOfWord first cell.word n)
+    (sym (same_place touched now then_ cell.place cell.size h.0.1.size (omega (arith, h.0.1.high, form.high)) agree h.1)) h.0.0)
+    (each_filter (λ cell. StandsAt first then_ cell × IsCell at.lo at.hi cell) test at.cells each) in
+    (bytes, each_in (StandsAt first now) (filter test at.cells) kept)
+
+-- THE EXIT'S CELLS
+
+some_size : (size : ℕ) → (size ≡ 1) ⊎ (size ≡ 2) → 1 ≤ size
+some_size size (inl one) = omega arith
+some_size size (inr two) = omega arith
+
+-- the word of a cell that goes on, by its size
+sized_is_byte : (places : ℕ → Word) (size : ℕ) (exit : Word) → size ≡ 1 → resumed_sized places size exit ≡ record { set = exit.set; entry = None }
+sized_is_byte places size exit one = cond-true (size == 1) (record { set = exit.set; entry = None }) (resumed_word places exit) (ap (λ n. n == 1) one)
+
+pub byte_of : (places : ℕ → Word) (size : ℕ) (exit : Word) → size ≡ 1 → ((v : ℕ) → Has 65536 exit.set v → v < 256) → (v : ℕ) → Has 65536 (resumed_sized places size exit).set v → v < 256
+byte_of places size exit one below v has = below v (subst (λ (word : Word). Has 65536 word.set v) (sized_is_byte places size exit one) has)
+
+sized_normal : (laws : Masks) (places : ℕ → Word) (size : ℕ) (exit : Word) → AreNormal places → HasMasks exit.entry → IsNormal 65536 exit.set → IsNormal 65536 (resumed_sized places size exit).set
+sized_normal laws places size exit normal masks own = elim (cases_Bool (size == 1)) [
+  | inl one ↦ rw one own
+  | inr two ↦ rw two (word_normal laws places exit normal masks own)
+]
+
+sized_holds : (laws : Masks) (places : ℕ → Word) (f : Suspended) (first : Option Suspended) (size : ℕ) (exit : Word) (v : ℕ) → AreNormal places → HasMasks exit.entry
+    → Tells places f first exit.entry → HoldsOfWord (Some f) exit v → HoldsOfWord first (resumed_sized places size exit) v
+sized_holds laws places f first size exit v normal masks tells holds = elim (cases_Bool (size == 1)) [
+  | inl one ↦ rw one (holds.0, tt)
+  | inr two ↦ rw two (word_holds laws places f first exit v normal masks tells holds)
+]
+
+resumed_written : (laws : Masks) (places : ℕ → Word) (exit : CellMap) → CanResume places exit → (cell : Cell) → Contains exit.cells cell → IsWritten (resumed_cell places cell)
+resumed_written laws places exit can cell held =
+    let is : IsCell exit.lo exit.hi cell = each_in (IsCell exit.lo exit.hi) exit.cells (each_cell exit.lo exit.hi exit.lo exit.cells can.form.are) cell held in
+    record {
+      size = is.size;
+      high = omega (arith, is.high, can.form.high, some_size cell.size is.size);
+      normal = sized_normal laws places cell.size cell.word can.normal (can.masks cell held) is.normal;
+      byte = λ one. byte_of places cell.size cell.word one (is.byte one);
+    }
+
+exit_each : (places : ℕ → Word) (P : Cell → Type 0) (touched : List (ℕ × ℕ)) (cells : List Cell) → ((cell : Cell) → Contains cells cell → P (resumed_cell places cell))
+    → Each P (map (resumed_cell places) (touched_cells touched cells))
+exit_each places P touched cells each =
+    let test = λ (cell : Cell). is_all_touched touched cell.place cell.size in
+    let Q = λ (cell : Cell). P (resumed_cell places cell) in
+    each_map (λ cell. Q cell × (test cell ≡ true)) P (resumed_cell places) (filter test cells) (λ cell h. h.0) (each_filter Q test cells (each_from Q cells each))
+
+-- ALL OF THEM
+
+pub cells_stand : (masks : Masks) (writes : Writes) (places : ℕ → Word) (f : Suspended) (first : Option Suspended) (then_ now : ℕ → ℕ) (at exit : CellMap) (touched : List (ℕ × ℕ))
+    → IsCellMap at → CanResume places exit → EachTells places f first exit.cells → AgreeOutside touched now then_
+    → StandsUnder first at.cells then_ → StandsUnder (Some f) exit.cells now → StandsUnder first (resumed_cells places at exit touched).cells now
+unfolding resumed_cells
+cells_stand masks writes places f first then_ now at exit touched form can tells agree under left =
+    all_stand writes first now (map (resumed_cell places) (touched_cells touched exit.cells)) (record at { cells = untouched_cells touched at.cells }) (untouched_form touched at form)
+    (exit_each places (λ cell. IsWritten cell × StandsAt first now cell) touched exit.cells (λ cell held. (
+      resumed_written masks places exit can cell held,
+      sized_holds masks places f first cell.size cell.word (number_at now cell.place cell.size) can.normal (can.masks cell held) (tells cell held) (left.1 cell held),
+    )))
+    (untouched_stand first touched now then_ at form left.0 agree under)
+
+pub cells_formed : (masks : Masks) (writes : Writes) (places : ℕ → Word) (at exit : CellMap) (touched : List (ℕ × ℕ)) → IsCellMap at → CanResume places exit
+    → IsCellMap (resumed_cells places at exit touched)
+unfolding resumed_cells
+cells_formed masks writes places at exit touched form can =
+    all_formed writes (map (resumed_cell places) (touched_cells touched exit.cells)) (record at { cells = untouched_cells touched at.cells }) (untouched_form touched at form)
+    (exit_each places IsWritten touched exit.cells (resumed_written masks places exit can))
+
+pub ends_stay : (places : ℕ → Word) (at exit : CellMap) (touched : List (ℕ × ℕ)) → ((resumed_cells places at exit touched).lo ≡ at.lo) × ((resumed_cells places at exit touched).hi ≡ at.hi)
+unfolding resumed_cells
+ends_stay places at exit touched = same_ends (map (resumed_cell places) (touched_cells touched exit.cells)) (record at { cells = untouched_cells touched at.cells })
+
+pub cells_from : (places : ℕ → Word) (at exit : CellMap) (touched : List (ℕ × ℕ)) (cell : Cell) → Contains (resumed_cells places at exit touched).cells cell
+    → IsFromEither places at.cells exit.cells cell
+unfolding resumed_cells
+cells_from places at exit touched =
+    let P = IsFromEither places at.cells exit.cells in
+    let test = λ (cell : Cell). is_untouched touched cell.place cell.size in
+    let first = record at { cells = untouched_cells touched at.cells } in
+    let written_ones = map (resumed_cell places) (touched_cells touched exit.cells) in
+    each_in P (with_written written_ones first).cells (all_each P written_ones first
+    (exit_each places P touched exit.cells (λ one held. inr (one, held, refl)))
+    (each_then (λ cell. P cell × (test cell ≡ true)) P (filter test at.cells) (λ cell h. h.0) (each_filter P test at.cells (each_from P at.cells (λ cell held. inl held)))))

@@ -1,0 +1,22 @@
+//! The frames of interrupts, for both chips: what a handler may have changed, and what goes on behind it.
+//!
+//! [`Ranges`] are the addresses of RAM that a handler may have written. Behind the handler, [`resume_word`] and
+//! [`resume_cells`] make of what the exit knows what is known in the state that goes on: a value that came from a place of the
+//! suspended state, as relations say, is again what that place held, and RAM that no handler touched is what it was.
+//!
+//! The laws are functions that do nothing:
+//!
+//! - [`ranges_hold`]: ranges that are added or united have the addresses of both, and being within others is an order.
+//! - [`resumptions_hold`]: what a handler left stands under the words and the cells that go on, and these are in form.
+#![tactic(auto)]
+
+mod laws;
+mod ranges;
+mod resume;
+
+pub use laws::{ranges_hold, resumptions_hold};
+pub use ranges::Ranges;
+pub use resume::{Places, resume_by, resume_cells, resume_word};
+
+#[cfg(test)]
+mod tests;

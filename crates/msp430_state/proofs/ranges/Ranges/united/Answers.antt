@@ -1,9 +1,0 @@
-use Rattle.std.proofs.Common.{ℕ, List, sym, subst, arith}
-use Rattle.msp430_state.specs.Ranges.{AreRanges}
-use Rattle.msp430_state.proofs.RangeLemmas.{each_goes_up}
-use Rattle.msp430_state.proofs.ranges.Ranges.united.Goals as goal
-
-pub add-requires : goal.add-requires
-add-requires c =
-    let are = subst (λ (ranges : List (ℕ × ℕ)). AreRanges 0 65535 ranges) (sym c.deref-range-items.ensures.value) c.other.invariant in
-    each_goes_up 0 65535 c.deref-range-items.result.now c.loop-range.range-index (0, 0) are (omega arith)

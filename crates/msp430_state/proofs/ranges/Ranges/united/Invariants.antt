@@ -1,8 +1,0 @@
-use Rattle.std.proofs.Common.{◌≡◌, drop}
-use Rattle.msp430_state.specs.Ranges.{united}
-use Rattle.msp430_state.proofs.ranges.Ranges.united.Given as goal
-
-abbrev pub invariant-loop-range : goal.invariant-loop-range
-invariant-loop-range l = record {
-  left : united l.all (drop l.range-index l.range-items) ≡ united l.self l.other;
-}
