@@ -16,3 +16,4 @@ pub mod Showing
 pub mod ReadLists
 pub mod Members
 pub mod WrittenWords
+pub mod WordsInMemory

@@ -31,7 +31,7 @@ use Rattle.msp430_alu.specs.declared.reach.Reach.TheVariants.{InMemory}
 use Rattle.msp430_results.specs.FlagSets.{IsResult}
 use Rattle.msp430_alu.specs.Formats.{put_known, lowered_known, forming_known, pushed_known, called_next, push_worked, IsUnder, IsLeft}
 use Rattle.msp430_results.specs.Words.{values_of, written_word}
-use Rattle.msp430_alu.specs.Memory.{IsDevice}
+use Rattle.msp430_alu.specs.Memory.{IsDevice, IsRam}
 use Rattle.msp430_alu.specs.Operands.{source_reach, grown_known, operand_word}
 use Rattle.msp430_alu.specs.Premises.{Premises}
 use Rattle.msp430_alu.specs.Registers.{AreRegisters, even_parts, with_sp}
@@ -42,7 +42,6 @@ use Rattle.msp430_alu.proofs.OperandLemmas.{AreKinds, IsOnTheWay, IsOperand, sou
 use Rattle.msp430_alu.proofs.Parts.{even_parts_is, parts_counted, sp_written}
 use Rattle.msp430_alu.proofs.Putting.{IsPut, IsReady, IsWritten, counted_are, sp_are, put_is}
 use Rattle.msp430_alu.proofs.Shapes.{sp_form}
-use Rattle.msp430_alu.proofs.Storing.{IsRam}
 
 -- SP
 

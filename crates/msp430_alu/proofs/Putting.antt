@@ -32,14 +32,14 @@ use Rattle.msp430_alu.specs.declared.reach.Reach.{Reach}
 use Rattle.msp430_alu.specs.declared.reach.Reach.TheVariants.{InRegister, InMemory, Fixed}
 use Rattle.msp430_results.specs.FlagSets.{IsResult}
 use Rattle.msp430_alu.specs.Formats.{put_known, put_known_if, next_by, next_if}
-use Rattle.msp430_alu.specs.Memory.{IsDevice, located}
+use Rattle.msp430_alu.specs.Memory.{IsDevice, IsRam, located}
 use Rattle.msp430_alu.specs.Operands.{IsReached}
 use Rattle.msp430_alu.specs.Premises.{Premises}
 use Rattle.msp430_alu.specs.Registers.{AreRegisters, even_parts, put_register, with_word}
 use Rattle.msp430_alu.proofs.Numbers.{single_is}
 use Rattle.msp430_alu.proofs.Parts.{parts_counted, word_written, sp_written, even_parts_is}
 use Rattle.msp430_alu.proofs.ReadingLemmas.{IsHeld, located_is}
-use Rattle.msp430_alu.proofs.Storing.{IsRam, IsStorable, store_holds}
+use Rattle.msp430_alu.proofs.Storing.{IsStorable, store_holds}
 
 -- THE REGISTERS BEHIND A WRITE
 

@@ -227,7 +227,7 @@ unknown_held : (laws : Premises) (first : Option Suspended) (width : Width) (v :
 unknown_held laws first Words v small = unknown_word laws first v small
 unknown_held laws first Byte v small = unknown_byte laws first v small
 
-list_held : (laws : Premises) (device : Device) (a : Known) (first : Option Suspended) → IsDevice device → AreCells device.lo device.hi device.lo a.cells.cells → (width : Width) (list : List ℕ) (at v : ℕ)
+pub list_held : (laws : Premises) (device : Device) (a : Known) (first : Option Suspended) → IsDevice device → AreCells device.lo device.hi device.lo a.cells.cells → (width : Width) (list : List ℕ) (at v : ℕ)
     → v < modulus width → Contains list at → IsHeld first (read_one device a width at) v → IsHeld first (read_list device a width list) v
 list_held laws device a first is cells width [] at v small there held = absurd (in_none at there)
 list_held laws device a first is cells width (only ∷ []) at v small there held = elim (in_cons only [] at there) [

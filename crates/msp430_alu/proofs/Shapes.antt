@@ -27,7 +27,7 @@ use Rattle.msp430_chip.specs.Memory.{size_of}
 use Rattle.msp430_state.specs.declared.fact.FlagFact.{FlagFact}
 use Rattle.msp430_state.specs.Forms.{IsRelation, IsStatusRelation, IsFact, IsWord, IsChipCell, IsKnown}
 use Rattle.msp430_state.specs.Known.{Known}
-use Rattle.msp430_state.specs.Ranges.{AreRanges}
+use Rattle.irq_frames.specs.Ranges.{AreRanges}
 use Rattle.msp430_results.specs.declared.flag_bits.FlagBits.{FlagBits}
 use Rattle.msp430_alu.specs.Memory.{IsDevice, touched_behind, with_store}
 use Rattle.msp430_alu.specs.Premises.{Premises}

@@ -22,13 +22,13 @@ use Rattle.msp430_chip.specs.declared.device.Device.{Device}
 use Rattle.msp430_chip.specs.declared.state.ChipState.{ChipState}
 use Rattle.msp430_chip.specs.Arithmetic.{modulus}
 use Rattle.msp430_chip.specs.Memory.{is_ram, size_of, aligned, with_byte, with_stored}
-use Rattle.msp430_chip.specs.State.{even, ram_size}
+use Rattle.msp430_chip.specs.State.{even}
 use Rattle.msp430_state.specs.Forms.{IsKnown}
 use Rattle.msp430_state.specs.Holding.{suspended_of, ram_byte, KeepsUntouched, HoldsOfParts}
 use Rattle.msp430_state.specs.Known.{Known}
-use Rattle.msp430_state.specs.Ranges.{AreRanges, has_address, lies_in, with_range}
+use Rattle.irq_frames.specs.Ranges.{AreRanges, has_address, lies_in, with_range}
 use Rattle.msp430_results.specs.FlagSets.{IsResult}
-use Rattle.msp430_alu.specs.Memory.{IsDevice, touch, touch_each, touched_behind, with_store}
+use Rattle.msp430_alu.specs.Memory.{IsDevice, IsRam, touch, touch_each, touched_behind, with_store}
 use Rattle.msp430_alu.specs.Premises.{Premises}
 
 -- BYTES OF RAM
@@ -41,11 +41,6 @@ ram_high device at inside = leb-true at device.hi (and_parts (nat_le device.lo a
 
 in_ram : (device : Device) (at : ℕ) → device.lo ≤ at → at ≤ device.hi → is_ram device at ≡ true
 in_ram device at low high = and_from (nat_le device.lo at) (nat_le at device.hi) (le-leb device.lo at low) (le-leb at device.hi high)
-
--- the bytes of a device's RAM
-pub record IsRam (device : Device) (ram : List ℕ) : Type 0 where
-  pub count : length ram ≡ ram_size device
-  pub bytes : All (λ b. b < 256) ram
 
 with_byte_unfolded : (device : Device) (ram : List ℕ) (at byte : ℕ) → with_byte device ram at byte ≡ (if is_ram device at then set ram (at - device.lo) byte else ram)
 unfolding with_byte

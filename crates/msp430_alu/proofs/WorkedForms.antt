@@ -63,12 +63,12 @@ use Rattle.msp430_alu.proofs.Shapes.{IsCellWord, no_relation, register_form, sp_
 
 -- REGISTERS AS OPERANDS
 
-status_normal : (laws : Premises) (status : StatusBits) → length status.bits ≡ 9 → IsNormal 65536 (status_set status)
+pub status_normal : (laws : Premises) (status : StatusBits) → length status.bits ≡ 9 → IsNormal 65536 (status_set status)
 status_normal laws status long =
     let count : length (status.bits ++ replicate 7 Either) ≡ 16 = length-append status.bits (replicate 7 Either) ∙ omega (arith, long, length-replicate 7 Either) in
     laws.from_normal 16 (status.bits ++ replicate 7 Either) count
 
-status_relation : (framed : Bool) (entry : Option Entry) → IsStatusRelation framed entry → IsRelation framed entry
+pub status_relation : (framed : Bool) (entry : Option Entry) → IsStatusRelation framed entry → IsRelation framed entry
 status_relation framed None form = tt
 status_relation false (Some entry) form = form
 status_relation true (Some entry) (place, and_small, high, or_small) = (ap is_place place, and_small, omega (arith, or_small))
@@ -169,7 +169,7 @@ one_relation framed device a width at form =
     cond_both (is_ram device at) (read a.cells.cells at (size_of width)) (program_word device width at) (λ word. IsRelation framed word.entry)
     (λ e. read_relation framed a.cells.cells at (size_of width) form.each_cell) (λ e. program_relation framed device width at)
 
-list_relation : (framed : Bool) (device : Device) (a : Known) (width : Width) (list : List ℕ) → IsKnown device.lo device.hi framed a → IsRelation framed (read_list device a width list).entry
+pub list_relation : (framed : Bool) (device : Device) (a : Known) (width : Width) (list : List ℕ) → IsKnown device.lo device.hi framed a → IsRelation framed (read_list device a width list).entry
 list_relation framed device a width [] form = no_relation framed
 list_relation framed device a width (only ∷ []) form = one_relation framed device a width only form
 list_relation framed device a width (one ∷ next ∷ rest) form =

@@ -13,8 +13,9 @@ use Rattle.msp430_decode.specs.declared.instr.Width.{Width}
 use Rattle.msp430_decode.specs.declared.instr.Width.TheVariants.{Word as Words, Byte}
 use Rattle.msp430_chip.specs.declared.device.Device.{Device}
 use Rattle.msp430_chip.specs.Memory.{is_ram, size_of}
+use Rattle.msp430_chip.specs.State.{ram_size}
 use Rattle.msp430_state.specs.Known.{Known}
-use Rattle.msp430_state.specs.Ranges.{with_range}
+use Rattle.irq_frames.specs.Ranges.{with_range}
 use Rattle.msp430_alu.specs.Registers.{even_parts}
 
 -- a program in the chip's memory, beside RAM of whole words
@@ -26,6 +27,11 @@ pub record IsDevice (device : Device) : Type 0 where
   pub high : device.hi % 2 ≡ 1
   pub some : device.lo < device.hi
   pub top : device.hi < 65536
+
+-- the bytes of a device's RAM
+pub record IsRam (device : Device) (ram : List ℕ) : Type 0 where
+  pub count : length ram ≡ ram_size device
+  pub bytes : All (λ b. b < 256) ram
 
 -- bit 0 of a word's address doesn't count
 abbrev pub located : Width → Form → Form

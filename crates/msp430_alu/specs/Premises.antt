@@ -14,7 +14,7 @@ use Rattle.value_bits.specs.Sets.{low_set, pair_set, logic_set}
 use Rattle.entry_value.specs.declared.cells.Cell.{Cell}
 use Rattle.entry_value.specs.Cells.{CellMap, AreCells, StandsUnder, number_at, read, write_any, written}
 use Rattle.entry_value.specs.declared.word.Word.{Word}
-use Rattle.msp430_state.specs.Ranges.{AreRanges, has_address, lies_in, with_range}
+use Rattle.irq_frames.specs.Ranges.{AreRanges, has_address, lies_in, with_range}
 use Rattle.entry_value.specs.Words.{Suspended, IsFromEntry, HoldsOfWord, entry_and, entry_or}
 use Rattle.entry_value.specs.declared.word.Entry.{Entry}
 use Rattle.msp430_state.specs.Known.{even_words}

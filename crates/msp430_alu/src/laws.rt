@@ -1,7 +1,10 @@
 //! What holds of what instructions make of what is known of a state.
 
-ghost use Rattle.std.specs.Prelude.{◌≡◌, ◌+◌, ◌%◌, ℕ, ◌++◌, Bool, false, true, Option, Some, slice_index};
-ghost use Rattle.value_set.specs.Form.{IsNormal};
+ghost use Rattle.std.specs.Prelude.{◌≡◌, ◌+◌, ◌*◌, ◌%◌, ◌<◌, ℕ, ◌++◌, Bool, false, true, List, length, None, Option, option_map, Some, slice_index};
+ghost use Rattle.entry_value.specs.declared.word.Word.{Word as AWord};
+ghost use Rattle.entry_value.specs.Words.{HoldsOfWord};
+ghost use Rattle.value_set.specs.declared.form.Form.{Form as AForm};
+ghost use Rattle.value_set.specs.Form.{Has, IsNormal};
 ghost use Rattle.value_set.specs.Remainders.{HasRemainder};
 ghost use Rattle.msp430_decode.specs.declared.instr.Destination.{Destination as ADestination};
 ghost use Rattle.msp430_decode.specs.declared.instr.Source.{Source as ASource};
@@ -17,10 +20,14 @@ ghost use Rattle.msp430_chip.specs.Operands.{access_to};
 ghost use Rattle.msp430_chip.specs.Step.{behind, double_accesses, lowered};
 ghost use Rattle.msp430_chip.specs.Outcome.{Outcome};
 ghost use Rattle.msp430_chip.specs.State.{register_of};
-ghost use Rattle.msp430_chip.specs.Leading.{behind_source, origin_of, place_of, pushed_place, MayDouble, MayPush, MaySingle};
+ghost use Rattle.msp430_chip.specs.Leading.{behind_source, origin_of, place_of, pushed_place, MayDouble, MayPush, MayReadWord, MaySingle};
+ghost use Rattle.msp430_chip.specs.Memory.{with_stored};
 ghost use Rattle.msp430_alu.specs.Formats.{AreShown, IsHit, IsLeft, IsUnder, LeavesStatus, LeavesStatusAlone, double_worked, push_worked, single_worked};
-ghost use Rattle.msp430_alu.specs.Memory.{IsDevice};
-ghost use Rattle.msp430_state.specs.Forms.{IsKnown};
+ghost use Rattle.msp430_alu.specs.Memory.{IsDevice, IsRam, read_known, with_store};
+ghost use Rattle.msp430_alu.specs.Registers.{status_set};
+ghost use Rattle.msp430_state.specs.declared.status.Status.{Status as AStatus};
+ghost use Rattle.msp430_state.specs.Forms.{AreEvenWords, IsKnown, IsStatusRelation, IsWord};
+ghost use Rattle.msp430_state.specs.Holding.{suspended_of, HoldsOfParts, HoldsOfStatus};
 ghost use Rattle.msp430_state.specs.Known.{Known};
 ghost use Rattle.msp430_alu.specs.Premises.{Premises};
 ghost use Rattle.msp430_results.specs.Results.{HasWidth};
@@ -29,9 +36,9 @@ use entry_value::{
     bytes_stay_bytes, cells_speak_of_ram, reads_hold, reads_keep_form, relations_hold,
     writes_cover, writes_keep_form,
 };
+use irq_frames::ranges_hold;
 use msp430_chip::registers_of_five_kinds;
 use msp430_results::operations_hold;
-use msp430_state::ranges_hold;
 use value_bits::{bits_hold, evens_stay, halves_hold, logic_holds};
 use value_set::{
     inclusion_is_tested, joins_include_both, made_of_one_remainder, members_are_below,
@@ -143,4 +150,25 @@ pub fn pushes_hold()
 {
     premises_hold();
     registers_of_five_kinds();
+}
+
+/// The law of words at even addresses, and of SR as a word. What is known behind a store of a word holds behind it, and a
+/// word that may be read holds of what is read there. SR's word holds whatever its bits 9 to 15 are.
+pub fn words_in_memory()
+    ensures stored { (device : ADevice) (framed : Bool) (a : Known) (first : Option AState) (registers ram : List ℕ) (set : AForm) (at v : ℕ) (word : AWord) → IsDevice device → IsRam device ram
+        → (framed ≡ false → first ≡ None) → IsKnown device.lo device.hi framed a → AreEvenWords set → Has 65536 set at → IsWord framed word → HoldsOfWord (option_map suspended_of first) word v
+        → HoldsOfParts device a first registers ram → HoldsOfParts device (with_store device framed a Word set word) first registers (with_stored device ram Word at v) }
+    ensures stored_form { (device : ADevice) (framed : Bool) (a : Known) (set : AForm) (word : AWord) → IsDevice device → IsKnown device.lo device.hi framed a
+        → AreEvenWords set → IsWord framed word → IsKnown device.lo device.hi framed (with_store device framed a Word set word) }
+    ensures ram { (device : ADevice) (ram : List ℕ) (at v : ℕ) → v < 65536 → IsRam device ram → IsRam device (with_stored device ram Word at v) }
+    ensures read { (device : ADevice) (framed : Bool) (a : Known) (first : Option AState) (registers ram : List ℕ) (set : AForm) (at word : ℕ) → IsDevice device → IsKnown device.lo device.hi framed a
+        → AreEvenWords set → Has 65536 set at → HoldsOfParts device a first registers ram → MayReadWord device ram at word
+        → HoldsOfWord (option_map suspended_of first) (read_known device a Word set) word }
+    ensures read_form { (device : ADevice) (framed : Bool) (a : Known) (set : AForm) → IsDevice device → IsKnown device.lo device.hi framed a → IsWord framed (read_known device a Word set) }
+    ensures status { (framed : Bool) (first : Option AState) (status : AStatus) (sr bits : ℕ) → length status.bits ≡ 9 → IsStatusRelation framed status.entry → sr < 512 → bits < 128
+        → HoldsOfStatus (option_map suspended_of first) status sr
+        → HoldsOfWord (option_map suspended_of first) (record { set = status_set status; entry = status.entry }) (sr + 512 * bits) }
+    ensures status_form { (framed : Bool) (status : AStatus) → length status.bits ≡ 9 → IsStatusRelation framed status.entry → IsWord framed (record { set = status_set status; entry = status.entry }) }
+{
+    premises_hold();
 }

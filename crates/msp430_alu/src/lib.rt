@@ -4,7 +4,7 @@
 //!
 //! - [`counter_set`]: what PC may be as an operand.
 //! - [`source_reach`] and [`destination_reach`]: where operands may stand, as a [`Reach`]; [`located`]: the addresses there.
-//! - [`register_word`], [`read_one`], [`read_known`] and [`operand_word`]: what operands may hold.
+//! - [`register_word`], [`read_one`], [`read_known`] and [`known_operand`]: what operands may hold.
 //! - [`grow`], [`put_register`] and [`set_flag_bits`]: writes to registers and to flags.
 //! - [`store`]: stores to memory.
 //!
@@ -16,6 +16,8 @@
 //! with one operand, and PUSH and CALL, but for those that write SR. What they leave stands under what the formula says, at
 //! one of its next addresses, each access is shown, and a store that hits the program is at one of the addresses of the
 //! formula's store.
+//!
+//! [`words_in_memory`] is the law of words at even addresses and of SR as a word, for whoever pushes them and reads them back.
 #![tactic(auto)]
 
 mod counting;
@@ -30,13 +32,13 @@ mod worked;
 mod writing;
 
 pub use counting::counter_set;
-pub use laws::{doubles_hold, pushes_hold, singles_hold};
+pub use laws::{doubles_hold, pushes_hold, singles_hold, words_in_memory};
 pub use operands::{destination_reach, located, source_reach};
 pub use reach::Reach;
-pub use reading::{operand_word, read_known, read_one};
+pub use reading::{read_known, read_one};
 pub use registers::register_word;
 pub use stores::store;
-pub use worked::{Worked, double, push, single};
+pub use worked::{Worked, double, known_operand, push, single};
 pub use writing::{grow, put_register, set_flag_bits};
 
 #[cfg(test)]

@@ -7,9 +7,10 @@ ghost use Rattle.msp430_alu.specs.Memory as memory;
 
 use crate::reading::size_of;
 use entry_value::{Cells, Word};
+use irq_frames::Ranges;
 use msp430_chip::Device;
 use msp430_decode::Width;
-use msp430_state::{Ranges, State};
+use msp430_state::State;
 use value_set::{Form, Progression, Vs16};
 use vsa_io::Memory;
 

@@ -71,7 +71,7 @@ fn accesses_fit(width: Width, set: &Vs16)
 }
 
 /// What an operand may hold as a word.
-fn held<M: Cells>(
+pub fn known_operand<M: Cells>(
     device: &Device,
     state: &State<M>,
     counted: &Vs16,
@@ -101,7 +101,7 @@ fn destination_word<M: Cells>(
     ensures { result ≡ formats.destination_word device.now state.now counted.now operation width reach.now }
 {
     if reads_destination(operation) {
-        return held(device, state, counted, width, reach);
+        return known_operand(device, state, counted, width, reach);
     }
     plain(Vs16::one(0))
 }
@@ -276,7 +276,7 @@ pub fn double<M: Cells>(
 {
     let counted = counter_set(pc, len, source, destination);
     let from = source_reach(pc, state, &counted, source);
-    let origin = held(device, state, &counted, width, &from);
+    let origin = known_operand(device, state, &counted, width, &from);
     let mut after = state.copy(alloc)?;
     grow(&mut after, &counted, width, source);
     let to = destination_reach(pc, len, &after, &counted, destination);
@@ -322,7 +322,7 @@ pub fn single<M: Cells>(
     let behind = pc.wrapping_add(len as u16);
     let counted = Vs16::one(behind);
     let from = source_reach(pc, state, &counted, operand);
-    let held_so = held(device, state, &counted, width, &from);
+    let held_so = known_operand(device, state, &counted, width, &from);
     let (word, flags) = single_result(operation, width, &held_so, carry_of(state));
     let mut after = state.copy(alloc)?;
     grow(&mut after, &counted, width, operand);
@@ -352,7 +352,7 @@ fn formed<M: Cells>(
     let sp = state.sp;
     see_lowered(operand, state);
     let from = source_reach(pc, state, counted, operand);
-    let word = held(device, state, counted, width, &from);
+    let word = known_operand(device, state, counted, width, &from);
     state.sp = sp;
     (from, word)
 }

@@ -207,7 +207,7 @@ state_cut laws device lo hi framed a s first condition form holds =
     let (b, is, parts) = cut_holds laws device lo hi framed a first s.registers s.ram condition form holds.parts in
     let (c, cut_so, with_so) = outcome_of condition taken a b is in
     let late : a.late ≡ b.late = sym (late_of_register a.fact condition taken a c cut_so) ∙ ap (λ (known : Known). known.late) with_so in
-    (b, is, record { state = holds.state; late = subst (λ t. IsFlag t s.late) late holds.late; parts = parts })
+    (b, is, record { state = holds.state; suspended = holds.suspended; late = subst (λ t. IsFlag t s.late) late holds.late; parts = parts })
 
 pub cut_in_form : (laws : Premises) (lo hi : ℕ) (framed : Bool) (a b : Known) (condition : Condition) (taken : Bool) → IsKnown lo hi framed a → known_cut condition taken a ≡ Some b → IsKnown lo hi framed b
 cut_in_form laws lo hi framed a b condition taken form e =
