@@ -1,10 +1,10 @@
--- Bits of the results of MOV, BIC and BIS, of as many places as SR has.
-use Rattle.std.proofs.Common.{◌≡◌, true, false, ℕ, zero, suc, ◌-◌, ◌+◌, ◌*◌, ◌/◌, ◌%◌, ◌^◌, ◌<◌, ◌≤◌, List, [], ◌∷◌, length, take, set, refl, sym, ap, ◌∙◌, subst, arith}
+-- Bits of results, of as many places as SR has.
+use Rattle.std.proofs.Common.{◌≡◌, true, false, ℕ, zero, suc, ◌-◌, ◌+◌, ◌*◌, ◌/◌, ◌%◌, ◌^◌, ◌<◌, ◌≤◌, List, [], ◌∷◌, length, take, set, replicate, refl, sym, ap, ◌∙◌, subst, arith}
 use Rattle.std.specs.Prelude.{bit_and, bit_or}
 use Prim.Native.Nat.{min, max}
 use Rattle.std.specs.Int.Bits.{and_step, or_step}
 use Rattle.std.proofs.Math.Nat.{pow-suc}
-use Rattle.std.proofs.lemmas.List.{length-set}
+use Rattle.std.proofs.lemmas.List.{length-set, length-replicate}
 use Rattle.std.proofs.lemmas.Nat.{and_le_l, or_lt}
 use Rattle.value_bits.specs.declared.tri.Tri.{Tri}
 use Rattle.value_bits.specs.declared.tri.Tri.TheVariants.{Zero, One, Either}
@@ -15,7 +15,7 @@ use Rattle.msp430_decode.specs.declared.instr.Width.{Width}
 use Rattle.msp430_decode.specs.declared.instr.Width.TheVariants.{Word as Words, Byte}
 use Rattle.msp430_chip.specs.Arithmetic.{complement, modulus, reads_destination, sets_flags}
 use Rattle.msp430_state.specs.Pointwise.{each_with}
-use Rattle.msp430_status.specs.Status.{bit_behind, status_bits}
+use Rattle.msp430_status.specs.Status.{bit_behind, free_bits, moved_bits}
 
 -- the lowest bits of a number, as far as the list goes
 abbrev pub AgreesBelow : (n : ℕ) → List Tri → ℕ → Type 0
@@ -75,7 +75,7 @@ and_bit Either Zero x y h k = omega (arith, h, k)
 and_bit Either One x y h k = omega (arith, h, k)
 and_bit Either Either x y h k = omega (arith, h, k)
 
-bit_small : (a : Tri) (x : ℕ) → IsBit a x → x < 2
+pub bit_small : (a : Tri) (x : ℕ) → IsBit a x → x < 2
 bit_small Zero x h = omega (arith, h)
 bit_small One x h = omega (arith, h)
 bit_small Either x h = omega (arith, h)
@@ -176,9 +176,9 @@ byte_behind operation.Bit x y z none small few = absurd (cc)
 byte_behind operation.Xor x y z none small few = absurd (cc)
 byte_behind operation.And x y z none small few = absurd (cc)
 
-pub length_status : (done : Operation) (width : Width) (given held : List Tri) → length given ≡ 9 → length held ≡ 9 → length (status_bits done width given held) ≡ 9
-length_status done Words given held long nine = length-each_with (bit_behind done) given held (long ∙ sym nine) ∙ nine
-length_status done Byte given held long nine =
+pub length_moved : (done : Operation) (width : Width) (given held : List Tri) → length given ≡ 9 → length held ≡ 9 → length (moved_bits done width given held) ≡ 9
+length_moved done Words given held long nine = length-each_with (bit_behind done) given held (long ∙ sym nine) ∙ nine
+length_moved done Byte given held long nine =
     length-set (each_with (bit_behind done) given held) 8 Zero ∙ (length-each_with (bit_behind done) given held (long ∙ sym nine) ∙ nine)
 
 -- the bits of SR that a width has
@@ -196,17 +196,17 @@ held_agrees Byte held y sr above agrees is bytes =
 pub taken_agrees : (width : Width) (bits : List Tri) (x : ℕ) → Agrees bits x → AgreesBelow (places width) (take 9 bits) x
 taken_agrees width bits x agrees = below_take 9 (places width) bits x (below_of (places width) bits x agrees)
 
-pub status_agrees : (done : Operation) (width : Width) (given held : List Tri) (x y : ℕ) → sets_flags done ≡ false → length given ≡ 9 → length held ≡ 9
+pub moved_agrees : (done : Operation) (width : Width) (given held : List Tri) (x y : ℕ) → sets_flags done ≡ false → length given ≡ 9 → length held ≡ 9
     → x < modulus width → AgreesBelow (places width) given x → (reads_destination done ≡ true → AgreesBelow (places width) held y) → (reads_destination done ≡ true → width ≡ Byte → y < 256)
-    → Agrees (status_bits done width given held) (number_behind done x y (complement width x) % 512)
-status_agrees done Words given held x y none long nine small first second bytes =
+    → Agrees (moved_bits done width given held) (number_behind done x y (complement width x) % 512)
+moved_agrees done Words given held x y none long nine small first second bytes =
     let r = number_behind done x y (complement Words x) in
     let made_so = each_with (bit_behind done) given held in
     let whole : x + (65536 - 1 - x) + 1 ≡ 2 ^ 16 = omega (arith, small) in
     let under : AgreesBelow 9 made_so r = below_behind done 9 16 given held x y (complement Words x) none (omega arith) whole first second in
     below_whole 9 made_so (r % 512) (length-each_with (bit_behind done) given held (long ∙ sym nine) ∙ nine) (omega arith)
     (below_same 9 made_so r (r % 512) 0 (r / 512) (omega arith) under)
-status_agrees done Byte given held x y none long nine small first second bytes =
+moved_agrees done Byte given held x y none long nine small first second bytes =
     let r = number_behind done x y (complement Byte x) in
     let made_so = each_with (bit_behind done) given held in
     let whole : x + (256 - 1 - x) + 1 ≡ 2 ^ 8 = omega (arith, small) in
@@ -214,3 +214,17 @@ status_agrees done Byte given held x y none long nine small first second bytes =
     let few : r < 256 = byte_behind done x y (complement Byte x) none small (λ e. bytes e refl) in
     let same : r ≡ r % 512 = omega (arith, few) in
     subst (Agrees (set made_so 8 Zero)) same (below_clear 8 made_so r (length-each_with (bit_behind done) given held (long ∙ sym nine) ∙ nine) few under)
+
+-- BITS THAT MAY BE ANY
+
+any_agree : (n v : ℕ) → v < 2 ^ n → Agrees (replicate n Either) v
+any_agree zero v small = omega (arith, small)
+any_agree (suc n) v small =
+    let power : 2 ^ suc n ≡ 2 ^ n * 2 = pow-suc 2 n in
+    (omega arith, any_agree n (v / 2) (omega (arith, small, power)))
+
+pub free_agree : (v : ℕ) → v < 512 → Agrees free_bits v
+free_agree v small = any_agree 9 v small
+
+pub length_free : length free_bits ≡ 9
+length_free = length-replicate 9 Either

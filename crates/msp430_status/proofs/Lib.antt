@@ -1,4 +1,7 @@
 pub mod BitLemmas
+pub mod Swapped
 pub mod Accesses
 pub mod Moves
+pub mod Parts
 pub mod StatusLaw
+pub mod SingleLaw

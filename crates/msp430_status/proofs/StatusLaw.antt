@@ -1,17 +1,15 @@
--- The law of MOV, BIC and BIS with the destination SR.
-use Rattle.std.proofs.Common.{◌≡◌, ℕ, suc, zero, ◌+◌, ◌-◌, ◌*◌, ◌%◌, ◌<◌, ◌++◌, ◌≢◌, Bool, true, false, Option, None, Some, List, [], length, get_or, set, refl, sym, ap, ◌∙◌, subst, inl, inr, arith}
+-- The law of instructions with two operands and the destination SR.
+use Rattle.std.proofs.Common.{◌≡◌, ℕ, suc, zero, ◌+◌, ◌-◌, ◌*◌, ◌%◌, ◌<◌, ◌++◌, ◌&&◌, Bool, true, false, Option, None, Some, List, [], length, get_or, refl, sym, ap, ◌∙◌, subst, inl, inr, arith}
 use Rattle.std.proofs.Common.{get_or-set_same, get_or-set_other}
-use Rattle.std.specs.Option.{option_map}
 use Rattle.std.specs.Prelude.{bit_and, bit_or, All}
-use Rattle.std.proofs.lemmas.Bool.{cases_lt}
-use Rattle.std.proofs.lemmas.List.{get_or_past, length-set, length-take-le, append-nil}
+use Rattle.std.proofs.lemmas.Bool.{cases_Bool, cases_lt, cond_both, cond-false, cond-true, false≢true}
+use Rattle.std.proofs.lemmas.List.{get_or_past, length-set, length-take-le, append-nil, set-get_or}
 use Rattle.std.proofs.lemmas.List.Elements.{All-get_or}
 use Rattle.std.proofs.lemmas.List.FromFn.{length-map-range_with_len}
 use Rattle.std.proofs.lemmas.Option.{same_Some}
 use Rattle.ihex_read.specs.Image.{byte_at, IsByte}
-use Rattle.entry_value.specs.Words.{HoldsOfWord}
 use Rattle.entry_value.specs.declared.word.Word.{Word}
-use Rattle.value_set.specs.Form.{Has, IsNormal}
+use Rattle.value_set.specs.Form.{IsNormal}
 use Rattle.value_set.specs.Remainders.{HasRemainder}
 use Rattle.value_set.specs.Summing.{single}
 use Rattle.value_bits.specs.declared.tri.Tri.{Tri}
@@ -33,25 +31,25 @@ use Rattle.msp430_chip.specs.declared.place.Place.TheVariants as place
 use Rattle.msp430_chip.specs.declared.state.ChipState.{ChipState}
 use Rattle.msp430_chip.specs.Arithmetic.{Made, complement, modulus, reads_destination, sets_flags, writes_result}
 use Rattle.msp430_chip.specs.Kinds.Kind.{Counter, Stack, Status, Empty, General}
-use Rattle.msp430_chip.specs.Leading.{MayDouble, MayLeaveDouble, MayReadByte, MayStandAt, MayStandIf, at_source, behind_source, origin_of, place_of}
+use Rattle.msp430_chip.specs.Leading.{LeavesFree, MayDouble, MayLeaveDouble, MayReadByte, MayStandAt, MayStandIf, at_source, behind_source, origin_of, place_of}
 use Rattle.msp430_chip.specs.Leading.MayLeaveDouble.{FreeStatus, OfResult}
 use Rattle.msp430_chip.specs.Leading.MayReadByte.{OfRam, OfProgram, OfNeither}
 use Rattle.msp430_chip.specs.Operands.{grown, growth, value_in, with_free_bits, with_register}
 use Rattle.msp430_chip.specs.Outcome.{Outcome}
 use Rattle.msp430_chip.specs.State.{even, register_of}
 use Rattle.msp430_chip.specs.Step.{Left, double_accesses, put_if, with_status}
-use Rattle.msp430_results.specs.FlagSets.{IsResult}
 use Rattle.msp430_results.specs.Words.{values_of, written_word}
 use Rattle.msp430_state.specs.Forms.{IsKnown}
-use Rattle.msp430_state.specs.Holding.{suspended_of, HoldsOfParts}
-use Rattle.msp430_state.specs.Known.{Known, word_of}
+use Rattle.msp430_state.specs.Holding.{HoldsOfParts}
+use Rattle.msp430_state.specs.Known.{Known}
 use Rattle.msp430_alu.specs.declared.reach.Reach.TheVariants.{InRegister}
 use Rattle.msp430_alu.specs.Formats.{AreShown, IsLeft, IsUnder, access_if, access_of, counter_set, double_worked}
 use Rattle.msp430_alu.specs.Memory.{IsDevice}
 use Rattle.msp430_alu.specs.Operands.{grown_known, operand_word, source_reach}
-use Rattle.msp430_status.specs.Status.{lowest_bits, source_bits, status_bits, status_worked, with_status_bits}
-use Rattle.msp430_status.proofs.BitLemmas.{AgreesBelow, held_agrees, length_status, number_behind, places, status_agrees}
+use Rattle.msp430_status.specs.Status.{free_bits, lowest_bits, moved_bits, source_bits, status_bits, status_worked}
+use Rattle.msp430_status.proofs.BitLemmas.{AgreesBelow, free_agree, held_agrees, length_free, length_moved, moved_agrees, number_behind, places}
 use Rattle.msp430_status.proofs.Moves.{StatusLaws, registers_behind, source_number, behind_length, counter_one, grown_form, grown_parts, source_known}
+use Rattle.msp430_status.proofs.Parts.{Writes, freed, status_left, unflagged, written_is}
 
 -- BYTES
 
@@ -124,16 +122,13 @@ free_above Byte bits y = omega arith
 
 -- WHAT IS LEFT
 
-abbrev status_left : (registers ram : List ℕ) → (v : ℕ) → Left
-status_left registers ram v = with_status None (record { registers = set registers 2 (v % 512); ram = ram; hit = None })
-
 result_left : (device : Device) (ram registers : List ℕ) (width : Width) (v : ℕ) (made_so : Made) (left : Left) → (v, None) ≡ made_so
-    → left ≡ with_status made_so.1 (put_if true device registers ram width (place.InRegister Sr) made_so.0) → left ≡ status_left registers ram v
+    → left ≡ with_status made_so.1 (put_if true device registers ram width (place.InRegister Sr) made_so.0) → left ≡ status_left registers ram (v % 512)
 result_left device ram registers width v made_so left same is =
-    is ∙ ap (λ (m : Made). with_status m.1 (put_if true device registers ram width (place.InRegister Sr) m.0)) (sym same)
+    is ∙ ap (λ (m : Made). with_status m.1 (put_if true device registers ram width (place.InRegister Sr) m.0)) (sym same) ∙ unflagged registers ram (v % 512)
 
 left_is : (device : Device) (ram registers : List ℕ) (done : Operation) (width : Width) (x y carry : ℕ) (left : Left) → sets_flags done ≡ false
-    → MayLeaveDouble device ram registers done width (place.InRegister Sr) x y carry left → left ≡ status_left registers ram (number_behind done x y (complement width x))
+    → MayLeaveDouble device ram registers done width (place.InRegister Sr) x y carry left → left ≡ status_left registers ram (number_behind done x y (complement width x) % 512)
 left_is device ram registers operation.Mov width x y carry left none (FreeStatus free freed) = absurd (cc)
 left_is device ram registers operation.Mov width x y carry left none (OfResult other made_so may is) = result_left device ram registers width x made_so left (same_Some (x, None) made_so may) is
 left_is device ram registers operation.Bic width x y carry left none (FreeStatus free freed) = absurd (cc)
@@ -163,30 +158,6 @@ leaves_hit device ram registers done width x y carry left (OfResult other made_s
 pub status_hit : (device : Device) (s : ChipState) (len : ℕ) (done : Operation) (width : Width) (origin : Source) (outcome : Outcome ChipState)
     → (may : MayDouble device s len done width origin (destination.Register Sr) outcome) → may.left.hit ≡ None
 status_hit device s len done width origin outcome may = leaves_hit device s.ram (registers_behind s len may.counted width origin) done width _ _ (register_of s 2 % 2) may.left may.leaves
-
--- each register but SR is as it was
-left_alike : (registers : List ℕ) (c d e r : ℕ) → r ≢ 2 → get_or (set registers 2 c) r 0 ≡ get_or (set (set registers 2 d) 2 e) r 0
-left_alike registers c d e r other = get_or-set_other registers 2 r c 0 other ∙ sym (get_or-set_other (set registers 2 d) 2 r e 0 other ∙ get_or-set_other registers 2 r d 0 other)
-
-left_status : (registers ram : List ℕ) (v : ℕ) → length registers ≡ 16 → get_or (status_left registers ram v).registers 2 0 ≡ v % 512
-left_status registers ram v long =
-    let inner : get_or (set registers 2 (v % 512)) 2 0 ≡ v % 512 = get_or-set_same registers 2 (v % 512) 0 (omega (arith, long)) in
-    get_or-set_same (set registers 2 (v % 512)) 2 (get_or (set registers 2 (v % 512)) 2 0) 0 (omega (arith, long, length-set registers 2 (v % 512))) ∙ inner
-
--- what holds but for SR holds with its bits
-with_bits : (device : Device) (a : Known) (first : Option ChipState) (registers ram : List ℕ) (bits : List Tri) (c v : ℕ) → length registers ≡ 16 → Agrees bits (v % 512)
-    → HoldsOfParts device a first (set registers 2 c) ram → HoldsOfParts device (with_status_bits a bits) first (status_left registers ram v).registers ram
-with_bits device a first registers ram bits c v long agrees holds =
-    let d = v % 512 in
-    let e = get_or (set registers 2 d) 2 0 in
-    record {
-      sp = subst (Has 65536 a.sp) (left_alike registers c d e 1 (λ h. omega (arith, h))) holds.sp;
-      status = record { bits = subst (Agrees bits) (sym (left_status registers ram v long)) agrees; entry = tt };
-      words = λ register low high. subst (HoldsOfWord (option_map suspended_of first) (word_of a register)) (left_alike registers c d e register (λ h. omega (arith, h, low))) (holds.words register low high);
-      fact = tt;
-      cells = holds.cells;
-      untouched = holds.untouched;
-    }
 
 -- THE BITS
 
@@ -235,7 +206,7 @@ bits_agree : (laws : StatusLaws) (device : Device) (framed : Bool) (a : Known) (
     → sets_flags done ≡ false → IsUnder device framed a s first → IsSource origin → (may : MayDouble device s len done width origin (destination.Register Sr) outcome)
     → let counted = single ((register_of s 0 + len) % 65536) in let word = operand_word device a counted width (source_reach (register_of s 0) a counted origin) in
     let x = source_number s may.counted width origin may.bits may.x in let y = with_free_bits width (place.InRegister Sr) may.bits may.y in
-    Agrees (status_bits done width (source_bits a width origin word) a.status.bits) (number_behind done x y (complement width x) % 512)
+    Agrees (moved_bits done width (source_bits a width origin word) a.status.bits) (number_behind done x y (complement width x) % 512)
 bits_agree laws device framed a s first len done width origin outcome none under from_so may =
     let pc = register_of s 0 in
     let counted = single ((pc + len) % 65536) in
@@ -249,7 +220,7 @@ bits_agree laws device framed a s first len done width origin outcome none under
     let held : reads_destination done ≡ true → may.y ≡ sr % modulus width =
     λ e. held_number (reads_destination done) device s.ram (behind_source s may.counted width origin) width may.y may.held e ∙ ap (λ n. n % modulus width) kept in
     let agrees = under.holds.parts.status.bits in
-    status_agrees done width (source_bits a width origin word) a.status.bits x y none (source_length a width origin word under.form.bits) under.form.bits
+    moved_agrees done width (source_bits a width origin word) a.status.bits x y none (source_length a width origin word under.form.bits) under.form.bits
     (source_small laws device framed a s first len done width origin outcome under from_so may)
     (source_agrees a s may.counted width origin device word may.bits may.x agrees may.reads known.agrees)
     (λ e. held_agrees width a.status.bits y sr (bits_above width may.bits) agrees (free_above width may.bits may.y ∙ ap (λ n. n + 512 * bits_above width may.bits) (held e)) (no_bits_above width may.bits))
@@ -257,33 +228,57 @@ bits_agree laws device framed a s first len done width origin outcome none under
 
 -- THE LAW
 
+kept_bits : (done : Operation) (width : Width) (given held : List Tri) → sets_flags done ≡ false → moved_bits done width given held ≡ status_bits done width given held
+kept_bits done width given held none = sym (cond-false (sets_flags done) free_bits (moved_bits done width given held) none)
+
+any_bits : (done : Operation) (width : Width) (given held : List Tri) → sets_flags done ≡ true → free_bits ≡ status_bits done width given held
+any_bits done width given held some = sym (cond-true (sets_flags done) free_bits (moved_bits done width given held) some)
+
+-- SR is free, where the operation sets flags
+status_freed : (device : Device) (ram registers : List ℕ) (done : Operation) (width : Width) (x y carry : ℕ) (left : Left) → sets_flags done ≡ true
+    → MayLeaveDouble device ram registers done width (place.InRegister Sr) x y carry left → LeavesFree registers ram left
+status_freed device ram registers done width x y carry left some (FreeStatus free freed) = freed
+status_freed device ram registers done width x y carry left some (OfResult other made_so may is) = absurd (false≢true (sym other ∙ ap (λ b. b && true) some))
+
+bits_written : (laws : StatusLaws) (device : Device) (framed : Bool) (a : Known) (s : ChipState) (first : Option ChipState) (len : ℕ) (done : Operation) (width : Width) (origin : Source) (outcome : Outcome ChipState)
+    → IsUnder device framed a s first → IsSource origin → (may : MayDouble device s len done width origin (destination.Register Sr) outcome)
+    → Writes (registers_behind s len may.counted width origin) s.ram
+    (status_bits done width (source_bits a width origin (operand_word device a (single ((register_of s 0 + len) % 65536)) width (source_reach (register_of s 0) a (single ((register_of s 0 + len) % 65536)) origin))) a.status.bits) may.left
+bits_written laws device framed a s first len done width origin outcome under from_so may =
+    let pc = register_of s 0 in
+    let counted = single ((pc + len) % 65536) in
+    let given = source_bits a width origin (operand_word device a counted width (source_reach pc a counted origin)) in
+    let registers = registers_behind s len may.counted width origin in
+    let x = source_number s may.counted width origin may.bits may.x in
+    let y = with_free_bits width (place.InRegister Sr) may.bits may.y in
+    elim (cases_Bool (sets_flags done)) [
+      | inl some ↦ subst (λ bits. Writes registers s.ram bits may.left) (any_bits done width given a.status.bits some)
+          (freed registers s.ram free_bits may.left free_agree (status_freed device s.ram registers done width x y (register_of s 2 % 2) may.left some may.leaves))
+      | inr none ↦ subst (λ bits. Writes registers s.ram bits may.left) (kept_bits done width given a.status.bits none) (record {
+        status = number_behind done x y (complement width x) % 512;
+        agrees = bits_agree laws device framed a s first len done width origin outcome none under from_so may;
+        left_is = left_is device s.ram registers done width x y (register_of s 2 % 2) may.left none may.leaves;
+      })
+    ]
+
 pub status_law : (laws : StatusLaws) (device : Device) (framed : Bool) (a : Known) (s : ChipState) (first : Option ChipState) (len : ℕ) (done : Operation) (width : Width) (origin : Source) (outcome : Outcome ChipState)
-    → sets_flags done ≡ false → IsUnder device framed a s first → IsSource origin → (may : MayDouble device s len done width origin (destination.Register Sr) outcome)
+    → IsUnder device framed a s first → IsSource origin → (may : MayDouble device s len done width origin (destination.Register Sr) outcome)
     → IsLeft device (status_worked device framed a (register_of s 0) len done width origin).after first (status_worked device framed a (register_of s 0) len done width origin).next may.left
 unfolding status_worked
-status_law laws device framed a s first len done width origin outcome none under from_so may =
+status_law laws device framed a s first len done width origin outcome under from_so may =
     let pc = register_of s 0 in
     let next = (pc + len) % 65536 in
     let counted = single next in
     let grown_so = grown_known a counted width origin in
     let bits = status_bits done width (source_bits a width origin (operand_word device a counted width (source_reach pc a counted origin))) a.status.bits in
-    let x = source_number s may.counted width origin may.bits may.x in
-    let y = with_free_bits width (place.InRegister Sr) may.bits may.y in
-    let v = number_behind done x y (complement width x) in
     let registers = registers_behind s len may.counted width origin in
     let long : length registers ≡ 16 = behind_length laws s len may.counted width origin ∙ under.holds.state.registers in
-    let agrees = bits_agree laws device framed a s first len done width origin outcome none under from_so may in
-    let is = left_is device s.ram registers done width x y (register_of s 2 % 2) may.left none may.leaves in
-    let one = laws.single 65536 next (omega arith) in
     let grown_long : 0 < length (behind_source s may.counted width origin) = omega (arith, long, length-set (behind_source s may.counted width origin) 0 next) in
-    let at_next : next ≡ get_or (status_left registers s.ram v).registers 0 0 =
-    sym (get_or-set_same (behind_source s may.counted width origin) 0 next 0 grown_long)
-    ∙ sym (get_or-set_other (set registers 2 (v % 512)) 2 0 (get_or (set registers 2 (v % 512)) 2 0) 0 (λ e. omega (arith, e)) ∙ get_or-set_other registers 2 0 (v % 512) 0 (λ e. omega (arith, e))) in
-    let left_so : IsLeft device (with_status_bits grown_so bits) first counted (status_left registers s.ram v) = record {
-      next_is = subst (IsResult 65536 counted) at_next (record { normal = one.0; has = one.1 });
-      parts = with_bits device grown_so first registers s.ram bits (get_or registers 2 0) v long agrees (grown_parts laws device framed a s first len done width origin outcome under from_so may);
-    } in
-    subst (IsLeft device (with_status_bits grown_so bits) first counted) (sym is) left_so
+    let counter : get_or registers 0 0 ≡ next = get_or-set_same (behind_source s may.counted width origin) 0 next 0 grown_long in
+    let holds : HoldsOfParts device grown_so first registers s.ram =
+    subst (λ list. HoldsOfParts device grown_so first list s.ram) (set-get_or registers 2 0) (grown_parts laws device framed a s first len done width origin outcome under from_so may) in
+    written_is laws.single device grown_so first registers registers s.ram next bits may.left long (omega arith) counter (λ r low. refl) holds
+    (bits_written laws device framed a s first len done width origin outcome under from_so may)
 
 no_access : (there : Bool) (pc : ℕ) (write : Bool) (width : Width) (register : Register) → access_if there pc write width (InRegister register) ≡ []
 no_access true pc write width register = refl
@@ -305,6 +300,10 @@ status_shown laws device framed a s first len done width origin outcome under fr
     let second_so = subst (λ list. AreShown (reads ++ [] ++ list) singles) (no_access (writes_result done) pc true width Sr) first_so in
     let alone : AreShown reads singles = subst (λ list. AreShown list singles) (append-nil (reads ++ []) ∙ append-nil reads) second_so in
     subst (λ set. AreShown (access_of pc false width (source_reach pc a set origin)) singles) (counter_one laws pc len origin Sr) alone
+
+length_status : (done : Operation) (width : Width) (given held : List Tri) → length given ≡ 9 → length held ≡ 9 → length (status_bits done width given held) ≡ 9
+length_status done width given held long nine =
+    cond_both (sets_flags done) free_bits (moved_bits done width given held) (λ bits. length bits ≡ 9) (λ e. length_free) (λ e. length_moved done width given held long nine)
 
 pub status_form : (laws : StatusLaws) (device : Device) (framed : Bool) (a : Known) (pc len : ℕ) (done : Operation) (width : Width) (origin : Source) → IsDevice device → IsKnown device.lo device.hi framed a → IsSource origin
     → IsKnown device.lo device.hi framed (status_worked device framed a pc len done width origin).after
@@ -333,7 +332,7 @@ pub status_next : (laws : StatusLaws) (device : Device) (framed : Bool) (a : Kno
 unfolding status_worked
 status_next laws device framed a pc len done width origin = (laws.single 65536 ((pc + len) % 65536) (omega arith)).0
 
-single_rest : (n : ℕ) → n % 2 ≡ 0 → HasRemainder 65536 2 0 (single n)
+pub single_rest : (n : ℕ) → n % 2 ≡ 0 → HasRemainder 65536 2 0 (single n)
 single_rest n rest v (zero, lt, is) = let same : n ≡ v = is in subst (λ n. n % 2 ≡ 0) same rest
 single_rest n rest v (suc k, lt, is) = absurd (omega (arith, lt))
 

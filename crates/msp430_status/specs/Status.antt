@@ -1,6 +1,7 @@
--- MOV, BIC and BIS whose destination is SR (SLAU049, chapter 3, "Status Register" and "Instruction Set"): its nine bits, each by
--- the known bits of both operands. CLRC and DINT are BIC, and SETC and EINT are BIS.
-use Rattle.std.specs.Prelude.{ℕ, ◌+◌, ◌%◌, Bool, false, None, List, take, slice_set}
+-- Instructions whose destination is SR (SLAU049, chapter 3, "Status Register" and "Instruction Set"): its nine bits. MOV, BIC
+-- and BIS, and SWPB, make each of them by the known bits of the operands; CLRC and DINT are BIC, and SETC and EINT are BIS. An
+-- instruction that sets flags leaves SR free, whole.
+use Rattle.std.specs.Prelude.{ℕ, ◌+◌, ◌%◌, if◌then◌else◌, Bool, false, None, List, [], ◌∷◌, ◌++◌, replicate, take, slice_index_or, slice_set}
 use Rattle.entry_value.specs.declared.word.Word.{Word}
 use Rattle.value_set.specs.Summing.{single}
 use Rattle.value_bits.specs.declared.tri.Tri.{Tri}
@@ -9,16 +10,21 @@ use Rattle.value_bits.specs.Bits.{known_bits, tri_and, tri_not, tri_or}
 use Rattle.msp430_decode.specs.declared.instr.Operation.{Operation}
 use Rattle.msp430_decode.specs.declared.instr.Operation.TheVariants.{Mov, Bic, Bis}
 use Rattle.msp430_decode.specs.declared.instr.Register.TheVariants.{Sr}
+use Rattle.msp430_decode.specs.declared.instr.SingleOperation.{SingleOperation}
+use Rattle.msp430_decode.specs.declared.instr.SingleOperation.TheVariants.{Swpb}
 use Rattle.msp430_decode.specs.declared.instr.Source.{Source}
 use Rattle.msp430_decode.specs.declared.instr.Source.TheVariants as source
 use Rattle.msp430_decode.specs.declared.instr.Width.{Width}
 use Rattle.msp430_decode.specs.declared.instr.Width.TheVariants.{Word as Words, Byte}
 use Rattle.msp430_chip.specs.declared.device.Device.{Device}
+use Rattle.msp430_chip.specs.Arithmetic.{sets_flags}
 use Rattle.msp430_results.specs.Words.{values_of, written_word}
 use Rattle.msp430_state.specs.Known.{Known}
 use Rattle.msp430_state.specs.Pointwise.{each_with}
 use Rattle.msp430_alu.specs.Formats.{Worked, access_of}
 use Rattle.msp430_alu.specs.Operands.{source_reach, grown_known, operand_word}
+
+-- TWO OPERANDS
 
 -- a bit of the result, by that of the source and that of SR
 abbrev pub bit_behind : Operation → (given held : Tri) → Tri
@@ -28,9 +34,16 @@ bit_behind Bis given held = tri_or held given
 bit_behind other given held = Either
 
 -- SR holds nine bits, the lowest one first. A byte has no bit 8.
+abbrev pub moved_bits : Operation → Width → (given held : List Tri) → List Tri
+moved_bits done Words given held = each_with (bit_behind done) given held
+moved_bits done Byte given held = slice_set (each_with (bit_behind done) given held) 8 Zero
+
+-- SR is free, whole, behind what sets flags: CMP and BIT, too
+abbrev pub free_bits : List Tri
+free_bits = replicate 9 Either
+
 abbrev pub status_bits : Operation → Width → (given held : List Tri) → List Tri
-status_bits done Words given held = each_with (bit_behind done) given held
-status_bits done Byte given held = slice_set (each_with (bit_behind done) given held) 8 Zero
+status_bits done width given held = if sets_flags done then free_bits else moved_bits done width given held
 
 -- the lowest nine bits of a word, with the high byte of a byte 0
 abbrev pub lowest_bits : Width → Word → List Tri
@@ -65,3 +78,22 @@ status_worked device framed a pc len done width origin =
       accesses = access_of pc false width from;
       store = None;
     }
+
+-- ONE OPERAND
+
+-- SWPB brings V, bit 8, to bit 0, and C, bit 0, to bit 8. What comes to the bits 1 to 7, SR doesn't hold.
+abbrev pub swapped_bits : (held : List Tri) → List Tri
+swapped_bits held = slice_index_or held 8 Either ∷ replicate 7 Either ++ slice_index_or held 0 Either ∷ []
+
+abbrev pub single_bits : SingleOperation → (held : List Tri) → List Tri
+single_bits Swpb held = swapped_bits held
+single_bits other held = free_bits
+
+-- SR as the one operand: nothing is read from memory, and nothing stored
+unfoldable pub single_status_worked : Device → (framed : Bool) → Known → (pc len : ℕ) → SingleOperation → Width → Worked
+single_status_worked device framed a pc len done width = record {
+  after = with_status_bits a (single_bits done a.status.bits);
+  next = single ((pc + len) % 65536);
+  accesses = [];
+  store = None;
+}

@@ -1,11 +1,12 @@
-//! The bits of SR behind MOV, BIC and BIS.
+//! The bits of SR behind an instruction.
 
 ghost use Rattle.std.specs.Prelude.{◌≡◌};
 ghost use Rattle.value_bits.specs.Bits as known;
+ghost use Rattle.msp430_chip.specs.Arithmetic as arithmetic;
 ghost use Rattle.msp430_state.specs.Pointwise.{each_with};
 ghost use Rattle.msp430_status.specs.Status as status;
 
-use msp430_decode::{Operation, Width};
+use msp430_decode::{Operation, SingleOperation, Width};
 use value_bits::Tri;
 
 /// A bit that isn't another one.
@@ -53,8 +54,26 @@ fn bits_behind(operation: Operation, source: &[Tri; 9], held: &[Tri; 9]) -> [Tri
     bits
 }
 
-/// What is known of the bits of SR behind MOV, BIC or BIS, by those of the source and those that SR held. A byte result has
-/// bit 8 clear.
+/// The bits of the result of MOV, BIC or BIS. A byte result has bit 8 clear.
+fn moved_bits(operation: Operation, width: Width, source: &[Tri; 9], held: &[Tri; 9]) -> [Tri; 9]
+    ensures { result ≡ status.moved_bits operation width source.now held.now }
+{
+    let mut bits = bits_behind(operation, source, held);
+    if width == Width::Byte {
+        bits[8] = Tri::Zero;
+    }
+    bits
+}
+
+/// Whether an operation sets flags.
+fn sets_flags(operation: Operation) -> bool
+    ensures { result ≡ arithmetic.sets_flags operation }
+{
+    !matches!(operation, Operation::Mov | Operation::Bic | Operation::Bis)
+}
+
+/// What is known of the bits of SR behind an instruction that has it as its destination, by those of the source and those
+/// that SR held. Behind one that sets flags nothing is known.
 pub fn status_bits(
     operation: Operation,
     width: Width,
@@ -63,9 +82,28 @@ pub fn status_bits(
 ) -> [Tri; 9]
     ensures { result ≡ status.status_bits operation width source.now held.now }
 {
-    let mut bits = bits_behind(operation, source, held);
-    if width == Width::Byte {
-        bits[8] = Tri::Zero;
+    if sets_flags(operation) {
+        return [Tri::Either; 9];
     }
+    moved_bits(operation, width, source, held)
+}
+
+/// What is known of the bits of SR behind SWPB: V comes to bit 0, and C to bit 8.
+fn swapped_bits(held: &[Tri; 9]) -> [Tri; 9]
+    ensures { result ≡ status.swapped_bits held.now }
+{
+    let mut bits = [Tri::Either; 9];
+    bits[0] = held[8];
+    bits[8] = held[0];
     bits
+}
+
+/// What is known of the bits of SR behind an instruction that has it as its one operand.
+pub(crate) fn single_bits(operation: SingleOperation, held: &[Tri; 9]) -> [Tri; 9]
+    ensures { result ≡ status.single_bits operation held.now }
+{
+    match operation {
+        SingleOperation::Swpb => swapped_bits(held),
+        _ => [Tri::Either; 9],
+    }
 }

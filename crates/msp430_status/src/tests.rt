@@ -1,13 +1,13 @@
-//! SR behind MOV, BIC and BIS against rows worked by hand from SLAU049, chapter 3.
+//! SR as a destination against rows worked by hand from SLAU049, chapter 3.
 
-use crate::status;
+use crate::{single_status, status};
 use abs_memory::CellList;
 use call_context::{Item, Set, Space};
 use entry_value::{Cells, Entry, Word};
 use ihex_read::Image;
 use msp430_alu::{Worked, register_word};
 use msp430_chip::Device;
-use msp430_decode::{Constant, Operation, Register, Source, Width};
+use msp430_decode::{Constant, Operation, Register, SingleOperation, Source, Width};
 use msp430_state::{FlagFact, State, Status};
 use std::alloc::Global;
 use std::process::Abort;
@@ -95,7 +95,7 @@ fn in_register(worked: &Worked<CellList>, register: Register) -> Vs16 {
 
 #[test]
 fn rows(rt: HostRuntime) -> Result<(), Fail> {
-    use Operation::{Bic, Bis, Mov};
+    use Operation::{Add, Bic, Bis, Cmp, Mov};
     use Source::{Immediate, IndirectIncrement};
     use Width::{Byte, Word};
     let (one, eight) = (
@@ -132,6 +132,9 @@ fn rows(rt: HostRuntime) -> Result<(), Fail> {
         (Mov, Byte, at_r6, "?????????", "000001001"),
         (Bic, Byte, one, "1?????1?1", "0?????1?0"),
         (Bis, Byte, eight, "100000000", "000001000"),
+        // What sets flags leaves SR free.
+        (Add, Byte, one, "000000000", "?????????"),
+        (Cmp, Word, one, "000000000", "?????????"),
     ] {
         let worked = behind(rt.alloc(), operation, width, source, held)?;
         assert_eq!(rt; worked.after.status.bits, bits(found));
@@ -171,5 +174,37 @@ fn no_access_of_a_register(rt: HostRuntime) -> Result<(), Fail> {
     let source = Source::Register(Register::R5);
     let worked = behind(rt.alloc(), Operation::Bis, Width::Word, source, "000000000")?;
     assert!(rt; worked.accesses.as_slice().is_empty());
+    Ok(())
+}
+
+#[test]
+fn one_operand(rt: HostRuntime) -> Result<(), Fail> {
+    use SingleOperation::{Rra, Rrc, Swpb, Sxt};
+    use Width::{Byte, Word};
+    for (operation, width, held, found) in [
+        // V comes to bit 0, and C to bit 8.
+        (Swpb, Word, "100000000", "0???????1"),
+        (Swpb, Word, "000000001", "1???????0"),
+        (Swpb, Word, "?1111111?", "?????????"),
+        (Rra, Word, "000000000", "?????????"),
+        (Rrc, Byte, "000000000", "?????????"),
+        (Sxt, Word, "111111111", "?????????"),
+    ] {
+        let (device, state) = (device(rt.alloc())?, state(rt.alloc(), held)?);
+        let worked = single_status(
+            rt.alloc(),
+            &device,
+            true,
+            &state,
+            0xF000,
+            2,
+            operation,
+            width,
+        )?;
+        assert_eq!(rt; worked.after.status.bits, bits(found));
+        assert_eq!(rt; worked.after.status.entry, None);
+        assert_eq!(rt; worked.after.fact, None);
+        assert_eq!(rt; worked.next, Vs16::one(0xF002));
+    }
     Ok(())
 }
