@@ -1,0 +1,7 @@
+pub mod Members
+pub mod EntryLaws
+pub mod ComingLemmas
+pub mod CellsLeft
+pub mod HandingLemmas
+pub mod EntryLemmas
+pub mod ShowingLemmas

@@ -1,0 +1,98 @@
+//! What a handler is handed of what is known: values that say how they came from the state that is suspended.
+
+ghost use Rattle.std.specs.Prelude.{◌≡◌, ◌<◌, ◌⊎◌, ℕ, if◌then◌else◌, None, Some, IfOk, OnOk};
+ghost use Rattle.std.specs.Option.{is_none};
+ghost use Rattle.value_set.specs.Form.{Has};
+ghost use Rattle.entry_value.specs.Cells.{kept, write_one};
+ghost use Rattle.msp430_entry.specs.Entry as entry;
+
+use entry_value::{Cells, Entry, Word};
+use irq_frames::Ranges;
+use msp430_state::{State, Status};
+use std::alloc::Global;
+use value_bits::Tri;
+use value_set::Vs16;
+use vsa_io::Memory;
+
+/// The relation of a place to itself: all of what it holds.
+fn itself(place: u16) -> Entry
+    ensures { result ≡ entry.itself place }
+{
+    Entry {
+        place,
+        and: 0xFFFF,
+        or: 0,
+    }
+}
+
+/// What a place held, one of a set.
+pub(crate) fn related(set: Vs16, place: u16) -> Word
+    ensures { result ≡ record { set = set; entry = Some (entry.itself place) } }
+{
+    Word {
+        set,
+        entry: Some(itself(place)),
+    }
+}
+
+/// A set without a relation.
+fn plain(set: Vs16) -> Word
+    ensures { result ≡ record { set = set; entry = None } }
+{
+    Word { set, entry: None }
+}
+
+/// R4 to R15, each related to itself.
+fn all_related(words: &[Word; 12]) -> [Word; 12]
+    ensures { result ≡ entry.all_related 4 words.now }
+{
+    let mut all = [plain(Vs16::any()); 12];
+    for i in 0..12 {
+        all[i] = related(words[i].set, i as u16 + 4);
+    }
+    all
+}
+
+/// Takes the relation from a cell, if it has one. A cell that says nothing then goes.
+fn forget<M: Cells>(all: &mut M, place: u16, size: u8, word: Word) -> Result<(), Memory>
+    requires size { (size ≡ 1) ⊎ (size ≡ 2) }
+    requires byte { size ≡ 1 → (v : ℕ) → Has 65536 word.set v → v < 256 }
+    ensures { OnOk result (M.map all.new ≡ (if is_none word.entry then M.map all.old else write_one (M.map all.old) place size (record { set = word.set; entry = None }))) }
+{
+    if word.entry.is_none() {
+        return Ok(());
+    }
+    all.write_one(place, size, plain(word.set))
+}
+
+/// The same cells without relations. Those that say nothing then go.
+fn unrelated<M: Cells>(alloc: Global, cells: &M) -> Result<M, Memory>
+    ensures { IfOk result (λ all. M.map all ≡ record { lo = (M.map cells.now).lo; hi = (M.map cells.now).hi; cells = kept entry.unrelated (M.map cells.now).cells }) }
+{
+    cells.keep_form();
+    let mut all = cells.copy(alloc)?;
+    let mut from = 0;
+    while let Some((place, size, word)) = cells.next(from) {
+        forget(&mut all, place, size, word)?;
+        from = place as u32 + size as u32;
+    }
+    Ok(all)
+}
+
+/// What is known of a state, told of itself.
+pub(crate) fn handed<M: Cells>(alloc: Global, state: &State<M>) -> Result<State<M>, Memory>
+    ensures { IfOk result (λ handed. handed ≡ entry.handed state.now) }
+{
+    Ok(State {
+        sp: state.sp,
+        status: Status {
+            bits: state.status.bits,
+            entry: Some(itself(2)),
+        },
+        late: Tri::Zero,
+        registers: all_related(&state.registers),
+        fact: None,
+        cells: unrelated(alloc, &state.cells)?,
+        touched: Ranges::new(alloc),
+    })
+}
