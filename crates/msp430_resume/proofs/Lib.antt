@@ -1,0 +1,8 @@
+pub mod Standing
+pub mod StatusBits
+pub mod HeldWords
+pub mod Facts
+pub mod CellParts
+pub mod Covering
+pub mod Lists
+pub mod Made

@@ -1,0 +1,4 @@
+pub mod Evens
+pub mod StatusWord
+pub mod ReturnLaw
+pub mod BackLaw

@@ -1,0 +1,144 @@
+//! RETI over what is known of a state.
+
+ghost use Rattle.std.specs.Prelude.{◌≡◌, ℕ, ◌+◌, ◌≤◌, false, IfOk};
+ghost use Rattle.call_context.specs.declared.shown.Item.TheVariants as the_item;
+ghost use Rattle.call_context.specs.declared.shown.Set.TheVariants.{W};
+ghost use Rattle.call_context.specs.declared.shown.Space.TheVariants.{Mem};
+ghost use Rattle.value_set.specs.Form.{Has};
+ghost use Rattle.value_set.specs.Summing.{add, single};
+ghost use Rattle.msp430_decode.specs.declared.instr.Width.TheVariants.{Word as Words};
+ghost use Rattle.msp430_alu.specs.Memory as memory;
+ghost use Rattle.msp430_return.specs.Return as returning;
+
+use crate::laws::premises_hold;
+use call_context::{Frame, Item, Sequence, Set, Space};
+use entry_value::{Cells, Entry, Word};
+use msp430_alu::{Worked, located, read_known};
+use msp430_chip::Device;
+use msp430_decode::Width;
+use msp430_state::{State, Status};
+use std::alloc::Global;
+use value_bits::{Tri, w16};
+use value_set::Vs16;
+use vsa_io::Memory;
+
+/// The bytes of a word at an even address stand below 65536.
+fn word_fits(at: &Vs16)
+    ensures { (v : ℕ) → Has 65536 (memory.located Words at.now) v → v + 2 ≤ 65536 }
+{
+    premises_hold();
+    let _form = at.form();
+}
+
+/// What may be read as a word at one of some addresses. Bit 0 of them doesn't count.
+fn word_at<M: Cells>(device: &Device, state: &State<M>, at: &Vs16) -> Word
+    ensures { result ≡ memory.read_known device.now state.now Words (memory.located Words at.now) }
+{
+    word_fits(at);
+    read_known(device, state, Width::Word, &located(Width::Word, at))
+}
+
+/// A relation to SR stays one: the AND mask has the bits that SR doesn't hold, and the OR mask hasn't.
+fn status_relation(entry: &Option<Entry>) -> Option<Entry>
+    ensures { result ≡ returning.status_relation entry.now }
+{
+    match entry {
+        Some(entry) if entry.place == 2 => Some(Entry {
+            place: 2,
+            and: entry.and | 0xFE00,
+            or: entry.or & 0x01FF,
+        }),
+        _ => None,
+    }
+}
+
+/// SR from a word: its lowest nine bits.
+fn status_from(word: &Word) -> Status
+    ensures { result ≡ returning.status_from word.now }
+{
+    let all = w16::bits(&word.set);
+    let mut bits = [Tri::Either; 9];
+    bits.copy_from_slice(&all[..9]);
+    Status {
+        bits,
+        entry: status_relation(&word.entry),
+    }
+}
+
+/// Two above the stack pointer.
+fn above(sp: &Vs16) -> Vs16
+    ensures { result ≡ add 65536 sp.now (single 2) }
+{
+    sp.add(&Vs16::one(2))
+}
+
+/// The read of a word at one of some addresses.
+fn read_of(pc: u16, at: &Vs16) -> Item
+    ensures { result ≡ the_item.Access pc Mem false 2 (W (memory.located Words at.now)) }
+{
+    Item::Access {
+        pc,
+        space: Space::Mem,
+        write: false,
+        size: 2,
+        at: Set::W(located(Width::Word, at)),
+    }
+}
+
+/// The reads of SR and of PC.
+fn return_items(alloc: Global, pc: u16, sp: &Vs16) -> Result<Sequence<Item>, Memory>
+    ensures { IfOk result (λ items. items ≡ returning.return_items pc sp.now) }
+{
+    let mut items = Sequence::new(alloc);
+    items.push(read_of(pc, sp))?;
+    items.push(read_of(pc, &above(sp)))?;
+    Ok(items)
+}
+
+/// What RETI at an address makes of what is known of a state. It copies the state once, and fails where memory runs out.
+#[tactic(auto, unfolding(crate::specs::Return::return_worked))]
+pub fn return_from_interrupt<M: Cells>(
+    alloc: Global,
+    device: &Device,
+    state: &State<M>,
+    pc: u16,
+) -> Result<Worked<M>, Memory>
+    ensures { IfOk result (λ worked. worked ≡ returning.return_worked device.now state.now pc) }
+{
+    let status = word_at(device, state, &state.sp);
+    let counter = word_at(device, state, &above(&state.sp));
+    let mut after = state.copy(alloc)?;
+    after.sp = state.sp.add(&Vs16::one(4));
+    after.status = status_from(&status);
+    after.fact = None;
+    Ok(Worked {
+        after,
+        next: located(Width::Word, &counter.set),
+        accesses: return_items(alloc, pc, &state.sp)?,
+        store: None,
+    })
+}
+
+/// Whether a relation is that of PC to itself, without a mask.
+fn is_counter(entry: &Option<Entry>) -> bool
+    ensures { result ≡ returning.is_counter entry.now }
+{
+    match entry {
+        Some(entry) => entry.place == 0 && entry.and == 0xFFFF && entry.or == 0,
+        None => false,
+    }
+}
+
+/// Whether RETI in a frame goes back to where its interrupt came. Else it is a jump.
+#[tactic(auto, unfolding(crate::specs::Return::goes_back))]
+pub fn goes_back<M: Cells>(device: &Device, frame: Frame, state: &State<M>) -> bool
+    ensures { result ≡ returning.goes_back device.now frame state.now }
+{
+    match frame {
+        Frame::Irq { sp: Some(sp), .. } => {
+            state.sp.within(&Vs16::one(sp.wrapping_add(0xFFFC)))
+                && is_counter(&word_at(device, state, &above(&state.sp)).entry)
+        }
+        _ => false,
+    }
+}
