@@ -13,13 +13,13 @@ pub record AreSites (calls : List ℕ) : Type 0 where
   pub few : length calls ≤ 8
   pub even : All IsEvenWord calls
 
-pushed_sites : (calls : List ℕ) (pc : ℕ) → IsEvenWord pc → AreSites calls → AreSites (pushed calls pc 6)
-pushed_sites calls pc even are =
+pushed_sites : (limit : ℕ) (calls : List ℕ) (pc : ℕ) → limit ≤ 8 → IsEvenWord pc → AreSites calls → AreSites (pushed calls pc limit)
+pushed_sites limit calls pc small even are =
     let all = calls ++ pc ∷ [] in
-    let long = length-drop (length all - 6) all in
+    let long = length-drop (length all - limit) all in
     record {
-      few = omega (arith, long);
-      even = All-drop IsEvenWord (length all - 6) all (All-append IsEvenWord calls (pc ∷ []) are.even (All-cons IsEvenWord pc [] even (All-nil IsEvenWord)));
+      few = omega (arith, long, small);
+      even = All-drop IsEvenWord (length all - limit) all (All-append IsEvenWord calls (pc ∷ []) are.even (All-cons IsEvenWord pc [] even (All-nil IsEvenWord)));
     }
 
 popped_sites : (calls : List ℕ) (end : Option ℕ) (to : ℕ) → AreSites calls → AreSites (popped calls end to)
@@ -29,7 +29,8 @@ popped_sites calls (Some end) to are = cond_both (end == to) (take (length calls
     record { few = omega (arith, long, few); even = All-take IsEvenWord (length calls - 1) calls are.even })
     (λ _. are)
 
-pub sites_by : (effect : CallEffect) (image : List (Option ℕ)) (pc : ℕ) (calls : List ℕ) (to : ℕ) → IsEvenWord pc → AreSites calls → AreSites (calls_by effect image pc calls to)
-sites_by Pushes image pc calls to even are = pushed_sites calls pc even are
-sites_by Pops image pc calls to even are = popped_sites calls (last_end image calls) to are
-sites_by Keeps image pc calls to even are = are
+pub sites_by : (limit : ℕ) (effect : CallEffect) (image : List (Option ℕ)) (pc : ℕ) (calls : List ℕ) (to : ℕ) → limit ≤ 8 → IsEvenWord pc → AreSites calls
+    → AreSites (calls_by limit effect image pc calls to)
+sites_by limit Pushes image pc calls to small even are = pushed_sites limit calls pc small even are
+sites_by limit Pops image pc calls to small even are = popped_sites calls (last_end image calls) to are
+sites_by limit Keeps image pc calls to small even are = are

@@ -1,19 +1,27 @@
 -- Where steps land, and the forms of what is posted.
-use Rattle.std.proofs.Common.{◌≡◌, ◌⊎◌, ◌≢◌, ℕ, ◌+◌, ◌-◌, ◌*◌, ◌%◌, ◌==◌, ◌++◌, cond, nat_lt, Bool, true, false, Option, None, Some, Ok, Err, List, [], ◌∷◌, length, slice_index, refl, sym, ap, ◌∙◌, subst, inl, inr, arith, Contains}
-use Rattle.std.proofs.lemmas.Bool.{cond_both, cond-false}
+use Rattle.std.proofs.Common.{◌≡◌, ◌⊎◌, ◌≢◌, ℕ, ◌+◌, ◌-◌, ◌*◌, ◌/◌, ◌%◌, ◌<◌, ◌==◌, ◌++◌, cond, nat_lt, Bool, true, false, Option, None, Some, List, [], ◌∷◌, length, slice_index, append_assoc, refl, sym, ap, ◌∙◌, subst, inl, inr, arith, Contains}
+use Rattle.std.proofs.lemmas.Bool.{cond_both, cond-true, cond-false}
 use Rattle.std.proofs.lemmas.List.Elements.{Contains-append_left, Contains-append_right, Contains-append_cases}
+use Rattle.std.specs.List.{flat_map, slice_index_or}
+use Rattle.std.specs.Prelude.{map}
 use Rattle.call_context.specs.declared.node.Frame.{Frame}
+use Rattle.call_context.specs.declared.node.Frame.TheVariants.{Irq}
 use Rattle.call_context.specs.declared.node.Node.{Node}
-use Rattle.call_context.specs.declared.node.Node.TheVariants.{At}
+use Rattle.call_context.specs.declared.node.Node.TheVariants.{At, Exit}
 use Rattle.call_context.specs.declared.shown.Cause.{Cause}
 use Rattle.call_context.specs.declared.shown.Cause.TheVariants.{Targets}
+use Rattle.call_context.specs.declared.shown.Item.{Item}
 use Rattle.call_context.specs.declared.shown.Item.TheVariants as items
 use Rattle.call_context.specs.declared.shown.Set.TheVariants.{W}
 use Rattle.call_context.specs.Single.{Single, AreShowing}
 use Rattle.call_context.specs.Single.Single.{Instr as Ran, Edge as Went, Stack as Stood}
-use Rattle.chip_law.specs.Laws.{Lands}
-use Rattle.chip_law.specs.Laws.Lands.{stays}
+use Rattle.chip_law.specs.declared.chip.Work.{Work}
+use Rattle.chip_law.specs.Laws.{IsWaitedFor, Lands}
+use Rattle.chip_law.specs.Laws.Lands.{enters, leaves, stays}
 use Rattle.choosing.specs.Outcome.Outcome.{Next as Onward}
+use Rattle.value_bits.specs.declared.tri.Tri.{Tri}
+use Rattle.value_bits.specs.declared.tri.Tri.TheVariants.{Zero, One, Either}
+use Rattle.value_bits.specs.Bits.{Agrees}
 use Rattle.value_bits.specs.Flags.{IsFlag}
 use Rattle.value_set.specs.declared.form.Form.{Form}
 use Rattle.value_set.specs.Form.{Has, IsNormal, members}
@@ -26,68 +34,55 @@ use Rattle.msp430_decode.specs.declared.instr.Destination.TheVariants as destina
 use Rattle.msp430_decode.specs.declared.instr.Operation.{Operation}
 use Rattle.msp430_decode.specs.declared.instr.Register.TheVariants.{Sr}
 use Rattle.msp430_decode.specs.Operands.{IsSource}
-use Rattle.msp430_status.specs.Status.{status_worked}
-use Rattle.msp430_flow.specs.Built.{is_built_target}
 use Rattle.msp430_decode.specs.declared.instr.SingleOperation.{SingleOperation}
 use Rattle.msp430_decode.specs.declared.instr.Source.{Source}
+use Rattle.msp430_decode.specs.declared.instr.Source.TheVariants as source
 use Rattle.msp430_decode.specs.declared.instr.Width.{Width}
 use Rattle.msp430_decode.specs.declared.instr.SingleOperation.TheVariants.{Rrc, Swpb, Rra, Sxt, Push, Call}
 use Rattle.msp430_decode.specs.Table.{IsInstr, bytes_of, extension_words, length_of, target_of}
 use Rattle.msp430_chip.specs.declared.device.Device.{Device}
 use Rattle.msp430_chip.specs.declared.state.ChipState.{ChipState}
+use Rattle.msp430_chip.specs.Interrupts.{entry, first_hit, handler_of}
+use Rattle.msp430_chip.specs.Memory.{program_hit}
 use Rattle.msp430_chip.specs.Outcome.{Outcome}
 use Rattle.msp430_chip.specs.State.{allows_interrupts, register_of, IsChipState}
 use Rattle.msp430_chip.specs.Step.{Left}
-use Rattle.msp430_state.specs.Forms.{IsEvenWord, IsFact, IsKnown}
-use Rattle.msp430_state.specs.Holding.{Covers, HoldsOf, HoldsOfParts, StandsIn}
+use Rattle.msp430_decode.specs.declared.instr.Width.TheVariants.{Word}
+use Rattle.msp430_state.specs.Forms.{HasChipForm, IsEvenWord, IsFact, IsKnown}
+use Rattle.msp430_state.specs.Holding.{Covers, GoesOn, HoldsOf, HoldsOfParts, IsSuspendedState, StandsIn}
 use Rattle.msp430_state.specs.Known.{Known, is_interrupt, known_joined}
+use Rattle.msp430_state.specs.Status.{common_bit}
+use Rattle.msp430_status.specs.Status.{single_status_worked, status_worked}
+use Rattle.msp430_return.specs.Return.{goes_back, return_worked}
+use Rattle.msp430_branch.specs.Conditions.{bit_of}
 use Rattle.msp430_branch.specs.Cuts.{known_cut}
-use Rattle.msp430_alu.specs.Formats.{Worked, push_worked, single_worked, double_worked}
+use Rattle.msp430_alu.specs.Formats.{IsUnder, Worked, push_worked, single_worked, double_worked}
 use Rattle.msp430_alu.specs.Memory.{IsDevice}
-use Rattle.msp430_flow.specs.Chip.{HasQuietForm, IsProgram, IsQuiet, edges_of, msp430_analysis, followed_work, posts_of, store_opens, target_opens, work_at}
+use Rattle.msp430_entry.specs.declared.coming.Coming.{Coming}
+use Rattle.msp430_entry.specs.Entry.{ComesSo, comings_of, entry_items, entry_shows, frame_of_coming}
+use Rattle.msp430_flow.specs.declared.setting.Setting.{Setting}
+use Rattle.msp430_flow.specs.Chip.{Going, IsSetting, edges_of, entry_post, followed_work, going_back, going_of, going_on, msp430_analysis, posts_of, push_opens, store_opens, target_opens, wait_at, wait_of, work_at}
 use Rattle.msp430_flow.specs.Machine.{msp430_machine}
 use Rattle.msp430_flow.specs.Labels.{calls_by, effect_of}
-use Rattle.msp430_flow.specs.Running.{Way, all_ways, are_too_many, fact_of, gie_of, known_behind, passes, stored_width, ways, ways_of, ways_to, worked}
-use Rattle.msp430_flow.proofs.GateLemmas.{double_is, passed_gie, target_view}
+use Rattle.msp430_flow.specs.Running.{Way, all_ways, are_too_many, fact_of, followed, gie_of, known_behind, leaves_frame, single_or_status, stored_width, ways, ways_of, ways_to, worked}
+use Rattle.msp430_flow.proofs.RegisterViews.{OperandView, TargetView, operand_view, target_view}
+use Rattle.msp430_flow.proofs.RegisterViews.OperandView.{other_operand, status_operand}
+use Rattle.msp430_flow.proofs.RegisterViews.TargetView.{other_target, status_target}
 use Rattle.msp430_flow.proofs.Premises.{Laws}
-use Rattle.msp430_flow.proofs.Members.{in_none, in_cons, in_first, in_rest}
-use Rattle.msp430_flow.proofs.Quiet.{joined_quiet, not_allowed}
+use Rattle.msp430_flow.proofs.Members.{in_none, in_cons, in_first, in_flat_map, in_map, in_rest}
 use Rattle.msp430_flow.proofs.Runs.{IsRun, late_form, width_of}
-use Rattle.msp430_flow.proofs.Stepping.{device_of, done_by_hit, items_of, state_behind}
+use Rattle.msp430_flow.proofs.Stepping.{device_of, done_by_hit, entered_state, entry_by, items_of, state_behind}
 
 -- FORMS
 
-status_form : Laws → (device : Device) (framed : Bool) (a : Known) (pc : ℕ) (operation : Operation) (width : Width) (origin : Source) (target : Destination) → IsDevice device → IsKnown device.lo device.hi framed a
-    → IsSource origin → target ≡ destination.Register Sr → IsKnown device.lo device.hi framed (worked device framed a pc (instr.Double operation width origin target)).after
-status_form laws device framed a pc operation width origin target is form fits status =
-    subst (λ t. IsKnown device.lo device.hi framed (worked device framed a pc (instr.Double operation width origin t)).after) (sym status)
-    (laws.statuses.form device framed a pc (length_of (instr.Double operation width origin (destination.Register Sr))) operation width origin is form fits)
+-- what the work of an instruction rests on
+pub record IsFormed (device : Device) (framed : Bool) (made_so : Worked) : Type 0 where
+  pub after : IsKnown device.lo device.hi framed made_so.after
+  pub next : (to : ℕ) → Has 65536 made_so.next to → IsEvenWord to
 
-double_form : Laws → (device : Device) (framed : Bool) (a : Known) (pc : ℕ) (operation : Operation) (width : Width) (origin : Source) (target : Destination) → IsDevice device → IsKnown device.lo device.hi framed a
-    → IsInstr (instr.Double operation width origin target) → (is_built_target target ≡ true) ⊎ (target ≡ destination.Register Sr)
-    → IsKnown device.lo device.hi framed (worked device framed a pc (instr.Double operation width origin target)).after
-double_form laws device framed a pc operation width origin target is form fits (inl ordinary) =
-    let len = length_of (instr.Double operation width origin target) in
-    subst (λ (w : Worked). IsKnown device.lo device.hi framed w.after) (sym (double_is device framed a pc len operation width origin target ordinary))
-    (laws.formats.double_form device framed a pc len operation width origin target is form fits.0 fits.1)
-double_form laws device framed a pc operation width origin target is form fits (inr status) =
-    status_form laws device framed a pc operation width origin target is form fits.0 status
-
-worked_form : Laws → (device : Device) (framed : Bool) (a : Known) (pc : ℕ) (instr_so : Instr) → IsDevice device → IsKnown device.lo device.hi framed a → IsInstr instr_so
-    → IsKnown device.lo device.hi framed (worked device framed a pc instr_so).after
-worked_form laws device framed a pc (instr.Double operation width origin target) is form fits = double_form laws device framed a pc operation width origin target is form fits (target_view target)
-worked_form laws device framed a pc (instr.Single Push width operand) is form fits = laws.formats.push_form device framed a pc (length_of (instr.Single Push width operand)) Push width operand is form fits.0
-worked_form laws device framed a pc (instr.Single Call width operand) is form fits = laws.formats.push_form device framed a pc (length_of (instr.Single Call width operand)) Call width operand is form fits.0
-worked_form laws device framed a pc (instr.Single Rrc width operand) is form fits =
-    laws.formats.single_form device framed a pc (length_of (instr.Single Rrc width operand)) Rrc width operand is form fits.0 (width_of Rrc width operand fits)
-worked_form laws device framed a pc (instr.Single Swpb width operand) is form fits =
-    laws.formats.single_form device framed a pc (length_of (instr.Single Swpb width operand)) Swpb width operand is form fits.0 (width_of Swpb width operand fits)
-worked_form laws device framed a pc (instr.Single Rra width operand) is form fits =
-    laws.formats.single_form device framed a pc (length_of (instr.Single Rra width operand)) Rra width operand is form fits.0 (width_of Rra width operand fits)
-worked_form laws device framed a pc (instr.Single Sxt width operand) is form fits =
-    laws.formats.single_form device framed a pc (length_of (instr.Single Sxt width operand)) Sxt width operand is form fits.0 (width_of Sxt width operand fits)
-worked_form laws device framed a pc (instr.Jump condition offset) is form fits = form
-worked_form laws device framed a pc instr.ReturnFromInterrupt is form fits = form
+-- the next addresses are even words
+next_even : Laws → (ahead : ℕ) (next : Form) → ahead % 2 ≡ 0 → IsNormal 65536 next → (ahead % 2 ≡ 0 → HasRemainder 65536 2 0 next) → (to : ℕ) → Has 65536 next to → IsEvenWord to
+next_even laws ahead next even normal rest to has = (laws.sets.below to next normal has, rest even to has)
 
 behind_even : (pc words : ℕ) → IsEvenWord pc → IsEvenWord ((pc + (2 + 2 * words)) % 65536)
 behind_even pc words h = let even = h.1 in (omega arith, omega arith)
@@ -97,42 +92,133 @@ target_even pc offset h = let even = h.1 in
     cond_both (nat_lt offset 512) ((pc + 2 + 2 * offset) % 65536) ((pc + 2 + 2 * offset + 65536 - 2048) % 65536) IsEvenWord
     (λ e. (omega arith, omega arith)) (λ e. (omega arith, omega arith))
 
--- a way goes to an even address, and what is known there is in form and lets no interrupt come
-pub record IsWay (device : Device) (framed : Bool) (way : Way) : Type 0 where
+module _ (laws : Laws) (device : Device) (framed : Bool) (a : Known) (pc : ℕ) (is : IsDevice device) (form : IsKnown device.lo device.hi framed a) (even : IsEvenWord pc) where
+  status_form : (operation : Operation) (width : Width) (origin : Source) (target : Destination) → IsSource origin → target ≡ destination.Register Sr
+      → IsFormed device framed (worked device framed a pc (instr.Double operation width origin target))
+  status_form operation width origin target fits status =
+      let i = instr.Double operation width origin (destination.Register Sr) in
+      let len = length_of i in
+      subst (λ t. IsFormed device framed (worked device framed a pc (instr.Double operation width origin t))) (sym status) (record {
+        after = laws.statuses.form device framed a pc len operation width origin is form fits;
+        next = next_even laws ((pc + len) % 65536) (status_worked device framed a pc len operation width origin).next (behind_even pc (length (extension_words i)) even).1
+            (laws.statuses.next device framed a pc len operation width origin) (laws.statuses.even device framed a pc len operation width origin);
+      })
+
+  double_form : (operation : Operation) (width : Width) (origin : Source) (target : Destination) → IsInstr (instr.Double operation width origin target) → TargetView target
+      → IsFormed device framed (worked device framed a pc (instr.Double operation width origin target))
+  double_form operation width origin target fits (other_target leaves_so same) =
+      let i = instr.Double operation width origin target in
+      let len = length_of i in
+      subst (IsFormed device framed) (sym (same device framed a pc len operation width origin)) (record {
+        after = laws.formats.double_form device framed a pc len operation width origin target is form fits.0 fits.1;
+        next = next_even laws ((pc + len) % 65536) (double_worked device framed a pc len operation width origin target).next (behind_even pc (length (extension_words i)) even).1
+            (laws.formats.double_next device framed a pc len operation width origin target is form fits.0 fits.1)
+            (laws.formats.double_even device framed a pc len operation width origin target is form fits.0 fits.1);
+      })
+  double_form operation width origin target fits (status_target status) = status_form operation width origin target fits.0 status
+
+  single_status_form : (operation : SingleOperation) (width : Width) → IsFormed device framed (single_status_worked device framed a pc (length_of (instr.Single operation width (source.Register Sr))) operation width)
+  single_status_form operation width =
+      let i = instr.Single operation width (source.Register Sr) in
+      let len = length_of i in
+      record {
+        after = laws.single_statuses.form device framed a pc len operation width form;
+        next = next_even laws ((pc + len) % 65536) (single_status_worked device framed a pc len operation width).next (behind_even pc (length (extension_words i)) even).1
+            (laws.single_statuses.next device framed a pc len operation width) (laws.single_statuses.even device framed a pc len operation width);
+      }
+
+  single_form : (operation : SingleOperation) (width : Width) (operand : Source) → IsInstr (instr.Single operation width operand) → OperandView operand
+      → IsFormed device framed (single_or_status device framed a pc (length_of (instr.Single operation width operand)) operation width operand)
+  single_form operation width operand fits (other_operand leaves_so same) =
+      let i = instr.Single operation width operand in
+      let len = length_of i in
+      let wide = width_of operation width operand fits in
+      subst (IsFormed device framed) (sym (same device framed a pc len operation width)) (record {
+        after = laws.formats.single_form device framed a pc len operation width operand is form fits.0 wide;
+        next = next_even laws ((pc + len) % 65536) (single_worked device framed a pc len operation width operand).next (behind_even pc (length (extension_words i)) even).1
+            (laws.formats.single_next device framed a pc len operation width operand is form fits.0 wide)
+            (laws.formats.single_even device framed a pc len operation width operand is form fits.0 wide);
+      })
+  single_form operation width operand fits (status_operand status) =
+      subst (λ o. IsFormed device framed (single_or_status device framed a pc (length_of (instr.Single operation width o)) operation width o)) (sym status)
+      (single_status_form operation width)
+
+  push_form : (operation : SingleOperation) (width : Width) (operand : Source) → IsInstr (instr.Single operation width operand)
+      → IsFormed device framed (push_worked device framed a pc (length_of (instr.Single operation width operand)) operation width operand)
+  push_form operation width operand fits =
+      let i = instr.Single operation width operand in
+      let len = length_of i in
+      record {
+        after = laws.formats.push_form device framed a pc len operation width operand is form fits.0;
+        next = next_even laws ((pc + len) % 65536) (push_worked device framed a pc len operation width operand).next (behind_even pc (length (extension_words i)) even).1
+            (laws.formats.push_next device framed a pc len operation width operand is form fits.0)
+            (laws.formats.push_even device framed a pc len operation width operand is form fits.0);
+      }
+
+  return_form : IsFormed device framed (return_worked device a pc)
+  return_form = record {
+    after = laws.returns.form device framed a pc is form;
+    next = next_even laws 0 (return_worked device a pc).next refl (laws.returns.next device framed a pc is form) (λ _. laws.returns.even device framed a pc is form);
+  }
+
+  -- what is known behind every instruction
+  worked_form : (instr_so : Instr) → IsInstr instr_so → IsKnown device.lo device.hi framed (worked device framed a pc instr_so).after
+  worked_form (instr.Double operation width origin target) fits = (double_form operation width origin target fits (target_view target)).after
+  worked_form (instr.Single Push width operand) fits = (push_form Push width operand fits).after
+  worked_form (instr.Single Call width operand) fits = (push_form Call width operand fits).after
+  worked_form (instr.Single Rrc width operand) fits = (single_form Rrc width operand fits (operand_view operand)).after
+  worked_form (instr.Single Swpb width operand) fits = (single_form Swpb width operand fits (operand_view operand)).after
+  worked_form (instr.Single Rra width operand) fits = (single_form Rra width operand fits (operand_view operand)).after
+  worked_form (instr.Single Sxt width operand) fits = (single_form Sxt width operand fits (operand_view operand)).after
+  worked_form (instr.Jump condition offset) fits = form
+  worked_form instr.ReturnFromInterrupt fits = return_form.after
+
+-- WAYS
+
+-- A way goes to an even address, what is known there is in form, and an interrupt may come there as GIE was before.
+pub record IsWay (device : Device) (framed : Bool) (late : Tri) (way : Way) : Type 0 where
   pub even : IsEvenWord way.0
   pub known : IsKnown device.lo device.hi framed way.1
-  pub quiet : IsQuiet way.1
+  pub late_is : way.1.late ≡ late
 
-abbrev IsQuietState : Device → Bool → Option Known → Type 0
-IsQuietState device framed None = Unit {0}
-IsQuietState device framed (Some a) = IsKnown device.lo device.hi framed a × IsQuiet a
+abbrev IsAhead : Device → Bool → Tri → Option Known → Type 0
+IsAhead device framed late None = Unit {0}
+IsAhead device framed late (Some a) = IsKnown device.lo device.hi framed a × (a.late ≡ late)
 
-only_way : (device : Device) (framed : Bool) (to : ℕ) (a : Known) → IsEvenWord to → IsKnown device.lo device.hi framed a → IsQuiet a
-    → (way : Way) → Contains ((to, a) ∷ []) way → IsWay device framed way
-only_way device framed to a even known quiet way h = elim (in_cons (to, a) [] way h) [
-  | inl same ↦ subst (IsWay device framed) same (record { even = even; known = known; quiet = quiet })
+only_way : (device : Device) (framed : Bool) (late : Tri) (to : ℕ) (a : Known) → IsEvenWord to → IsKnown device.lo device.hi framed a → a.late ≡ late
+    → (way : Way) → Contains ((to, a) ∷ []) way → IsWay device framed late way
+only_way device framed late to a even known is way h = elim (in_cons (to, a) [] way h) [
+  | inl same ↦ subst (IsWay device framed late) same (record { even = even; known = known; late_is = is })
   | inr none ↦ absurd (in_none way none)
 ]
 
-ways_form : Laws → (device : Device) (framed : Bool) (behind target : ℕ) (on jumped : Option Known) → IsEvenWord behind → IsEvenWord target → IsQuietState device framed on → IsQuietState device framed jumped
-    → (way : Way) → Contains (ways_of behind target on jumped) way → IsWay device framed way
-ways_form laws device framed behind target None None f g a b way h = absurd (in_none way h)
-ways_form laws device framed behind target (Some on) None f g a b way h = only_way device framed behind on f a.0 a.1 way h
-ways_form laws device framed behind target None (Some jumped) f g a b way h = only_way device framed target jumped g b.0 b.1 way h
-ways_form laws device framed behind target (Some on) (Some jumped) f g a b way h =
-    cond_both (behind == target) ((behind, known_joined on jumped) ∷ []) ((behind, on) ∷ (target, jumped) ∷ []) (λ (all : List Way). Contains all way → IsWay device framed way)
-    (λ _ one. only_way device framed behind (known_joined on jumped) f (laws.states.join_form device.lo device.hi framed on jumped a.0 b.0) (joined_quiet on jumped a.1 b.1) way one)
+common_itself : (bit : Tri) → common_bit bit bit ≡ bit
+common_itself Zero = refl
+common_itself One = refl
+common_itself Either = refl
+
+joined_late : (late : Tri) (a b : Known) → a.late ≡ late → b.late ≡ late → (known_joined a b).late ≡ late
+unfolding known_joined
+joined_late late a b f g = ap (λ bit. common_bit bit b.late) f ∙ ap (λ bit. common_bit late bit) g ∙ common_itself late
+
+ways_form : Laws → (device : Device) (framed : Bool) (late : Tri) (behind target : ℕ) (on jumped : Option Known) → IsEvenWord behind → IsEvenWord target → IsAhead device framed late on → IsAhead device framed late jumped
+    → (way : Way) → Contains (ways_of behind target on jumped) way → IsWay device framed late way
+ways_form laws device framed late behind target None None f g a b way h = absurd (in_none way h)
+ways_form laws device framed late behind target (Some on) None f g a b way h = only_way device framed late behind on f a.0 a.1 way h
+ways_form laws device framed late behind target None (Some jumped) f g a b way h = only_way device framed late target jumped g b.0 b.1 way h
+ways_form laws device framed late behind target (Some on) (Some jumped) f g a b way h =
+    cond_both (behind == target) ((behind, known_joined on jumped) ∷ []) ((behind, on) ∷ (target, jumped) ∷ []) (λ (all : List Way). Contains all way → IsWay device framed late way)
+    (λ _ one. only_way device framed late behind (known_joined on jumped) f (laws.states.join_form device.lo device.hi framed on jumped a.0 b.0) (joined_late late on jumped a.1 b.1) way one)
     (λ _ two. elim (in_cons (behind, on) ((target, jumped) ∷ []) way two) [
-      | inl same ↦ subst (IsWay device framed) same (record { even = f; known = a.0; quiet = a.1 })
-      | inr rest ↦ only_way device framed target jumped g b.0 b.1 way rest
+      | inl same ↦ subst (IsWay device framed late) same (record { even = f; known = a.0; late_is = a.1 })
+      | inr rest ↦ only_way device framed late target jumped g b.0 b.1 way rest
     ]) h
 
-cut_quiet : Laws → (device : Device) (framed : Bool) (condition : Condition) (taken : Bool) (a : Known) (found : Option Known) → IsKnown device.lo device.hi framed a → IsQuiet a
-    → known_cut condition taken a ≡ found → IsQuietState device framed found
-cut_quiet laws device framed condition taken a None known quiet e = tt
-cut_quiet laws device framed condition taken a (Some b) known quiet e =
-    let same = laws.branches.interrupts a b condition taken e in
-    (laws.branches.form device.lo device.hi framed a b condition taken known e, record { gie = same.0 ∙ quiet.gie; late = same.1 ∙ quiet.late })
+cut_ahead : Laws → (device : Device) (framed : Bool) (condition : Condition) (taken : Bool) (a : Known) (found : Option Known) → IsKnown device.lo device.hi framed a
+    → known_cut condition taken a ≡ found → IsAhead device framed a.late found
+cut_ahead laws device framed condition taken a None known e = tt
+cut_ahead laws device framed condition taken a (Some b) known e =
+    (laws.branches.form device.lo device.hi framed a b condition taken known e, (laws.branches.interrupts a b condition taken e).1)
 
 fact_form : Laws → (instr_so : Instr) (a : Known) → IsFact a.fact → IsFact (fact_of instr_so a)
 fact_form laws (instr.Double operation width origin target) a h = laws.branches.fact_form operation width origin target a h
@@ -140,122 +226,80 @@ fact_form laws (instr.Single operation width operand) a h = h
 fact_form laws (instr.Jump condition offset) a h = h
 fact_form laws instr.ReturnFromInterrupt a h = h
 
--- what is known behind an instruction, before a jump tells more
-behind_form : Laws → (device : Device) → IsProgram device → (framed : Bool) (pc : ℕ) (a : Known) (instr_so : Instr) → IsInstr instr_so → IsKnown device.lo device.hi framed a → IsQuiet a → passes device framed a pc instr_so ≡ true
-    → IsKnown device.lo device.hi framed (known_behind device framed a pc instr_so) × IsQuiet (known_behind device framed a pc instr_so)
-behind_form laws device program framed pc a instr_so fits known quiet passed =
-    let after = (worked device framed a pc instr_so).after in
-    let form = worked_form laws device framed a pc instr_so (device_of device program) known fits in (
-      late_form device.lo device.hi framed (gie_of a) (fact_of instr_so after) after (fact_form laws instr_so after form.fact) form,
-      record { gie = passed_gie device framed a pc instr_so quiet.gie passed; late = quiet.gie },
-    )
-
-ways_to_form : (device : Device) (framed : Bool) (tos : List ℕ) (a : Known) → ((to : ℕ) → Contains tos to → IsEvenWord to) → IsKnown device.lo device.hi framed a → IsQuiet a
-    → (way : Way) → Contains (ways_to tos a) way → IsWay device framed way
-ways_to_form device framed [] a even known quiet way h = absurd (in_none way h)
-ways_to_form device framed (to ∷ tos) a even known quiet way h =
+ways_to_form : (device : Device) (framed : Bool) (late : Tri) (tos : List ℕ) (a : Known) → ((to : ℕ) → Contains tos to → IsEvenWord to) → IsKnown device.lo device.hi framed a → a.late ≡ late
+    → (way : Way) → Contains (ways_to tos a) way → IsWay device framed late way
+ways_to_form device framed late [] a even known is way h = absurd (in_none way h)
+ways_to_form device framed late (to ∷ tos) a even known is way h =
     let first_way : Way = (to, a) in
     elim (in_cons first_way (ways_to tos a) way h) [
-      | inl same ↦ subst (IsWay device framed) same (record { even = even to (in_first to tos); known = known; quiet = quiet })
-      | inr rest ↦ ways_to_form device framed tos a (λ other there. even other (in_rest to tos other there)) known quiet way rest
+      | inl same ↦ subst (IsWay device framed late) same (record { even = even to (in_first to tos); known = known; late_is = is })
+      | inr rest ↦ ways_to_form device framed late tos a (λ other there. even other (in_rest to tos other there)) known is way rest
     ]
 
--- the next addresses are even words
-next_even : Laws → (ahead : ℕ) (next : Form) → ahead % 2 ≡ 0 → IsNormal 65536 next → (ahead % 2 ≡ 0 → HasRemainder 65536 2 0 next) → (to : ℕ) → Has 65536 next to → IsEvenWord to
-next_even laws ahead next even normal rest to has = (laws.sets.below to next normal has, rest even to has)
+module _ (laws : Laws) (device : Device) (framed : Bool) (a : Known) (pc : ℕ) (is : IsDevice device) (form : IsKnown device.lo device.hi framed a) (even : IsEvenWord pc) where
+  -- what is known behind an instruction, before a jump tells more
+  behind_form : (instr_so : Instr) → IsInstr instr_so → IsKnown device.lo device.hi framed (known_behind device framed a pc instr_so)
+  behind_form instr_so fits =
+      let after = (worked device framed a pc instr_so).after in
+      let known = worked_form laws device framed a pc is form even instr_so fits in
+      late_form device.lo device.hi framed (gie_of a) (fact_of instr_so after) after (fact_form laws instr_so after known.fact) known
 
-status_next : Laws → (device : Device) (framed : Bool) (a : Known) (pc : ℕ) (operation : Operation) (width : Width) (origin : Source) (target : Destination) → IsEvenWord pc → target ≡ destination.Register Sr
-    → (to : ℕ) → Has 65536 (worked device framed a pc (instr.Double operation width origin target)).next to → IsEvenWord to
-status_next laws device framed a pc operation width origin target even status =
-    let i = instr.Double operation width origin (destination.Register Sr) in
-    subst (λ t. (to : ℕ) → Has 65536 (worked device framed a pc (instr.Double operation width origin t)).next to → IsEvenWord to) (sym status)
-    (next_even laws ((pc + length_of i) % 65536) (status_worked device framed a pc (length_of i) operation width origin).next (behind_even pc (length (extension_words i)) even).1
-    (laws.statuses.next device framed a pc (length_of i) operation width origin)
-    (laws.statuses.even device framed a pc (length_of i) operation width origin))
+  -- and what RETI leaves at the exit of its frame
+  pub exit_known : (instr_so : Instr) → IsInstr instr_so → IsKnown device.lo device.hi framed (followed (gie_of a) None (worked device framed a pc instr_so).after)
+  exit_known instr_so fits =
+      late_form device.lo device.hi framed (gie_of a) None (worked device framed a pc instr_so).after tt (worked_form laws device framed a pc is form even instr_so fits)
 
-double_next : Laws → (device : Device) (framed : Bool) (a : Known) (pc : ℕ) (operation : Operation) (width : Width) (origin : Source) (target : Destination) → IsDevice device → IsKnown device.lo device.hi framed a
-    → IsInstr (instr.Double operation width origin target) → IsEvenWord pc → (is_built_target target ≡ true) ⊎ (target ≡ destination.Register Sr)
-    → (to : ℕ) → Has 65536 (worked device framed a pc (instr.Double operation width origin target)).next to → IsEvenWord to
-double_next laws device framed a pc operation width origin target is known fits even (inl ordinary) =
-    let i = instr.Double operation width origin target in
-    let made_so = double_worked device framed a pc (length_of i) operation width origin target in
-    subst (λ (w : Worked). (to : ℕ) → Has 65536 w.next to → IsEvenWord to) (sym (double_is device framed a pc (length_of i) operation width origin target ordinary))
-    (next_even laws ((pc + length_of i) % 65536) made_so.next (behind_even pc (length (extension_words i)) even).1
-    (laws.formats.double_next device framed a pc (length_of i) operation width origin target is known fits.0 fits.1)
-    (laws.formats.double_even device framed a pc (length_of i) operation width origin target is known fits.0 fits.1))
-double_next laws device framed a pc operation width origin target is known fits even (inr status) =
-    status_next laws device framed a pc operation width origin target even status
+  -- the ways to each next address
+  next_ways : (instr_so : Instr) → IsInstr instr_so → ((to : ℕ) → Has 65536 (worked device framed a pc instr_so).next to → IsEvenWord to)
+      → (way : Way) → Contains (ways_to (members 65536 (worked device framed a pc instr_so).next) (known_behind device framed a pc instr_so)) way → IsWay device framed (gie_of a) way
+  next_ways instr_so fits next way h =
+      ways_to_form device framed (gie_of a) (members 65536 (worked device framed a pc instr_so).next) (known_behind device framed a pc instr_so) next (behind_form instr_so fits) refl way h
 
-single_ways : Laws → (device : Device) → IsProgram device → (framed : Bool) (pc : ℕ) (a : Known) (operation : SingleOperation) (width : Width) (operand : Source)
-    → IsInstr (instr.Single operation width operand) → IsEvenWord pc → IsKnown device.lo device.hi framed a → IsQuiet a → passes device framed a pc (instr.Single operation width operand) ≡ true
-    → worked device framed a pc (instr.Single operation width operand) ≡ single_worked device framed a pc (length_of (instr.Single operation width operand)) operation width operand
-    → (way : Way) → Contains (all_ways device framed a pc (instr.Single operation width operand)) way → IsWay device framed way
-single_ways laws device program framed pc a operation width operand fits even known quiet passed same way h =
-    let i = instr.Single operation width operand in
-    let behind = behind_form laws device program framed pc a i fits known quiet passed in
-    let is = device_of device program in
-    let ahead = behind_even pc (length (extension_words i)) even in
-    let made_so = single_worked device framed a pc (length_of i) operation width operand in
-    let next = subst (λ (w : Worked). (to : ℕ) → Has 65536 w.next to → IsEvenWord to) (sym same)
-    (next_even laws ((pc + length_of i) % 65536) made_so.next ahead.1
-    (laws.formats.single_next device framed a pc (length_of i) operation width operand is known fits.0 (width_of operation width operand fits))
-    (laws.formats.single_even device framed a pc (length_of i) operation width operand is known fits.0 (width_of operation width operand fits))) in
-    ways_to_form device framed (members 65536 (worked device framed a pc i).next) (known_behind device framed a pc i) next behind.0 behind.1 way h
-
-pushed_ways : Laws → (device : Device) → IsProgram device → (framed : Bool) (pc : ℕ) (a : Known) (operation : SingleOperation) (width : Width) (operand : Source)
-    → IsInstr (instr.Single operation width operand) → IsEvenWord pc → IsKnown device.lo device.hi framed a → IsQuiet a → passes device framed a pc (instr.Single operation width operand) ≡ true
-    → worked device framed a pc (instr.Single operation width operand) ≡ push_worked device framed a pc (length_of (instr.Single operation width operand)) operation width operand
-    → (way : Way) → Contains (all_ways device framed a pc (instr.Single operation width operand)) way → IsWay device framed way
-pushed_ways laws device program framed pc a operation width operand fits even known quiet passed same way h =
-    let i = instr.Single operation width operand in
-    let behind = behind_form laws device program framed pc a i fits known quiet passed in
-    let is = device_of device program in
-    let ahead = behind_even pc (length (extension_words i)) even in
-    let made_so = push_worked device framed a pc (length_of i) operation width operand in
-    let next = subst (λ (w : Worked). (to : ℕ) → Has 65536 w.next to → IsEvenWord to) (sym same)
-    (next_even laws ((pc + length_of i) % 65536) made_so.next ahead.1
-    (laws.formats.push_next device framed a pc (length_of i) operation width operand is known fits.0)
-    (laws.formats.push_even device framed a pc (length_of i) operation width operand is known fits.0)) in
-    ways_to_form device framed (members 65536 (worked device framed a pc i).next) (known_behind device framed a pc i) next behind.0 behind.1 way h
-
-pub ways_formed : Laws → (device : Device) → IsProgram device → (framed : Bool) (pc : ℕ) (a : Known) (instr_so : Instr) → IsInstr instr_so → IsEvenWord pc → IsKnown device.lo device.hi framed a → IsQuiet a → passes device framed a pc instr_so ≡ true
-    → (way : Way) → Contains (all_ways device framed a pc instr_so) way → IsWay device framed way
-ways_formed laws device program framed pc a (instr.Double operation width origin target) fits even known quiet passed way h =
-    let i = instr.Double operation width origin target in
-    let behind = behind_form laws device program framed pc a i fits known quiet passed in
-    ways_to_form device framed (members 65536 (worked device framed a pc i).next) (known_behind device framed a pc i)
-    (double_next laws device framed a pc operation width origin target (device_of device program) known fits even (target_view target)) behind.0 behind.1 way h
-ways_formed laws device program framed pc a (instr.Single Push width operand) fits even known quiet passed way h =
-    pushed_ways laws device program framed pc a Push width operand fits even known quiet passed refl way h
-ways_formed laws device program framed pc a (instr.Single Call width operand) fits even known quiet passed way h =
-    pushed_ways laws device program framed pc a Call width operand fits even known quiet passed refl way h
-ways_formed laws device program framed pc a (instr.Single Rrc width operand) fits even known quiet passed way h =
-    single_ways laws device program framed pc a Rrc width operand fits even known quiet passed refl way h
-ways_formed laws device program framed pc a (instr.Single Swpb width operand) fits even known quiet passed way h =
-    single_ways laws device program framed pc a Swpb width operand fits even known quiet passed refl way h
-ways_formed laws device program framed pc a (instr.Single Rra width operand) fits even known quiet passed way h =
-    single_ways laws device program framed pc a Rra width operand fits even known quiet passed refl way h
-ways_formed laws device program framed pc a (instr.Single Sxt width operand) fits even known quiet passed way h =
-    single_ways laws device program framed pc a Sxt width operand fits even known quiet passed refl way h
-ways_formed laws device program framed pc a (instr.Jump condition offset) fits even known quiet passed way h =
-    let b = known_behind device framed a pc (instr.Jump condition offset) in
-    let behind = behind_form laws device program framed pc a (instr.Jump condition offset) fits known quiet passed in
-    ways_form laws device framed ((pc + 2) % 65536) (target_of pc offset) (known_cut condition false b) (known_cut condition true b) (behind_even pc 0 even) (target_even pc offset even)
-    (cut_quiet laws device framed condition false b (known_cut condition false b) behind.0 behind.1 refl)
-    (cut_quiet laws device framed condition true b (known_cut condition true b) behind.0 behind.1 refl) way h
-ways_formed laws device program framed pc a instr.ReturnFromInterrupt fits even known quiet passed way h =
-    let behind = behind_form laws device program framed pc a instr.ReturnFromInterrupt fits known quiet passed in
-    only_way device framed ((pc + 2) % 65536) (known_behind device framed a pc instr.ReturnFromInterrupt) (behind_even pc 0 even) behind.0 behind.1 way h
+  pub ways_formed : (instr_so : Instr) → IsInstr instr_so → (way : Way) → Contains (all_ways device framed a pc instr_so) way → IsWay device framed (gie_of a) way
+  ways_formed (instr.Double operation width origin target) fits way h =
+      next_ways (instr.Double operation width origin target) fits (double_form laws device framed a pc is form even operation width origin target fits (target_view target)).next way h
+  ways_formed (instr.Single Push width operand) fits way h = next_ways (instr.Single Push width operand) fits (push_form laws device framed a pc is form even Push width operand fits).next way h
+  ways_formed (instr.Single Call width operand) fits way h = next_ways (instr.Single Call width operand) fits (push_form laws device framed a pc is form even Call width operand fits).next way h
+  ways_formed (instr.Single Rrc width operand) fits way h =
+      next_ways (instr.Single Rrc width operand) fits (single_form laws device framed a pc is form even Rrc width operand fits (operand_view operand)).next way h
+  ways_formed (instr.Single Swpb width operand) fits way h =
+      next_ways (instr.Single Swpb width operand) fits (single_form laws device framed a pc is form even Swpb width operand fits (operand_view operand)).next way h
+  ways_formed (instr.Single Rra width operand) fits way h =
+      next_ways (instr.Single Rra width operand) fits (single_form laws device framed a pc is form even Rra width operand fits (operand_view operand)).next way h
+  ways_formed (instr.Single Sxt width operand) fits way h =
+      next_ways (instr.Single Sxt width operand) fits (single_form laws device framed a pc is form even Sxt width operand fits (operand_view operand)).next way h
+  ways_formed (instr.Jump condition offset) fits way h =
+      let b = known_behind device framed a pc (instr.Jump condition offset) in
+      let behind = behind_form (instr.Jump condition offset) fits in
+      ways_form laws device framed (gie_of a) ((pc + 2) % 65536) (target_of pc offset) (known_cut condition false b) (known_cut condition true b) (behind_even pc 0 even) (target_even pc offset even)
+      (cut_ahead laws device framed condition false b (known_cut condition false b) behind refl)
+      (cut_ahead laws device framed condition true b (known_cut condition true b) behind refl) way h
+  ways_formed instr.ReturnFromInterrupt fits way h = next_ways instr.ReturnFromInterrupt fits (return_form laws device framed a pc is form even).next way h
 
 -- COVER
 
--- the state behind an instruction stands under what is known on its way
-run_covered : (device : Device) (pc : ℕ) (calls : List ℕ) (frame : Frame) (a b : Known) (s : ChipState) (first : Option ChipState) (to : ℕ) (left : Left)
-    → slice_index left.registers 0 ≡ to → IsQuiet a → IsQuiet b → HoldsOf device a s first → StandsIn frame first → HoldsOfParts device b first left.registers left.ram
-    → IsChipState device (state_behind s left) → Covers device (At to calls frame) b (state_behind s left) first
-run_covered device pc calls frame a b s first to left goes quiet after holds standing parts form =
-    let late : IsFlag b.late (allows_interrupts s) = subst (λ bit. IsFlag bit (allows_interrupts s)) (sym after.late) (not_allowed device a s first quiet holds) in
-    (goes, record { state = form; late = late; parts = parts }, standing)
+gie_bit : (bits : List Tri) (v : ℕ) → Agrees bits v → IsFlag (slice_index_or bits 3 Either) (v / 8 % 2 == 1)
+gie_bit [] v agrees = tt
+gie_bit (a ∷ []) v agrees = tt
+gie_bit (a ∷ b ∷ []) v agrees = tt
+gie_bit (a ∷ b ∷ c ∷ []) v agrees = tt
+gie_bit (a ∷ b ∷ c ∷ Zero ∷ bits) v agrees = let is : v / 2 / 2 / 2 % 2 ≡ 0 = agrees.1.1.1.0 in let bit : v / 8 % 2 ≡ 0 = omega arith in ap (λ n. n == 1) bit
+gie_bit (a ∷ b ∷ c ∷ One ∷ bits) v agrees = let is : v / 2 / 2 / 2 % 2 ≡ 1 = agrees.1.1.1.0 in let bit : v / 8 % 2 ≡ 1 = omega arith in ap (λ n. n == 1) bit
+gie_bit (a ∷ b ∷ c ∷ Either ∷ bits) v agrees = tt
+
+-- what is known of GIE holds of it
+gie_holds : (device : Device) (a : Known) (s : ChipState) (first : Option ChipState) → HoldsOf device a s first → IsFlag (gie_of a) (allows_interrupts s)
+gie_holds device a s first holds = gie_bit a.status.bits (register_of s 2) holds.parts.status.bits
+
+-- the state behind an instruction stands under what is known there
+behind_holds : (device : Device) (a b : Known) (s : ChipState) (first : Option ChipState) (left : Left) → HoldsOf device a s first → b.late ≡ gie_of a
+    → HoldsOfParts device b first left.registers left.ram → IsChipState device (state_behind s left) → HoldsOf device b (state_behind s left) first
+behind_holds device a b s first left holds is parts form = record {
+  state = form;
+  suspended = holds.suspended;
+  late = subst (λ bit. IsFlag bit (allows_interrupts s)) (sym is) (gie_holds device a s first holds);
+  parts = parts;
+}
 
 -- WHAT IS SHOWN
 
@@ -287,85 +331,222 @@ way_of_post calls_at frame (one ∷ all) to state h =
     ]
 
 -- where there are few, each way is followed
-followed_way : (device : Device) (framed : Bool) (a : Known) (pc : ℕ) (instr_so : Instr) → are_too_many (worked device framed a pc instr_so).next ≡ false
-    → (way : Way) → Contains (all_ways device framed a pc instr_so) way → Contains (ways device framed a pc instr_so) way
-followed_way device framed a pc instr_so few way h =
-    subst (λ all. Contains all way) (sym (cond-false (are_too_many (worked device framed a pc instr_so).next) [] (all_ways device framed a pc instr_so) few)) h
+followed_way : (limit : ℕ) (device : Device) (framed : Bool) (a : Known) (pc : ℕ) (instr_so : Instr) → are_too_many limit (worked device framed a pc instr_so).next ≡ false
+    → (way : Way) → Contains (all_ways device framed a pc instr_so) way → Contains (ways limit device framed a pc instr_so) way
+followed_way limit device framed a pc instr_so few way h =
+    subst (λ all. Contains all way) (sym (cond-false (are_too_many limit (worked device framed a pc instr_so).next) [] (all_ways device framed a pc instr_so) few)) h
 
 -- and a way that is followed is one of all
-pub way_of_all : (device : Device) (framed : Bool) (a : Known) (pc : ℕ) (instr_so : Instr) (way : Way) → Contains (ways device framed a pc instr_so) way → Contains (all_ways device framed a pc instr_so) way
-way_of_all device framed a pc instr_so way h =
-    cond_both (are_too_many (worked device framed a pc instr_so).next) [] (all_ways device framed a pc instr_so) (λ (all : List Way). Contains all way → Contains (all_ways device framed a pc instr_so) way)
+pub way_of_all : (limit : ℕ) (device : Device) (framed : Bool) (a : Known) (pc : ℕ) (instr_so : Instr) (way : Way) → Contains (ways limit device framed a pc instr_so) way → Contains (all_ways device framed a pc instr_so) way
+way_of_all limit device framed a pc instr_so way h =
+    cond_both (are_too_many limit (worked device framed a pc instr_so).next) [] (all_ways device framed a pc instr_so) (λ (all : List Way). Contains all way → Contains (all_ways device framed a pc instr_so) way)
     (λ _ none. absurd (in_none way none)) (λ _ there. there) h
 
 -- a work with no open has few targets
-few_targets : (pc : ℕ) (next : Form) (others : List (ℕ × Cause)) (many : Bool) → are_too_many next ≡ many → target_opens pc next ++ others ≡ [] → are_too_many next ≡ false
-few_targets pc next others false is none = is
-few_targets pc next others true is none =
+last_none : {A : Type 0} (xs ys : List A) → xs ++ ys ≡ [] → ys ≡ []
+last_none [] ys e = e
+last_none (x ∷ xs) ys e = absurd (cc)
+
+few_targets : (limit pc : ℕ) (next : Form) (others : List (ℕ × Cause)) (many : Bool) → are_too_many limit next ≡ many → target_opens limit pc next ++ others ≡ [] → are_too_many limit next ≡ false
+few_targets limit pc next others false is none = is
+few_targets limit pc next others true is none =
     let opens : (pc, Targets next) ∷ others ≡ [] = ap (λ many. cond {A = List (ℕ × Cause)} many ((pc, Targets next) ∷ []) [] ++ others) (sym is) ∙ none in absurd (cc)
 
-shown : (device : Device) (pc : ℕ) (calls : List ℕ) (frame : Frame) (a : Known) (s : ChipState) (first : Option ChipState) (instr_so : Instr) (outcome : Outcome ChipState)
-    → register_of s 0 ≡ pc → Has 65536 a.sp (register_of s 1) → are_too_many (worked device (is_interrupt frame) a pc instr_so).next ≡ false
-    → (run : IsRun device (is_interrupt frame) a s first instr_so outcome)
-    → (item : Single) → Contains (items_of s instr_so run.accesses run.left) item → AreShowing (followed_work device pc calls frame a instr_so).items item
-shown device pc calls frame a s first instr_so outcome here on_stack few run item there =
-    let framed = is_interrupt frame in
+-- The items of a location where an instruction stands show its accesses, SP, the instruction, and what its edges show.
+shown : (setting : Setting) (pc : ℕ) (calls : List ℕ) (frame : Frame) (a : Known) (s : ChipState) (first : Option ChipState) (instr_so : Instr) (outcome : Outcome ChipState)
+    → register_of s 0 ≡ pc → Has 65536 a.sp (register_of s 1)
+    → (run : IsRun setting.device (is_interrupt frame) a s first instr_so outcome)
+    → (item : Single) → Contains (items_of s instr_so run.accesses run.left) item
+    → AreShowing (followed_work setting pc calls frame a instr_so).items item ⊎ (item ≡ Went (register_of s 0) (slice_index run.left.registers 0))
+shown setting pc calls frame a s first instr_so outcome here on_stack run item there =
+    let device = setting.device in
+    let made_so = worked device (is_interrupt frame) a pc instr_so in
     let stack = items.Stack pc (W a.sp) in
     let ran_item = items.Instr pc (bytes_of instr_so) in
-    let accesses = (worked device framed a pc instr_so).accesses in
-    let edges = edges_of pc (ways device framed a pc instr_so) in
-    let rest = stack ∷ ran_item ∷ edges in
-    let all = accesses ++ rest in
+    let accesses = made_so.accesses in
+    let entries = flat_map (entry_items device pc) (comings_of device a) in
+    let front = accesses ++ stack ∷ entries in
+    let own = ran_item ∷ (going_of setting pc calls frame a instr_so made_so).edges in
+    let all = front ++ own in
     let bytes = bytes_of instr_so in
     let at = register_of s 0 in
     let to = slice_index run.left.registers 0 in
-    let (way, is_way, goes, parts) = run.way in
-    let edge = items.Edge pc way.0 in
-    let here_way = followed_way device framed a pc instr_so few way (subst (λ p. Contains (all_ways device framed a p instr_so) way) here is_way) in
     elim (in_cons (Stood at (register_of s 1)) (Ran at bytes ∷ run.accesses ++ Went at to ∷ []) item there) [
-      | inl first_one ↦ subst (AreShowing all) first_one (stack, Contains-append_right accesses rest stack (in_first stack (ran_item ∷ edges)), (here, on_stack))
+      | inl first_one ↦ inl (subst (AreShowing all) first_one
+          (stack, Contains-append_left front own stack (Contains-append_right accesses (stack ∷ entries) stack (in_first stack entries)), (here, on_stack)))
       | inr others ↦ elim (in_cons (Ran at bytes) (run.accesses ++ Went at to ∷ []) item others) [
-        | inl second ↦ subst (AreShowing all) second (ran_item, Contains-append_right accesses rest ran_item (in_rest stack (ran_item ∷ edges) ran_item (in_first ran_item edges)), (here, refl))
+        | inl second ↦ inl (subst (AreShowing all) second (ran_item, Contains-append_right front own ran_item (in_first ran_item (going_of setting pc calls frame a instr_so made_so).edges), (here, refl)))
         | inr more ↦ elim (Contains-append_cases run.accesses (Went at to ∷ []) item more) [
-          | inl access ↦ let seen = subst (λ p. AreShowing (worked device framed a p instr_so).accesses item) here (run.shown item access) in
-              (seen.0, Contains-append_left accesses rest seen.0 seen.1, seen.2)
-          | inr last ↦ elim (in_cons (Went at to) [] item last) [
-            | inl same ↦ subst (AreShowing all) same
-                (edge, Contains-append_right accesses rest edge (in_rest stack (ran_item ∷ edges) edge (in_rest ran_item edges edge (edge_in pc (ways device framed a pc instr_so) way here_way))), (here, sym goes))
-            | inr none ↦ absurd (in_none item none)
-          ]
+          | inl access ↦ let seen = subst (λ p. AreShowing (worked device (is_interrupt frame) a p instr_so).accesses item) here (run.shown item access) in
+              inl (seen.0, Contains-append_left front own seen.0 (Contains-append_left accesses (stack ∷ entries) seen.0 seen.1), seen.2)
+          | inr last ↦ elim (in_cons (Went at to) [] item last) [ inl same ↦ inr (sym same) | inr none ↦ absurd (in_none item none) ]
         ]
       ]
     ]
 
--- WHERE A STEP LANDS
+-- an edge among those of an instruction is an item of the location
+edge_shown : (setting : Setting) (pc : ℕ) (calls : List ℕ) (frame : Frame) (a : Known) (instr_so : Instr) (going : Going) (edge : Item) (item : Single)
+    → going_of setting pc calls frame a instr_so (worked setting.device (is_interrupt frame) a pc instr_so) ≡ going → Contains going.edges edge
+    → AreShowing (edge ∷ []) item → AreShowing (followed_work setting pc calls frame a instr_so).items item
+edge_shown setting pc calls frame a instr_so going edge item is there shows =
+    let device = setting.device in
+    let made_so = worked device (is_interrupt frame) a pc instr_so in
+    let ran_item = items.Instr pc (bytes_of instr_so) in
+    let own = (going_of setting pc calls frame a instr_so made_so).edges in
+    let front = made_so.accesses ++ items.Stack pc (W a.sp) ∷ flat_map (entry_items device pc) (comings_of device a) in
+    let same : edge ≡ shows.0 = elim (in_cons edge [] shows.0 shows.1) [ inl one ↦ one | inr none ↦ absurd (in_none shows.0 none) ] in
+    let own_edge : Contains own shows.0 = subst (Contains own) same (subst (λ (g : Going). Contains g.edges edge) (sym is) there) in
+    (shows.0, Contains-append_right front (ran_item ∷ own) shows.0 (in_rest ran_item own shows.0 own_edge), shows.2)
+
+-- WHERE AN INSTRUCTION LANDS
 
 parts_of : (items_so others : List Single) (t u : ChipState) → ◌≡◌ {A = Outcome ChipState} (Onward items_so t) (Onward others u) → (items_so ≡ others) × (t ≡ u)
 parts_of items_so others t u e = (cc, cc)
 
-pub no_open : (device : Device) (pc : ℕ) (calls : List ℕ) (frame : Frame) (a : Known) (cause : Cause) → (work_at device pc calls frame a (Err cause)).opens ≢ []
-no_open device pc calls frame a cause e = cc
+-- a post of an instruction is one of the work
+going_in : (setting : Setting) (pc : ℕ) (calls : List ℕ) (frame : Frame) (a : Known) (instr_so : Instr) (going : Going) (post : Node × Known)
+    → going_of setting pc calls frame a instr_so (worked setting.device (is_interrupt frame) a pc instr_so) ≡ going → Contains going.posts post
+    → Contains (followed_work setting pc calls frame a instr_so).posts post
+going_in setting pc calls frame a instr_so going post is there =
+    let made_so = worked setting.device (is_interrupt frame) a pc instr_so in
+    Contains-append_right (map (entry_post setting.device pc a) (comings_of setting.device a)) (going_of setting pc calls frame a instr_so made_so).posts post
+    (subst (λ (g : Going). Contains g.posts post) (sym is) there)
 
-pub run_lands : Laws → (device : Device) → IsProgram device → (pc : ℕ) (calls : List ℕ) (frame : Frame) (a : Known) (s : ChipState) (first : Option ChipState) (instr_so : Instr) (items_so : List Single) (t : ChipState)
-    → Covers device (At pc calls frame) a s first → IsInstr instr_so → HasQuietForm device.lo device.hi (At pc calls frame) a
-    → (run : IsRun device (is_interrupt frame) a s first instr_so (Onward items_so t)) → IsChipState device t → passes device (is_interrupt frame) a pc instr_so ≡ true → (followed_work device pc calls frame a instr_so).opens ≡ []
-    → (hit : Option ℕ) → run.left.hit ≡ hit
-    → Lands (msp430_machine device) (msp430_analysis device) (Covers device) (At pc calls frame) (followed_work device pc calls frame a instr_so) s first items_so t
+-- what a step of an instruction comes to at a location
+pub record AtLocation (setting : Setting) (pc : ℕ) (calls : List ℕ) (frame : Frame) (a : Known) (s : ChipState) (first : Option ChipState) (instr_so : Instr) : Type 0 where
+  pub setting_so : IsSetting setting
+  pub covers : Covers setting.device (At pc calls frame) a s first
+  pub fits : IsInstr instr_so
+  pub node : HasChipForm setting.device.lo setting.device.hi (At pc calls frame) a
+
+abbrev LandsAt : Setting → (pc : ℕ) → List ℕ → Frame → Known → ChipState → Option ChipState → Instr → List Single → ChipState → Type 0
+LandsAt setting pc calls frame a s first instr_so items_so t =
+    Lands (msp430_machine setting.device) (msp430_analysis setting) (Covers setting.device) (At pc calls frame) (followed_work setting pc calls frame a instr_so) s first items_so t
+
+-- in its frame
+run_stays : Laws → (setting : Setting) (pc : ℕ) (calls : List ℕ) (frame : Frame) (a : Known) (s : ChipState) (first : Option ChipState) (instr_so : Instr) (outcome : Outcome ChipState)
+    → AtLocation setting pc calls frame a s first instr_so → (run : IsRun setting.device (is_interrupt frame) a s first instr_so outcome) → IsChipState setting.device (state_behind s run.left)
+    → leaves_frame setting.device frame a instr_so ≡ false → (followed_work setting pc calls frame a instr_so).opens ≡ []
+    → LandsAt setting pc calls frame a s first instr_so (items_of s instr_so run.accesses run.left) (state_behind s run.left)
 unfolding msp430_machine msp430_analysis
-run_lands laws device program pc calls frame a s first instr_so items_so t covers fits node run form passed none None e =
-    let is = parts_of items_so (items_of s instr_so run.accesses run.left) t (state_behind s run.left) (run.outcome_is ∙ done_by_hit s instr_so run.accesses run.left None e) in
+run_stays laws setting pc calls frame a s first instr_so outcome at run form stays_so none =
+    let device = setting.device in
+    let framed = is_interrupt frame in
+    let limit = setting.limits.targets in
+    let made_so = worked device framed a pc instr_so in
+    let calls_at = calls_by setting.limits.calls (effect_of instr_so) device.image pc calls in
+    let going = going_on setting pc calls frame a instr_so made_so in
+    let is : going_of setting pc calls frame a instr_so made_so ≡ going = cond-false (leaves_frame device frame a instr_so) (going_back pc frame a made_so) going stays_so in
+    let others = store_opens device pc (stored_width instr_so) made_so.store in
+    let pushes = flat_map (push_opens device pc) (comings_of device a) in
+    let opens = (going_of setting pc calls frame a instr_so made_so).opens in
+    let own = last_none pushes (opens ++ others) (sym (append_assoc pushes opens others) ∙ none) in
+    let few = few_targets limit pc made_so.next others (are_too_many limit made_so.next) refl (sym (ap (λ (g : Going). g.opens ++ others) is) ∙ own) in
+    let (way, is_way, goes, parts) = run.way in
+    let all_way : Contains (all_ways device framed a pc instr_so) way = subst (λ p. Contains (all_ways device framed a p instr_so) way) at.covers.0 is_way in
+    let here_way = followed_way limit device framed a pc instr_so few way all_way in
+    let formed = ways_formed laws device framed a pc (device_of device at.setting_so.program) at.node.1 at.node.0.0 instr_so at.fits way all_way in
+    let to = At way.0 (calls_at way.0) frame in
+    let edge = items.Edge pc way.0 in
+    stays to way.1 (going_in setting pc calls frame a instr_so going (to, way.1) is (post_in calls_at frame (ways limit device framed a pc instr_so) way here_way)) tt refl
+    (sym goes, behind_holds device a way.1 s first run.left at.covers.1 formed.late_is parts form, at.covers.2)
+    (λ item there. elim (shown setting pc calls frame a s first instr_so outcome at.covers.0 at.covers.1.parts.sp run item there) [
+      | inl seen ↦ seen
+      | inr last ↦ edge_shown setting pc calls frame a instr_so going edge item is (edge_in pc (ways limit device framed a pc instr_so) way here_way)
+          (subst (AreShowing (edge ∷ [])) (sym last) (edge, in_first edge [], (at.covers.0, sym goes)))
+    ])
+
+-- at the exit of its frame
+run_leaves : Laws → (setting : Setting) (pc : ℕ) (calls : List ℕ) (frame : Frame) (a : Known) (s : ChipState) (first : Option ChipState) (instr_so : Instr) (outcome : Outcome ChipState)
+    → AtLocation setting pc calls frame a s first instr_so → (run : IsRun setting.device (is_interrupt frame) a s first instr_so outcome) → IsChipState setting.device (state_behind s run.left)
+    → leaves_frame setting.device frame a instr_so ≡ true
+    → LandsAt setting pc calls frame a s first instr_so (items_of s instr_so run.accesses run.left) (state_behind s run.left)
+unfolding msp430_machine msp430_analysis
+run_leaves laws setting pc calls frame a s first instr_so outcome at run form leaves_so =
+    let device = setting.device in
     let framed = is_interrupt frame in
     let made_so = worked device framed a pc instr_so in
-    let few = few_targets pc made_so.next (store_opens device pc (stored_width instr_so) made_so.store) (are_too_many made_so.next) refl none in
-    let (way, is_way, goes, parts) = run.way in
-    let all_way : Contains (all_ways device framed a pc instr_so) way = subst (λ p. Contains (all_ways device framed a p instr_so) way) covers.0 is_way in
-    let here_way = followed_way device framed a pc instr_so few way all_way in
-    let formed = ways_formed laws device program framed pc a instr_so fits node.0.0.0 node.0.1 node.1 passed way all_way in
-    let calls_at = calls_by (effect_of instr_so) device.image pc calls in
-    let to = At way.0 (calls_at way.0) frame in
-    stays to way.1 (post_in calls_at frame (ways device framed a pc instr_so) way here_way) tt refl
-    (subst (λ u. Covers device to way.1 u first) (sym is.1)
-    (run_covered device pc (calls_at way.0) frame a way.1 s first way.0 run.left (sym goes) node.1 formed.quiet covers.1 covers.2 parts (subst (IsChipState device) is.1 form)))
-    (λ item there. shown device pc calls frame a s first instr_so (Onward items_so t) covers.0 covers.1.parts.sp few run item (subst (λ list. Contains list item) is.0 there))
-run_lands laws device program pc calls frame a s first instr_so items_so t covers fits node run form passed none (Some at) e =
-    let outcome = run.outcome_is ∙ done_by_hit s instr_so run.accesses run.left (Some at) e in absurd (cc)
+    let going = going_back pc frame a made_so in
+    let is : going_of setting pc calls frame a instr_so made_so ≡ going = cond-true (leaves_frame device frame a instr_so) going (going_on setting pc calls frame a instr_so made_so) leaves_so in
+    let state = followed (gie_of a) None made_so.after in
+    let back = run.back frame at.covers.2 leaves_so in
+    let parts = subst (λ p. HoldsOfParts device (followed (gie_of a) None (worked device framed a p instr_so).after) first run.left.registers run.left.ram) at.covers.0 back.parts in
+    leaves state (going_in setting pc calls frame a instr_so going (Exit pc frame, state) is (in_first (Exit pc frame, state) []))
+    (back.goes (state_behind s run.left) refl, behind_holds device a state s first run.left at.covers.1 refl parts form, at.covers.2)
+    (λ item there. elim (shown setting pc calls frame a s first instr_so outcome at.covers.0 at.covers.1.parts.sp run item there) [
+      | inl seen ↦ inl seen
+      | inr last ↦ inr (last ∙ ap (λ p. Went p (slice_index run.left.registers 0)) at.covers.0)
+    ])
+
+pub run_lands : Laws → (setting : Setting) (pc : ℕ) (calls : List ℕ) (frame : Frame) (a : Known) (s : ChipState) (first : Option ChipState) (instr_so : Instr) (items_so : List Single) (t : ChipState)
+    → AtLocation setting pc calls frame a s first instr_so → (run : IsRun setting.device (is_interrupt frame) a s first instr_so (Onward items_so t)) → IsChipState setting.device t
+    → (followed_work setting pc calls frame a instr_so).opens ≡ [] → (hit : Option ℕ) → run.left.hit ≡ hit → (back : Bool) → leaves_frame setting.device frame a instr_so ≡ back
+    → LandsAt setting pc calls frame a s first instr_so items_so t
+run_lands laws setting pc calls frame a s first instr_so items_so t at run form none (Some byte) e back goes =
+    let outcome = run.outcome_is ∙ done_by_hit s instr_so run.accesses run.left (Some byte) e in absurd (cc)
+run_lands laws setting pc calls frame a s first instr_so items_so t at run form none None e true goes =
+    let is = parts_of items_so (items_of s instr_so run.accesses run.left) t (state_behind s run.left) (run.outcome_is ∙ done_by_hit s instr_so run.accesses run.left None e) in
+    subst (λ xs. LandsAt setting pc calls frame a s first instr_so xs t) (sym is.0) (subst (LandsAt setting pc calls frame a s first instr_so (items_of s instr_so run.accesses run.left)) (sym is.1)
+    (run_leaves laws setting pc calls frame a s first instr_so (Onward items_so t) at run (subst (IsChipState setting.device) is.1 form) goes))
+run_lands laws setting pc calls frame a s first instr_so items_so t at run form none None e false goes =
+    let is = parts_of items_so (items_of s instr_so run.accesses run.left) t (state_behind s run.left) (run.outcome_is ∙ done_by_hit s instr_so run.accesses run.left None e) in
+    subst (λ xs. LandsAt setting pc calls frame a s first instr_so xs t) (sym is.0) (subst (LandsAt setting pc calls frame a s first instr_so (items_of s instr_so run.accesses run.left)) (sym is.1)
+    (run_stays laws setting pc calls frame a s first instr_so (Onward items_so t) at run (subst (IsChipState setting.device) is.1 form) goes none))
+
+-- WHERE AN INTERRUPT LANDS
+
+-- entries are posted and shown in each work of a location
+entry_in : (setting : Setting) (pc : ℕ) (calls : List ℕ) (frame : Frame) (a : Known) (found : Option Instr) (coming_so : Coming) → Contains (comings_of setting.device a) coming_so
+    → Contains (work_at setting pc calls frame a found).posts (entry_post setting.device pc a coming_so)
+entry_in setting pc calls frame a None coming_so listed = in_map (entry_post setting.device pc a) (comings_of setting.device a) coming_so listed
+entry_in setting pc calls frame a (Some instr_so) coming_so listed =
+    Contains-append_left (map (entry_post setting.device pc a) (comings_of setting.device a)) (going_of setting pc calls frame a instr_so (worked setting.device (is_interrupt frame) a pc instr_so)).posts
+    (entry_post setting.device pc a coming_so) (in_map (entry_post setting.device pc a) (comings_of setting.device a) coming_so listed)
+
+-- and what interrupts show beside SP
+front_in : (setting : Setting) (pc : ℕ) (calls : List ℕ) (frame : Frame) (a : Known) (found : Option Instr) (item : Item)
+    → Contains (items.Stack pc (W a.sp) ∷ flat_map (entry_items setting.device pc) (comings_of setting.device a)) item → Contains (work_at setting pc calls frame a found).items item
+front_in setting pc calls frame a None item there = there
+front_in setting pc calls frame a (Some instr_so) item there =
+    let made_so = worked setting.device (is_interrupt frame) a pc instr_so in
+    let front = items.Stack pc (W a.sp) ∷ flat_map (entry_items setting.device pc) (comings_of setting.device a) in
+    Contains-append_left (made_so.accesses ++ front) (items.Instr pc (bytes_of instr_so) ∷ (going_of setting pc calls frame a instr_so made_so).edges) item
+    (Contains-append_right made_so.accesses front item there)
+
+waits_of : (setting : Setting) (pc : ℕ) (calls : List ℕ) (frame : Frame) (a : Known) (found : Option Instr) → (work_at setting pc calls frame a found).waits ≡ flat_map wait_of (comings_of setting.device a)
+waits_of setting pc calls frame a None = refl
+waits_of setting pc calls frame a (Some instr_so) = refl
+
+-- a frame with a stack pointer is waited for
+waited : (setting : Setting) (work : Work Known) (a : Known) (coming_so : Coming) (sp : Option ℕ) → work.waits ≡ flat_map wait_of (comings_of setting.device a) → Contains (comings_of setting.device a) coming_so
+    → coming_so.known_sp ≡ sp → IsWaitedFor work (Irq coming_so.vector sp 0)
+waited setting work a coming_so None is listed same = tt
+waited setting work a coming_so (Some sp) is listed same =
+    let frame = Irq coming_so.vector (Some sp) 0 in
+    let own : wait_of coming_so ≡ frame ∷ [] = ap (wait_at coming_so) same ∙ ap (λ (known : Option ℕ). Irq coming_so.vector known 0 ∷ []) same in
+    subst (λ all. Contains all frame) (sym is) (in_flat_map wait_of (comings_of setting.device a) coming_so frame listed (subst (λ all. Contains all frame) (sym own) (in_first frame [])))
+
+pub entry_lands : Laws → (setting : Setting) (pc : ℕ) (calls : List ℕ) (frame : Frame) (a : Known) (s : ChipState) (first : Option ChipState) (found : Option Instr) (items_so : List Single) (t : ChipState)
+    → register_of s 0 ≡ pc → IsUnder setting.device (is_interrupt frame) a s first → IsChipState setting.device t → (coming_so : Coming) (bits : ℕ) → ComesSo setting.device a s coming_so → bits < 128
+    → (is : ◌≡◌ {A = Outcome ChipState} (Onward items_so t) (entry setting.device s coming_so.vector bits))
+    → (hit : Option ℕ) → first_hit (program_hit setting.device Word ((register_of s 1 + 65534) % 65536)) (program_hit setting.device Word ((register_of s 1 + 65532) % 65536)) ≡ hit
+    → Lands (msp430_machine setting.device) (msp430_analysis setting) (Covers setting.device) (At pc calls frame) (work_at setting pc calls frame a found) s first items_so t
+unfolding msp430_machine msp430_analysis
+entry_lands laws setting pc calls frame a s first found items_so t here under form coming_so bits so below is (Some at) e =
+    let device = setting.device in let outcome = is ∙ entry_by device s coming_so.vector bits (Some at) e in absurd (cc)
+entry_lands laws setting pc calls frame a s first found items_so t here under form coming_so bits so below is None e =
+    let device = setting.device in
+    let work = work_at setting pc calls frame a found in
+    let shows = entry_shows device s coming_so.vector in
+    let same = parts_of items_so (Stood (register_of s 0) (register_of s 1) ∷ shows) t (entered_state device s coming_so.vector bits) (is ∙ entry_by device s coming_so.vector bits None e) in
+    let post = entry_post device pc a coming_so in
+    let stack = items.Stack pc (W a.sp) in
+    let entries = flat_map (entry_items device pc) (comings_of device a) in
+    enters post.0 post.1 (entry_in setting pc calls frame a found coming_so so.listed) tt
+    (waited setting work a coming_so coming_so.known_sp (waits_of setting pc calls frame a found) so.listed refl)
+    (subst (λ p. Covers device post.0 (entry_post device p a coming_so).1 t (Some s)) here (laws.entries.covered device (is_interrupt frame) a s t first coming_so bits items_so under so below (sym is) form))
+    (λ item there. elim (in_cons (Stood (register_of s 0) (register_of s 1)) shows item (subst (λ list. Contains list item) same.0 there)) [
+      | inl stood ↦ subst (AreShowing work.items) stood (stack, front_in setting pc calls frame a found stack (in_first stack entries), (here, under.holds.parts.sp))
+      | inr others ↦ let seen = subst (λ p. AreShowing (entry_items device p coming_so) item) here (laws.entries.shown device (is_interrupt frame) a s first coming_so under so item others) in
+          (seen.0, front_in setting pc calls frame a found seen.0 (in_rest stack entries seen.0 (in_flat_map (entry_items device pc) (comings_of device a) coming_so seen.0 so.listed seen.1)), seen.2)
+    ])

@@ -1,12 +1,13 @@
 pub mod CallStrings
-pub mod GateLemmas
 pub mod Landing
 pub mod Lawful
+pub mod Made
 pub mod MarksLemmas
 pub mod Members
 pub mod Premises
-pub mod Quiet
+pub mod RegisterViews
 pub mod Runs
+pub mod SetTests
 pub mod Stepping
 pub mod Stores
 pub mod WayLists

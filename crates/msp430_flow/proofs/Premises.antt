@@ -1,6 +1,17 @@
 -- The laws that those of the chip rest on.
-use Rattle.std.specs.Prelude.{◌≡◌, ℕ, ◌+◌, ◌%◌, ◌<◌, ◌≤◌, ◌++◌, Bool, false, true, Option, None, Some, Result, Ok, List, [], length, slice_index, All}
+use Rattle.std.specs.Prelude.{◌≡◌, ℕ, ◌+◌, ◌%◌, ◌<◌, ◌≤◌, ◌⊎◌, ◌++◌, Bool, false, true, Option, None, Some, Result, Ok, List, [], length, slice_index, All, Contains}
 use Rattle.call_context.specs.Single.{Single}
+use Rattle.call_context.specs.declared.node.Frame.{Frame}
+use Rattle.chip_law.specs.Laws.{HasEntry}
+use Rattle.msp430_decode.specs.declared.instr.Instr.TheVariants.{ReturnFromInterrupt}
+use Rattle.msp430_decode.specs.declared.instr.Source.TheVariants as source
+use Rattle.msp430_chip.specs.Interrupts.{coming, entry, first_hit, handler_of, may_come}
+use Rattle.msp430_chip.specs.Memory.{program_hit}
+use Rattle.msp430_entry.specs.declared.coming.Coming.{Coming}
+use Rattle.msp430_entry.specs.Entry.{ComesSo, comings_of, counter_slot, entered_known, entry_items, entry_shows, frame_of_coming, status_slot}
+use Rattle.msp430_resume.specs.Resume.{resumed_known}
+use Rattle.msp430_return.specs.Return.{goes_back, left_of_return, return_accesses, return_worked}
+use Rattle.value_set.specs.Joining.{is_in}
 use Rattle.choosing.specs.Gives.{Gives}
 use Rattle.choosing.specs.Outcome.Outcome.{Next}
 use Rattle.ihex_read.specs.Image.{IsByte}
@@ -11,8 +22,7 @@ use Rattle.msp430_decode.specs.declared.instr.Condition.{Condition}
 use Rattle.msp430_decode.specs.declared.instr.Destination.{Destination}
 use Rattle.msp430_decode.specs.declared.instr.Destination.TheVariants as destination
 use Rattle.msp430_decode.specs.declared.instr.Register.TheVariants.{Sr}
-use Rattle.msp430_chip.specs.Arithmetic.{sets_flags}
-use Rattle.msp430_status.specs.Status.{status_worked}
+use Rattle.msp430_status.specs.Status.{single_status_worked, status_worked}
 use Rattle.msp430_decode.specs.declared.instr.Instr.{Instr}
 use Rattle.msp430_decode.specs.declared.instr.Operation.{Operation}
 use Rattle.msp430_decode.specs.declared.instr.SingleOperation.{SingleOperation}
@@ -27,17 +37,17 @@ use Rattle.msp430_decode.specs.Table.{IsInstr, bytes_of, length_of}
 use Rattle.msp430_chip.specs.declared.device.Device.{Device}
 use Rattle.msp430_chip.specs.declared.place.Place.TheVariants.{InMemory}
 use Rattle.msp430_chip.specs.declared.state.ChipState.{ChipState}
-use Rattle.msp430_chip.specs.Leading.{behind_source, origin_of, place_of, pushed_place, MayDouble, MayLead, MayPush, MaySingle}
+use Rattle.msp430_chip.specs.Leading.{behind_source, origin_of, place_of, pushed_place, MayDouble, MayLead, MayPush, MayReturn, MaySingle}
 use Rattle.msp430_chip.specs.Operands.{access_to}
 use Rattle.msp430_chip.specs.Outcome.{Outcome}
 use Rattle.msp430_chip.specs.State.{register_of, IsChipState, IsResetOf, reset_address}
-use Rattle.msp430_chip.specs.Step.{Step, behind, double_accesses, is_taken, lowered, step_of}
-use Rattle.msp430_state.specs.Forms.{IsFact, IsKnown}
-use Rattle.call_context.specs.declared.node.Frame.TheVariants.{Base}
+use Rattle.msp430_chip.specs.Step.{Step, behind, done, double_accesses, is_taken, lowered, step_of}
+use Rattle.msp430_state.specs.Forms.{IsEvenWord, IsFact, IsFrame, IsKnown}
+use Rattle.call_context.specs.declared.node.Frame.TheVariants.{Base, Irq}
 use Rattle.call_context.specs.declared.node.Node.{Node}
 use Rattle.call_context.specs.declared.node.Node.TheVariants.{At}
-use Rattle.msp430_state.specs.Holding.{Covers, HoldsOfFact, HoldsOfParts}
-use Rattle.msp430_state.specs.Known.{Known, first_known, known_joined, known_widened, known_within, top_known}
+use Rattle.msp430_state.specs.Holding.{CameAt, Covers, GoesOn, HoldsOf, HoldsOfFact, HoldsOfParts, StandsIn}
+use Rattle.msp430_state.specs.Known.{Known, first_known, is_interrupt, known_joined, known_widened, known_within, top_known}
 use Rattle.msp430_state.specs.Premises.{AreMarks}
 use Rattle.msp430_branch.specs.Conditions.{bit_of}
 use Rattle.msp430_branch.specs.Cuts.{known_cut}
@@ -119,10 +129,10 @@ pub record Branches : Type 0 where
       → HoldsOfFact (fact_behind done width origin target a) may.left.registers
   pub fact_form : (done : Operation) (width : Width) (origin : Source) (target : Destination) (a : Known) → IsFact a.fact → IsFact (fact_behind done width origin target a)
 
--- what MOV, BIC and BIS make of SR
+-- what two operands make of SR
 pub record Statuses : Type 0 where
   pub left : (device : Device) (framed : Bool) (a : Known) (s : ChipState) (first : Option ChipState) (len : ℕ) (done : Operation) (width : Width) (origin : Source) (outcome : Outcome ChipState)
-      → sets_flags done ≡ false → IsUnder device framed a s first → IsSource origin → (may : MayDouble device s len done width origin (destination.Register Sr) outcome)
+      → IsUnder device framed a s first → IsSource origin → (may : MayDouble device s len done width origin (destination.Register Sr) outcome)
       → IsLeft device (status_worked device framed a (register_of s 0) len done width origin).after first (status_worked device framed a (register_of s 0) len done width origin).next may.left
   pub shown : (device : Device) (framed : Bool) (a : Known) (s : ChipState) (first : Option ChipState) (len : ℕ) (done : Operation) (width : Width) (origin : Source) (outcome : Outcome ChipState)
       → IsUnder device framed a s first → IsSource origin → (may : MayDouble device s len done width origin (destination.Register Sr) outcome)
@@ -138,6 +148,69 @@ pub record Statuses : Type 0 where
   pub even : (device : Device) (framed : Bool) (a : Known) (pc len : ℕ) (done : Operation) (width : Width) (origin : Source)
       → (pc + len) % 65536 % 2 ≡ 0 → HasRemainder 65536 2 0 (status_worked device framed a pc len done width origin).next
 
+-- what one operand makes of SR
+pub record SingleStatuses : Type 0 where
+  pub left : (device : Device) (framed : Bool) (a : Known) (s : ChipState) (first : Option ChipState) (len : ℕ) (done : SingleOperation) (width : Width) (outcome : Outcome ChipState)
+      → IsUnder device framed a s first → HasWidth done width → (may : MaySingle device s len done width (source.Register Sr) outcome)
+      → IsLeft device (single_status_worked device framed a (register_of s 0) len done width).after first (single_status_worked device framed a (register_of s 0) len done width).next may.left
+  pub shown : (device : Device) (framed : Bool) (a : Known) (s : ChipState) (len : ℕ) (done : SingleOperation) (width : Width)
+      → AreShown (single_status_worked device framed a (register_of s 0) len done width).accesses
+      (access_to (register_of s 0) false width (origin_of s (behind s len) (source.Register Sr)) ++ access_to (register_of s 0) true width (origin_of s (behind s len) (source.Register Sr)))
+  pub hit : (device : Device) (s : ChipState) (len : ℕ) (done : SingleOperation) (width : Width) (outcome : Outcome ChipState)
+      → (may : MaySingle device s len done width (source.Register Sr) outcome) → may.left.hit ≡ None
+  pub form : (device : Device) (framed : Bool) (a : Known) (pc len : ℕ) (done : SingleOperation) (width : Width)
+      → IsKnown device.lo device.hi framed a → IsKnown device.lo device.hi framed (single_status_worked device framed a pc len done width).after
+  pub next : (device : Device) (framed : Bool) (a : Known) (pc len : ℕ) (done : SingleOperation) (width : Width)
+      → IsNormal 65536 (single_status_worked device framed a pc len done width).next
+  pub even : (device : Device) (framed : Bool) (a : Known) (pc len : ℕ) (done : SingleOperation) (width : Width)
+      → (pc + len) % 65536 % 2 ≡ 0 → HasRemainder 65536 2 0 (single_status_worked device framed a pc len done width).next
+
+-- the entries of interrupts
+pub record Entries : Type 0 where
+  pub comes : (device : Device) (framed : Bool) (a : Known) (s : ChipState) (first : Option ChipState) (vector : ℕ)
+      → IsUnder device framed a s first → Contains (coming device s) vector → (coming_so : Coming) × (coming_so.vector ≡ vector) × ComesSo device a s coming_so
+  pub covered : (device : Device) (framed : Bool) (a : Known) (s t : ChipState) (first : Option ChipState) (coming_so : Coming) (bits : ℕ) (items : List Single)
+      → IsUnder device framed a s first → ComesSo device a s coming_so → bits < 128 → entry device s coming_so.vector bits ≡ Next items t → IsChipState device t
+      → Covers device (At (handler_of device coming_so.vector) [] (frame_of_coming coming_so)) (entered_known device a (register_of s 0) coming_so.sp) t (Some s)
+  pub shown : (device : Device) (framed : Bool) (a : Known) (s : ChipState) (first : Option ChipState) (coming_so : Coming) → IsUnder device framed a s first → ComesSo device a s coming_so
+      → AreShown (entry_items device (register_of s 0) coming_so) (entry_shows device s coming_so.vector)
+  pub hit : (device : Device) (framed : Bool) (a : Known) (s : ChipState) (first : Option ChipState) (coming_so : Coming) (at : ℕ) → IsUnder device framed a s first → ComesSo device a s coming_so
+      → first_hit (program_hit device Word ((register_of s 1 + 65534) % 65536)) (program_hit device Word ((register_of s 1 + 65532) % 65536)) ≡ Some at
+      → IsHit device Word (Some (counter_slot coming_so.sp)) at ⊎ IsHit device Word (Some (status_slot coming_so.sp)) at
+  pub form : (device : Device) (framed : Bool) (a : Known) (pc : ℕ) (coming_so : Coming) → IsDevice device → IsKnown device.lo device.hi framed a → IsEvenWord pc
+      → Contains (comings_of device a) coming_so → IsKnown device.lo device.hi true (entered_known device a pc coming_so.sp)
+  pub frame : (device : Device) (framed : Bool) (a : Known) (coming_so : Coming) → IsKnown device.lo device.hi framed a → Contains (comings_of device a) coming_so
+      → IsFrame (frame_of_coming coming_so) × (may_come device coming_so.vector ≡ true)
+  pub handler : (device : Device) (vector : ℕ) → IsDevice device → IsEvenWord (handler_of device vector)
+
+-- returns from interrupts
+pub record Returns : Type 0 where
+  pub done : (device : Device) (s : ChipState) (outcome : Outcome ChipState) → (may : MayReturn device s outcome)
+      → outcome ≡ done s ReturnFromInterrupt (return_accesses s) (left_of_return s may.status may.target)
+  pub left : (device : Device) (framed : Bool) (a : Known) (s : ChipState) (first : Option ChipState) (outcome : Outcome ChipState)
+      → IsUnder device framed a s first → (may : MayReturn device s outcome)
+      → IsLeft device (return_worked device a (register_of s 0)).after first (return_worked device a (register_of s 0)).next (left_of_return s may.status may.target)
+  pub shown : (device : Device) (framed : Bool) (a : Known) (s : ChipState) (first : Option ChipState) → IsUnder device framed a s first
+      → AreShown (return_worked device a (register_of s 0)).accesses (return_accesses s)
+  pub form : (device : Device) (framed : Bool) (a : Known) (pc : ℕ) → IsDevice device → IsKnown device.lo device.hi framed a
+      → IsKnown device.lo device.hi framed (return_worked device a pc).after
+  pub next : (device : Device) (framed : Bool) (a : Known) (pc : ℕ) → IsDevice device → IsKnown device.lo device.hi framed a → IsNormal 65536 (return_worked device a pc).next
+  pub even : (device : Device) (framed : Bool) (a : Known) (pc : ℕ) → IsDevice device → IsKnown device.lo device.hi framed a → HasRemainder 65536 2 0 (return_worked device a pc).next
+  pub back : (device : Device) (framed : Bool) (a : Known) (s t : ChipState) (first : Option ChipState) (frame : Frame) (outcome : Outcome ChipState)
+      → IsUnder device framed a s first → StandsIn frame first → goes_back device frame a ≡ true → (may : MayReturn device s outcome)
+      → t.registers ≡ (left_of_return s may.status may.target).registers → GoesOn frame t first
+  pub base : (device : Device) (frame : Frame) (a : Known) → goes_back device frame a ≡ true → (is_interrupt frame ≡ true) × HasEntry frame
+
+-- where an interrupt came
+pub record Resumptions : Type 0 where
+  pub covers : (device : Device) (framed : Bool) (a exit : Known) (f t : ChipState) (first : Option ChipState) (vector sp level : ℕ) → device.hi < 65536
+      → (framed ≡ false → first ≡ None) → IsKnown device.lo device.hi framed a → IsKnown device.lo device.hi true exit
+      → HoldsOf device a f first → HoldsOf device exit t (Some f) → GoesOn (Irq vector (Some sp) level) t (Some f)
+      → HoldsOf device (resumed_known framed a (register_of f 0) sp exit) t first
+  pub has : (device : Device) (a : Known) (f : ChipState) (first : Option ChipState) (sp : ℕ) → HoldsOf device a f first → CameAt (Some sp) f → is_in 65536 a.sp sp ≡ true
+  pub form : (lo hi : ℕ) (framed : Bool) (a exit : Known) (pc sp : ℕ) → hi < 65536 → IsKnown lo hi framed a → IsKnown lo hi true exit → IsEvenWord pc → IsEvenWord sp
+      → IsKnown lo hi framed (resumed_known framed a pc sp exit)
+
 -- sets
 pub record Sets : Type 0 where
   pub below : (v : ℕ) (set : Form) → IsNormal 65536 set → Has 65536 set v → v < 65536
@@ -146,6 +219,10 @@ pub record Laws : Type 0 where
   pub sets : Sets
   pub formats : Formats
   pub statuses : Statuses
+  pub single_statuses : SingleStatuses
+  pub entries : Entries
+  pub returns : Returns
+  pub resumptions : Resumptions
   pub branches : Branches
   pub steps : Steps
   pub decoding : Decoding

@@ -1,5 +1,5 @@
--- What an instruction that is built may lead to, from a state that stands under what is known.
-use Rattle.std.proofs.Common.{◌≡◌, ℕ, ◌+◌, ◌%◌, ◌<◌, ◌++◌, ◌==◌, ◌||◌, ◌⊎◌, not, inl, inr, cond, Bool, true, false, Option, None, Some, List, [], ◌∷◌, length, slice_index, slice_set, refl, sym, ap, ◌∙◌, subst, arith, Contains}
+-- What an instruction may lead to, from a state that stands under what is known.
+use Rattle.std.proofs.Common.{◌≡◌, ℕ, ◌+◌, ◌%◌, ◌<◌, ◌++◌, ◌==◌, inl, inr, cond, Bool, true, false, Option, None, Some, List, [], ◌∷◌, length, slice_index, slice_set, refl, sym, ap, ◌∙◌, subst, arith, Contains}
 use Rattle.std.proofs.lemmas.Bool.{cases_eq, cond-true, cond-false}
 use Rattle.std.proofs.lemmas.Bool.Decides.{nat_tests}
 use Rattle.std.proofs.lemmas.List.{get_or-set_same, get_or-set_other}
@@ -13,7 +13,8 @@ use Rattle.msp430_decode.specs.declared.instr.Condition.{Condition}
 use Rattle.msp430_decode.specs.declared.instr.Destination.{Destination}
 use Rattle.msp430_decode.specs.declared.instr.Destination.TheVariants as destination
 use Rattle.msp430_decode.specs.declared.instr.Register.TheVariants.{Sr}
-use Rattle.msp430_status.specs.Status.{status_worked}
+use Rattle.msp430_return.specs.Return.{left_of_return, return_accesses, return_worked}
+use Rattle.msp430_status.specs.Status.{single_status_worked, status_worked}
 use Rattle.msp430_decode.specs.Operands.{IsSource}
 use Rattle.msp430_decode.specs.declared.instr.Instr.{Instr}
 use Rattle.msp430_decode.specs.declared.instr.Instr.TheVariants as instr
@@ -21,28 +22,31 @@ use Rattle.msp430_decode.specs.declared.instr.Operation.{Operation}
 use Rattle.msp430_decode.specs.declared.instr.SingleOperation.{SingleOperation}
 use Rattle.msp430_decode.specs.declared.instr.SingleOperation.TheVariants.{Rrc, Swpb, Rra, Sxt, Push, Call}
 use Rattle.msp430_decode.specs.declared.instr.Source.{Source}
+use Rattle.msp430_decode.specs.declared.instr.Source.TheVariants as source
+use Rattle.call_context.specs.declared.node.Frame.{Frame}
 use Rattle.msp430_decode.specs.declared.instr.Width.{Width}
 use Rattle.msp430_decode.specs.declared.instr.Width.TheVariants.{Word, Byte}
 use Rattle.msp430_decode.specs.Table.{IsInstr, length_of, target_of}
-use Rattle.msp430_chip.specs.Arithmetic.{modulus, sets_flags}
+use Rattle.msp430_chip.specs.Arithmetic.{modulus}
 use Rattle.msp430_chip.specs.declared.device.Device.{Device}
 use Rattle.msp430_chip.specs.declared.place.Place.TheVariants.{InMemory}
 use Rattle.msp430_chip.specs.declared.state.ChipState.{ChipState}
-use Rattle.msp430_chip.specs.Leading.{behind_source, origin_of, place_of, pushed_place, MayDouble, MayPush, MayRun, MaySingle}
+use Rattle.msp430_chip.specs.Leading.{behind_source, origin_of, place_of, pushed_place, MayDouble, MayPush, MayReturn, MayRun, MaySingle}
 use Rattle.msp430_chip.specs.Operands.{access_to}
 use Rattle.msp430_chip.specs.Outcome.{Outcome}
 use Rattle.msp430_chip.specs.State.{register_of}
 use Rattle.msp430_chip.specs.Step.{Left, behind, done, double_accesses, is_taken, jump, lowered}
 use Rattle.msp430_state.specs.declared.fact.FlagFact.{FlagFact}
 use Rattle.msp430_state.specs.Forms.{IsFact, IsKnown}
-use Rattle.msp430_state.specs.Holding.{HoldsOfFact, HoldsOfParts, HoldsOfStatus, HasFlagsOf, suspended_of}
+use Rattle.msp430_state.specs.Holding.{HoldsOfFact, HoldsOfParts, HoldsOfStatus, HasFlagsOf, GoesOn, StandsIn, suspended_of}
 use Rattle.msp430_state.specs.Known.{Known, known_joined, word_of}
-use Rattle.msp430_alu.specs.Formats.{AreShown, IsHit, IsLeft, IsUnder, Worked, double_worked, push_worked, single_worked}
+use Rattle.msp430_alu.specs.Formats.{AreShown, IsHit, IsLeft, IsUnder, LeavesStatus, LeavesStatusAlone, Worked, double_worked, push_worked, single_worked}
 use Rattle.msp430_results.specs.Results.{HasWidth}
-use Rattle.msp430_flow.specs.Built.{is_built, is_built_operand, is_built_target, moves_status}
 use Rattle.msp430_branch.specs.Cuts.{known_cut}
-use Rattle.msp430_flow.specs.Running.{Way, all_ways, fact_of, followed, gie_of, known_behind, stored_width, ways_behind, ways_of, ways_to, worked}
-use Rattle.msp430_flow.proofs.GateLemmas.{built_leaves_status, built_leaves_operand, double_is, target_view}
+use Rattle.msp430_flow.specs.Running.{Way, all_ways, fact_of, followed, gie_of, known_behind, leaves_frame, single_or_status, stored_width, ways_behind, ways_of, ways_to, worked}
+use Rattle.msp430_flow.proofs.RegisterViews.{IsDouble, IsSingle, OperandView, TargetView, operand_view, target_view}
+use Rattle.msp430_flow.proofs.RegisterViews.OperandView.{other_operand, status_operand}
+use Rattle.msp430_flow.proofs.RegisterViews.TargetView.{other_target, status_target}
 use Rattle.msp430_flow.proofs.Premises.{Laws}
 use Rattle.msp430_flow.proofs.Members.{in_none, in_cons, in_first, in_rest}
 
@@ -60,6 +64,15 @@ pub record ComesTo (device : Device) (s : ChipState) (first : Option ChipState) 
   pub shown : AreShown made_so.accesses accesses
   pub hit : (at : ℕ) → left.hit ≡ Some at → IsHit device width made_so.store at
 
+-- a return from its frame's interrupt leaves the state at the exit
+pub record LeavesFrame (device : Device) (a : Known) (first : Option ChipState) (made_so : Worked) (frame : Frame) (left : Left) : Type 0 where
+  pub goes : (t : ChipState) → t.registers ≡ left.registers → GoesOn frame t first
+  pub parts : HoldsOfParts device (followed (gie_of a) None made_so.after) first left.registers left.ram
+
+abbrev pub GoesBack : Device → Known → Option ChipState → Instr → Worked → Left → Type 0
+GoesBack device a first instr_so made_so left =
+    (frame : Frame) → StandsIn frame first → leaves_frame device frame a instr_so ≡ true → LeavesFrame device a first made_so frame left
+
 -- what the instruction at PC comes to
 pub record IsRun (device : Device) (framed : Bool) (a : Known) (s : ChipState) (first : Option ChipState) (instr_so : Instr) (outcome : Outcome ChipState) : Type 0 where
   pub left : Left
@@ -68,6 +81,7 @@ pub record IsRun (device : Device) (framed : Bool) (a : Known) (s : ChipState) (
   pub way : HasWay device first (all_ways device framed a (register_of s 0) instr_so) (slice_index left.registers 0) left.registers left.ram
   pub shown : AreShown (worked device framed a (register_of s 0) instr_so).accesses accesses
   pub hit : (at : ℕ) → left.hit ≡ Some at → IsHit device (stored_width instr_so) (worked device framed a (register_of s 0) instr_so).store at
+  pub back : GoesBack device a first instr_so (worked device framed a (register_of s 0) instr_so) left
 
 to_way : (tos : List ℕ) (a : Known) (v : ℕ) → Contains tos v → Contains {X = Way} (ways_to tos a) (v, a)
 to_way [] a v h = absurd (in_none v h)
@@ -84,9 +98,10 @@ parts_followed device late fact b first registers ram h told =
 -- an instruction that goes to each address that PC may have
 by_next : (device : Device) (framed : Bool) (a : Known) (s : ChipState) (first : Option ChipState) (instr_so : Instr) (outcome : Outcome ChipState)
     → all_ways device framed a (register_of s 0) instr_so ≡ ways_to (members 65536 (worked device framed a (register_of s 0) instr_so).next) (known_behind device framed a (register_of s 0) instr_so)
-    → ComesTo device s first instr_so (worked device framed a (register_of s 0) instr_so) (stored_width instr_so) outcome
+    → (comes : ComesTo device s first instr_so (worked device framed a (register_of s 0) instr_so) (stored_width instr_so) outcome)
+    → GoesBack device a first instr_so (worked device framed a (register_of s 0) instr_so) comes.left
     → IsRun device framed a s first instr_so outcome
-by_next device framed a s first instr_so outcome is comes =
+by_next device framed a s first instr_so outcome is comes back =
     let pc = register_of s 0 in
     let to = slice_index comes.left.registers 0 in
     let after = (worked device framed a pc instr_so).after in
@@ -105,22 +120,23 @@ by_next device framed a s first instr_so outcome is comes =
       );
       shown = comes.shown;
       hit = comes.hit;
+      back = back;
     }
+
+-- RETI alone leaves its frame
+stays_in : (device : Device) (frame : Frame) (a : Known) (instr_so : Instr) → leaves_frame device frame a instr_so ≡ false → leaves_frame device frame a instr_so ≡ true → ⊥
+stays_in device frame a instr_so stay leave = cc
 
 -- TWO OPERANDS
 
-not_true : (b : Bool) → not b ≡ true → b ≡ false
-not_true true h = absurd (cc)
-not_true false h = refl
-
 double_comes : Laws → (device : Device) (framed : Bool) (a : Known) (s : ChipState) (first : Option ChipState) (operation : Operation) (width : Width) (origin : Source) (target : Destination) (outcome : Outcome ChipState)
-    → IsUnder device framed a s first → IsInstr (instr.Double operation width origin target) → is_built_target target ≡ true
+    → IsUnder device framed a s first → IsInstr (instr.Double operation width origin target) → LeavesStatus target
     → MayDouble device s (length_of (instr.Double operation width origin target)) operation width origin target outcome
     → ComesTo device s first (instr.Double operation width origin target) (double_worked device framed a (register_of s 0) (length_of (instr.Double operation width origin target)) operation width origin target) width outcome
-double_comes laws device framed a s first operation width origin target outcome under fits built may =
+double_comes laws device framed a s first operation width origin target outcome under fits leaves may =
     let len = length_of (instr.Double operation width origin target) in
     let pc = register_of s 0 in
-    let left_so = laws.formats.double_left device framed a s first len operation width origin target outcome under fits.0 fits.1 (built_leaves_status target built) may in
+    let left_so = laws.formats.double_left device framed a s first len operation width origin target outcome under fits.0 fits.1 leaves may in
     record {
       left = may.left;
       accesses = double_accesses pc operation width (origin_of s may.counted origin) (place_of s len may.counted width origin target);
@@ -133,15 +149,15 @@ double_comes laws device framed a s first operation width origin target outcome 
 
 -- SR as the destination
 status_comes : Laws → (device : Device) (framed : Bool) (a : Known) (s : ChipState) (first : Option ChipState) (operation : Operation) (width : Width) (origin : Source) (outcome : Outcome ChipState)
-    → IsUnder device framed a s first → IsSource origin → sets_flags operation ≡ false
+    → IsUnder device framed a s first → IsSource origin
     → MayDouble device s (length_of (instr.Double operation width origin (destination.Register Sr))) operation width origin (destination.Register Sr) outcome
     → ComesTo device s first (instr.Double operation width origin (destination.Register Sr))
     (worked device framed a (register_of s 0) (instr.Double operation width origin (destination.Register Sr))) width outcome
-status_comes laws device framed a s first operation width origin outcome under fits plain may =
+status_comes laws device framed a s first operation width origin outcome under fits may =
     let target = destination.Register Sr in
     let len = length_of (instr.Double operation width origin target) in
     let pc = register_of s 0 in
-    let left_so = laws.statuses.left device framed a s first len operation width origin outcome plain under fits may in
+    let left_so = laws.statuses.left device framed a s first len operation width origin outcome under fits may in
     record {
       left = may.left;
       accesses = double_accesses pc operation width (origin_of s may.counted origin) (place_of s len may.counted width origin target);
@@ -152,33 +168,35 @@ status_comes laws device framed a s first operation width origin outcome under f
       hit = λ at hits. let none = laws.statuses.hit device s len operation width origin outcome may in absurd (cc);
     }
 
+double_stays : (device : Device) (a : Known) (first : Option ChipState) (made_so : Worked) (left : Left) (operation : Operation) (width : Width) (origin : Source) (target : Destination)
+    → GoesBack device a first (instr.Double operation width origin target) made_so left
+double_stays device a first made_so left operation width origin target frame standing leaves =
+    absurd (stays_in device frame a (instr.Double operation width origin target) refl leaves)
+
 status_run : Laws → (device : Device) (framed : Bool) (a : Known) (s : ChipState) (first : Option ChipState) (operation : Operation) (width : Width) (origin : Source) (target : Destination) (outcome : Outcome ChipState)
     → IsUnder device framed a s first → IsInstr (instr.Double operation width origin target)
-    → (is_built (instr.Double operation width origin target) || moves_status (instr.Double operation width origin target)) ≡ true
     → MayDouble device s (length_of (instr.Double operation width origin target)) operation width origin target outcome
     → target ≡ destination.Register Sr
     → IsRun device framed a s first (instr.Double operation width origin target) outcome
-status_run laws device framed a s first operation width origin target outcome under fits built may status =
-    subst (λ t. IsInstr (instr.Double operation width origin t) → (is_built (instr.Double operation width origin t) || moves_status (instr.Double operation width origin t)) ≡ true
-    → MayDouble device s (length_of (instr.Double operation width origin t)) operation width origin t outcome → IsRun device framed a s first (instr.Double operation width origin t) outcome) (sym status)
-    (λ f b m. by_next device framed a s first (instr.Double operation width origin (destination.Register Sr)) outcome refl
-    (status_comes laws device framed a s first operation width origin outcome under f.0 (not_true (sets_flags operation) b) m)) fits built may
+status_run laws device framed a s first operation width origin target outcome under fits may status =
+    subst (λ t. IsInstr (instr.Double operation width origin t) → MayDouble device s (length_of (instr.Double operation width origin t)) operation width origin t outcome
+    → IsRun device framed a s first (instr.Double operation width origin t) outcome) (sym status)
+    (λ f m. let comes = status_comes laws device framed a s first operation width origin outcome under f.0 m in
+    by_next device framed a s first (instr.Double operation width origin (destination.Register Sr)) outcome refl comes
+    (double_stays device a first (worked device framed a (register_of s 0) (instr.Double operation width origin (destination.Register Sr))) comes.left operation width origin (destination.Register Sr))) fits may
 
 -- either of them
 double_run : Laws → (device : Device) (framed : Bool) (a : Known) (s : ChipState) (first : Option ChipState) (operation : Operation) (width : Width) (origin : Source) (target : Destination) (outcome : Outcome ChipState)
     → IsUnder device framed a s first → IsInstr (instr.Double operation width origin target)
-    → (is_built (instr.Double operation width origin target) || moves_status (instr.Double operation width origin target)) ≡ true
     → MayDouble device s (length_of (instr.Double operation width origin target)) operation width origin target outcome
-    → (is_built_target target ≡ true) ⊎ (target ≡ destination.Register Sr)
-    → IsRun device framed a s first (instr.Double operation width origin target) outcome
-double_run laws device framed a s first operation width origin target outcome under fits built may (inl ordinary) =
-    let len = length_of (instr.Double operation width origin target) in
-    by_next device framed a s first (instr.Double operation width origin target) outcome refl
-    (subst (λ (w : Worked). ComesTo device s first (instr.Double operation width origin target) w width outcome)
-    (sym (double_is device framed a (register_of s 0) len operation width origin target ordinary))
-    (double_comes laws device framed a s first operation width origin target outcome under fits ordinary may))
-double_run laws device framed a s first operation width origin target outcome under fits built may (inr status) =
-    status_run laws device framed a s first operation width origin target outcome under fits built may status
+    → TargetView target → IsRun device framed a s first (instr.Double operation width origin target) outcome
+double_run laws device framed a s first operation width origin target outcome under fits may (other_target leaves is) =
+    let i = instr.Double operation width origin target in
+    let comes = subst (λ (w : Worked). ComesTo device s first i w width outcome) (sym (is device framed a (register_of s 0) (length_of i) operation width origin))
+    (double_comes laws device framed a s first operation width origin target outcome under fits leaves may) in
+    by_next device framed a s first i outcome refl comes (double_stays device a first (worked device framed a (register_of s 0) i) comes.left operation width origin target)
+double_run laws device framed a s first operation width origin target outcome under fits may (status_target status) =
+    status_run laws device framed a s first operation width origin target outcome under fits may status
 
 -- ONE OPERAND
 
@@ -193,13 +211,13 @@ width_of Push width operand fits = tt
 width_of Call width operand fits = tt
 
 single_comes : Laws → (device : Device) (framed : Bool) (a : Known) (s : ChipState) (first : Option ChipState) (operation : SingleOperation) (width : Width) (operand : Source) (outcome : Outcome ChipState)
-    → IsUnder device framed a s first → IsInstr (instr.Single operation width operand) → is_built_operand operand ≡ true
+    → IsUnder device framed a s first → IsInstr (instr.Single operation width operand) → LeavesStatusAlone operand
     → MaySingle device s (length_of (instr.Single operation width operand)) operation width operand outcome
     → ComesTo device s first (instr.Single operation width operand) (single_worked device framed a (register_of s 0) (length_of (instr.Single operation width operand)) operation width operand) width outcome
-single_comes laws device framed a s first operation width operand outcome under fits built may =
+single_comes laws device framed a s first operation width operand outcome under fits leaves may =
     let len = length_of (instr.Single operation width operand) in
     let place = origin_of s (behind s len) operand in
-    let left_so = laws.formats.single_left device framed a s first len operation width operand outcome under fits.0 (built_leaves_operand operand built) (width_of operation width operand fits) may in
+    let left_so = laws.formats.single_left device framed a s first len operation width operand outcome under fits.0 leaves (width_of operation width operand fits) may in
     record {
       left = may.left;
       accesses = access_to (register_of s 0) false width place ++ access_to (register_of s 0) true width place;
@@ -227,6 +245,66 @@ push_comes laws device framed a s first operation width operand outcome under fi
       shown = laws.formats.push_shown device framed a s first len operation width operand outcome under fits.0 may;
       hit = λ at hits. laws.formats.push_hit device framed a s first len operation width operand outcome at under fits.0 may hits;
     }
+
+-- SR as the operand
+single_status_comes : Laws → (device : Device) (framed : Bool) (a : Known) (s : ChipState) (first : Option ChipState) (operation : SingleOperation) (width : Width) (outcome : Outcome ChipState)
+    → IsUnder device framed a s first → IsInstr (instr.Single operation width (source.Register Sr))
+    → MaySingle device s (length_of (instr.Single operation width (source.Register Sr))) operation width (source.Register Sr) outcome
+    → ComesTo device s first (instr.Single operation width (source.Register Sr))
+    (single_status_worked device framed a (register_of s 0) (length_of (instr.Single operation width (source.Register Sr))) operation width) width outcome
+single_status_comes laws device framed a s first operation width outcome under fits may =
+    let operand = source.Register Sr in
+    let len = length_of (instr.Single operation width operand) in
+    let place = origin_of s (behind s len) operand in
+    let left_so = laws.single_statuses.left device framed a s first len operation width outcome under (width_of operation width operand fits) may in
+    record {
+      left = may.left;
+      accesses = access_to (register_of s 0) false width place ++ access_to (register_of s 0) true width place;
+      outcome_is = may.outcome_is;
+      left_so = left_so;
+      fact = left_so.parts.fact;
+      shown = laws.single_statuses.shown device framed a s len operation width;
+      hit = λ at hits. let none = laws.single_statuses.hit device s len operation width outcome may in absurd (cc);
+    }
+
+single_stays : (device : Device) (a : Known) (first : Option ChipState) (made_so : Worked) (left : Left) (operation : SingleOperation) (width : Width) (operand : Source)
+    → GoesBack device a first (instr.Single operation width operand) made_so left
+single_stays device a first made_so left operation width operand frame standing leaves = absurd (stays_in device frame a (instr.Single operation width operand) refl leaves)
+
+push_run : Laws → (device : Device) (framed : Bool) (a : Known) (s : ChipState) (first : Option ChipState) (operation : SingleOperation) (width : Width) (operand : Source) (outcome : Outcome ChipState)
+    → IsUnder device framed a s first → IsInstr (instr.Single operation width operand)
+    → MayPush device s (length_of (instr.Single operation width operand)) operation width operand outcome
+    → worked device framed a (register_of s 0) (instr.Single operation width operand)
+    ≡ push_worked device framed a (register_of s 0) (length_of (instr.Single operation width operand)) operation width operand
+    → stored_width (instr.Single operation width operand) ≡ Word → IsRun device framed a s first (instr.Single operation width operand) outcome
+push_run laws device framed a s first operation width operand outcome under fits may is wide =
+    let i = instr.Single operation width operand in
+    let comes = subst (λ w. ComesTo device s first i (worked device framed a (register_of s 0) i) w outcome) (sym wide)
+    (subst (λ (w : Worked). ComesTo device s first i w Word outcome) (sym is) (push_comes laws device framed a s first operation width operand outcome under fits may)) in
+    by_next device framed a s first i outcome refl comes (single_stays device a first (worked device framed a (register_of s 0) i) comes.left operation width operand)
+
+-- an operation that pushes nothing
+plain_run : Laws → (device : Device) (framed : Bool) (a : Known) (s : ChipState) (first : Option ChipState) (operation : SingleOperation) (width : Width) (operand : Source) (outcome : Outcome ChipState)
+    → IsUnder device framed a s first → IsInstr (instr.Single operation width operand)
+    → MaySingle device s (length_of (instr.Single operation width operand)) operation width operand outcome
+    → worked device framed a (register_of s 0) (instr.Single operation width operand)
+    ≡ single_or_status device framed a (register_of s 0) (length_of (instr.Single operation width operand)) operation width operand
+    → stored_width (instr.Single operation width operand) ≡ width → OperandView operand → IsRun device framed a s first (instr.Single operation width operand) outcome
+plain_run laws device framed a s first operation width operand outcome under fits may is wide (other_operand leaves same) =
+    let i = instr.Single operation width operand in
+    let comes = subst (λ w. ComesTo device s first i (worked device framed a (register_of s 0) i) w outcome) (sym wide)
+    (subst (λ (w : Worked). ComesTo device s first i w width outcome) (sym (is ∙ same device framed a (register_of s 0) (length_of i) operation width))
+    (single_comes laws device framed a s first operation width operand outcome under fits leaves may)) in
+    by_next device framed a s first i outcome refl comes (single_stays device a first (worked device framed a (register_of s 0) i) comes.left operation width operand)
+plain_run laws device framed a s first operation width operand outcome under fits may is wide (status_operand status) =
+    subst (λ o. IsInstr (instr.Single operation width o) → MaySingle device s (length_of (instr.Single operation width o)) operation width o outcome
+    → worked device framed a (register_of s 0) (instr.Single operation width o) ≡ single_or_status device framed a (register_of s 0) (length_of (instr.Single operation width o)) operation width o
+    → stored_width (instr.Single operation width o) ≡ width → IsRun device framed a s first (instr.Single operation width o) outcome) (sym status)
+    (λ f m e w. let i = instr.Single operation width (source.Register Sr) in
+    let comes = subst (λ v. ComesTo device s first i (worked device framed a (register_of s 0) i) v outcome) (sym w)
+    (subst (λ (made_so : Worked). ComesTo device s first i made_so width outcome) (sym e) (single_status_comes laws device framed a s first operation width outcome under f m)) in
+    by_next device framed a s first i outcome refl comes (single_stays device a first (worked device framed a (register_of s 0) i) comes.left operation width (source.Register Sr)))
+    fits may is wide
 
 -- JUMPS
 
@@ -350,30 +428,47 @@ jump_run laws device framed a s first condition offset outcome under is =
       way = subst (λ to. HasWay device first (ways_behind pc (instr.Jump condition offset) (single ((pc + 2) % 65536)) ahead) to registers s.ram) (sym (get_or-set_same s.registers 0 next 0 long)) way;
       shown = λ single_so there. absurd (in_none single_so there);
       hit = λ at none. absurd (cc);
+      back = λ frame standing leaves. absurd (stays_in device frame a (instr.Jump condition offset) refl leaves);
     }
+
+-- RETURNS FROM INTERRUPTS
+
+return_run : Laws → (device : Device) (framed : Bool) (a : Known) (s : ChipState) (first : Option ChipState) (outcome : Outcome ChipState)
+    → IsUnder device framed a s first → MayReturn device s outcome → IsRun device framed a s first instr.ReturnFromInterrupt outcome
+return_run laws device framed a s first outcome under may =
+    let left = left_of_return s may.status may.target in
+    let left_so = laws.returns.left device framed a s first outcome under may in
+    let made_so = return_worked device a (register_of s 0) in
+    let comes : ComesTo device s first instr.ReturnFromInterrupt made_so Word outcome = record {
+      left = left;
+      accesses = return_accesses s;
+      outcome_is = laws.returns.done device s outcome may;
+      left_so = left_so;
+      fact = left_so.parts.fact;
+      shown = laws.returns.shown device framed a s first under;
+      hit = λ at none. absurd (cc);
+    } in
+    by_next device framed a s first instr.ReturnFromInterrupt outcome refl comes (λ frame standing leaves. record {
+      goes = λ t same. laws.returns.back device framed a s t first frame outcome under standing leaves may same;
+      parts = parts_followed device (gie_of a) None made_so.after first left.registers left.ram left_so.parts tt;
+    })
 
 -- EVERY INSTRUCTION
 
-or_none : (b : Bool) → (b || false) ≡ true → b ≡ true
-or_none true h = refl
-or_none false h = absurd (cc)
-
 pub instr_run : Laws → (device : Device) (framed : Bool) (a : Known) (s : ChipState) (first : Option ChipState) (instr_so : Instr) (outcome : Outcome ChipState)
-    → IsUnder device framed a s first → IsInstr instr_so → (is_built instr_so || moves_status instr_so) ≡ true → MayRun device s instr_so (length_of instr_so) outcome
+    → IsUnder device framed a s first → IsInstr instr_so → MayRun device s instr_so (length_of instr_so) outcome
     → IsRun device framed a s first instr_so outcome
-instr_run laws device framed a s first (instr.Double operation width origin target) outcome under fits built may =
-    double_run laws device framed a s first operation width origin target outcome under fits built may (target_view target)
-instr_run laws device framed a s first (instr.Single Push width operand) outcome under fits built may =
-    by_next device framed a s first (instr.Single Push width operand) outcome refl (push_comes laws device framed a s first Push width operand outcome under fits may)
-instr_run laws device framed a s first (instr.Single Call width operand) outcome under fits built may =
-    by_next device framed a s first (instr.Single Call width operand) outcome refl (push_comes laws device framed a s first Call width operand outcome under fits may)
-instr_run laws device framed a s first (instr.Single Rrc width operand) outcome under fits built may =
-    by_next device framed a s first (instr.Single Rrc width operand) outcome refl (single_comes laws device framed a s first Rrc width operand outcome under fits (or_none (is_built_operand operand) built) may)
-instr_run laws device framed a s first (instr.Single Swpb width operand) outcome under fits built may =
-    by_next device framed a s first (instr.Single Swpb width operand) outcome refl (single_comes laws device framed a s first Swpb width operand outcome under fits (or_none (is_built_operand operand) built) may)
-instr_run laws device framed a s first (instr.Single Rra width operand) outcome under fits built may =
-    by_next device framed a s first (instr.Single Rra width operand) outcome refl (single_comes laws device framed a s first Rra width operand outcome under fits (or_none (is_built_operand operand) built) may)
-instr_run laws device framed a s first (instr.Single Sxt width operand) outcome under fits built may =
-    by_next device framed a s first (instr.Single Sxt width operand) outcome refl (single_comes laws device framed a s first Sxt width operand outcome under fits (or_none (is_built_operand operand) built) may)
-instr_run laws device framed a s first (instr.Jump condition offset) outcome under fits built may = jump_run laws device framed a s first condition offset outcome under may
-instr_run laws device framed a s first instr.ReturnFromInterrupt outcome under fits built may = absurd (cc)
+instr_run laws device framed a s first (instr.Double operation width origin target) outcome under fits may =
+    double_run laws device framed a s first operation width origin target outcome under fits may (target_view target)
+instr_run laws device framed a s first (instr.Single Push width operand) outcome under fits may = push_run laws device framed a s first Push width operand outcome under fits may refl refl
+instr_run laws device framed a s first (instr.Single Call width operand) outcome under fits may = push_run laws device framed a s first Call width operand outcome under fits may refl refl
+instr_run laws device framed a s first (instr.Single Rrc width operand) outcome under fits may =
+    plain_run laws device framed a s first Rrc width operand outcome under fits may refl refl (operand_view operand)
+instr_run laws device framed a s first (instr.Single Swpb width operand) outcome under fits may =
+    plain_run laws device framed a s first Swpb width operand outcome under fits may refl refl (operand_view operand)
+instr_run laws device framed a s first (instr.Single Rra width operand) outcome under fits may =
+    plain_run laws device framed a s first Rra width operand outcome under fits may refl refl (operand_view operand)
+instr_run laws device framed a s first (instr.Single Sxt width operand) outcome under fits may =
+    plain_run laws device framed a s first Sxt width operand outcome under fits may refl refl (operand_view operand)
+instr_run laws device framed a s first (instr.Jump condition offset) outcome under fits may = jump_run laws device framed a s first condition offset outcome under may
+instr_run laws device framed a s first instr.ReturnFromInterrupt outcome under fits may = return_run laws device framed a s first outcome under may

@@ -9,9 +9,8 @@ use Rattle.msp430_chip.specs.declared.device.Device.{Device}
 use Rattle.msp430_chip.specs.Memory.{aligned, first_of, is_program, program_hit}
 use Rattle.msp430_chip.specs.State.{even}
 use Rattle.msp430_alu.specs.Formats.{IsHit}
-use Rattle.msp430_decode.specs.declared.instr.Instr.{Instr}
 use Rattle.msp430_flow.specs.Chip.{CanHit}
-use Rattle.msp430_flow.specs.Running.{may_hit, stored_width}
+use Rattle.msp430_flow.specs.Running.{may_hit}
 
 -- WHERE A STORE HITS, THE TEST SAYS SO
 
@@ -31,12 +30,12 @@ hit_told device width set at (address, has, hits) =
 
 -- AN OPEN STORE BREAKS ITS LIMIT
 
-hit_at : (device : Device) (instr : Instr) (set : Form) (address : ℕ) → Has 65536 set address → (hit : Option ℕ) → program_hit device (stored_width instr) address ≡ hit
-    → is_some hit ≡ true → CanHit device instr set
-hit_at device instr set address has None is some = absurd (cc)
-hit_at device instr set address has (Some at) is some = record { address = address; at = at; is_address = has; hits = is }
+hit_at : (device : Device) (width : Width) (set : Form) (address : ℕ) → Has 65536 set address → (hit : Option ℕ) → program_hit device width address ≡ hit
+    → is_some hit ≡ true → CanHit device width set
+hit_at device width set address has None is some = absurd (cc)
+hit_at device width set address has (Some at) is some = record { address = address; at = at; is_address = has; hits = is }
 
-pub may_hit_can : (device : Device) (instr : Instr) (set : Form) → may_hit device (stored_width instr) set ≡ true → CanHit device instr set
-may_hit_can device instr set may =
-    let (k, address, inside, there, hits) = Any-from_list_any (λ v. is_some (program_hit device (stored_width instr) v)) (members 65536 set) may in
-    hit_at device instr set address (k, inside, there) (program_hit device (stored_width instr) address) refl hits
+pub may_hit_can : (device : Device) (width : Width) (set : Form) → may_hit device width set ≡ true → CanHit device width set
+may_hit_can device width set may =
+    let (k, address, inside, there, hits) = Any-from_list_any (λ v. is_some (program_hit device width v)) (members 65536 set) may in
+    hit_at device width set address (k, inside, there) (program_hit device width address) refl hits

@@ -1,13 +1,14 @@
 -- What an analysis makes of a program of the MSP430, in sets.
-use Rattle.std.specs.Prelude.{◌≡◌, ◌<◌, ℕ, if◌then◌else◌, Bool, false, Option, None, Some, Result, Ok, Err, List, [], ◌∷◌, ◌++◌, slice_set}
+use Rattle.std.specs.Prelude.{◌≡◌, ◌<◌, ◌≤◌, ◌⊎◌, ℕ, if◌then◌else◌, true, Option, None, Some, List, [], ◌∷◌, ◌++◌, map}
+use Rattle.std.specs.List.{flat_map}
 use Rattle.call_context.specs.declared.node.Frame.{Frame}
-use Rattle.call_context.specs.declared.node.Frame.TheVariants.{Base}
+use Rattle.call_context.specs.declared.node.Frame.TheVariants.{Base, Irq}
 use Rattle.call_context.specs.declared.node.Node.{Node}
 use Rattle.call_context.specs.declared.node.Node.TheVariants.{At, Exit}
 use Rattle.call_context.specs.declared.node.Unit.{Unit as WorkUnit}
 use Rattle.call_context.specs.declared.node.Unit.TheVariants.{One, Back}
 use Rattle.call_context.specs.declared.shown.Cause.{Cause}
-use Rattle.call_context.specs.declared.shown.Cause.TheVariants.{Fetch, Targets, Store, Unbuilt}
+use Rattle.call_context.specs.declared.shown.Cause.TheVariants.{Fetch, Targets, Store}
 use Rattle.call_context.specs.declared.shown.Item.{Item}
 use Rattle.call_context.specs.declared.shown.Item.TheVariants as items
 use Rattle.call_context.specs.declared.shown.Set.TheVariants.{W}
@@ -17,38 +18,71 @@ use Rattle.chip_law.specs.Analysis.{Analysis}
 use Rattle.ihex_read.specs.ImageText.{IsRamRange}
 use Rattle.ihex_read.specs.Kept.{IsReadUnder}
 use Rattle.ihex_read.specs.declared.rule_set.Rules.TheVariants.{Msp430}
-use Rattle.value_bits.specs.declared.tri.Tri.TheVariants.{Zero}
 use Rattle.value_set.specs.Form.{Has}
+use Rattle.value_set.specs.Joining.{is_in}
 use Rattle.value_set.specs.Summing.{count_of}
 use Rattle.value_set.specs.declared.form.Form.{Form}
 use Rattle.msp430_decode.specs.declared.instr.Instr.{Instr}
 use Rattle.msp430_decode.specs.declared.instr.Width.{Width}
+use Rattle.msp430_decode.specs.declared.instr.Width.TheVariants.{Word}
 use Rattle.msp430_decode.specs.Standing.{Stands}
 use Rattle.msp430_decode.specs.Table.{bytes_of}
 use Rattle.msp430_chip.specs.declared.device.Device.{Device}
+use Rattle.msp430_chip.specs.Interrupts.{handler_of, may_come}
 use Rattle.msp430_chip.specs.Memory.{program_hit}
 use Rattle.msp430_chip.specs.State.{reset_address}
 use Rattle.msp430_state.specs.Forms.{HasChipForm}
 use Rattle.msp430_state.specs.Known.{Known, first_known, is_interrupt, known_joined, known_widened, known_within, top_known}
 use Rattle.msp430_alu.specs.Formats.{Worked}
-use Rattle.msp430_flow.specs.Built.{fetched, is_built}
+use Rattle.msp430_entry.specs.declared.coming.Coming.{Coming}
+use Rattle.msp430_entry.specs.Entry.{comings_of, counter_slot, entered_known, entry_items, frame_of_coming, status_slot}
+use Rattle.msp430_resume.specs.Resume.{resumed_known}
+use Rattle.msp430_flow.specs.declared.setting.Limits.{Limits}
+use Rattle.msp430_flow.specs.declared.setting.Setting.{Setting}
+use Rattle.msp430_flow.specs.Standing.{fetched}
 use Rattle.msp430_flow.specs.Marks.{stops}
 use Rattle.msp430_flow.specs.Labels.{calls_by, effect_of}
-use Rattle.msp430_flow.specs.Running.{Way, are_too_many, gie_of, may_hit, passes, stored_width, target_limit, ways_by, worked}
+use Rattle.msp430_flow.specs.Running.{Way, are_too_many, followed, gie_of, leaves_frame, may_hit, stored_width, ways_by, worked}
 
--- THE WORK
-
-abbrev pub nothing : Work Known
-nothing = record { items = []; posts = []; waits = []; opens = [] }
+-- OPENS
 
 -- more targets than are followed are left open
-abbrev pub target_opens : ℕ → Form → List (ℕ × Cause)
-target_opens pc next = if are_too_many next then (pc, Targets next) ∷ [] else []
+abbrev pub target_opens : (limit : ℕ) → ℕ → Form → List (ℕ × Cause)
+target_opens limit pc next = if are_too_many limit next then (pc, Targets next) ∷ [] else []
 
 -- a store that may write a byte of the program is left open; what follows takes the program as unchanged
+abbrev pub store_open : Device → ℕ → Width → Form → List (ℕ × Cause)
+store_open device pc width set = if may_hit device width set then (pc, Store set) ∷ [] else []
+
 abbrev pub store_opens : Device → ℕ → Width → Option Form → List (ℕ × Cause)
 store_opens device pc width None = []
-store_opens device pc width (Some set) = if may_hit device width set then (pc, Store set) ∷ [] else []
+store_opens device pc width (Some set) = store_open device pc width set
+
+-- INTERRUPTS THAT COME
+
+-- the handler runs in a frame of its own, with no calls
+abbrev pub entry_post : Device → (pc : ℕ) → Known → Coming → Node × Known
+entry_post device pc a coming = (At (handler_of device coming.vector) [] (frame_of_coming coming), entered_known device a pc coming.sp)
+
+-- what its frame leaves at a known stack pointer is waited for
+abbrev pub wait_at : Coming → Option ℕ → List Frame
+wait_at coming None = []
+wait_at coming (Some sp) = frame_of_coming coming ∷ []
+
+abbrev pub wait_of : Coming → List Frame
+wait_of coming = wait_at coming coming.known_sp
+
+-- PC and SR are stored as words
+abbrev pub push_opens : Device → (pc : ℕ) → Coming → List (ℕ × Cause)
+push_opens device pc coming = store_open device pc Word (counter_slot coming.sp) ++ store_open device pc Word (status_slot coming.sp)
+
+-- WHERE AN INSTRUCTION GOES ON
+
+-- its edges, its posts, and more targets than are followed
+pub record Going : Type 0 where
+  pub edges : List Item
+  pub posts : List (Node × Known)
+  pub opens : List (ℕ × Cause)
 
 -- each way is an edge, and a post in the same frame
 abbrev pub edges_of : ℕ → List Way → List Item
@@ -59,68 +93,84 @@ abbrev pub posts_of : (calls_at : ℕ → List ℕ) → Frame → List Way → L
 posts_of calls_at frame [] = []
 posts_of calls_at frame (way ∷ ways) = (At way.0 (calls_at way.0) frame, way.1) ∷ posts_of calls_at frame ways
 
--- the work of a location at which the analysis stops
-abbrev pub stopped : ℕ → Known → Cause → Work Known
-stopped pc a cause = record {
-  items = items.Stack pc (W a.sp) ∷ [];
-  posts = [];
-  waits = [];
-  opens = (pc, cause) ∷ [];
+abbrev pub going_on : Setting → ℕ → List ℕ → Frame → Known → Instr → Worked → Going
+going_on setting pc calls frame a instr made = record {
+  edges = edges_of pc (ways_by setting.limits.targets a pc instr made);
+  posts = posts_of (calls_by setting.limits.calls (effect_of instr) setting.device.image pc calls) frame (ways_by setting.limits.targets a pc instr made);
+  opens = target_opens setting.limits.targets pc made.next;
 }
 
--- the work of a location whose instruction is followed, by what it makes of what is known
-abbrev pub work_by : Device → ℕ → List ℕ → Frame → Known → Instr → Worked → Work Known
-work_by device pc calls frame a instr made = record {
-  items = made.accesses ++ items.Stack pc (W a.sp) ∷ items.Instr pc (bytes_of instr) ∷ edges_of pc (ways_by a pc instr made);
-  posts = posts_of (calls_by (effect_of instr) device.image pc calls) frame (ways_by a pc instr made);
-  waits = [];
-  opens = target_opens pc made.next ++ store_opens device pc (stored_width instr) made.store;
+-- a return from the frame's interrupt leaves its state at the exit
+abbrev pub going_back : ℕ → Frame → Known → Worked → Going
+going_back pc frame a made = record { edges = []; posts = (Exit pc frame, followed (gie_of a) None made.after) ∷ []; opens = [] }
+
+abbrev pub going_of : Setting → ℕ → List ℕ → Frame → Known → Instr → Worked → Going
+going_of setting pc calls frame a instr made =
+    if leaves_frame setting.device frame a instr then going_back pc frame a made else going_on setting pc calls frame a instr made
+
+-- THE WORK OF A LOCATION
+
+-- Interrupts may come at a location, whatever stands there. Beside what they show there are the accesses of its instruction.
+abbrev pub entering : Device → ℕ → Known → (accesses : List Item) → Work Known
+entering device pc a accesses = record {
+  items = accesses ++ items.Stack pc (W a.sp) ∷ flat_map (entry_items device pc) (comings_of device a);
+  posts = map (entry_post device pc a) (comings_of device a);
+  waits = flat_map wait_of (comings_of device a);
+  opens = flat_map (push_opens device pc) (comings_of device a);
 }
 
-abbrev pub followed_work : Device → ℕ → List ℕ → Frame → Known → Instr → Work Known
-followed_work device pc calls frame a instr = work_by device pc calls frame a instr (worked device (is_interrupt frame) a pc instr)
-
--- the work of a location, by what stands there
-abbrev pub work_at : Device → ℕ → List ℕ → Frame → Known → Result Instr Cause → Work Known
-work_at device pc calls frame a (Err cause) = stopped pc a cause
-work_at device pc calls frame a (Ok instr) =
-    if passes device (is_interrupt frame) a pc instr then followed_work device pc calls frame a instr else stopped pc a Unbuilt
-
-abbrev pub work_of : Device → WorkUnit → Known → Option Known → Work Known
-work_of device (One (At pc calls frame)) a exit = work_at device pc calls frame a (fetched device.image pc)
-work_of device (One (Exit pc frame)) a exit = nothing
-work_of device (Back node other) a exit = nothing
-
--- at one of these addresses the instruction's store would write a byte of the program
-pub record CanHit (device : Device) (instr : Instr) (values : Form) : Type 0 where
-  pub address : ℕ
-  pub at : ℕ
-  pub is_address : Has 65536 values address
-  pub hits : program_hit device (stored_width instr) address ≡ Some at
-
--- FORM
-
--- No instruction that is built sets GIE, so no interrupt comes.
-pub record IsQuiet (a : Known) : Type 0 where
-  pub gie : gie_of a ≡ Zero
-  pub late : a.late ≡ Zero
-
--- the greatest of those
-abbrev pub quiet_top : (lo hi : ℕ) → (framed : Bool) → Known
-quiet_top lo hi framed = let top = top_known lo hi framed in record {
-  sp = top.sp;
-  status = record { bits = slice_set top.status.bits 3 Zero; entry = None };
-  late = Zero;
-  registers = top.registers;
-  fact = None;
-  cells = top.cells;
-  touched = top.touched;
+-- where no instruction stands
+abbrev pub stopped : Device → ℕ → Known → Work Known
+stopped device pc a = let work = entering device pc a [] in record {
+  items = work.items;
+  posts = work.posts;
+  waits = work.waits;
+  opens = work.opens ++ (pc, Fetch) ∷ [];
 }
 
--- Nothing returns from an interrupt so far.
-abbrev pub HasQuietForm : (lo hi : ℕ) → Node → Known → Type 0
-HasQuietForm lo hi (At pc calls frame) a = HasChipForm lo hi (At pc calls frame) a × IsQuiet a
-HasQuietForm lo hi (Exit pc frame) a = ⊥
+-- where one stands, by what it makes of what is known
+abbrev pub work_by : Setting → ℕ → List ℕ → Frame → Known → Instr → Worked → Work Known
+work_by setting pc calls frame a instr made =
+    let work = entering setting.device pc a made.accesses in
+    let going = going_of setting pc calls frame a instr made in
+    record {
+      items = work.items ++ items.Instr pc (bytes_of instr) ∷ going.edges;
+      posts = work.posts ++ going.posts;
+      waits = work.waits;
+      opens = work.opens ++ going.opens ++ store_opens setting.device pc (stored_width instr) made.store;
+    }
+
+abbrev pub followed_work : Setting → ℕ → List ℕ → Frame → Known → Instr → Work Known
+followed_work setting pc calls frame a instr = work_by setting pc calls frame a instr (worked setting.device (is_interrupt frame) a pc instr)
+
+abbrev pub work_at : Setting → ℕ → List ℕ → Frame → Known → Option Instr → Work Known
+work_at setting pc calls frame a None = stopped setting.device pc a
+work_at setting pc calls frame a (Some instr) = followed_work setting pc calls frame a instr
+
+-- THE WORK OF A RETURN
+
+abbrev pub nothing : Work Known
+nothing = record { items = []; posts = []; waits = []; opens = [] }
+
+-- The handler goes on where it was entered at its frame's stack pointer.
+abbrev pub resumption : (pc : ℕ) → List ℕ → Frame → (from sp : ℕ) → (a exit : Known) → Work Known
+resumption pc calls frame from sp a exit =
+    if is_in 65536 a.sp sp
+    then record { items = items.Edge from pc ∷ []; posts = (At pc calls frame, resumed_known (is_interrupt frame) a pc sp exit) ∷ []; waits = []; opens = [] }
+    else nothing
+
+abbrev pub return_work : (pc : ℕ) → List ℕ → Frame → (exit_node : Node) → Known → Option Known → Work Known
+return_work pc calls frame (Exit from (Irq vector (Some sp) level)) a (Some exit) = resumption pc calls frame from sp a exit
+return_work pc calls frame (Exit from (Irq vector (Some sp) level)) a None = nothing
+return_work pc calls frame (Exit from (Irq vector None level)) a exit = nothing
+return_work pc calls frame (Exit from Base) a exit = nothing
+return_work pc calls frame (At from others frame_so) a exit = nothing
+
+abbrev pub work_of : Setting → WorkUnit → Known → Option Known → Work Known
+work_of setting (One (At pc calls frame)) a exit = work_at setting pc calls frame a (fetched setting.device.image pc)
+work_of setting (One (Exit pc frame)) a exit = nothing
+work_of setting (Back (At pc calls frame) other) a exit = return_work pc calls frame other a exit
+work_of setting (Back (Exit pc frame) other) a exit = nothing
 
 -- PROGRAMS
 
@@ -130,28 +180,59 @@ pub record IsProgram (device : Device) : Type 0 where
   pub ram : IsRamRange (Msp430 device.lo device.hi)
   pub top : device.hi < 65536
 
--- The limit that the cause of an open names is broken at an address: no instruction stands there; or one stands there
--- that isn't built; or one stands there that would write a byte of the program, if it stored at one of the set's addresses;
--- or one stands there, and the set of its targets has more than are followed.
-abbrev pub BreaksLimit : Device → ℕ → Cause → Type 0
-BreaksLimit device pc Fetch = (instr : Instr) (len : ℕ) → Stands device.image pc instr len → ⊥
-BreaksLimit device pc Unbuilt = (instr : Instr) × (len : ℕ) × Stands device.image pc instr len × (is_built instr ≡ false)
-BreaksLimit device pc (Store values) = (instr : Instr) × (len : ℕ) × Stands device.image pc instr len × CanHit device instr values
-BreaksLimit device pc (Targets values) = (instr : Instr) × (len : ℕ) × Stands device.image pc instr len × (target_limit < count_of 65536 values)
+-- with call strings of at most eight sites
+pub record IsSetting (setting : Setting) : Type 0 where
+  pub program : IsProgram setting.device
+  pub calls : setting.limits.calls ≤ 8
 
-unfoldable pub msp430_analysis : Device → Analysis Known
-msp430_analysis device = record {
-  first_node = At (reset_address device) [] Base;
-  first_state = first_known device.lo device.hi;
-  work = work_of device;
+-- LIMITS
+
+-- at one of these addresses a store of this width would write a byte of the program
+pub record CanHit (device : Device) (width : Width) (values : Form) : Type 0 where
+  pub address : ℕ
+  pub at : ℕ
+  pub is_address : Has 65536 values address
+  pub hits : program_hit device width address ≡ Some at
+
+-- the store of an instruction that stands at an address
+pub record InstructionHits (device : Device) (pc : ℕ) (values : Form) : Type 0 where
+  pub instr : Instr
+  pub len : ℕ
+  pub standing : Stands device.image pc instr len
+  pub can : CanHit device (stored_width instr) values
+
+-- or that of PC or SR, where an interrupt comes that has a handler
+pub record InterruptHits (device : Device) (values : Form) : Type 0 where
+  pub vector : ℕ
+  pub has_handler : may_come device vector ≡ true
+  pub can : CanHit device Word values
+
+-- The limit that the cause of an open names is broken at an address: no instruction stands there; or a store there, that of
+-- its instruction or of an interrupt's entry, would write a byte of the program at one of the set's addresses; or an
+-- instruction stands there, and the set of its targets has more than are followed.
+abbrev pub BreaksLimit : Setting → ℕ → Cause → Type 0
+BreaksLimit setting pc Fetch = (instr : Instr) (len : ℕ) → Stands setting.device.image pc instr len → ⊥
+BreaksLimit setting pc (Store values) = InstructionHits setting.device pc values ⊎ InterruptHits setting.device values
+BreaksLimit setting pc (Targets values) =
+    (instr : Instr) × (len : ℕ) × Stands setting.device.image pc instr len × (setting.limits.targets < count_of 65536 values)
+
+-- THE ANALYSIS
+
+unfoldable pub msp430_analysis : Setting → Analysis Known
+msp430_analysis setting = record {
+  first_node = At (reset_address setting.device) [] Base;
+  first_state = first_known setting.device.lo setting.device.hi;
+  work = work_of setting;
   within = known_within;
   join = known_joined;
-  widen = λ coarse. known_widened (stops coarse device);
-  top = λ node. quiet_top device.lo device.hi (is_interrupt (frame_of node));
-  HasForm = HasQuietForm device.lo device.hi;
-  Breaks = BreaksLimit device;
+  widen = λ coarse. known_widened (stops coarse setting.device);
+  top = λ node. top_known setting.device.lo setting.device.hi (is_interrupt (frame_of node));
+  HasForm = HasChipForm setting.device.lo setting.device.hi;
+  Breaks = BreaksLimit setting;
 }
 
--- two devices with the same RAM
-abbrev pub AreAlike : Device → Device → Type 0
-AreAlike a b = (a.lo ≡ b.lo) × (a.hi ≡ b.hi)
+-- two programs with the same RAM under the same limits
+pub record AreAlike (a b : Setting) : Type 0 where
+  pub lo : a.device.lo ≡ b.device.lo
+  pub hi : a.device.hi ≡ b.device.hi
+  pub limits : a.limits ≡ b.limits

@@ -19,10 +19,6 @@ use Rattle.msp430_decode.specs.declared.instr.Width.TheVariants.{Word}
 use Rattle.msp430_decode.specs.declared.refusal.NoInstr.{NoInstr}
 use Rattle.msp430_decode.specs.Decoding.{decoded}
 
--- how many sites a call string keeps
-abbrev pub call_limit : ℕ
-call_limit = 6
-
 -- RET is MOV @SP+,PC
 abbrev pub double_effect : Operation → Width → Source → Destination → CallEffect
 double_effect Mov Word (source.IndirectIncrement Sp) (destination.Register Pc) = Pops
@@ -44,14 +40,15 @@ abbrev pub last_end : List (Option ℕ) → List ℕ → Option ℕ
 last_end image calls = let last = slice_index calls (length calls - 1) in
     if length calls == 0 then None else if last % 2 == 0 then end_by last (decoded image last) else None
 
--- the call string at a target of an instruction: a return to behind the last call drops it
-abbrev pub calls_by : CallEffect → List (Option ℕ) → (pc : ℕ) → (calls : List ℕ) → (to : ℕ) → List ℕ
-calls_by Pushes image pc calls to = pushed calls pc call_limit
-calls_by Pops image pc calls to = popped calls (last_end image calls) to
-calls_by Keeps image pc calls to = calls
+-- the call string at a target of an instruction, of at most so many sites: a return to behind the last call drops it
+abbrev pub calls_by : (limit : ℕ) → CallEffect → List (Option ℕ) → (pc : ℕ) → (calls : List ℕ) → (to : ℕ) → List ℕ
+calls_by limit Pushes image pc calls to = pushed calls pc limit
+calls_by limit Pops image pc calls to = popped calls (last_end image calls) to
+calls_by limit Keeps image pc calls to = calls
 
--- where an instruction stands, and what it does to the call string
+-- where an instruction stands, what it does to the call string, and how many sites this keeps
 pub record Site : Type 0 where
+  pub limit : ℕ
   pub image : List (Option ℕ)
   pub pc : ℕ
   pub calls : List ℕ
@@ -59,4 +56,4 @@ pub record Site : Type 0 where
   pub effect : CallEffect
 
 abbrev pub calls_at : Site → (to : ℕ) → List ℕ
-calls_at site to = calls_by site.effect site.image site.pc site.calls to
+calls_at site to = calls_by site.limit site.effect site.image site.pc site.calls to

@@ -1,4 +1,4 @@
-pub mod Built
+pub mod Standing
 pub mod Labels
 pub mod Running
 pub mod Chip

@@ -1,8 +1,8 @@
 -- What an instruction makes of what is known of a state.
-use Rattle.std.specs.Prelude.{ℕ, ◌+◌, ◌%◌, ◌==◌, ◌||◌, nat_lt, if◌then◌else◌, Bool, true, false, Option, None, Some, List, [], ◌∷◌, is_some}
+use Rattle.std.specs.Prelude.{ℕ, ◌+◌, ◌%◌, ◌==◌, nat_lt, if◌then◌else◌, Bool, true, false, Option, None, Some, List, [], ◌∷◌, is_some}
 use Rattle.std.specs.List.{slice_index_or, list_any}
 use Rattle.value_bits.specs.declared.tri.Tri.{Tri}
-use Rattle.value_bits.specs.declared.tri.Tri.TheVariants.{Zero, One, Either}
+use Rattle.value_bits.specs.declared.tri.Tri.TheVariants.{Either}
 use Rattle.value_set.specs.declared.form.Form.{Form}
 use Rattle.value_set.specs.Form.{members}
 use Rattle.value_set.specs.Summing.{count_of, single}
@@ -11,6 +11,7 @@ use Rattle.msp430_decode.specs.declared.instr.Instr.TheVariants.{Double, Jump, S
 use Rattle.msp430_decode.specs.declared.instr.SingleOperation.{SingleOperation}
 use Rattle.msp430_decode.specs.declared.instr.SingleOperation.TheVariants.{Push, Call}
 use Rattle.msp430_decode.specs.declared.instr.Source.{Source}
+use Rattle.msp430_decode.specs.declared.instr.Source.TheVariants as source
 use Rattle.msp430_decode.specs.declared.instr.Width.{Width}
 use Rattle.msp430_decode.specs.declared.instr.Width.TheVariants.{Word}
 use Rattle.msp430_decode.specs.Table.{length_of, target_of}
@@ -22,18 +23,24 @@ use Rattle.msp430_decode.specs.declared.instr.Destination.{Destination}
 use Rattle.msp430_decode.specs.declared.instr.Destination.TheVariants as destination
 use Rattle.msp430_decode.specs.declared.instr.Operation.{Operation}
 use Rattle.msp430_decode.specs.declared.instr.Register.TheVariants.{Sr}
-use Rattle.msp430_status.specs.Status.{status_worked}
-use Rattle.msp430_flow.specs.Built.{is_built}
+use Rattle.msp430_status.specs.Status.{single_status_worked, status_worked}
+use Rattle.msp430_return.specs.Return.{goes_back, return_worked}
+use Rattle.call_context.specs.declared.node.Frame.{Frame}
 use Rattle.msp430_branch.specs.Cuts.{known_cut}
 use Rattle.msp430_branch.specs.Facts.{fact_behind}
 use Rattle.msp430_alu.specs.Formats.{Worked, double_worked, single_worked, push_worked}
 
 -- THE FORMATS
 
-abbrev pub single_or_push : Device → (framed : Bool) → Known → (pc len : ℕ) → SingleOperation → Width → Source → Worked
-single_or_push device framed a pc len Push width operand = push_worked device framed a pc len Push width operand
-single_or_push device framed a pc len Call width operand = push_worked device framed a pc len Call width operand
-single_or_push device framed a pc len other width operand = single_worked device framed a pc len other width operand
+-- SR as the one operand
+abbrev pub single_or_status : Device → (framed : Bool) → Known → (pc len : ℕ) → SingleOperation → Width → Source → Worked
+single_or_status device framed a pc len operation width (source.Register Sr) = single_status_worked device framed a pc len operation width
+single_or_status device framed a pc len operation width other = single_worked device framed a pc len operation width other
+
+abbrev pub one_operand : Device → (framed : Bool) → Known → (pc len : ℕ) → SingleOperation → Width → Source → Worked
+one_operand device framed a pc len Push width operand = push_worked device framed a pc len Push width operand
+one_operand device framed a pc len Call width operand = push_worked device framed a pc len Call width operand
+one_operand device framed a pc len other width operand = single_or_status device framed a pc len other width operand
 
 -- a jump changes PC alone, and shows no access; its ways are told apart
 abbrev pub unchanged : Known → (next : ℕ) → Worked
@@ -47,9 +54,9 @@ abbrev pub worked : Device → (framed : Bool) → Known → ℕ → Instr → W
 worked device framed a pc (Double operation width origin target) =
     double_or_status device framed a pc (length_of (Double operation width origin target)) operation width origin target
 worked device framed a pc (OneOperand operation width operand) =
-    single_or_push device framed a pc (length_of (OneOperand operation width operand)) operation width operand
+    one_operand device framed a pc (length_of (OneOperand operation width operand)) operation width operand
 worked device framed a pc (Jump condition offset) = unchanged a ((pc + 2) % 65536)
-worked device framed a pc ReturnFromInterrupt = unchanged a ((pc + 2) % 65536)
+worked device framed a pc ReturnFromInterrupt = return_worked device a pc
 
 -- WHAT IS KNOWN BEHIND
 
@@ -106,32 +113,22 @@ ways_behind pc other next a = ways_to (members 65536 next) a
 abbrev pub all_ways : Device → (framed : Bool) → Known → ℕ → Instr → List Way
 all_ways device framed a pc instr = ways_behind pc instr (worked device framed a pc instr).next (known_behind device framed a pc instr)
 
--- the most addresses that are followed
-abbrev pub target_limit : ℕ
-target_limit = 64
-
 -- more addresses than are followed
-abbrev pub are_too_many : Form → Bool
-are_too_many next = nat_lt target_limit (count_of 65536 next)
+abbrev pub are_too_many : (limit : ℕ) → Form → Bool
+are_too_many limit next = nat_lt limit (count_of 65536 next)
 
 -- those that are followed, by what the instruction makes of what is known
-abbrev pub ways_by : Known → ℕ → Instr → Worked → List Way
-ways_by a pc instr made =
-    if are_too_many made.next then [] else ways_behind pc instr made.next (followed (gie_of a) (fact_of instr made.after) made.after)
+abbrev pub ways_by : (limit : ℕ) → Known → ℕ → Instr → Worked → List Way
+ways_by limit a pc instr made =
+    if are_too_many limit made.next then [] else ways_behind pc instr made.next (followed (gie_of a) (fact_of instr made.after) made.after)
 
-abbrev pub ways : Device → (framed : Bool) → Known → ℕ → Instr → List Way
-ways device framed a pc instr = ways_by a pc instr (worked device framed a pc instr)
+abbrev pub ways : (limit : ℕ) → Device → (framed : Bool) → Known → ℕ → Instr → List Way
+ways limit device framed a pc instr = ways_by limit a pc instr (worked device framed a pc instr)
 
--- THE GATE
-
-abbrev pub is_clear : Tri → Bool
-is_clear Zero = true
-is_clear One = false
-is_clear Either = false
-
--- an instruction that is built, or behind which GIE is known to be 0
-abbrev pub passes : Device → (framed : Bool) → Known → ℕ → Instr → Bool
-passes device framed a pc instr = is_built instr || is_clear (gie_of (worked device framed a pc instr).after)
+-- RETI that goes back to where the interrupt of its frame came
+abbrev pub leaves_frame : Device → Frame → Known → Instr → Bool
+leaves_frame device frame a ReturnFromInterrupt = goes_back device frame a
+leaves_frame device frame a other = false
 
 -- STORES
 

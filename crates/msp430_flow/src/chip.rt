@@ -1,35 +1,38 @@
 //! The chip.
 
-ghost use Rattle.std.specs.Prelude.{◌≡◌, [], ◌∷◌, ◌++◌, ◌≤◌, Ok, IfOk, slice_index_or};
+ghost use Rattle.std.specs.Prelude.{◌≡◌, [], ◌∷◌, ◌++◌, ◌≤◌, IfOk, IfSome, OnOk, slice_index_or};
+ghost use Rattle.std.specs.Option.{option_copied};
 ghost use Rattle.call_context.specs.Nodes.{frame_of as the_frame};
 ghost use Rattle.ihex_read.specs.ImageText.{IsRamRange};
 ghost use Rattle.ihex_read.specs.Kept.{IsReadUnder};
 ghost use Rattle.ihex_read.specs.declared.rule_set.Rules.{Rules};
 ghost use Rattle.msp430_chip.specs.State.{reset_address};
-ghost use Rattle.msp430_decode.specs.Table.{IsInstr};
-ghost use Rattle.msp430_flow.specs.Built.{fetched, passed, instr_text as the_text};
-ghost use Rattle.msp430_flow.specs.Chip.{IsProgram, followed_work, stopped as the_stopped, msp430_analysis, nothing, quiet_top as the_quiet_top, store_opens, target_opens, work_at};
-ghost use Rattle.msp430_flow.specs.Marks.{stops};
-ghost use Rattle.msp430_flow.specs.Running.{gie_of as the_gie, is_clear as the_clear, passes as the_gate};
+ghost use Rattle.value_set.specs.Joining.{is_in};
+ghost use Rattle.msp430_decode.specs.Table.{IsInstr, bytes_of};
 ghost use Rattle.call_context.specs.declared.shown.Item.TheVariants as items;
-ghost use Rattle.call_context.specs.declared.shown.Set.TheVariants as sets;
+ghost use Rattle.msp430_flow.specs.Standing.{fetched, instr_text as the_text};
+ghost use Rattle.msp430_flow.specs.Chip.{IsSetting, followed_work, going_of, msp430_analysis, nothing, resumption, return_work, stopped as the_stopped, work_at, work_by as the_work};
+ghost use Rattle.msp430_flow.specs.Marks.{stops};
+ghost use Rattle.msp430_flow.specs.Running.{followed as the_followed, gie_of as the_gie};
 ghost use Rattle.msp430_state.specs.Known.{is_interrupt as the_interrupt};
 
-use crate::gate::{is_built, moves_status};
+use crate::entries::{add_store_opens, entering};
 use crate::labels::effect_of;
 use crate::marks::marks_of;
-use crate::meeting::may_hit;
-use crate::running::{fact_of, run, stored_width};
+use crate::running::{fact_of, leaves_frame, run, stored_width};
+use crate::setting::{Limits, Setting};
 use crate::text::Msp430Text;
-use crate::ways::{Site, Ways, add_ways, are_too_many};
+use crate::ways::{Site, Ways, add_all, are_too_many};
 use abs_memory::CellList;
 use arrayvec::ArrayString;
-use call_context::{Calls, Cause, Frame, InstrBytes, Item, Node, Sequence, Set, Unit};
+use call_context::{Calls, Cause, Frame, InstrBytes, Item, Node, Sequence, Unit};
 use chip_law::{Chip, ChipText, InstrText, Work};
 use ihex_read::Image;
+use msp430_alu::Worked;
 use msp430_chip::Device;
-use msp430_decode::{Instr, Width, decode, encode};
-use msp430_state::State;
+use msp430_decode::{Instr, decode, encode};
+use msp430_resume::resume;
+use msp430_state::{FlagFact, State};
 use std::alloc::Global;
 use std::marker::Model;
 use value_bits::Tri;
@@ -39,53 +42,62 @@ use vsa_io::Memory;
 /// What is known of a state, with its RAM as a list of cells.
 pub type Abs = State<CellList>;
 
-/// The chip of a device, which contracts see as that device.
+/// The chip of a device, which contracts see as what its analysis is set to.
 #[derive(Drop)]
 pub struct Msp430Chip {
-    device: Device,
+    setting: Setting,
     /// What widening stops at.
     marks: Vec<u16>,
 }
 
 impl Model for Msp430Chip {
     ghost use Rattle.std.specs.Prelude.{◌≡◌};
-    ghost use Rattle.msp430_chip.specs.declared.device.Device.{Device};
-    ghost use Rattle.msp430_flow.specs.Chip.{IsProgram};
+    ghost use Rattle.msp430_flow.specs.declared.setting.Setting.{Setting};
+    ghost use Rattle.msp430_flow.specs.Chip.{IsSetting};
     ghost use Rattle.msp430_flow.specs.Marks.{marks_of};
 
-    ghost Value = { Device };
+    ghost Value = { Setting };
 
-    ghost view = { λ chip. chip.device };
+    ghost view = { λ chip. chip.setting };
 
-    ghost invariant = { λ chip. (chip.marks.items ≡ marks_of chip.device) × IsProgram chip.device };
+    ghost invariant = { λ chip. (chip.marks.items ≡ marks_of chip.setting.device) × IsSetting chip.setting };
 }
 
 impl Msp430Chip {
-    /// The chip with this program, which was read under its rules, and with RAM between these addresses.
-    pub fn new(alloc: Global, image: Image, lo: u16, hi: u16) -> Result<Msp430Chip, Memory>
+    /// The chip with this program, which was read under its rules, with RAM between these addresses, call strings of so
+    /// many sites, and so many targets of an instruction that are followed.
+    pub fn new(
+        alloc: Global,
+        image: Image,
+        lo: u16,
+        hi: u16,
+        limits: Limits,
+    ) -> Result<Msp430Chip, Memory>
         requires read { IsReadUnder (Rules.Msp430 lo hi) image }
         requires ram { IsRamRange (Rules.Msp430 lo hi) }
-        ensures { IfOk result (λ chip. chip ≡ record { image = image; lo = lo; hi = hi }) }
+        requires calls { limits.calls ≤ 8 }
+        ensures { IfOk result (λ chip. chip ≡ record { device = record { image = image; lo = lo; hi = hi }; limits = limits }) }
     {
         let device = Device { image, lo, hi };
         let marks = marks_of(alloc, &device)?;
-        Ok(Msp430Chip { device, marks })
+        let setting = Setting { device, limits };
+        Ok(Msp430Chip { setting, marks })
     }
 
-    /// The program was read under the chip's rules.
+    /// The program was read under the chip's rules, and call strings have at most eight sites.
     pub fn keeps_rules(&self)
-        ensures { IsProgram self.now }
+        ensures { IsSetting self.now }
     {
         let _marks = self.marks.as_slice();
     }
 
     /// Where the program starts: the word at FFFEh without bit 0.
     fn reset(&self) -> u16
-        ensures { result ≡ reset_address self.now }
+        ensures { result ≡ reset_address self.now.device }
     {
         match (
-            self.device.image.byte(0xFFFE),
-            self.device.image.byte(0xFFFF),
+            self.setting.device.image.byte(0xFFFE),
+            self.setting.device.image.byte(0xFFFF),
         ) {
             (Some(low), Some(high)) => {
                 let word = low as u16 + 256 * high as u16;
@@ -95,24 +107,24 @@ impl Msp430Chip {
         }
     }
 
-    /// The instruction at an address, or why the analysis stops there.
-    #[tactic(auto, unfolding(crate::specs::Built::fetched))]
-    fn fetch(&self, pc: u16) -> Result<Instr, Cause>
-        ensures exact { result ≡ fetched self.now.image pc }
-        ensures in_range { IfOk result IsInstr }
+    /// The instruction at an address, if one stands there.
+    #[tactic(auto, unfolding(crate::specs::Standing::fetched))]
+    fn fetch(&self, pc: u16) -> Option<Instr>
+        ensures exact { result ≡ fetched self.now.device.image pc }
+        ensures in_range { IfSome result IsInstr }
     {
         if pc % 2 != 0 {
-            return Err(Cause::Fetch);
+            return None;
         }
-        match decode(&self.device.image, pc) {
-            Ok((instr, _)) => built(instr),
-            Err(_) => Err(Cause::Fetch),
+        match decode(&self.setting.device.image, pc) {
+            Ok((instr, _)) => Some(instr),
+            Err(_) => None,
         }
     }
 
     /// The numbers that widening stops at: none where it is coarse.
     fn stops(&self, coarse: bool) -> &[u16]
-        ensures { result.now ≡ stops coarse self.now }
+        ensures { result.now ≡ stops coarse self.now.device }
     {
         if coarse {
             return &[];
@@ -120,31 +132,103 @@ impl Msp430Chip {
         self.marks.as_slice()
     }
 
-    /// More targets than are followed are left open, and a store that may write a byte of the program.
-    fn opens_of(
+    /// Adds where an instruction goes on, by the set of the next addresses and what is known behind it: a return from the
+    /// frame's interrupt to the exit, and all else to each address, or an open where there are too many.
+    fn go_on(
+        &self,
+        alloc: Global,
+        ways: &mut Ways,
+        opens: &mut Sequence<(u16, Cause)>,
+        pc: u16,
+        calls: &Calls,
+        frame: Frame,
+        at: &Abs,
+        instr: &Instr,
+        next: &Vs16,
+        after: Abs,
+    ) -> Result<(), Memory>
+        requires { IsInstr instr.now }
+        ensures items { OnOk result (ways.new.items ≡ ways.old.items ++ (going_of self.now pc calls.now frame at.now instr.now (record { after = after; next = next.now; accesses = []; store = None })).edges) }
+        ensures posts { OnOk result (ways.new.posts ≡ ways.old.posts ++ (going_of self.now pc calls.now frame at.now instr.now (record { after = after; next = next.now; accesses = []; store = None })).posts) }
+        ensures opens { OnOk result (opens.new ≡ opens.old ++ (going_of self.now pc calls.now frame at.now instr.now (record { after = after; next = next.now; accesses = []; store = None })).opens) }
+    {
+        self.keeps_rules();
+        if leaves_frame(&self.setting.device, &frame, at, instr) {
+            let left = followed(after, gie_of(at), None);
+            ways.posts.push((Node::Exit(pc, frame), left))?;
+            return Ok(());
+        }
+        if are_too_many(self.setting.limits.targets, next) {
+            opens.push((pc, Cause::Targets(*next)))?;
+            return Ok(());
+        }
+        let fact = fact_of(instr, &after);
+        let behind = followed(after, gie_of(at), fact);
+        let site = Site {
+            limit: self.setting.limits.calls,
+            image: &self.setting.device.image,
+            pc,
+            calls,
+            frame,
+            effect: effect_of(instr),
+        };
+        add_all(alloc, ways, &site, instr, next, behind)
+    }
+
+    /// The device.
+    fn device(&self) -> &Device
+        ensures { result.now ≡ self.now.device }
+    {
+        &self.setting.device
+    }
+
+    /// The work of a location, by what its instruction makes of what is known.
+    fn work_by(
         &self,
         alloc: Global,
         pc: u16,
-        width: Width,
-        next: &Vs16,
-        store: Option<Vs16>,
-    ) -> Result<Sequence<(u16, Cause)>, Memory>
-        ensures { IfOk result (λ opens. opens ≡ target_opens pc next.now ++ store_opens self.now pc width store) }
+        calls: &Calls,
+        frame: Frame,
+        at: &Abs,
+        instr: &Instr,
+        made: Worked<CellList>,
+    ) -> Result<Work<Abs>, Memory>
+        requires { IsInstr instr.now }
+        ensures { IfOk result (λ work. work ≡ the_work self.now pc calls.now frame at.now instr.now made) }
     {
-        let mut opens = Sequence::new(alloc);
-        if are_too_many(next) {
-            opens.push((pc, Cause::Targets(*next)))?;
-        }
-        if let Some(set) = store {
-            if may_hit(&self.device, width, &set) {
-                opens.push((pc, Cause::Store(set)))?;
-            }
-        }
-        Ok(opens)
+        self.keeps_rules();
+        let device = self.device();
+        let Worked {
+            after,
+            next,
+            accesses,
+            store,
+        } = made;
+        let entered = entering(alloc, device, pc, at, accesses)?;
+        let Work {
+            items,
+            posts,
+            waits,
+            opens,
+        } = entered;
+        let mut opens = opens;
+        let mut ways = Ways { items, posts };
+        ways.items.push(instr_item(pc, instr))?;
+        self.go_on(
+            alloc, &mut ways, &mut opens, pc, calls, frame, at, instr, &next, after,
+        )?;
+        add_store_opens(&mut opens, device, pc, stored_width(instr), store)?;
+        let Ways { items, posts } = ways;
+        Ok(Work {
+            items,
+            posts,
+            waits,
+            opens,
+        })
     }
 
     /// The work of a location whose instruction is followed.
-    fn followed(
+    fn followed_work(
         &self,
         alloc: Global,
         pc: u16,
@@ -156,73 +240,9 @@ impl Msp430Chip {
         requires { IsInstr instr }
         ensures { IfOk result (λ work. work ≡ followed_work self.now pc calls.now frame at.now instr) }
     {
-        let ran = run(alloc, &self.device, is_interrupt(&frame), at, pc, &instr)?;
-        let opens = self.opens_of(alloc, pc, stored_width(&instr), &ran.next, ran.store)?;
-        let fact = fact_of(&instr, &ran.after);
-        let mut after = ran.after;
-        after.fact = fact;
-        after.late = gie_of(at);
-        let mut ways = Ways {
-            items: ran.accesses,
-            posts: Sequence::new(alloc),
-        };
-        let bytes = InstrBytes::from_slice(encode(&instr).as_slice());
-        ways.items.push(stack_item(pc, at))?;
-        ways.items.push(Item::Instr { pc, bytes })?;
-        let site = Site {
-            image: &self.device.image,
-            pc,
-            calls,
-            frame,
-            effect: effect_of(&instr),
-        };
-        add_ways(alloc, &mut ways, &site, &instr, &ran.next, after)?;
-        let Ways { items, posts } = ways;
-        Ok(Work {
-            items,
-            posts,
-            waits: Sequence::new(alloc),
-            opens,
-        })
-    }
-
-    /// Whether an instruction is built, or GIE is known to be 0 behind it.
-    fn passes(
-        &self,
-        alloc: Global,
-        pc: u16,
-        frame: &Frame,
-        at: &Abs,
-        instr: &Instr,
-    ) -> Result<bool, Memory>
-        requires { IsInstr instr.now }
-        ensures { IfOk result (λ passes. passes ≡ the_gate self.now (the_interrupt frame.now) at.now pc instr.now) }
-    {
-        if is_built(instr) {
-            return Ok(true);
-        }
-        let ran = run(alloc, &self.device, is_interrupt(frame), at, pc, instr)?;
-        Ok(is_clear(gie_of(&ran.after)))
-    }
-
-    /// The work of a location where an instruction stands.
-    fn found(
-        &self,
-        alloc: Global,
-        pc: u16,
-        calls: &Calls,
-        frame: Frame,
-        at: &Abs,
-        instr: Instr,
-    ) -> Result<Work<Abs>, Memory>
-        requires { IsInstr instr }
-        ensures { IfOk result (λ work. work ≡ work_at self.now pc calls.now frame at.now (Ok instr)) }
-    {
-        if self.passes(alloc, pc, &frame, at, &instr)? {
-            self.followed(alloc, pc, calls, frame, at, instr)
-        } else {
-            stopped(alloc, pc, at, Cause::Unbuilt)
-        }
+        self.keeps_rules();
+        let made = run(alloc, self.device(), is_interrupt(&frame), at, pc, &instr)?;
+        self.work_by(alloc, pc, calls, frame, at, &instr, made)
     }
 
     /// The work of a location.
@@ -234,53 +254,94 @@ impl Msp430Chip {
         frame: Frame,
         at: &Abs,
     ) -> Result<Work<Abs>, Memory>
-        ensures { IfOk result (λ work. work ≡ work_at self.now pc calls.now frame at.now (fetched self.now.image pc)) }
+        ensures { IfOk result (λ work. work ≡ work_at self.now pc calls.now frame at.now (fetched self.now.device.image pc)) }
     {
+        self.keeps_rules();
         match self.fetch(pc) {
-            Ok(instr) => self.found(alloc, pc, calls, frame, at, instr),
-            Err(cause) => stopped(alloc, pc, at, cause),
+            Some(instr) => self.followed_work(alloc, pc, calls, frame, at, instr),
+            None => stopped(alloc, &self.setting.device, pc, at),
         }
     }
 }
 
-/// An instruction of the table, where it is built.
-fn built(instr: Instr) -> Result<Instr, Cause>
-    requires { IsInstr instr }
-    ensures exact { result ≡ passed instr }
-    ensures in_range { IfOk result IsInstr }
+/// The work of a location at which no instruction stands.
+fn stopped(alloc: Global, device: &Device, pc: u16, at: &Abs) -> Result<Work<Abs>, Memory>
+    requires { device.now.lo ≤ device.now.hi }
+    ensures { IfOk result (λ work. work ≡ the_stopped device.now pc at.now) }
 {
-    if is_built(&instr) || moves_status(&instr) {
-        Ok(instr)
-    } else {
-        Err(Cause::Unbuilt)
-    }
+    let mut work = entering(alloc, device, pc, at, Sequence::new(alloc))?;
+    work.opens.push((pc, Cause::Fetch))?;
+    Ok(work)
 }
 
-/// What SP may be at an address.
-fn stack_item(pc: u16, at: &Abs) -> Item
-    ensures { result ≡ items.Stack pc (sets.W at.now.sp) }
+/// What is known behind an instruction, where GIE was so in front of it.
+fn followed(after: Abs, late: Tri, fact: Option<FlagFact>) -> Abs
+    ensures { result ≡ the_followed late fact after }
 {
-    Item::Stack {
+    let mut after = after;
+    after.late = late;
+    after.fact = fact;
+    after
+}
+
+/// The item of an instruction.
+fn instr_item(pc: u16, instr: &Instr) -> Item
+    requires { IsInstr instr.now }
+    ensures { result ≡ items.Instr pc (bytes_of instr.now) }
+{
+    Item::Instr {
         pc,
-        at: Set::W(at.sp),
+        bytes: InstrBytes::from_slice(encode(instr).as_slice()),
     }
 }
 
-/// Whether a bit is known to be 0.
-fn is_clear(bit: Tri) -> bool
-    ensures { result ≡ the_clear bit }
+/// Whether SP may have a value.
+fn may_stand_at(at: &Abs, sp: u16) -> bool
+    ensures { result ≡ is_in 65536 at.now.sp sp }
 {
-    matches!(bit, Tri::Zero)
+    at.sp.has(sp)
 }
 
-/// The work of a location at which the analysis stops.
-fn stopped(alloc: Global, pc: u16, at: &Abs, cause: Cause) -> Result<Work<Abs>, Memory>
-    ensures { IfOk result (λ work. work ≡ the_stopped pc at.now cause) }
+/// Where the handler of an interrupt goes on, at the stack pointer of its frame.
+fn resumed(
+    alloc: Global,
+    pc: u16,
+    calls: &Calls,
+    frame: Frame,
+    from: u16,
+    sp: u16,
+    at: &Abs,
+    exit: &Abs,
+) -> Result<Work<Abs>, Memory>
+    ensures { IfOk result (λ work. work ≡ resumption pc calls.now frame from sp at.now exit.now) }
 {
     let mut work = empty_work(alloc);
-    work.items.push(stack_item(pc, at))?;
-    work.opens.push((pc, cause))?;
+    if may_stand_at(at, sp) {
+        work.items.push(Item::Edge { from, to: pc })?;
+        let state = resume(alloc, is_interrupt(&frame), at, pc, sp, exit)?;
+        work.posts.push((Node::At(pc, *calls, frame), state))?;
+    }
     Ok(work)
+}
+
+/// The work of a return to a location.
+fn back(
+    alloc: Global,
+    pc: u16,
+    calls: &Calls,
+    frame: Frame,
+    exit_node: &Node,
+    at: &Abs,
+    exit: Option<&Abs>,
+) -> Result<Work<Abs>, Memory>
+    ensures { IfOk result (λ work. work ≡ return_work pc calls.now frame exit_node.now at.now (option_copied exit.entry)) }
+{
+    match (exit_node, exit) {
+        (Node::Exit(from, Frame::Irq { sp: Some(sp), .. }), Some(exit)) => {
+            resumed(alloc, pc, calls, frame, *from, *sp, at, exit)
+        }
+        _ => Ok(empty_work(alloc)),
+    }
 }
 
 /// Bit 3.
@@ -311,17 +372,6 @@ fn start_node(reset: u16) -> Node
     Node::At(reset, Calls::new(), Frame::Base)
 }
 
-/// The state of all that may stand in a frame in which no interrupt comes.
-fn quiet_top(alloc: Global, frame: &Frame, lo: u16, hi: u16) -> Result<Abs, Memory>
-    requires { lo ≤ hi }
-    ensures { IfOk result (λ top. top ≡ the_quiet_top lo hi (the_interrupt frame.now)) }
-{
-    let mut top = State::top(alloc, frame, lo, hi)?;
-    top.status.bits[3] = Tri::Zero;
-    top.late = Tri::Zero;
-    Ok(top)
-}
-
 /// A work that gives nothing.
 fn empty_work(alloc: Global) -> Work<Abs>
     ensures { result ≡ nothing }
@@ -345,7 +395,7 @@ fn frame_of(node: &Node) -> &Frame
 
 #[tactic(auto, unfolding(crate::specs::Chip::msp430_analysis))]
 impl Chip for Msp430Chip {
-    type Base = Device;
+    type Base = Setting;
 
     type Abs = State<CellList>;
 
@@ -355,7 +405,7 @@ impl Chip for Msp430Chip {
 
     fn start(&self, alloc: Global) -> Result<(Node, State<CellList>), Memory> {
         self.keeps_rules();
-        let first = State::first(alloc, self.device.lo, self.device.hi)?;
+        let first = State::first(alloc, self.setting.device.lo, self.setting.device.hi)?;
         Ok((start_node(self.reset()), first))
     }
 
@@ -364,10 +414,13 @@ impl Chip for Msp430Chip {
         alloc: Global,
         unit: &Unit,
         at: &State<CellList>,
-        _exit: Option<&State<CellList>>,
+        exit: Option<&State<CellList>>,
     ) -> Result<Work<State<CellList>>, Memory> {
         match unit {
             Unit::One(Node::At(pc, calls, frame)) => self.one(alloc, *pc, calls, *frame, at),
+            Unit::Back(Node::At(pc, calls, frame), left) => {
+                back(alloc, *pc, calls, *frame, left, at, exit)
+            }
             _ => Ok(empty_work(alloc)),
         }
     }
@@ -397,7 +450,12 @@ impl Chip for Msp430Chip {
 
     fn top(&self, alloc: Global, node: &Node) -> Result<State<CellList>, Memory> {
         self.keeps_rules();
-        quiet_top(alloc, frame_of(node), self.device.lo, self.device.hi)
+        State::top(
+            alloc,
+            frame_of(node),
+            self.setting.device.lo,
+            self.setting.device.hi,
+        )
     }
 
     fn within(&self, new: &State<CellList>, held: &State<CellList>) -> bool {

@@ -1,6 +1,6 @@
 //! Call strings behind instructions.
 
-ghost use Rattle.std.specs.Prelude.{◌≡◌};
+ghost use Rattle.std.specs.Prelude.{◌≡◌, ◌≤◌};
 ghost use Rattle.msp430_flow.specs.Labels as labels;
 
 use call_context::{Calls, pop_call, push_call};
@@ -56,12 +56,20 @@ fn last_end(image: &Image, calls: &Calls) -> Option<u16>
     }
 }
 
-/// The call string at a target of an instruction, of which the last six sites are kept.
-pub fn calls_by(effect: CallEffect, image: &Image, pc: u16, calls: &Calls, to: u16) -> Calls
-    ensures { result ≡ labels.calls_by effect image.now pc calls.now to }
+/// The call string at a target of an instruction, of which the last `limit` sites are kept.
+pub fn calls_by(
+    limit: u8,
+    effect: CallEffect,
+    image: &Image,
+    pc: u16,
+    calls: &Calls,
+    to: u16,
+) -> Calls
+    requires { limit ≤ 8 }
+    ensures { result ≡ labels.calls_by limit effect image.now pc calls.now to }
 {
     match effect {
-        CallEffect::Pushes => push_call(calls, pc, 6),
+        CallEffect::Pushes => push_call(calls, pc, limit),
         CallEffect::Pops => pop_call(calls, last_end(image, calls), to),
         CallEffect::Keeps => *calls,
     }

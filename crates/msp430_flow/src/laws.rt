@@ -1,6 +1,6 @@
 //! The laws of the chip.
 
-ghost use Rattle.msp430_flow.specs.Chip.{IsProgram};
+ghost use Rattle.msp430_flow.specs.Chip.{IsSetting};
 ghost use Rattle.msp430_flow.specs.Machine.{msp430_machine};
 ghost use Rattle.msp430_state.specs.Holding.{Covers};
 
@@ -10,8 +10,11 @@ use msp430_alu::{doubles_hold, pushes_hold, singles_hold};
 use msp430_branch::{cuts_hold, facts_hold};
 use msp430_chip::{ChipState, one_front, steps_keep_form, steps_lead};
 use msp430_decode::decoded_is_the_answer;
+use msp430_entry::entries_hold;
+use msp430_resume::resumptions_cover;
+use msp430_return::returns_hold;
 use msp430_state::{states_are_ordered, states_cover, states_keep_form};
-use msp430_status::statuses_hold;
+use msp430_status::{single_statuses_hold, statuses_hold};
 use value_set::members_are_below;
 
 impl LawfulChip for Msp430Chip {
@@ -19,11 +22,11 @@ impl LawfulChip for Msp430Chip {
 
     ghost use Rattle.msp430_flow.specs.Chip.{AreAlike};
 
-    ghost machine = { msp430_machine };
+    ghost machine = { λ setting. msp430_machine setting.device };
 
-    ghost covers = { Covers };
+    ghost covers = { λ setting. Covers setting.device };
 
-    ghost program = { IsProgram };
+    ghost program = { IsSetting };
 
     ghost alike = { AreAlike };
 
@@ -37,6 +40,10 @@ impl LawfulChip for Msp430Chip {
         singles_hold();
         pushes_hold();
         statuses_hold();
+        single_statuses_hold();
+        entries_hold();
+        returns_hold();
+        resumptions_cover();
         cuts_hold();
         facts_hold();
         steps_lead();

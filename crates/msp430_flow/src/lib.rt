@@ -1,7 +1,7 @@
-//! The MSP430 as an analysis sees it, with all of its data instructions, over registers and memory.
+//! The MSP430 as an analysis sees it: all of its instructions, over registers and memory, and its interrupts.
 //!
 //! `specs/Machine.antt` says what the chip does, in single states; `specs/Chip.antt` what the analysis makes of a program,
-//! in sets; `specs/Built.antt` which instructions are built.
+//! in sets.
 //!
 //! Proved:
 //!
@@ -12,16 +12,18 @@
 #![tactic(auto)]
 
 mod chip;
-mod gate;
+mod entries;
 mod labels;
 mod laws;
 mod marks;
 mod meeting;
 mod running;
+mod setting;
 mod text;
 mod ways;
 
 pub use chip::Msp430Chip;
+pub use setting::{Limits, Setting};
 pub use text::Msp430Text;
 
 #[cfg(test)]

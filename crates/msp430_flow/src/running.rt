@@ -3,15 +3,17 @@
 ghost use Rattle.std.specs.Prelude.{◌≡◌, ◌≤◌, [], IfOk};
 ghost use Rattle.msp430_decode.specs.Table.{IsInstr};
 ghost use Rattle.msp430_flow.specs.Running as running;
+ghost use Rattle.msp430_results.specs.Results.{HasWidth};
 
 use abs_memory::CellList;
-use call_context::Sequence;
+use call_context::{Frame, Sequence};
 use msp430_alu::{Worked, double, push, single};
 use msp430_branch::fact_behind;
 use msp430_chip::Device;
 use msp430_decode::{Destination, Instr, Operation, Register, SingleOperation, Source, Width};
+use msp430_return::{goes_back, return_from_interrupt};
 use msp430_state::{FlagFact, State};
-use msp430_status::status;
+use msp430_status::{single_status, status};
 use std::alloc::Global;
 use value_set::Vs16;
 use vsa_io::Memory;
@@ -43,6 +45,32 @@ fn unchanged(alloc: Global, at: &State<CellList>, next: u16) -> Result<Worked<Ce
     })
 }
 
+/// An instruction with one operand, which pushes nothing.
+fn plain_operand(
+    alloc: Global,
+    device: &Device,
+    framed: bool,
+    at: &State<CellList>,
+    pc: u16,
+    len: u8,
+    operation: SingleOperation,
+    width: Width,
+    operand: Source,
+) -> Result<Worked<CellList>, Memory>
+    requires ram { device.now.lo ≤ device.now.hi }
+    requires width { HasWidth operation width }
+    ensures { IfOk result (λ worked. worked ≡ running.single_or_status device.now framed at.now pc len operation width operand) }
+{
+    match operand {
+        Source::Register(Register::Sr) => single_status(
+            alloc, device, framed, at, pc, len, operation, width,
+        ),
+        _ => single(
+            alloc, device, framed, at, pc, len, operation, width, operand,
+        ),
+    }
+}
+
 /// An instruction with one operand.
 fn one_operand(
     alloc: Global,
@@ -57,7 +85,7 @@ fn one_operand(
 ) -> Result<Worked<CellList>, Memory>
     requires ram { device.now.lo ≤ device.now.hi }
     requires row { IsInstr (Instr.Single operation width operand) }
-    ensures { IfOk result (λ worked. worked ≡ running.single_or_push device.now framed at.now pc len operation width operand) }
+    ensures { IfOk result (λ worked. worked ≡ running.one_operand device.now framed at.now pc len operation width operand) }
 {
     match operation {
         SingleOperation::Push | SingleOperation::Call => {
@@ -65,7 +93,7 @@ fn one_operand(
                 alloc, device, framed, at, pc, len, operation, width, operand,
             )
         }
-        _ => single(
+        _ => plain_operand(
             alloc, device, framed, at, pc, len, operation, width, operand,
         ),
     }
@@ -146,9 +174,18 @@ pub fn run(
         } => one_operand(
             alloc, device, framed, at, pc, len, operation, width, operand,
         ),
-        Instr::Jump { .. } | Instr::ReturnFromInterrupt => {
-            unchanged(alloc, at, pc.wrapping_add(2))
-        }
+        Instr::Jump { .. } => unchanged(alloc, at, pc.wrapping_add(2)),
+        Instr::ReturnFromInterrupt => return_from_interrupt(alloc, device, at, pc),
+    }
+}
+
+/// Whether RETI goes back to where the interrupt of its frame came.
+pub fn leaves_frame(device: &Device, frame: &Frame, at: &State<CellList>, instr: &Instr) -> bool
+    ensures { result ≡ running.leaves_frame device.now frame.now at.now instr.now }
+{
+    match instr {
+        Instr::ReturnFromInterrupt => goes_back(device, *frame, at),
+        _ => false,
     }
 }
 

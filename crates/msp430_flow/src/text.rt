@@ -1,7 +1,7 @@
 //! The texts of instructions.
 
 ghost use Rattle.std.specs.Prelude.{◌≡◌};
-ghost use Rattle.msp430_flow.specs.Built.{instr_text as the_text};
+ghost use Rattle.msp430_flow.specs.Standing.{instr_text as the_text};
 
 use arrayvec::ArrayString;
 use chip_law::InstrText;

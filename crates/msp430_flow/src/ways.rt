@@ -27,9 +27,10 @@ pub struct Ways {
     pub posts: Sequence<(Node, State<CellList>)>,
 }
 
-/// Where an instruction stands, and what it does to the call string.
+/// Where an instruction stands, what it does to the call string, and how many sites this keeps.
 #[derive(Drop)]
 pub struct Site<'a> {
+    pub limit: u8,
     pub image: &'a Image,
     pub pc: u16,
     pub calls: &'a Calls,
@@ -42,20 +43,24 @@ impl<'a> Model for Site<'a> {
 
     ghost Value = { labels.Site };
 
-    ghost view = { λ s. record { image = s.image.now; pc = s.pc; calls = s.calls.now; frame = s.frame; effect = s.effect } };
+    ghost use Rattle.std.specs.Prelude.{◌≤◌};
+
+    ghost view = { λ s. record { limit = s.limit; image = s.image.now; pc = s.pc; calls = s.calls.now; frame = s.frame; effect = s.effect } };
+
+    ghost invariant = { λ s. s.limit ≤ 8 };
 }
 
 /// The call string at a target.
 fn label(site: &Site, to: u16) -> Calls
     ensures { result ≡ labels.calls_at site.now to }
 {
-    calls_by(site.effect, site.image, site.pc, site.calls, to)
+    calls_by(site.limit, site.effect, site.image, site.pc, site.calls, to)
 }
 
 /// Adds a way from one address to another, in the same frame.
 fn add(ways: &mut Ways, site: &Site, to: u16, state: State<CellList>) -> Result<(), Memory>
     ensures items { OnOk result (ways.new.items ≡ ways.old.items ++ chip.edges_of site.now.pc ((to, state) ∷ [])) }
-    ensures posts { OnOk result (ways.new.posts ≡ ways.old.posts ++ chip.posts_of (labels.calls_by site.now.effect site.now.image site.now.pc site.now.calls) site.now.frame ((to, state) ∷ [])) }
+    ensures posts { OnOk result (ways.new.posts ≡ ways.old.posts ++ chip.posts_of (labels.calls_by site.now.limit site.now.effect site.now.image site.now.pc site.now.calls) site.now.frame ((to, state) ∷ [])) }
 {
     ways.items.push(Item::Edge { from: site.pc, to })?;
     ways.posts
@@ -81,7 +86,7 @@ fn add_each(
     state: State<CellList>,
 ) -> Result<(), Memory>
     ensures items { OnOk result (ways.new.items ≡ ways.old.items ++ chip.edges_of site.now.pc (running.ways_to (members 65536 next.now) state)) }
-    ensures posts { OnOk result (ways.new.posts ≡ ways.old.posts ++ chip.posts_of (labels.calls_by site.now.effect site.now.image site.now.pc site.now.calls) site.now.frame (running.ways_to (members 65536 next.now) state)) }
+    ensures posts { OnOk result (ways.new.posts ≡ ways.old.posts ++ chip.posts_of (labels.calls_by site.now.limit site.now.effect site.now.image site.now.pc site.now.calls) site.now.frame (running.ways_to (members 65536 next.now) state)) }
 {
     let last = last_place(next);
     for place in 0..last {
@@ -102,7 +107,7 @@ fn add_both(
 ) -> Result<(), Memory>
     requires { offset < 1024 }
     ensures items { OnOk result (ways.new.items ≡ ways.old.items ++ chip.edges_of site.now.pc (running.ways_of ((site.now.pc + 2) % 65536) (target_of site.now.pc offset) on jumped)) }
-    ensures posts { OnOk result (ways.new.posts ≡ ways.old.posts ++ chip.posts_of (labels.calls_by site.now.effect site.now.image site.now.pc site.now.calls) site.now.frame (running.ways_of ((site.now.pc + 2) % 65536) (target_of site.now.pc offset) on jumped)) }
+    ensures posts { OnOk result (ways.new.posts ≡ ways.old.posts ++ chip.posts_of (labels.calls_by site.now.limit site.now.effect site.now.image site.now.pc site.now.calls) site.now.frame (running.ways_of ((site.now.pc + 2) % 65536) (target_of site.now.pc offset) on jumped)) }
 {
     let behind = site.pc.wrapping_add(2);
     let target = offset_target(site.pc, offset);
@@ -133,15 +138,15 @@ fn outcome(state: State<CellList>, condition: Condition, taken: bool) -> Option<
     }
 }
 
-/// Whether there are more than 64 addresses.
-pub fn are_too_many(next: &Vs16) -> bool
-    ensures { result ≡ running.are_too_many next.now }
+/// Whether there are more addresses than are followed.
+pub fn are_too_many(limit: u32, next: &Vs16) -> bool
+    ensures { result ≡ running.are_too_many limit next.now }
 {
-    next.count() > 64
+    next.count() > limit
 }
 
 /// Adds all ways of an instruction, by the set of the next addresses and what is known behind it.
-fn add_all(
+pub fn add_all(
     alloc: Global,
     ways: &mut Ways,
     site: &Site,
@@ -151,7 +156,7 @@ fn add_all(
 ) -> Result<(), Memory>
     requires { IsInstr instr.now }
     ensures items { OnOk result (ways.new.items ≡ ways.old.items ++ chip.edges_of site.now.pc (running.ways_behind site.now.pc instr.now next.now behind)) }
-    ensures posts { OnOk result (ways.new.posts ≡ ways.old.posts ++ chip.posts_of (labels.calls_by site.now.effect site.now.image site.now.pc site.now.calls) site.now.frame (running.ways_behind site.now.pc instr.now next.now behind)) }
+    ensures posts { OnOk result (ways.new.posts ≡ ways.old.posts ++ chip.posts_of (labels.calls_by site.now.limit site.now.effect site.now.image site.now.pc site.now.calls) site.now.frame (running.ways_behind site.now.pc instr.now next.now behind)) }
 {
     match instr {
         Instr::Jump { condition, offset } => {
@@ -161,23 +166,4 @@ fn add_all(
         }
         _ => add_each(alloc, ways, site, next, behind),
     }
-}
-
-/// Adds the ways of an instruction that are followed: none where there are too many.
-pub fn add_ways(
-    alloc: Global,
-    ways: &mut Ways,
-    site: &Site,
-    instr: &Instr,
-    next: &Vs16,
-    behind: State<CellList>,
-) -> Result<(), Memory>
-    requires { IsInstr instr.now }
-    ensures items { OnOk result (ways.new.items ≡ ways.old.items ++ chip.edges_of site.now.pc (if running.are_too_many next.now then [] else running.ways_behind site.now.pc instr.now next.now behind)) }
-    ensures posts { OnOk result (ways.new.posts ≡ ways.old.posts ++ chip.posts_of (labels.calls_by site.now.effect site.now.image site.now.pc site.now.calls) site.now.frame (if running.are_too_many next.now then [] else running.ways_behind site.now.pc instr.now next.now behind)) }
-{
-    if are_too_many(next) {
-        return Ok(());
-    }
-    add_all(alloc, ways, site, instr, next, behind)
 }

@@ -32,6 +32,38 @@ returns c = lawful record {
     next = c.statuses_hold.ensures.next;
     even = c.statuses_hold.ensures.even;
   };
+  single_statuses = record {
+    left = c.single_statuses_hold.ensures.left;
+    shown = c.single_statuses_hold.ensures.shown;
+    hit = c.single_statuses_hold.ensures.hit;
+    form = c.single_statuses_hold.ensures.form;
+    next = c.single_statuses_hold.ensures.next;
+    even = c.single_statuses_hold.ensures.even;
+  };
+  entries = record {
+    comes = c.entries_hold.ensures.comes;
+    covered = c.entries_hold.ensures.covered;
+    shown = c.entries_hold.ensures.shown;
+    hit = c.entries_hold.ensures.hit;
+    form = c.entries_hold.ensures.form;
+    frame = c.entries_hold.ensures.frame;
+    handler = c.entries_hold.ensures.handler;
+  };
+  returns = record {
+    done = c.returns_hold.ensures.done;
+    left = c.returns_hold.ensures.left;
+    shown = c.returns_hold.ensures.shown;
+    form = c.returns_hold.ensures.form;
+    next = c.returns_hold.ensures.next;
+    even = c.returns_hold.ensures.even;
+    back = c.returns_hold.ensures.back;
+    base = c.returns_hold.ensures.base;
+  };
+  resumptions = record {
+    covers = c.resumptions_cover.ensures.covers;
+    has = c.resumptions_cover.ensures.has;
+    form = c.resumptions_cover.ensures.form;
+  };
   branches = record {
     parts = c.cuts_hold.ensures.parts;
     form = c.cuts_hold.ensures.form;
