@@ -5,19 +5,25 @@ use vsa_top::Status;
 
 /// The command line, printed where it isn't valid.
 const USAGE: &str = "\
-usage: vsa MODE CHIP [--ram LO-HI] [--steps N] < INPUT
+usage: vsa MODE CHIP [--ram LO-HI] [--calls N] [--targets N] [--workers N] [--steps N] < INPUT
+       vsa gen msp430 --number N
 
 Modes, with the input that each reads from standard input:
   analyse   an Intel HEX text: prints what the program can do (msp430 alone)
   disasm    an Intel HEX text: prints its instructions
   run       an Intel HEX text, and a script after its end record: runs the program, prints what each step does
+  gen       nothing: makes a program of N functions, analyses it, prints how many lines its report has (msp430 alone)
 
 Chips: msp430, and mcs51 (the 8051, as an 8052).
 
-Options, each at most once, after the chip:
-  --ram LO-HI   for msp430: the first and the last address of RAM, by four hexadecimal digits each. LO is even and
+Options, each at most once, as --name value or --name=value:
+  --ram LO-HI   for msp430, not with gen: the first and the last address of RAM, by four hexadecimal digits each. LO is even and
                 at least 0200, HI is odd and above LO. Default: 0200-09FF
+  --calls N     for analyse: how many call sites a location remembers, 0 to 8. Default: 6
+  --targets N   for analyse: how many targets of one instruction are followed, 1 to 256. Default: 64
+  --workers N   for analyse: how many threads work, 1 to 16. Default: 1
   --steps N     for run: the greatest number of steps, 0 to 1000000. Default: 100
+  --number N    for gen, which needs it: the number of functions, 1 to 2000
 
 Limits: 4,194,304 bytes for an Intel HEX text, 268,435,456 bytes for a script.
 

@@ -17,8 +17,9 @@ use Rattle.vsa_io.specs.Stream.{appended}
 use Rattle.round_core.specs.Machine.{replay, IsLegalJournal, IsFinished}
 use Rattle.round_core.specs.declared.event.Event.{Event}
 use Rattle.msp430_chip.specs.declared.device.Device.{Device}
-use Rattle.msp430_flow.specs.Built.{instr_text}
-use Rattle.msp430_flow.specs.Chip.{msp430_analysis, IsProgram}
+use Rattle.msp430_flow.specs.Standing.{instr_text}
+use Rattle.msp430_flow.specs.Chip.{msp430_analysis, IsSetting}
+use Rattle.msp430_flow.specs.declared.setting.Setting.{Setting}
 use Rattle.msp430_flow.specs.Machine.{msp430_machine}
 use Rattle.run_trace.specs.declared.trace.End.{End}
 use Rattle.run_trace.specs.declared.trace.End.TheVariants as ended
@@ -27,32 +28,34 @@ use Rattle.report_text.specs.Promise.{CoversEveryRun, ShowsOpenSites}
 use Rattle.report_text.specs.Report.{are_closed, last_works, report_of_journal}
 use Rattle.vsa_top.specs.declared.outcome.Status.{Status}
 use Rattle.vsa_top.specs.declared.outcome.Status.TheVariants.{Done, Open, ReadFault, WriteFault, Memory}
-use Rattle.vsa_top.specs.Answer.{Answers, Ends, IsAnalysed, IsImageReply, IsReply, IsRun, TellsNoFault, run_under, status_of_analysis, status_of_end}
+use Rattle.vsa_top.specs.Answer.{Analyses, Answers, Ends, IsAnalysed, IsImageReply, IsReply, IsRun, TellsNoFault, run_under, status_of_analysis, status_of_end}
+use Rattle.vsa_top.specs.Answer.Analyses.{of_input, of_made}
 use Rattle.vsa_top.specs.Answer.Answers.{replied, unreplied}
-use Rattle.vsa_top.specs.Answer.Ends.{closed, left_open, disassembled, ran_on, went_wild, lacked_a_choice, refused_script, script_too_long}
+use Rattle.vsa_top.specs.Answer.Ends.{closed, left_open, disassembled, ran_on, went_wild, lacked_a_choice, refused_script, script_too_long, summed, summed_open}
 use Rattle.vsa_top.specs.Answer.IsReply.{of_image, of_bad, of_long}
 use Rattle.vsa_top.specs.Answer.IsRun.{ran, refused, longer}
 use Rattle.vsa_top.specs.Answer.IsWritten.{whole, cut}
 use Rattle.vsa_top.specs.Headline.{ReportsOn}
-use Rattle.vsa_top.specs.Input.{text_limit, front_of, tail_of, AreTexts, Gives, InputGives, IsBad, IsTooLong, IsImageOf}
+use Rattle.vsa_top.specs.Input.{text_limit, front_of, input_of, tail_of, AreTexts, Gives, InputGives, IsBad, IsTooLong, IsImageOf}
 use Rattle.vsa_top.specs.declared.words.Ram.{Ram}
 use Rattle.vsa_top.specs.declared.words.Reading.{Reading}
-use Rattle.vsa_top.specs.declared.words.Reading.TheVariants.{Analyse, Disasm, Run}
+use Rattle.vsa_top.specs.declared.words.Reading.TheVariants.{Analyse, Disasm, Run, Gen}
 use Rattle.vsa_top.specs.declared.words.Target.{Target}
-use Rattle.vsa_top.specs.Words.{EndsInMemory, rules_of, device_of}
+use Rattle.vsa_top.specs.declared.words.Task.{Task}
+use Rattle.vsa_top.specs.Words.{EndsInMemory, IsBounded, rules_of, device_of, setting_of, usual, usual_limits}
 use Rattle.vsa_top.proofs.InputLemmas.{front_goes_on}
 
 -- the reply that an answer gives whole
 record GivesReply (reading : Reading) (answered : Status) (input before after : Option (List ℕ)) (journal : List Event) : Type 0 where
   pub text : List ℕ
-  pub reply : IsReply reading input answered text journal
+  pub reply : IsReply reading (input_of reading input) answered text journal
   pub held : after ≡ appended before text
 
 gives_reply : (reading : Reading) (answered : Status) (input before after : Option (List ℕ)) (journal : List Event)
     → Answers reading answered input before after journal → TellsNoFault answered → (answered ≡ Memory → ⊥) → GivesReply reading answered input before after journal
 gives_reply reading answered input before after journal (replied reply text is (whole same held)) quiet room = record {
   text = text;
-  reply = subst (λ s. IsReply reading input s text journal) (sym same) is;
+  reply = subst (λ s. IsReply reading (input_of reading input) s text journal) (sym same) is;
   held = held;
 }
 gives_reply reading answered input before after journal (replied reply text is (cut fault held)) quiet room = absurd (quiet.1 fault)
@@ -70,16 +73,16 @@ open_is false e = refl
 
 -- what is known of the reports of the MSP430's books, and of texts
 abbrev CoverRuns : Type 0
-CoverRuns = (device : Device) (text_of : ℕ → List ℕ → List ℕ) (journal : List Event) → IsProgram device
-    → IsLegalJournal (msp430_analysis device) journal → IsFinished (replay (msp430_analysis device) journal)
-    → are_closed (last_works (msp430_analysis device) journal) ≡ true
-    → CoversEveryRun (msp430_machine device) text_of (report_of_journal text_of (msp430_analysis device) journal)
+CoverRuns = (setting : Setting) (text_of : ℕ → List ℕ → List ℕ) (journal : List Event) → IsSetting setting
+    → IsLegalJournal (msp430_analysis setting) journal → IsFinished (replay (msp430_analysis setting) journal)
+    → are_closed (last_works (msp430_analysis setting) journal) ≡ true
+    → CoversEveryRun (msp430_machine setting.device) text_of (report_of_journal text_of (msp430_analysis setting) journal)
 
 abbrev ShowSites : Type 0
-ShowSites = (device : Device) (text_of : ℕ → List ℕ → List ℕ) (journal : List Event) → IsProgram device
-    → IsLegalJournal (msp430_analysis device) journal
-    → are_closed (last_works (msp430_analysis device) journal) ≡ false
-    → ShowsOpenSites (msp430_analysis device) journal (report_of_journal text_of (msp430_analysis device) journal)
+ShowSites = (setting : Setting) (text_of : ℕ → List ℕ → List ℕ) (journal : List Event) → IsSetting setting
+    → IsLegalJournal (msp430_analysis setting) journal
+    → are_closed (last_works (msp430_analysis setting) journal) ≡ false
+    → ShowsOpenSites (msp430_analysis setting) journal (report_of_journal text_of (msp430_analysis setting) journal)
 
 abbrev HaveRules : Type 0
 HaveRules = (rules : Rules) (tail : Tail) (lines : List (List ℕ)) (image : List (Option ℕ)) → Denotes rules tail lines image → IsReadUnder rules image
@@ -107,49 +110,53 @@ abbrev RulesOf : Ram → Rules
 RulesOf ram = Msp430 ram.lo ram.hi
 
 -- the analysis of the device with the image that the text denotes
-analysed : HaveOneImage → (ram : Ram) (input second : Option (List ℕ)) (answered : Status) (report : List ℕ) (journal : List Event) (text : List ℕ)
-    (image other : List (Option ℕ)) → InputGives (RulesOf ram) Blank input second other
-    → IsAnalysed instr_text (msp430_analysis (device_of ram other)) answered report journal
-    → input ≡ Some text → Denotes (RulesOf ram) Blank (texts.lines_of text) image
-    → IsAnalysed instr_text (msp430_analysis (device_of ram image)) answered report journal
-analysed one ram input second answered report journal text image other gives reply e denoted =
-    subst (λ i. IsAnalysed instr_text (msp430_analysis (device_of ram i)) answered report journal)
-    (same_image one (RulesOf ram) input text image other e denoted (gives_image (RulesOf ram) input second other gives)) reply
+analysed : HaveOneImage → (task : Task) (input second : Option (List ℕ)) (answered : Status) (report : List ℕ) (journal : List Event) (text : List ℕ)
+    (image other : List (Option ℕ)) → InputGives (RulesOf task.ram) Blank input second other
+    → IsAnalysed instr_text (msp430_analysis (setting_of task.limits (device_of task.ram other))) task.workers answered report journal
+    → input ≡ Some text → Denotes (RulesOf task.ram) Blank (texts.lines_of text) image
+    → IsAnalysed instr_text (msp430_analysis (setting_of task.limits (device_of task.ram image))) task.workers answered report journal
+analysed one task input second answered report journal text image other gives reply e denoted =
+    subst (λ i. IsAnalysed instr_text (msp430_analysis (setting_of task.limits (device_of task.ram i))) task.workers answered report journal)
+    (same_image one (RulesOf task.ram) input text image other e denoted (gives_image (RulesOf task.ram) input second other gives)) reply
 
 -- the device with an image that was read is a program
-program_of : HaveRules → (ram : Ram) (text : List ℕ) (image : List (Option ℕ)) → IsRamRange (RulesOf ram) → EndsInMemory (RulesOf ram)
-    → Denotes (RulesOf ram) Blank (texts.lines_of text) image → IsProgram (device_of ram image)
-program_of rules ram text image range end denoted =
-    record { read = rules (RulesOf ram) Blank (texts.lines_of text) image denoted; ram = range; top = end }
+program_of : HaveRules → (task : Task) (text : List ℕ) (image : List (Option ℕ)) → IsRamRange (RulesOf task.ram) → EndsInMemory (RulesOf task.ram) → IsBounded (Analyse task)
+    → Denotes (RulesOf task.ram) Blank (texts.lines_of text) image → IsSetting (setting_of task.limits (device_of task.ram image))
+program_of rules task text image range end few denoted =
+    record { program = record { read = rules (RulesOf task.ram) Blank (texts.lines_of text) image denoted; ram = range; top = end }; calls = few.0 }
 
-closed_reply : CoverRuns → HaveRules → HaveOneImage → (ram : Ram) → IsRamRange (RulesOf ram) → EndsInMemory (RulesOf ram) → (input : Option (List ℕ)) (report : List ℕ) (journal : List Event)
-    → IsReply (Analyse ram) input Done report journal → (text : List ℕ) (image : List (Option ℕ)) → input ≡ Some text
-    → Denotes (RulesOf ram) Blank (texts.lines_of text) image → CoversEveryRun (msp430_machine (device_of ram image)) instr_text report
-closed_reply cover rules one ram range end input report journal (of_image other second gives reply) text image e denoted =
-    let device = device_of ram image in
-    let is = analysed one ram input second Done report journal text image other gives reply e denoted in
-    let program = program_of rules ram text image range end denoted in
-    let none_left = closed_is (are_closed (last_works (msp430_analysis device) journal)) is.status_is in
+closed_reply : CoverRuns → HaveRules → HaveOneImage → (task : Task) → IsRamRange (RulesOf task.ram) → EndsInMemory (RulesOf task.ram) → IsBounded (Analyse task) → (input : Option (List ℕ)) (report : List ℕ) (journal : List Event)
+    → IsReply (Analyse task) input Done report journal → (text : List ℕ) (image : List (Option ℕ)) → input ≡ Some text
+    → Denotes (RulesOf task.ram) Blank (texts.lines_of text) image → CoversEveryRun (msp430_machine (device_of task.ram image)) instr_text report
+closed_reply cover rules one task range end few input report journal (of_image other second gives reply) text image e denoted =
+    let device = device_of task.ram image in
+    let is = analysed one task input second Done report journal text image other gives reply e denoted in
+    let program = program_of rules task text image range end few denoted in
+    let none_left = closed_is (are_closed (last_works (msp430_analysis (setting_of task.limits device)) journal)) is.status_is in
     subst (CoversEveryRun (msp430_machine device) instr_text) (sym is.text_is)
-    (cover device instr_text journal program is.is_analysis.legal is.is_analysis.finished none_left)
-closed_reply cover rules one ram range end input report journal (of_bad line fault bad is line_is none) text image e denoted = absurd (cc)
-closed_reply cover rules one ram range end input report journal (of_long long is line_is none) text image e denoted = absurd (cc)
+    (cover (setting_of task.limits device) instr_text journal program is.is_analysis.legal is.is_analysis.finished none_left)
+closed_reply cover rules one task range end few input report journal (of_bad line fault bad is line_is none) text image e denoted = absurd (cc)
+closed_reply cover rules one task range end few input report journal (of_long long is line_is none) text image e denoted = absurd (cc)
 
-pub closed_lem : CoverRuns → HaveRules → HaveOneImage → (ram : Ram) (input before after : Option (List ℕ)) (journal : List Event)
-    → IsRamRange (RulesOf ram) → EndsInMemory (RulesOf ram) → Answers (Analyse ram) Done input before after journal →
-    ReportsOn ram input before after (λ device report. CoversEveryRun (msp430_machine device) instr_text report)
-closed_lem cover rules one ram input before after journal range end answers text image e denoted =
-    let given = gives_reply (Analyse ram) Done input before after journal answers ((λ f. cc f), (λ f. cc f)) (λ f. cc f) in
-    (given.text, given.held, closed_reply cover rules one ram range end input given.text journal given.reply text image e denoted)
+pub closed_lem : CoverRuns → HaveRules → HaveOneImage → (task : Task) (input before after : Option (List ℕ)) (journal : List Event)
+    → IsRamRange (RulesOf task.ram) → EndsInMemory (RulesOf task.ram) → IsBounded (Analyse task) → Answers (Analyse task) Done input before after journal →
+    ReportsOn task.ram input before after (λ device report. CoversEveryRun (msp430_machine device) instr_text report)
+closed_lem cover rules one task input before after journal range end few answers text image e denoted =
+    let given = gives_reply (Analyse task) Done input before after journal answers ((λ f. cc f), (λ f. cc f)) (λ f. cc f) in
+    (given.text, given.held, closed_reply cover rules one task range end few input given.text journal given.reply text image e denoted)
 
 end_ends : (target : Target) (steps : ℕ) (end : End) → Ends (Run target steps) (status_of_end end)
 end_ends target steps ended.Ran = ran_on target steps
 end_ends target steps ended.Wild = went_wild target steps
 end_ends target steps ended.NeedChoice = lacked_a_choice target steps
 
-analysis_ends : (ram : Ram) (is_closed : Bool) → Ends (Analyse ram) (status_of_analysis is_closed)
-analysis_ends ram true = closed ram
-analysis_ends ram false = left_open ram
+analysis_ends : (task : Task) (is_closed : Bool) → Ends (Analyse task) (status_of_analysis is_closed)
+analysis_ends task true = closed task
+analysis_ends task false = left_open task
+
+summary_ends : (number : ℕ) (is_closed : Bool) → Ends (Gen number) (status_of_analysis is_closed)
+summary_ends number true = summed number
+summary_ends number false = summed_open number
 
 run_reply_ends : (target : Target) (steps : ℕ) (run : List ℕ → Ended) (second : Option (List ℕ)) (answered : Status) (text : List ℕ)
     → IsRun run second answered text → Ends (Run target steps) answered
@@ -160,59 +167,57 @@ run_reply_ends target steps run second answered text (longer is told line_is) = 
 
 image_reply_ends : (reading : Reading) (image : List (Option ℕ)) (second : Option (List ℕ)) (answered : Status) (text : List ℕ) (journal : List Event)
     → IsImageReply reading image second answered text journal → Ends reading answered
-image_reply_ends (Analyse ram) image second answered text journal is =
-    subst (Ends (Analyse ram)) (sym is.status_is) (analysis_ends ram (are_closed (last_works (msp430_analysis (device_of ram image)) journal)))
+image_reply_ends (Analyse task) image second answered text journal is =
+    subst (Ends (Analyse task)) (sym is.status_is) (analysis_ends task (are_closed (last_works (msp430_analysis (setting_of task.limits (device_of task.ram image))) journal)))
 image_reply_ends (Disasm target) image second answered text journal is = subst (Ends (Disasm target)) (sym is.0) (disassembled target)
 image_reply_ends (Run target steps) image second answered text journal is =
     run_reply_ends target steps (run_under target steps image) second answered text is.0
+image_reply_ends (Gen number) image second answered text journal is =
+    subst (Ends (Gen number)) (sym is.1.status_is) (summary_ends number (are_closed (last_works (msp430_analysis (setting_of usual_limits (device_of usual image))) journal)))
 
 -- an analysis alone leaves something open
-is_analysis : (reading : Reading) (answered : Status) → Ends reading answered → answered ≡ Open → (ram : Ram) × (reading ≡ Analyse ram)
-is_analysis reading answered (closed ram) e = (ram, refl)
-is_analysis reading answered (left_open ram) e = (ram, refl)
-is_analysis reading answered (disassembled target) e = absurd (cc)
-is_analysis reading answered (ran_on target steps) e = absurd (cc)
-is_analysis reading answered (went_wild target steps) e = absurd (cc)
-is_analysis reading answered (lacked_a_choice target steps) e = absurd (cc)
-is_analysis reading answered (refused_script target steps) e = absurd (cc)
-is_analysis reading answered (script_too_long target steps) e = absurd (cc)
+analyses_open : (reading : Reading) (answered : Status) → Ends reading answered → answered ≡ Open → Analyses reading
+analyses_open reading answered (closed task) e = of_input task
+analyses_open reading answered (left_open task) e = of_input task
+analyses_open reading answered (disassembled target) e = absurd (cc)
+analyses_open reading answered (ran_on target steps) e = absurd (cc)
+analyses_open reading answered (went_wild target steps) e = absurd (cc)
+analyses_open reading answered (lacked_a_choice target steps) e = absurd (cc)
+analyses_open reading answered (refused_script target steps) e = absurd (cc)
+analyses_open reading answered (script_too_long target steps) e = absurd (cc)
+analyses_open reading answered (summed number) e = of_made number
+analyses_open reading answered (summed_open number) e = of_made number
 
-open_is_analysis : (reading : Reading) (input : Option (List ℕ)) (report : List ℕ) (journal : List Event) → IsReply reading input Open report journal
-    → (ram : Ram) × (reading ≡ Analyse ram)
-open_is_analysis reading input report journal (of_image other second gives reply) =
-    is_analysis reading Open (image_reply_ends reading other second Open report journal reply) refl
-open_is_analysis reading input report journal (of_bad line fault bad is line_is none) = absurd (cc)
-open_is_analysis reading input report journal (of_long long is line_is none) = absurd (cc)
+open_reply_analyses : (reading : Reading) (input : Option (List ℕ)) (report : List ℕ) (journal : List Event) → IsReply reading input Open report journal
+    → Analyses reading
+open_reply_analyses reading input report journal (of_image other second gives reply) =
+    analyses_open reading Open (image_reply_ends reading other second Open report journal reply) refl
+open_reply_analyses reading input report journal (of_bad line fault bad is line_is none) = absurd (cc)
+open_reply_analyses reading input report journal (of_long long is line_is none) = absurd (cc)
 
-open_reply : ShowSites → HaveRules → HaveOneImage → (ram : Ram) → IsRamRange (RulesOf ram) → EndsInMemory (RulesOf ram) → (input : Option (List ℕ)) (report : List ℕ) (journal : List Event)
-    → IsReply (Analyse ram) input Open report journal → (text : List ℕ) (image : List (Option ℕ)) → input ≡ Some text
-    → Denotes (RulesOf ram) Blank (texts.lines_of text) image → ShowsOpenSites (msp430_analysis (device_of ram image)) journal report
-open_reply shows rules one ram range end input report journal (of_image other second gives reply) text image e denoted =
-    let device = device_of ram image in
-    let is = analysed one ram input second Open report journal text image other gives reply e denoted in
-    let program = program_of rules ram text image range end denoted in
-    let left = open_is (are_closed (last_works (msp430_analysis device) journal)) is.status_is in
-    subst (ShowsOpenSites (msp430_analysis device) journal) (sym is.text_is) (shows device instr_text journal program is.is_analysis.legal left)
-open_reply shows rules one ram range end input report journal (of_bad line fault bad is line_is none) text image e denoted = absurd (cc)
-open_reply shows rules one ram range end input report journal (of_long long is line_is none) text image e denoted = absurd (cc)
-
--- what an answer that is told as open says of its reading
-abbrev ShowsOpen : Reading → (input before after : Option (List ℕ)) → List Event → Type 0
-ShowsOpen reading input before after journal =
-    (ram : Ram) × (reading ≡ Analyse ram) × ReportsOn ram input before after (λ device report. ShowsOpenSites (msp430_analysis device) journal report)
-
-open_shown : ShowSites → HaveRules → HaveOneImage → (reading : Reading) (input before after : Option (List ℕ)) (journal : List Event)
-    → IsRamRange (rules_of reading) → EndsInMemory (rules_of reading) → GivesReply reading Open input before after journal → (ram : Ram) → reading ≡ Analyse ram → ShowsOpen reading input before after journal
-open_shown shows rules one reading input before after journal range end given ram is =
-    let reply : IsReply (Analyse ram) input Open given.text journal = subst (λ r. IsReply r input Open given.text journal) is given.reply in
-    (ram, is, λ text image e denoted. (given.text, given.held, open_reply shows rules one ram (subst (λ r. IsRamRange (rules_of r)) is range) (subst (λ r. EndsInMemory (rules_of r)) is end) input given.text journal reply text image e denoted))
-
-pub open_lem : ShowSites → HaveRules → HaveOneImage → (reading : Reading) (input before after : Option (List ℕ)) (journal : List Event)
-    → IsRamRange (rules_of reading) → EndsInMemory (rules_of reading) → Answers reading Open input before after journal → ShowsOpen reading input before after journal
-open_lem shows rules one reading input before after journal range end answers =
+pub open_alone_lem : (reading : Reading) (input before after : Option (List ℕ)) (journal : List Event) → Answers reading Open input before after journal → Analyses reading
+open_alone_lem reading input before after journal answers =
     let given = gives_reply reading Open input before after journal answers ((λ f. cc f), (λ f. cc f)) (λ f. cc f) in
-    let is = open_is_analysis reading input given.text journal given.reply in
-    open_shown shows rules one reading input before after journal range end given is.0 is.1
+    open_reply_analyses reading (input_of reading input) given.text journal given.reply
+
+open_reply : ShowSites → HaveRules → HaveOneImage → (task : Task) → IsRamRange (RulesOf task.ram) → EndsInMemory (RulesOf task.ram) → IsBounded (Analyse task) → (input : Option (List ℕ)) (report : List ℕ) (journal : List Event)
+    → IsReply (Analyse task) input Open report journal → (text : List ℕ) (image : List (Option ℕ)) → input ≡ Some text
+    → Denotes (RulesOf task.ram) Blank (texts.lines_of text) image → ShowsOpenSites (msp430_analysis (setting_of task.limits (device_of task.ram image))) journal report
+open_reply shows rules one task range end few input report journal (of_image other second gives reply) text image e denoted =
+    let device = device_of task.ram image in
+    let is = analysed one task input second Open report journal text image other gives reply e denoted in
+    let program = program_of rules task text image range end few denoted in
+    let left = open_is (are_closed (last_works (msp430_analysis (setting_of task.limits device)) journal)) is.status_is in
+    subst (ShowsOpenSites (msp430_analysis (setting_of task.limits device)) journal) (sym is.text_is) (shows (setting_of task.limits device) instr_text journal program is.is_analysis.legal left)
+open_reply shows rules one task range end few input report journal (of_bad line fault bad is line_is none) text image e denoted = absurd (cc)
+open_reply shows rules one task range end few input report journal (of_long long is line_is none) text image e denoted = absurd (cc)
+
+pub open_lem : ShowSites → HaveRules → HaveOneImage → (task : Task) (input before after : Option (List ℕ)) (journal : List Event)
+    → IsRamRange (RulesOf task.ram) → EndsInMemory (RulesOf task.ram) → IsBounded (Analyse task) → Answers (Analyse task) Open input before after journal →
+    ReportsOn task.ram input before after (λ device report. ShowsOpenSites (msp430_analysis (setting_of task.limits device)) journal report)
+open_lem shows rules one task input before after journal range end few answers text image e denoted =
+    let given = gives_reply (Analyse task) Open input before after journal answers ((λ f. cc f), (λ f. cc f)) (λ f. cc f) in
+    (given.text, given.held, open_reply shows rules one task range end few input given.text journal given.reply text image e denoted)
 
 abbrev HaveNotBoth : Type 0
 HaveNotBoth = (rules : Rules) (tail : Tail) (lines : List (List ℕ)) (image : List (Option ℕ)) (line : ℕ) (fault : HexFault)
@@ -280,11 +285,11 @@ reply_ends both ended stay reading answered input report journal text image seco
     (subst (λ i. IfSome i (IsTooLong (rules_of reading) (tail_of reading))) e long))
 
 pub complete_lem : HaveNotBoth → EndedStay → ImagesStay → (reading : Reading) (answered : Status) (input before after : Option (List ℕ)) (journal : List Event) (text : List ℕ)
-    (image : List (Option ℕ)) (second : List ℕ) → Answers reading answered input before after journal → input ≡ Some text
+    (image : List (Option ℕ)) (second : List ℕ) → Answers reading answered input before after journal → input_of reading input ≡ Some text
     → Gives (rules_of reading) (tail_of reading) text image second → (answered ≡ ReadFault → ⊥) → (answered ≡ WriteFault → ⊥)
     → Ends reading answered ⊎ (answered ≡ Memory)
 complete_lem both ended stay reading answered input before after journal text image second (replied reply report is (whole same held)) e gives no_read no_write =
-    inl (subst (Ends reading) (sym same) (reply_ends both ended stay reading reply input report journal text image second is e gives))
+    inl (subst (Ends reading) (sym same) (reply_ends both ended stay reading reply (input_of reading input) report journal text image second is e gives))
 complete_lem both ended stay reading answered input before after journal text image second (replied reply report is (cut fault held)) e gives no_read no_write =
     absurd (no_write fault)
 complete_lem both ended stay reading answered input before after journal text image second (unreplied (inl fault) kept none) e gives no_read no_write =

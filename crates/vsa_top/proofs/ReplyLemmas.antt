@@ -1,17 +1,37 @@
 -- The reply to a program that is analysed, put together from the book and its report.
-use Rattle.std.proofs.Common.{◌≡◌, ℕ, Bool, true, List, ap, ◌∙◌}
+use Rattle.std.proofs.Common.{◌≡◌, ◌<◌, ℕ, Bool, true, List, [], ◌∷◌, ap, arith, ◌∙◌, All}
+use Rattle.std.proofs.lemmas.List.Elements.{All-cons, All-nil}
 use Rattle.std.specs.Prelude.{◌&&◌, IfOk, Result, Ok, Err}
 use Rattle.chip_law.specs.Analysis.{Analysis}
 use Rattle.round_core.specs.declared.event.Event.{Event}
-use Rattle.round_core.specs.Machine.{replay}
+use Rattle.round_core.specs.declared.event.Event.TheVariants.{Claim, Post, GiveBack}
+use Rattle.round_core.specs.Counts.{seat_of}
+use Rattle.round_core.specs.Machine.{replay, IsFinished, IsLegalJournal}
+use Rattle.worker_rounds.specs.Turns.{AreTurns}
 use Rattle.report_text.specs.Report.{IsReportOf, are_closed, last_works, report_of}
 use Rattle.vsa_top.specs.declared.outcome.Status.{Status}
 use Rattle.vsa_top.specs.Answer.{IsAnalysed, IsAnalysis, status_of_analysis}
 
-pub analysed_by : {A : Type 0} (text_of : ℕ → List ℕ → List ℕ) (m : Analysis A) (journal : List Event) (report : List ℕ) (is_closed : Bool) (replied : Status)
-    → IsAnalysis m journal → IsReportOf text_of (replay m journal) report is_closed → replied ≡ status_of_analysis is_closed
-    → IsAnalysed text_of m replied report journal
-analysed_by text_of m journal report is_closed replied is reported told =
+-- the events of one worker alone are of seat 0
+turns_below : (journal : List Event) → AreTurns journal → All (λ event. seat_of event < 1) journal
+turns_below [] turns = All-nil (λ event. seat_of event < 1)
+turns_below (Claim seat unit ∷ Post other posted ∷ events) turns =
+    All-cons (λ event. seat_of event < 1) (Claim seat unit) (Post other posted ∷ events) (omega (arith, turns.0))
+    (All-cons (λ event. seat_of event < 1) (Post other posted) events (omega (arith, turns.1)) (turns_below events turns.3))
+turns_below (Claim seat unit ∷ []) turns = absurd turns
+turns_below (Claim seat unit ∷ Claim other taken ∷ events) turns = absurd turns
+turns_below (Claim seat unit ∷ GiveBack other taken ∷ events) turns = absurd turns
+turns_below (Post seat unit ∷ events) turns = absurd turns
+turns_below (GiveBack seat unit ∷ events) turns = absurd turns
+
+pub alone_is : {A : Type 0} (m : Analysis A) (journal : List Event) → IsLegalJournal m journal → IsFinished (replay m journal) → AreTurns journal
+    → IsAnalysis m 1 journal
+alone_is m journal legal finished turns = record { legal = legal; finished = finished; seats = turns_below journal turns; alone = λ one. turns }
+
+pub analysed_by : {A : Type 0} (text_of : ℕ → List ℕ → List ℕ) (m : Analysis A) (workers : ℕ) (journal : List Event) (report : List ℕ) (is_closed : Bool)
+    (replied : Status) → IsAnalysis m workers journal → IsReportOf text_of (replay m journal) report is_closed → replied ≡ status_of_analysis is_closed
+    → IsAnalysed text_of m workers replied report journal
+analysed_by text_of m workers journal report is_closed replied is reported told =
     let finished : reported.finished ≡ true = reported.is_finished.1 is.finished in
     let closes : is_closed ≡ are_closed (last_works m journal) = reported.says ∙ ap (λ f. f && are_closed (last_works m journal)) finished in record {
       is_analysis = is;
@@ -27,3 +47,7 @@ if_both (Err e) P Q R each p q = tt
 pub if_ok : {A E : Type 0} (r : Result A E) (P Q : A → Type 0) → ((a : A) → P a → Q a) → IfOk r P → IfOk r Q
 if_ok (Ok a) P Q each p = each a p
 if_ok (Err e) P Q each p = tt
+
+pub if_all : {A E : Type 0} (r : Result A E) (P Q R S : A → Type 0) → ((a : A) → P a → Q a → R a → S a) → IfOk r P → IfOk r Q → IfOk r R → IfOk r S
+if_all (Ok a) P Q R S each p q t = each a p q t
+if_all (Err e) P Q R S each p q t = tt

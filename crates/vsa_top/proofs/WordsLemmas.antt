@@ -1,10 +1,9 @@
 -- What the words ask: numbers of steps, options, and readings, of which there is at most one.
 use Rattle.std.proofs.lemmas.Bool.Decides.{nat_tests}
 use Rattle.std.proofs.lemmas.Bool.{cond_both}
-use Rattle.std.proofs.Common.{◌≡◌, ◌&&◌, cond, nat_le, drop, ℕ, ◌+◌, ◌-◌, ◌*◌, ◌<◌, ◌≤◌, List, [], ◌∷◌, Option, None, Some, refl, sym, ◌∙◌, ap, ap₂, subst, arith, All}
-use Rattle.std.proofs.lemmas.List.{length-map}
+use Rattle.std.proofs.Common.{◌≡◌, ◌&&◌, cond, nat_le, drop, slice_index, ℕ, ◌+◌, ◌-◌, ◌*◌, ◌<◌, ◌≤◌, List, [], ◌∷◌, Option, None, Some, refl, sym, ◌∙◌, ap, ap₂, subst, arith, All}
 use Rattle.std.proofs.lemmas.List.Elements.{All-cons, All-tail}
-use Rattle.std.specs.Prelude.{IfNone, IfSome, length, MatchOption, map, codes, string_bytes}
+use Rattle.std.specs.Prelude.{IfNone, IfSome, MatchOption, map, option_map, codes, string_bytes}
 use Rattle.std.specs.List.{IsFirstAndRest}
 use Rattle.std.specs.declared.string.String.{String}
 use Rattle.std.specs.declared.alloc.Global.{Global}
@@ -20,9 +19,11 @@ use Rattle.vsa_top.specs.declared.words.Options.{Options}
 use Rattle.vsa_top.specs.declared.words.Ram.{Ram}
 use Rattle.vsa_top.specs.declared.words.Reading.{Reading}
 use Rattle.vsa_top.specs.declared.words.Target.{Target}
-use Rattle.vsa_top.specs.declared.words.Target.TheVariants.{Msp430, Mcs51}
-use Rattle.vsa_top.specs.Words.{Adds, EndsInMemory, IsDigit, IsNumberBehind, IsRange, IsSteps, Reads, Say, asked, chip_word, number_behind, number_from, number_of, mode_word, reading_by, reading_with, target_by, target_rules, with_range, with_number, or_else, rules_of, usual}
-use Rattle.vsa_top.specs.Words.Adds.{ranged, stepped}
+use Rattle.clap.specs.Words.{first_value, matches_of, rows_of}
+use Rattle.clap.specs.declared.parser.matches.Found.{Found}
+use Rattle.vsa_top.specs.Command.{AreTaken, command, given}
+use Rattle.vsa_top.proofs.CommandLemmas.{given_is}
+use Rattle.vsa_top.specs.Words.{EndsInMemory, IsDigit, IsNumberBehind, IsRange, IsNumber, IsNumberIn, IsSaid, Reads, Say, asked, analysis_of, chip_word, disassembly_of, making_of, number_behind, number_from, number_of, mode_word, reading_with, run_by, untasked, unsaid, IsBounded, target_by, target_rules, or_else, rules_of, usual}
 
 -- NUMBERS
 
@@ -65,147 +66,103 @@ one_range : (text : List ℕ) (ram other : Ram) → IsRange text ram → IsRange
 one_range text ram other is also =
     same_ram ram other (one_some ram.lo other.lo (sym is.first ∙ also.first)) (one_some ram.hi other.hi (sym is.last ∙ also.last))
 
-one_number : (text : List ℕ) (steps other : ℕ) → IsSteps text steps → IsSteps text other → steps ≡ other
-one_number text steps other is also = is.number.value ∙ sym also.number.value
+one_number : (text : List ℕ) (number other : ℕ) → IsNumber text number → IsNumber text other → number ≡ other
+one_number text number other is also = is.is.value ∙ sym also.is.value
 
-one_addition : (option text : List ℕ) (behind a b : Options) → Adds option text behind a → Adds option text behind b → a ≡ b
-one_addition option text behind _ _ (ranged ram name none range) (ranged other name2 none2 range2) =
-    ap (λ (r : Ram). let said : Options = record { ram = Some r; steps = behind.steps } in said) (one_range text ram other range range2)
-one_addition option text behind _ _ (ranged ram name none range) (stepped steps name2 none2 number) = absurd (cc (sym name ∙ name2))
-one_addition option text behind _ _ (stepped steps name none number) (ranged ram name2 none2 range) = absurd (cc (sym name ∙ name2))
-one_addition option text behind _ _ (stepped steps name none number) (stepped other name2 none2 number2) =
-    ap (λ (n : ℕ). let said : Options = record { ram = behind.ram; steps = Some n } in said) (one_number text steps other number number2)
+-- a number that isn't between two others
+pub outside : (least most : ℕ) (text : List ℕ) (number : ℕ) → IsNumber text number → (least ≤ number → number ≤ most → ⊥)
+    → (other : ℕ) → IsNumberIn least most text other → ⊥
+outside least most text number is refused other also =
+    let same : other ≡ number = one_number text other number also.is is in
+    refused (subst (λ n. least ≤ n) same also.no_less) (subst (λ n. n ≤ most) same also.no_more)
 
--- the words say one thing
-pub say_one : (words : List (List ℕ)) (a b : Options) → Say words a → Say words b → a ≡ b
-say_one [] a b said also = said ∙ sym also
-say_one (option ∷ []) a b said also = elim said [ ]
-say_one (option ∷ text ∷ words) a b said also =
-    let same : said.0 ≡ also.0 = say_one words said.0 also.0 said.1 also.1 in
-    one_addition option text also.0 a b (subst (λ behind. Adds option text behind a) same said.2) also.2
+one_within : (least most : ℕ) (text : List ℕ) (number other : ℕ) → IsNumberIn least most text number → IsNumberIn least most text other → number ≡ other
+one_within least most text number other is also = one_number text number other is.is also.is
 
-abbrev pub Texts : List (String Global) → List (List ℕ)
-Texts words = map string_bytes words
+-- an option says one thing, where its text does
+one_said : {A : Type 0} (reads : List ℕ → A → Type 0) → ((text : List ℕ) (a b : A) → reads text a → reads text b → a ≡ b)
+    → (text : Option (List ℕ)) (a b : Option A) → IsSaid reads text a → IsSaid reads text b → a ≡ b
+one_said reads one None None None is also = refl
+one_said reads one (Some text) (Some a) (Some b) is also = ap Some (one text a b is also)
+one_said reads one None None (Some b) is also = absurd also
+one_said reads one None (Some a) b is also = absurd is
+one_said reads one (Some text) None b is also = absurd is
+one_said reads one (Some text) (Some a) None is also = absurd also
 
--- two words in front of others
-pub two_texts : (words behind rest : List (String Global)) (option text : String Global) → IsFirstAndRest words option behind → IsFirstAndRest behind text rest
-    → Texts words ≡ string_bytes option ∷ string_bytes text ∷ Texts rest
-two_texts words behind rest option text first second = ap (map string_bytes) (first.0 ∙ ap (λ xs. option ∷ xs) second.0)
+pub say_one : (text_of : List ℕ → Option (List ℕ)) (a b : Options) → Say text_of a → Say text_of b → a ≡ b
+say_one text_of a b said also =
+    let rams : a.ram ≡ b.ram = one_said IsRange one_range (text_of (codes "ram")) a.ram b.ram said.ranged also.ranged in
+    let number : (least most : ℕ) (id : List ℕ) (m n : Option ℕ) → IsSaid (IsNumberIn least most) (text_of id) m → IsSaid (IsNumberIn least most) (text_of id) n → m ≡ n
+    = λ least most id m n. one_said (IsNumberIn least most) (one_within least most) (text_of id) m n in
+    let calls : a.calls ≡ b.calls = number 0 8 (codes "calls") a.calls b.calls said.called also.called in
+    let targets : a.targets ≡ b.targets = number 1 256 (codes "targets") a.targets b.targets said.aimed also.aimed in
+    let workers : a.workers ≡ b.workers = number 1 16 (codes "workers") a.workers b.workers said.shared also.shared in
+    let steps : a.steps ≡ b.steps = number 0 1000000 (codes "steps") a.steps b.steps said.stepped also.stepped in
+    let numbers : a.number ≡ b.number = number 1 2000 (codes "number") a.number b.number said.counted also.counted in
+    let options : (r : Option Ram) (c t w s n : Option ℕ) → Options
+    = λ r c t w s n. record { ram = r; calls = c; targets = t; workers = w; steps = s; number = n } in
+    ap₂ (λ (r : Option Ram) (c : Option ℕ). options r c a.targets a.workers a.steps a.number) rams calls
+    ∙ ap₂ (λ (t w : Option ℕ). options b.ram b.calls t w a.steps a.number) targets workers
+    ∙ ap₂ (λ (s n : Option ℕ). options b.ram b.calls b.targets b.workers s n) steps numbers
 
-abbrev pub IsSaid : Option Options → List (List ℕ) → Type 0
-IsSaid found words = MatchOption found ((options : Options) → Say words options → ⊥) (Say words)
+-- the same texts say the same
+pub say_like : (f g : List ℕ → Option (List ℕ)) → ((id : List ℕ) → f id ≡ g id) → (o : Options) → Say f o → Say g o
+say_like f g like o said = record {
+  ranged = subst (λ t. IsSaid IsRange t o.ram) (like (codes "ram")) said.ranged;
+  called = subst (λ t. IsSaid (IsNumberIn 0 8) t o.calls) (like (codes "calls")) said.called;
+  aimed = subst (λ t. IsSaid (IsNumberIn 1 256) t o.targets) (like (codes "targets")) said.aimed;
+  shared = subst (λ t. IsSaid (IsNumberIn 1 16) t o.workers) (like (codes "workers")) said.shared;
+  stepped = subst (λ t. IsSaid (IsNumberIn 0 1000000) t o.steps) (like (codes "steps")) said.stepped;
+  counted = subst (λ t. IsSaid (IsNumberIn 1 2000) t o.number) (like (codes "number")) said.counted;
+}
 
-abbrev pub SayNone : List (List ℕ) → Type 0
-SayNone words = (options : Options) → Say words options → ⊥
+-- what an option says by what its text says
+pub said_by : {A : Type 0} (reads : List ℕ → A → Type 0) (text : List ℕ) (found : Option A)
+    → MatchOption found ((a : A) → reads text a → ⊥) (reads text)
+    → MatchOption (option_map Some found) ((said : Option A) → IsSaid reads (Some text) said → ⊥) (IsSaid reads (Some text))
+said_by {A} reads text None none = go
+  where
+    go : (said : Option A) → IsSaid reads (Some text) said → ⊥
+    go None is = is
+    go (Some a) is = none a is
+said_by reads text (Some a) is = is
 
--- where the words behind say nothing
-pub none_behind : (words rest : List (List ℕ)) (option text : List ℕ) → words ≡ option ∷ text ∷ rest → SayNone rest → SayNone words
-none_behind words rest option text two none =
-    let there : SayNone (option ∷ text ∷ rest) = λ options said. none said.0 said.1 in subst SayNone (sym two) there
+abbrev pub IsSaidBy : (text_of : List ℕ → Option (List ℕ)) → Option Options → Type 0
+IsSaidBy text_of found = MatchOption found ((options : Options) → Say text_of options → ⊥) (Say text_of)
 
--- how many words an option takes
-abbrev words_of : {A : Type 0} → Option A → ℕ
-words_of None = 0
-words_of (Some said) = 2
-
-few_words : {A : Type 0} (said : Option A) → words_of said ≤ 2
-few_words None = omega arith
-few_words (Some said) = omega arith
-
-two_more : (option text : List ℕ) (behind options : Options) → Adds option text behind options
-    → words_of options.ram + words_of options.steps ≡ words_of behind.ram + words_of behind.steps + 2
-two_more option text behind _ (ranged ram name none range) = let h : words_of behind.ram ≡ 0 = ap words_of none in omega (arith, h)
-two_more option text behind _ (stepped steps name none number) = let h : words_of behind.steps ≡ 0 = ap words_of none in omega (arith, h)
-
--- each option takes two words
-words_said : (words : List (List ℕ)) (options : Options) → Say words options → length words ≡ words_of options.ram + words_of options.steps
-words_said [] options said = subst (λ (o : Options). 0 ≡ words_of o.ram + words_of o.steps) (sym said) refl
-words_said (option ∷ []) options said = elim said [ ]
-words_said (option ∷ text ∷ words) options said =
-    let behind = words_said words said.0 said.1 in let more = two_more option text said.0 options said.2 in omega (arith, behind, more)
-
--- more words than two options take
-pub too_many : (words : List (String Global)) → 4 < length words → SayNone (Texts words)
-too_many words many = λ options said.
-    let same = words_said (Texts words) options said in
-    omega (arith, many, same, length-map words string_bytes, few_words options.ram, few_words options.steps)
-
-adds_none : (option text : List ℕ) (behind options : Options) → (option ≡ codes "--ram" → ⊥) → (option ≡ codes "--steps" → ⊥)
-    → Adds option text behind options → ⊥
-adds_none option text behind _ no_ram no_steps (ranged ram name none range) = no_ram name
-adds_none option text behind _ no_ram no_steps (stepped steps name none number) = no_steps name
-
--- an option that is none
-pub no_option : (words rest : List (List ℕ)) (option text : List ℕ) → words ≡ option ∷ text ∷ rest
-    → (option ≡ codes "--ram" → ⊥) → (option ≡ codes "--steps" → ⊥) → SayNone words
-no_option words rest option text two no_ram no_steps =
-    let there : SayNone (option ∷ text ∷ rest) = λ options said. adds_none option text said.0 options no_ram no_steps said.2 in
-    subst SayNone (sym two) there
-
-adds_range : (option text : List ℕ) (behind options : Options) → option ≡ codes "--ram" → Adds option text behind options
-    → (behind.ram ≡ None) × (ram : Ram) × IsRange text ram
-adds_range option text behind _ is (ranged ram name none range) = (none, ram, range)
-adds_range option text behind _ is (stepped steps name none number) = absurd (cc (sym is ∙ name))
-
-adds_number : (option text : List ℕ) (behind options : Options) → option ≡ codes "--steps" → Adds option text behind options
-    → (behind.steps ≡ None) × (steps : ℕ) × IsSteps text steps
-adds_number option text behind _ is (ranged ram name none range) = absurd (cc (sym is ∙ name))
-adds_number option text behind _ is (stepped steps name none number) = (none, steps, number)
-
--- what `--ram` adds
-ram_added : (rest : List (List ℕ)) (option text : List ℕ) (held : Option Ram) (steps : Option ℕ) (ram : Option Ram) → option ≡ codes "--ram"
-    → Say rest (record { ram = held; steps = steps }) → MatchOption ram ((r : Ram) → IsRange text r → ⊥) (IsRange text)
-    → IsSaid (with_range (record { ram = held; steps = steps }) ram) (option ∷ text ∷ rest)
-ram_added rest option text held steps None name said none = λ options also.
-    let adds = adds_range option text also.0 options name also.2 in none adds.1 adds.2
-ram_added rest option text None steps (Some ram) name said range = (record { ram = None; steps = steps }, said, ranged ram name refl range)
-ram_added rest option text (Some held) steps (Some ram) name said range = λ options also.
-    let adds = adds_range option text also.0 options name also.2 in
-    let same = say_one rest also.0 (record { ram = Some held; steps = steps }) also.1 said in
-    absurd (cc (sym adds.0 ∙ ap (λ (o : Options). o.ram) same))
-
--- what `--steps` adds
-steps_added : (rest : List (List ℕ)) (option text : List ℕ) (ram : Option Ram) (held : Option ℕ) (steps : Option ℕ) → option ≡ codes "--steps"
-    → Say rest (record { ram = ram; steps = held }) → MatchOption steps ((n : ℕ) → IsSteps text n → ⊥) (IsSteps text)
-    → IsSaid (with_number (record { ram = ram; steps = held }) steps) (option ∷ text ∷ rest)
-steps_added rest option text ram held None name said none = λ options also.
-    let adds = adds_number option text also.0 options name also.2 in none adds.1 adds.2
-steps_added rest option text ram None (Some steps) name said number = (record { ram = ram; steps = None }, said, stepped steps name refl number)
-steps_added rest option text ram (Some held) (Some steps) name said number = λ options also.
-    let adds = adds_number option text also.0 options name also.2 in
-    let same = say_one rest also.0 (record { ram = ram; steps = Some held }) also.1 said in
-    absurd (cc (sym adds.0 ∙ ap (λ (o : Options). o.steps) same))
-
-pub ram_said : (words rest : List (List ℕ)) (option text bytes : List ℕ) (behind : Options) (ram : Option Ram) (found : Option Options)
-    → words ≡ option ∷ text ∷ rest → option ≡ codes "--ram" → bytes ≡ text → Say rest behind
-    → MatchOption ram ((r : Ram) → IsRange bytes r → ⊥) (IsRange bytes) → found ≡ with_range behind ram → IsSaid found words
-ram_said words rest option text bytes behind ram found two name is said range same =
-    let own = subst (λ t. MatchOption ram ((r : Ram) → IsRange t r → ⊥) (IsRange t)) is range in
-    subst (IsSaid found) (sym two) (subst (λ f. IsSaid f (option ∷ text ∷ rest)) (sym same) (ram_added rest option text behind.ram behind.steps ram name said own))
-
-pub steps_said : (words rest : List (List ℕ)) (option text bytes : List ℕ) (behind : Options) (steps : Option ℕ) (found : Option Options)
-    → words ≡ option ∷ text ∷ rest → option ≡ codes "--steps" → bytes ≡ text → Say rest behind
-    → MatchOption steps ((n : ℕ) → IsSteps bytes n → ⊥) (IsSteps bytes) → found ≡ with_number behind steps → IsSaid found words
-steps_said words rest option text bytes behind steps found two name is said number same =
-    let own = subst (λ t. MatchOption steps ((n : ℕ) → IsSteps t n → ⊥) (IsSteps t)) is number in
-    subst (IsSaid found) (sym two) (subst (λ f. IsSaid f (option ∷ text ∷ rest)) (sym same) (steps_added rest option text behind.ram behind.steps steps name said own))
-
-pub said_nothing : (words : List (String Global)) → length words ≡ 0 → Say (Texts words) (record { ram = None; steps = None })
-said_nothing [] none = refl
-said_nothing (word ∷ words) none = absurd (omega arith)
+said_like : (f g : List ℕ → Option (List ℕ)) → ((id : List ℕ) → f id ≡ g id) → (found : Option Options) → IsSaidBy f found → IsSaidBy g found
+said_like f g like None none = λ options said. none options (say_like g f (λ id. sym (like id)) options said)
+said_like f g like (Some options) said = say_like f g like options said
 
 -- READINGS
 
+first_letter : (a b : List ℕ) → a ≡ b → slice_index a 0 ≡ slice_index b 0
+first_letter a b h = ap (λ (t : List ℕ). slice_index t 0) h
+
+apart : (a b : ℕ) → a ≡ b → a ≡ 114 → b ≡ 103 → ⊥
+apart a b same r g = omega arith
+
+run_or_gen : mode_word mode.Run ≡ mode_word mode.Gen → ⊥
+run_or_gen h =
+    apart (slice_index (mode_word mode.Run) 0) (slice_index (mode_word mode.Gen) 0) (first_letter (mode_word mode.Run) (mode_word mode.Gen) h) refl refl
+
 one_mode : (a b : Mode) → mode_word a ≡ mode_word b → a ≡ b
 one_mode mode.Analyse mode.Analyse h = refl
-one_mode mode.Disasm mode.Disasm h = refl
-one_mode mode.Run mode.Run h = refl
 one_mode mode.Analyse mode.Disasm h = absurd (cc h)
 one_mode mode.Analyse mode.Run h = absurd (cc h)
+one_mode mode.Analyse mode.Gen h = absurd (cc h)
 one_mode mode.Disasm mode.Analyse h = absurd (cc h)
+one_mode mode.Disasm mode.Disasm h = refl
 one_mode mode.Disasm mode.Run h = absurd (cc h)
+one_mode mode.Disasm mode.Gen h = absurd (cc h)
 one_mode mode.Run mode.Analyse h = absurd (cc h)
 one_mode mode.Run mode.Disasm h = absurd (cc h)
+one_mode mode.Run mode.Run h = refl
+one_mode mode.Run mode.Gen h = absurd (run_or_gen h)
+one_mode mode.Gen mode.Analyse h = absurd (cc h)
+one_mode mode.Gen mode.Disasm h = absurd (cc h)
+one_mode mode.Gen mode.Run h = absurd (run_or_gen (sym h))
+one_mode mode.Gen mode.Gen h = refl
 
 one_chip : (a b : Chip) → chip_word a ≡ chip_word b → a ≡ b
 one_chip chip.Msp430 chip.Msp430 h = refl
@@ -213,74 +170,67 @@ one_chip chip.Mcs51 chip.Mcs51 h = refl
 one_chip chip.Msp430 chip.Mcs51 h = absurd (cc h)
 one_chip chip.Mcs51 chip.Msp430 h = absurd (cc h)
 
-abbrev pub IsModeOf : List ℕ → Option Mode → Type 0
-IsModeOf word found = MatchOption found ((mode : Mode) → word ≡ mode_word mode → ⊥) (λ mode. word ≡ mode_word mode)
+abbrev pub IsModeOf : Option (List ℕ) → Option Mode → Type 0
+IsModeOf text found = MatchOption found ((mode : Mode) → text ≡ Some (mode_word mode) → ⊥) (λ mode. text ≡ Some (mode_word mode))
 
-abbrev pub IsChipOf : List ℕ → Option Chip → Type 0
-IsChipOf word found = MatchOption found ((chip : Chip) → word ≡ chip_word chip → ⊥) (λ chip. word ≡ chip_word chip)
+abbrev pub IsChipOf : Option (List ℕ) → Option Chip → Type 0
+IsChipOf text found = MatchOption found ((chip : Chip) → text ≡ Some (chip_word chip) → ⊥) (λ chip. text ≡ Some (chip_word chip))
 
-first_word : (a b : List ℕ) (c d : List ℕ) (xs ys : List (List ℕ)) → a ∷ c ∷ xs ≡ b ∷ d ∷ ys → a ≡ b
-first_word a b c d xs ys h = cc h
+abbrev pub Texts : List (String Global) → List (List ℕ)
+Texts words = map string_bytes words
 
-second_word : (a b : List ℕ) (c d : List ℕ) (xs ys : List (List ℕ)) → a ∷ c ∷ xs ≡ b ∷ d ∷ ys → c ≡ d
-second_word a b c d xs ys h = cc h
+-- what was found of the words that the command takes
+pub record IsFound (words : List (String Global)) (mode : Option Mode) (chip : Option Chip) (options : Option Options) : Type 0 where
+  pub taken : AreTaken (Texts words)
+  pub mode_is : IsModeOf (given (Texts words) (codes "mode")) mode
+  pub chip_is : IsChipOf (given (Texts words) (codes "chip")) chip
+  pub said : IsSaidBy (given (Texts words)) options
 
-other_words : (a b : List ℕ) (c d : List ℕ) (xs ys : List (List ℕ)) → a ∷ c ∷ xs ≡ b ∷ d ∷ ys → xs ≡ ys
-other_words a b c d xs ys h = cc h
-
--- what a reading of these words has: its mode and its chip, and what is said
-record Parts (first second : List ℕ) (rest : List (List ℕ)) (reading : Reading) : Type 0 where
-  mode : Mode
-  chip : Chip
-  options : Options
-  mode_is : first ≡ mode_word mode
-  chip_is : second ≡ chip_word chip
-  said : Say rest options
-  is : asked mode chip options ≡ Some reading
-
-parts_of : (words : List (String Global)) (first second : List ℕ) (rest : List (List ℕ)) (reading : Reading) → Texts words ≡ first ∷ second ∷ rest
-    → Reads words reading → Parts first second rest reading
-parts_of words first second rest reading two reads =
-    let same = sym two ∙ reads.whole in record {
-      mode = reads.mode;
-      chip = reads.chip;
-      options = reads.options;
-      mode_is = first_word first (mode_word reads.mode) second (chip_word reads.chip) rest reads.said same;
-      chip_is = second_word first (mode_word reads.mode) second (chip_word reads.chip) rest reads.said same;
-      said = subst (λ ws. Say ws reads.options) (sym (other_words first (mode_word reads.mode) second (chip_word reads.chip) rest reads.said same)) reads.say;
-      is = reads.is;
+-- what the texts say that the command gives
+pub found_by : (words : List (String Global)) (f : Found) (first second : Option (List ℕ)) (mode : Option Mode) (chip : Option Chip)
+    (options : Option Options) → AreTaken (Texts words) × (rows_of f ≡ matches_of command (Texts words))
+    → first ≡ first_value f (codes "mode") → second ≡ first_value f (codes "chip")
+    → IsModeOf first mode → IsChipOf second chip → IsSaidBy (first_value f) options → IsFound words mode chip options
+found_by words f first second mode chip options matched is named mode_is chip_is said =
+    let text : (id : List ℕ) (t : Option (List ℕ)) → t ≡ first_value f id → t ≡ given (Texts words) id = given_is (Texts words) f matched.1 in record {
+      taken = matched.0;
+      mode_is = subst (λ t. IsModeOf t mode) (text (codes "mode") first is) mode_is;
+      chip_is = subst (λ t. IsChipOf t chip) (text (codes "chip") second named) chip_is;
+      said = said_like (first_value f) (given (Texts words)) (λ id. text id (first_value f id) refl) options said;
     }
 
-with_words : (words : List (String Global)) (first second : List ℕ) (mode : Mode) (chip : Chip) (rest : List (List ℕ)) → Texts words ≡ first ∷ second ∷ rest
-    → first ≡ mode_word mode → second ≡ chip_word chip → Texts words ≡ mode_word mode ∷ chip_word chip ∷ rest
-with_words words first second mode chip rest two is named = two ∙ ap₂ (λ (a b : List ℕ). a ∷ b ∷ rest) is named
+found_reads : (words : List (String Global)) (mode : Mode) (chip : Chip) (options : Options) (reading : Option Reading)
+    → IsFound words (Some mode) (Some chip) (Some options) → reading ≡ asked mode chip options → IfSome reading (Reads words)
+found_reads words mode chip options None found same = tt
+found_reads words mode chip options (Some reading) found same = record {
+  taken = found.taken;
+  mode = mode;
+  chip = chip;
+  options = options;
+  mode_is = found.mode_is;
+  chip_is = found.chip_is;
+  say = found.said;
+  is = sym same;
+}
 
-found_reads : (words : List (String Global)) (mode : Mode) (chip : Chip) (rest : List (List ℕ)) (options : Options) (found : Option Reading)
-    → Texts words ≡ mode_word mode ∷ chip_word chip ∷ rest → Say rest options → found ≡ asked mode chip options → IfSome found (Reads words)
-found_reads words mode chip rest options None whole said same = tt
-found_reads words mode chip rest options (Some reading) whole said same =
-    record { mode = mode; chip = chip; said = rest; options = options; whole = whole; say = said; is = sym same }
-
-pub reads_found : (words : List (String Global)) (first second : List ℕ) (rest : List (List ℕ)) (mode : Option Mode) (chip : Option Chip) (options : Option Options)
-    (found : Option Reading) → Texts words ≡ first ∷ second ∷ rest → IsModeOf first mode → IsChipOf second chip → IsSaid options rest
-    → found ≡ reading_with mode chip options → IfSome found (Reads words)
-reads_found words first second rest None chip options found two is named said same = rw same tt
-reads_found words first second rest (Some mode) None options found two is named said same = rw same tt
-reads_found words first second rest (Some mode) (Some chip) None found two is named said same = rw same tt
-reads_found words first second rest (Some mode) (Some chip) (Some options) found two is named said same =
-    found_reads words mode chip rest options found (with_words words first second mode chip rest two is named) said same
+pub reads_found : (words : List (String Global)) (mode : Option Mode) (chip : Option Chip) (options : Option Options) (reading : Option Reading)
+    → IsFound words mode chip options → reading ≡ reading_with mode chip options → IfSome reading (Reads words)
+reads_found words None chip options reading found same = rw same tt
+reads_found words (Some mode) None options reading found same = rw same tt
+reads_found words (Some mode) (Some chip) None reading found same = rw same tt
+reads_found words (Some mode) (Some chip) (Some options) reading found same = found_reads words mode chip options reading found same
 
 -- the one reading that there may be
-asked_alone : (mode : Mode) (chip : Chip) (options : Options) (first second : List ℕ) (rest : List (List ℕ)) (other : Reading)
-    → first ≡ mode_word mode → second ≡ chip_word chip → Say rest options → Parts first second rest other → asked mode chip options ≡ Some other
-asked_alone mode chip options first second rest other is named said parts =
-    let modes : mode ≡ parts.mode = one_mode mode parts.mode (sym is ∙ parts.mode_is) in
-    let chips : chip ≡ parts.chip = one_chip chip parts.chip (sym named ∙ parts.chip_is) in
-    let same : options ≡ parts.options = say_one rest options parts.options said parts.said in
-    ap₂ (λ (m : Mode) (c : Chip). asked m c options) modes chips ∙ ap (asked parts.mode parts.chip) same ∙ parts.is
+asked_alone : (words : List (String Global)) (mode : Mode) (chip : Chip) (options : Options) (other : Reading)
+    → IsFound words (Some mode) (Some chip) (Some options) → Reads words other → asked mode chip options ≡ Some other
+asked_alone words mode chip options other found reads =
+    let modes : mode ≡ reads.mode = one_mode mode reads.mode (one_some (mode_word mode) (mode_word reads.mode) (sym found.mode_is ∙ reads.mode_is)) in
+    let chips : chip ≡ reads.chip = one_chip chip reads.chip (one_some (chip_word chip) (chip_word reads.chip) (sym found.chip_is ∙ reads.chip_is)) in
+    let same : options ≡ reads.options = say_one (given (Texts words)) options reads.options found.said reads.say in
+    ap₂ (λ (m : Mode) (c : Chip). asked m c options) modes chips ∙ ap (asked reads.mode reads.chip) same ∙ reads.is
 
 -- no other reading is there than the one that was found
-abbrev IsAlone : List (String Global) → Option Reading → Type 0
+abbrev pub IsAlone : List (String Global) → Option Reading → Type 0
 IsAlone words found =
     IfSome found (λ reading. (other : Reading) → Reads words other → other ≡ reading) × IfNone found ((reading : Reading) → Reads words reading → ⊥)
 
@@ -288,18 +238,16 @@ alone_by : (words : List (String Global)) (found : Option Reading) → ((other :
 alone_by words None only = (tt, λ reading reads. absurd (cc (only reading reads)))
 alone_by words (Some reading) only = (λ other reads. one_some other reading (sym (only other reads)), tt)
 
-pub reads_alone : (words : List (String Global)) (first second : List ℕ) (rest : List (List ℕ)) (mode : Option Mode) (chip : Option Chip) (options : Option Options)
-    (found : Option Reading) → Texts words ≡ first ∷ second ∷ rest → IsModeOf first mode → IsChipOf second chip → IsSaid options rest
-    → found ≡ reading_with mode chip options → IsAlone words found
-reads_alone words first second rest None chip options found two is named said same =
-    rw same (tt, λ reading reads. let parts = parts_of words first second rest reading two reads in is parts.mode parts.mode_is)
-reads_alone words first second rest (Some mode) None options found two is named said same =
-    rw same (tt, λ reading reads. let parts = parts_of words first second rest reading two reads in named parts.chip parts.chip_is)
-reads_alone words first second rest (Some mode) (Some chip) None found two is named said same =
-    rw same (tt, λ reading reads. let parts = parts_of words first second rest reading two reads in said parts.options parts.said)
-reads_alone words first second rest (Some mode) (Some chip) (Some options) found two is named said same =
-    alone_by words found
-    (λ other reads. same ∙ asked_alone mode chip options first second rest other is named said (parts_of words first second rest other two reads))
+pub reads_alone : (words : List (String Global)) (mode : Option Mode) (chip : Option Chip) (options : Option Options) (reading : Option Reading)
+    → IsFound words mode chip options → reading ≡ reading_with mode chip options → IsAlone words reading
+reads_alone words None chip options reading found same =
+    rw same (tt, λ reading reads. found.mode_is reads.mode reads.mode_is)
+reads_alone words (Some mode) None options reading found same =
+    rw same (tt, λ reading reads. found.chip_is reads.chip reads.chip_is)
+reads_alone words (Some mode) (Some chip) None reading found same =
+    rw same (tt, λ reading reads. found.said reads.options reads.say)
+reads_alone words (Some mode) (Some chip) (Some options) reading found same =
+    alone_by words reading (λ other reads. same ∙ asked_alone words mode chip options other found reads)
 
 -- RAM stands where it may
 abbrev IsRam : Rules → Type 0
@@ -333,14 +281,10 @@ number_below (a ∷ b ∷ c ∷ []) = tt
 number_below (a ∷ b ∷ c ∷ d ∷ []) = four_below (hex_digit_value a) (hex_digit_value b) (hex_digit_value c) (hex_digit_value d) (digit_below a) (digit_below b) (digit_below c) (digit_below d)
 number_below (a ∷ b ∷ c ∷ d ∷ e ∷ digits) = tt
 
-range_added : (option text : List ℕ) (behind options : Options) → RangeOf behind.ram → Adds option text behind options → RangeOf options.ram
-range_added option text behind _ held (ranged ram name none range) = (range.allowed, subst (λ o. IfSome o (λ n. n < 65536)) range.last (number_below (drop 5 text)))
-range_added option text behind _ held (stepped steps name none number) = held
-
-range_said : (words : List (List ℕ)) (options : Options) → Say words options → RangeOf options.ram
-range_said [] options said = subst (λ (o : Options). RangeOf o.ram) (sym said) tt
-range_said (option ∷ []) options said = elim said [ ]
-range_said (option ∷ text ∷ words) options said = range_added option text said.0 options (range_said words said.0 said.1) said.2
+range_said : (text : Option (List ℕ)) (ram : Option Ram) → IsSaid IsRange text ram → RangeOf ram
+range_said text None said = tt
+range_said None (Some ram) said = absurd said
+range_said (Some text) (Some ram) said = (said.allowed, subst (λ o. IfSome o (λ n. n < 65536)) said.last (number_below (drop 5 text)))
 
 range_or_usual : (held : Option Ram) → RangeOf held → IsRam (rules.Msp430 (or_else held usual).lo (or_else held usual).hi)
 range_or_usual None held = ((refl, refl, omega arith, omega arith), omega arith)
@@ -355,25 +299,97 @@ target_range chip.Msp430 ram held = range_or_usual ram held
 target_range chip.Mcs51 None held = (tt, tt)
 target_range chip.Mcs51 (Some ram) held = tt
 
-reading_range : (mode : Mode) (target : Option Target) (steps : Option ℕ) → RangeIn target
-    → IfSome (reading_by mode target steps) (λ reading. IsRam (rules_of reading))
-reading_range mode None steps held = tt
-reading_range mode.Analyse (Some (Msp430 ram)) None held = held
-reading_range mode.Analyse (Some (Msp430 ram)) (Some steps) held = tt
-reading_range mode.Analyse (Some Mcs51) steps held = tt
-reading_range mode.Disasm (Some target) None held = held
-reading_range mode.Disasm (Some target) (Some steps) held = tt
-reading_range mode.Run (Some target) steps held = held
+abbrev RangeOfReading : Option Reading → Type 0
+RangeOfReading found = IfSome found (λ reading. IsRam (rules_of reading) × IsBounded reading)
 
-pub reads_range : (words : List (String Global)) (reading : Reading) → Reads words reading → IsRam (rules_of reading)
+unsaid_range : {A : Type 0} (said : Option A) (found : Option Reading) → RangeOfReading found → RangeOfReading (unsaid said found)
+unsaid_range None found held = held
+unsaid_range (Some said) found held = tt
+
+untasked_range : (o : Options) (found : Option Reading) → RangeOfReading found → RangeOfReading (untasked o found)
+untasked_range o found held = unsaid_range o.calls _ (unsaid_range o.targets _ (unsaid_range o.workers found held))
+
+abbrev CallsOf : Option ℕ → Type 0
+CallsOf calls = IfSome calls (λ n. n ≤ 8)
+
+few_or_usual : (calls : Option ℕ) → CallsOf calls → or_else calls 6 ≤ 8
+few_or_usual None few = omega arith
+few_or_usual (Some calls) few = few
+
+abbrev WorkersOf : Option ℕ → Type 0
+WorkersOf workers = IfSome workers (λ n. (1 ≤ n) × (n ≤ 16))
+
+some_or_one : (workers : Option ℕ) → WorkersOf workers → (1 ≤ or_else workers 1) × (or_else workers 1 ≤ 16)
+some_or_one None some = (omega arith, omega arith)
+some_or_one (Some workers) some = some
+
+analysis_range : (chip : Chip) (o : Options) → RangeOf o.ram → CallsOf o.calls → WorkersOf o.workers → RangeOfReading (analysis_of chip o)
+analysis_range chip.Msp430 o held few some = (range_or_usual o.ram held, (few_or_usual o.calls few, (some_or_one o.workers some).0, (some_or_one o.workers some).1))
+analysis_range chip.Mcs51 o held few some = tt
+
+disassembly_range : (target : Option Target) → RangeIn target → RangeOfReading (disassembly_of target)
+disassembly_range None held = tt
+disassembly_range (Some target) held = (held, tt)
+
+run_range : (target : Option Target) (steps : Option ℕ) → RangeIn target → RangeOfReading (run_by target steps)
+run_range None steps held = tt
+run_range (Some target) steps held = (held, tt)
+
+abbrev CountOf : Option ℕ → Type 0
+CountOf number = IfSome number (λ n. (1 ≤ n) × (n ≤ 2000))
+
+making_range : (chip : Chip) (number : Option ℕ) → CountOf number → RangeOfReading (making_of chip number)
+making_range chip.Msp430 None held = tt
+making_range chip.Msp430 (Some number) held = (range_or_usual None tt, held)
+making_range chip.Mcs51 number held = tt
+
+asked_range : (mode : Mode) (chip : Chip) (o : Options) → RangeOf o.ram → CallsOf o.calls → WorkersOf o.workers → CountOf o.number → RangeOfReading (asked mode chip o)
+asked_range mode.Analyse chip o range few some count = unsaid_range o.steps _ (unsaid_range o.number _ (analysis_range chip o range few some))
+asked_range mode.Disasm chip o range few some count =
+    untasked_range o _ (unsaid_range o.steps _ (unsaid_range o.number _ (disassembly_range (target_by chip o.ram) (target_range chip o.ram range))))
+asked_range mode.Run chip o range few some count =
+    untasked_range o _ (unsaid_range o.number _ (run_range (target_by chip o.ram) o.steps (target_range chip o.ram range)))
+asked_range mode.Gen chip o range few some count = untasked_range o _ (unsaid_range o.ram _ (unsaid_range o.steps _ (making_range chip o.number count)))
+
+calls_said : (text : Option (List ℕ)) (calls : Option ℕ) → IsSaid (IsNumberIn 0 8) text calls → CallsOf calls
+calls_said text None said = tt
+calls_said None (Some calls) said = absurd said
+calls_said (Some text) (Some calls) said = said.no_more
+
+workers_said : (text : Option (List ℕ)) (workers : Option ℕ) → IsSaid (IsNumberIn 1 16) text workers → WorkersOf workers
+workers_said text None said = tt
+workers_said None (Some workers) said = absurd said
+workers_said (Some text) (Some workers) said = (said.no_less, said.no_more)
+
+count_said : (text : Option (List ℕ)) (number : Option ℕ) → IsSaid (IsNumberIn 1 2000) text number → CountOf number
+count_said text None said = tt
+count_said None (Some number) said = absurd said
+count_said (Some text) (Some number) said = (said.no_less, said.no_more)
+
+pub reads_range : (words : List (String Global)) (reading : Reading) → Reads words reading → IsRam (rules_of reading) × IsBounded reading
 reads_range words reading reads =
-    let held = target_range reads.chip reads.options.ram (range_said reads.said reads.options reads.say) in
-    subst (λ found. IfSome found (λ r. IsRam (rules_of r))) reads.is (reading_range reads.mode (target_by reads.chip reads.options.ram) reads.options.steps held)
+    subst RangeOfReading reads.is
+    (asked_range reads.mode reads.chip reads.options
+    (range_said (given (Texts words) (codes "ram")) reads.options.ram reads.say.ranged)
+    (calls_said (given (Texts words) (codes "calls")) reads.options.calls reads.say.called)
+    (workers_said (given (Texts words) (codes "workers")) reads.options.workers reads.say.shared)
+    (count_said (given (Texts words) (codes "number")) reads.options.number reads.say.counted))
 
 pub found_range : (words : List (String Global)) (found : Option Reading) → IfSome found (Reads words) → IfSome found (λ reading. IsRamRange (rules_of reading))
 found_range words None reads = tt
-found_range words (Some reading) reads = (reads_range words reading reads).0
+found_range words (Some reading) reads = (reads_range words reading reads).0.0
 
 pub found_end : (words : List (String Global)) (found : Option Reading) → IfSome found (Reads words) → IfSome found (λ reading. EndsInMemory (rules_of reading))
 found_end words None reads = tt
-found_end words (Some reading) reads = (reads_range words reading reads).1
+found_end words (Some reading) reads = (reads_range words reading reads).0.1
+
+pub found_bounds : (words : List (String Global)) (found : Option Reading) → IfSome found (Reads words) → IfSome found IsBounded
+found_bounds words None reads = tt
+found_bounds words (Some reading) reads = (reads_range words reading reads).1
+
+-- what holds of what was found
+pub some_of : {A : Type 0} (found : Option A) (a : A) (P : A → Type 0) → found ≡ Some a → IfSome found P → P a
+some_of found a P is holds = subst (λ f. IfSome f P) is holds
+
+pub none_of : {A : Type 0} (found : Option A) (P : Type 0) → found ≡ None → IfNone found P → P
+none_of found P is holds = subst (λ f. IfNone f P) is holds

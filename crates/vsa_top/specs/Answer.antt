@@ -1,31 +1,33 @@
 -- What the program answers to an input.
-use Rattle.std.specs.Prelude.{◌≡◌, ◌≢◌, ◌⊎◌, Bool, if◌then◌else◌, ℕ, ◌<◌, Option, IfSome, List, [], ◌++◌, length, codes}
+use Rattle.std.specs.Prelude.{◌≡◌, ◌≢◌, ◌⊎◌, All, Bool, if◌then◌else◌, ℕ, ◌<◌, Option, IfSome, List, [], ◌++◌, length, codes}
 use Rattle.std.specs.Fmt.{decimal}
 use Rattle.ihex_read.specs.declared.fault.HexFault.{HexFault}
 use Rattle.ihex_read.specs.Names.{fault_name}
 use Rattle.vsa_io.specs.Stream.{appended, AppendsPrefix}
 use Rattle.chip_law.specs.Analysis.{Analysis}
 use Rattle.round_core.specs.declared.event.Event.{Event}
+use Rattle.round_core.specs.Counts.{seat_of}
 use Rattle.round_core.specs.Machine.{replay, IsLegalJournal, IsFinished}
 use Rattle.worker_rounds.specs.Turns.{AreTurns}
 use Rattle.run_trace.specs.declared.trace.End.{End}
 use Rattle.run_trace.specs.declared.trace.End.TheVariants as ended
 use Rattle.run_trace.specs.Trace.{Ended}
 use Rattle.report_text.specs.Report.{are_closed, last_works, report_of_journal}
-use Rattle.msp430_flow.specs.Built.{instr_text}
+use Rattle.msp430_flow.specs.Standing.{instr_text}
 use Rattle.msp430_flow.specs.Chip.{msp430_analysis}
 use Rattle.disassembly.specs.Listing.{IsDisassembly}
-use Rattle.vsa_top.specs.Input.{InputGives, IsBad, IsTooLong, tail_of}
+use Rattle.vsa_top.specs.Input.{InputGives, IsBad, IsTooLong, input_of, tail_of}
 use Rattle.vsa_top.specs.Scripts.{IsRefused, IsScript, second_limit}
+use Rattle.vsa_top.specs.Summary.{summary}
 use Rattle.vsa_top.specs.Mcs51.{mcs51_reads, mcs51_run}
 use Rattle.vsa_top.specs.Msp430.{msp430_reads, msp430_run}
-use Rattle.vsa_top.specs.Words.{rules_of, device_of}
+use Rattle.vsa_top.specs.Words.{rules_of, device_of, setting_of, usual, usual_limits}
 use Rattle.vsa_top.specs.declared.outcome.Status.{Status}
 use Rattle.vsa_top.specs.declared.outcome.Status.TheVariants as status
-use Rattle.vsa_top.specs.declared.words.Ram.{Ram}
 use Rattle.vsa_top.specs.declared.words.Reading.{Reading}
-use Rattle.vsa_top.specs.declared.words.Reading.TheVariants.{Analyse, Disasm, Run}
+use Rattle.vsa_top.specs.declared.words.Reading.TheVariants.{Analyse, Disasm, Run, Gen}
 use Rattle.vsa_top.specs.declared.words.Target.{Target}
+use Rattle.vsa_top.specs.declared.words.Task.{Task}
 use Rattle.vsa_top.specs.declared.words.Target.TheVariants.{Msp430, Mcs51}
 
 abbrev pub usage_line : List ℕ
@@ -40,11 +42,12 @@ no_line line = codes "NO " ++ decimal line ++ codes " Syntax\n"
 abbrev pub long_line : List ℕ
 long_line = codes "LONG\n"
 
--- a journal of one worker, each event of which is legal, to a finished book
-pub record IsAnalysis {A : Type 0} (analysis : Analysis A) (journal : List Event) : Type 0 where
+-- a journal of so many workers, each event of which is legal, to a finished book
+pub record IsAnalysis {A : Type 0} (analysis : Analysis A) (workers : ℕ) (journal : List Event) : Type 0 where
   pub legal : IsLegalJournal analysis journal
   pub finished : IsFinished (replay analysis journal)
-  pub turns : AreTurns journal
+  pub seats : All (λ event. seat_of event < workers) journal
+  pub alone : workers ≡ 1 → AreTurns journal
 
 -- Done of a closed report, and Open of another
 abbrev pub status_of_analysis : Bool → Status
@@ -52,8 +55,8 @@ status_of_analysis closed = if closed then status.Done else status.Open
 
 -- the reply to a program that is analysed: the report of the book that the journal leads to, and Open exactly where it
 -- has an open
-pub record IsAnalysed {A : Type 0} (text_of : ℕ → List ℕ → List ℕ) (analysis : Analysis A) (replied : Status) (text : List ℕ) (journal : List Event) : Type 0 where
-  pub is_analysis : IsAnalysis analysis journal
+pub record IsAnalysed {A : Type 0} (text_of : ℕ → List ℕ → List ℕ) (analysis : Analysis A) (workers : ℕ) (replied : Status) (text : List ℕ) (journal : List Event) : Type 0 where
+  pub is_analysis : IsAnalysis analysis workers journal
   pub status_is : replied ≡ status_of_analysis (are_closed (last_works analysis journal))
   pub text_is : text ≡ report_of_journal text_of analysis journal
 
@@ -82,11 +85,18 @@ abbrev pub run_under : Target → (steps : ℕ) → List (Option ℕ) → (scrip
 run_under (Msp430 ram) steps image script = msp430_run (device_of ram image) script steps
 run_under Mcs51 steps image script = mcs51_run image script steps
 
+-- the reply to the image of a made program: the summary of its report
+abbrev pub IsSummed : (number : ℕ) → List (Option ℕ) → Status → List ℕ → List Event → Type 0
+IsSummed number image replied text journal =
+    (report : List ℕ) × IsAnalysed instr_text (msp430_analysis (setting_of usual_limits (device_of usual image))) 1 replied report journal × (text ≡ summary number report)
+
 -- the reply to an image
 abbrev pub IsImageReply : Reading → List (Option ℕ) → (second : Option (List ℕ)) → Status → List ℕ → List Event → Type 0
-IsImageReply (Analyse ram) image second replied text journal = IsAnalysed instr_text (msp430_analysis (device_of ram image)) replied text journal
+IsImageReply (Analyse task) image second replied text journal =
+    IsAnalysed instr_text (msp430_analysis (setting_of task.limits (device_of task.ram image))) task.workers replied text journal
 IsImageReply (Disasm target) image second replied text journal = (replied ≡ status.Done) × IsListing target image text × (journal ≡ [])
 IsImageReply (Run target steps) image second replied text journal = IsRun (run_under target steps image) second replied text × (journal ≡ [])
+IsImageReply (Gen number) image second replied text journal = IsSummed number image replied text journal
 
 -- The reply to words that are a reading, over the text that the input is, where it is told: that to the image which it
 -- gives, or its first faulty line, or that it is too long.
@@ -104,10 +114,15 @@ pub data IsWritten (replied : Status) (text : List ℕ) (answered : Status) (bef
   whole : answered ≡ replied → after ≡ appended before text → IsWritten replied text answered before after
   cut : answered ≡ status.WriteFault → AppendsPrefix before text after → IsWritten replied text answered before after
 
--- the answer to words that are a reading: the reply to the input as it was written, or a fault of the source or want of
+-- words that aren't a reading are refused, or memory isn't there to tell, and nothing is written
+abbrev pub AreRefused : (answered : Status) (before after : Option (List ℕ)) → Type 0
+AreRefused answered before after =
+    IsWritten status.Usage usage_line answered before after ⊎ ((answered ≡ status.Memory) × (after ≡ before))
+
+-- the answer to words that are a reading: the reply to the input or to what is made, as it was written, or a fault of the source or want of
 -- memory, with nothing written
 pub data Answers (reading : Reading) (answered : Status) (input before after : Option (List ℕ)) (journal : List Event) : Type 0 where
-  replied : (reply : Status) (text : List ℕ) → IsReply reading input reply text journal → IsWritten reply text answered before after
+  replied : (reply : Status) (text : List ℕ) → IsReply reading (input_of reading input) reply text journal → IsWritten reply text answered before after
       → Answers reading answered input before after journal
   unreplied : (answered ≡ status.ReadFault) ⊎ (answered ≡ status.Memory) → after ≡ before → journal ≡ []
       → Answers reading answered input before after journal
@@ -122,11 +137,18 @@ TellsNoFault answered = (answered ≢ status.ReadFault) × (answered ≢ status.
 
 -- the statuses of the replies to an image
 pub data Ends : Reading → Status → Type 0 where
-  closed : (ram : Ram) → Ends (Analyse ram) status.Done
-  left_open : (ram : Ram) → Ends (Analyse ram) status.Open
+  closed : (task : Task) → Ends (Analyse task) status.Done
+  left_open : (task : Task) → Ends (Analyse task) status.Open
   disassembled : (target : Target) → Ends (Disasm target) status.Done
   ran_on : (target : Target) (steps : ℕ) → Ends (Run target steps) status.Done
   went_wild : (target : Target) (steps : ℕ) → Ends (Run target steps) status.Wild
   lacked_a_choice : (target : Target) (steps : ℕ) → Ends (Run target steps) status.NeedChoice
   refused_script : (target : Target) (steps : ℕ) → Ends (Run target steps) status.BadCert
+  summed : (number : ℕ) → Ends (Gen number) status.Done
+  summed_open : (number : ℕ) → Ends (Gen number) status.Open
   script_too_long : (target : Target) (steps : ℕ) → Ends (Run target steps) status.TooLong
+
+-- what is analysed: the image of the input, or a made program
+pub data Analyses : Reading → Type 0 where
+  of_input : (task : Task) → Analyses (Analyse task)
+  of_made : (number : ℕ) → Analyses (Gen number)

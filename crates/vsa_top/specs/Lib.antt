@@ -1,7 +1,9 @@
 pub mod Answer
+pub mod Command
 pub mod Headline
 pub mod Input
 pub mod Mcs51
 pub mod Msp430
 pub mod Scripts
+pub mod Summary
 pub mod Words

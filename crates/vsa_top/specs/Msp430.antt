@@ -11,7 +11,7 @@ use Rattle.msp430_decode.specs.declared.refusal.NoInstr.{NoInstr}
 use Rattle.msp430_decode.specs.Standing.{Decodes}
 use Rattle.msp430_decode.specs.Table.{bytes_of}
 use Rattle.msp430_emu.specs.Planning.{item_of}
-use Rattle.msp430_flow.specs.Built.{instr_text}
+use Rattle.msp430_flow.specs.Standing.{instr_text}
 use Rattle.msp430_text.specs.Text.{text_of}
 use Rattle.run_trace.specs.Runner.{Runner}
 use Rattle.run_trace.specs.Trace.{Ended, run_of}

@@ -1,12 +1,16 @@
 -- What the words of the command line ask.
-use Rattle.std.specs.Prelude.{◌≡◌, ℕ, ◌+◌, ◌-◌, ◌*◌, ◌<◌, ◌≤◌, All, is_none, if◌then◌else◌, Option, None, Some, List, [], ◌∷◌, length, take, drop, slice_index, map, codes, string_bytes}
+use Rattle.std.specs.Prelude.{◌≡◌, ℕ, ◌+◌, ◌-◌, ◌*◌, ◌<◌, ◌≤◌, All, Option, None, Some, List, [], ◌∷◌, length, take, drop, slice_index, map, option_map, codes, string_bytes}
 use Rattle.std.specs.declared.string.String.{String}
 use Rattle.std.specs.declared.alloc.Global.{Global}
+use Rattle.std.specs.Borrow.{Bor}
 use Rattle.hex.specs.Hex.{hex_digit_value}
 use Rattle.ihex_read.specs.declared.rule_set.Rules.{Rules}
 use Rattle.ihex_read.specs.declared.rule_set.Rules.TheVariants as rules
 use Rattle.ihex_read.specs.ImageText.{IsRamRange}
 use Rattle.msp430_chip.specs.declared.device.Device.{Device}
+use Rattle.msp430_flow.specs.declared.setting.Limits.{Limits}
+use Rattle.msp430_flow.specs.declared.setting.Setting.{Setting}
+use Rattle.vsa_top.specs.Command.{AreTaken, given}
 use Rattle.vsa_top.specs.declared.words.Chip.{Chip}
 use Rattle.vsa_top.specs.declared.words.Chip.TheVariants as chip
 use Rattle.vsa_top.specs.declared.words.Mode.{Mode}
@@ -14,15 +18,21 @@ use Rattle.vsa_top.specs.declared.words.Mode.TheVariants as mode
 use Rattle.vsa_top.specs.declared.words.Options.{Options}
 use Rattle.vsa_top.specs.declared.words.Ram.{Ram}
 use Rattle.vsa_top.specs.declared.words.Reading.{Reading}
-use Rattle.vsa_top.specs.declared.words.Reading.TheVariants.{Analyse, Disasm, Run}
+use Rattle.vsa_top.specs.declared.words.Reading.TheVariants.{Analyse, Disasm, Run, Gen}
 use Rattle.vsa_top.specs.declared.words.Target.{Target}
+use Rattle.vsa_top.specs.declared.words.Task.{Task}
 use Rattle.vsa_top.specs.declared.words.Target.TheVariants.{Msp430, Mcs51}
 
--- the chip whose image is read: the MSP430 alone is analysed
+-- RAM from 0200h to 09FFh
+abbrev pub usual : Ram
+usual = record { lo = 512; hi = 2559 }
+
+-- the chip whose image is read: the MSP430 alone is analysed, a made program with the usual RAM
 abbrev pub target_of : Reading → Target
-target_of (Analyse ram) = Msp430 ram
+target_of (Analyse task) = Msp430 task.ram
 target_of (Disasm target) = target
 target_of (Run target steps) = target
+target_of (Gen number) = Msp430 usual
 
 abbrev pub target_rules : Target → Rules
 target_rules (Msp430 ram) = rules.Msp430 ram.lo ram.hi
@@ -40,6 +50,13 @@ EndsInMemory rules.Mcs51 = Unit {0}
 -- the MSP430 with an image and this RAM
 abbrev pub device_of : Ram → List (Option ℕ) → Device
 device_of ram image = record { image = image; lo = ram.lo; hi = ram.hi }
+
+-- call strings of six sites, and 64 targets of an instruction
+abbrev pub usual_limits : Limits
+usual_limits = record { calls = 6; targets = 64 }
+
+abbrev pub setting_of : Limits → Device → Setting
+setting_of limits device = record { device = device; limits = limits }
 
 -- the number of four digits, the highest first, where each has a value
 abbrev pub number_from : (a b c d : Option ℕ) → Option ℕ
@@ -63,10 +80,6 @@ pub record IsRange (text : List ℕ) (ram : Ram) : Type 0 where
   pub last : number_of (drop 5 text) ≡ Some ram.hi
   pub allowed : IsRamRange (rules.Msp430 ram.lo ram.hi)
 
--- RAM from 0200h to 09FFh
-abbrev pub usual : Ram
-usual = record { lo = 512; hi = 2559 }
-
 -- how many steps a run has, if the words don't say
 abbrev pub usual_steps : ℕ
 usual_steps = 100
@@ -86,29 +99,39 @@ pub record IsNumberBehind (n : ℕ) (digits : List ℕ) (number : ℕ) : Type 0 
   pub allowed : number ≤ 1000000
 
 -- a number of 1 to 7 decimal digits, at most a million
-pub record IsSteps (text : List ℕ) (steps : ℕ) : Type 0 where
+pub record IsNumber (text : List ℕ) (number : ℕ) : Type 0 where
   pub some : 1 ≤ length text
   pub few : length text ≤ 7
-  pub number : IsNumberBehind 0 text steps
+  pub is : IsNumberBehind 0 text number
 
--- an option with its text, and what the words behind it say: each option stands at most once
-pub data Adds (option text : List ℕ) (behind : Options) : Options → Type 0 where
-  ranged : (ram : Ram) → option ≡ codes "--ram" → behind.ram ≡ None → IsRange text ram
-      → Adds option text behind (record { ram = Some ram; steps = behind.steps })
-  stepped : (steps : ℕ) → option ≡ codes "--steps" → behind.steps ≡ None → IsSteps text steps
-      → Adds option text behind (record { ram = behind.ram; steps = Some steps })
+-- such a number between two others
+pub record IsNumberIn (least most : ℕ) (text : List ℕ) (number : ℕ) : Type 0 where
+  pub is : IsNumber text number
+  pub no_less : least ≤ number
+  pub no_more : number ≤ most
 
--- what the words behind the mode and the chip say: options with their texts, in any order
-abbrev pub Say : List (List ℕ) → Options → Type 0
-Say [] options = options ≡ record { ram = None; steps = None }
-Say (option ∷ []) options = ⊥
-Say (option ∷ text ∷ words) options = (behind : Options) × Say words behind × Adds option text behind options
+-- what an option says: nothing where it isn't there
+abbrev pub IsSaid : {A : Type 0} → (List ℕ → A → Type 0) → Option (List ℕ) → Option A → Type 0
+IsSaid reads None None = Unit {0}
+IsSaid reads (Some text) (Some said) = reads text said
+IsSaid reads None (Some said) = ⊥
+IsSaid reads (Some text) None = ⊥
+
+-- what the texts of the options say, by their names
+pub record Say (text_of : List ℕ → Option (List ℕ)) (options : Options) : Type 0 where
+  pub ranged : IsSaid IsRange (text_of (codes "ram")) options.ram
+  pub called : IsSaid (IsNumberIn 0 8) (text_of (codes "calls")) options.calls
+  pub aimed : IsSaid (IsNumberIn 1 256) (text_of (codes "targets")) options.targets
+  pub shared : IsSaid (IsNumberIn 1 16) (text_of (codes "workers")) options.workers
+  pub stepped : IsSaid (IsNumberIn 0 1000000) (text_of (codes "steps")) options.steps
+  pub counted : IsSaid (IsNumberIn 1 2000) (text_of (codes "number")) options.number
 
 -- the word of a mode
 abbrev pub mode_word : Mode → List ℕ
 mode_word mode.Analyse = codes "analyse"
 mode_word mode.Disasm = codes "disasm"
 mode_word mode.Run = codes "run"
+mode_word mode.Gen = codes "gen"
 
 -- the word of a chip
 abbrev pub chip_word : Chip → List ℕ
@@ -125,38 +148,69 @@ target_by chip.Msp430 said = Some (Msp430 (or_else said usual))
 target_by chip.Mcs51 None = Some Mcs51
 target_by chip.Mcs51 (Some ram) = None
 
--- what a mode does with a chip: the MSP430 alone is analysed, and a run alone has steps
-abbrev pub reading_by : Mode → Option Target → (steps : Option ℕ) → Option Reading
-reading_by mode.Analyse (Some (Msp430 ram)) None = Some (Analyse ram)
-reading_by mode.Disasm (Some target) None = Some (Disasm target)
-reading_by mode.Run (Some target) steps = Some (Run target (or_else steps usual_steps))
-reading_by mode.Analyse (Some (Msp430 ram)) (Some steps) = None
-reading_by mode.Analyse (Some Mcs51) steps = None
-reading_by mode.Disasm (Some target) (Some steps) = None
-reading_by mode None steps = None
+-- what there is where an option isn't said
+abbrev pub unsaid : {A B : Type 0} → Option A → Option B → Option B
+unsaid None asked = asked
+unsaid (Some said) asked = None
 
--- what a mode, a chip and options ask
+-- the limits that are said, and else the usual ones
+abbrev pub limits_by : (calls targets : Option ℕ) → Limits
+limits_by calls targets = record { calls = or_else calls usual_limits.calls; targets = or_else targets usual_limits.targets }
+
+-- how it is analysed: one worker does it where the options name no number
+abbrev pub task_of : Options → Task
+task_of o = record { ram = or_else o.ram usual; limits = limits_by o.calls o.targets; workers = or_else o.workers 1 }
+
+abbrev pub analysis_of : Chip → Options → Option Reading
+analysis_of chip.Msp430 o = Some (Analyse (task_of o))
+analysis_of chip.Mcs51 o = None
+
+abbrev pub making_of : Chip → (number : Option ℕ) → Option Reading
+making_of chip.Msp430 (Some number) = Some (Gen number)
+making_of chip.Msp430 None = None
+making_of chip.Mcs51 number = None
+
+abbrev pub disassembly_of : Option Target → Option Reading
+disassembly_of None = None
+disassembly_of (Some target) = Some (Disasm target)
+
+abbrev pub run_by : Option Target → (steps : Option ℕ) → Option Reading
+run_by None steps = None
+run_by (Some target) steps = Some (Run target (or_else steps usual_steps))
+
+-- what there is where nothing is said of how it is analysed
+abbrev pub untasked : Options → Option Reading → Option Reading
+untasked o asked = unsaid o.calls (unsaid o.targets (unsaid o.workers asked))
+
+-- What a mode, a chip and options ask. The MSP430 alone is analysed, within limits and by workers, and has made programs,
+-- which need their number and have the usual RAM and limits; a run alone has steps.
 abbrev pub asked : Mode → Chip → Options → Option Reading
-asked mode chip options = reading_by mode (target_by chip options.ram) options.steps
+asked mode.Analyse chip o = unsaid o.steps (unsaid o.number (analysis_of chip o))
+asked mode.Disasm chip o = untasked o (unsaid o.steps (unsaid o.number (disassembly_of (target_by chip o.ram))))
+asked mode.Run chip o = untasked o (unsaid o.number (run_by (target_by chip o.ram) o.steps))
+asked mode.Gen chip o = untasked o (unsaid o.ram (unsaid o.steps (making_of chip o.number)))
 
--- the words ask this reading: by a mode, a chip, and options that both have
+-- an analysis keeps at most eight call sites and has 1 to 16 workers, and a made program has 1 to 2000 functions
+abbrev pub IsBounded : Reading → Type 0
+IsBounded (Analyse task) = (task.limits.calls ≤ 8) × (1 ≤ task.workers) × (task.workers ≤ 16)
+IsBounded (Gen number) = (1 ≤ number) × (number ≤ 2000)
+IsBounded (Disasm target) = Unit {0}
+IsBounded (Run target steps) = Unit {0}
+
+-- the words ask this reading: the command takes them, and the mode takes the chip and the options that it gives
 pub record Reads (words : List (String Global)) (reading : Reading) : Type 0 where
+  pub taken : AreTaken (map string_bytes words)
   pub mode : Mode
   pub chip : Chip
-  pub said : List (List ℕ)
   pub options : Options
-  pub whole : map string_bytes words ≡ mode_word mode ∷ chip_word chip ∷ said
-  pub say : Say said options
+  pub mode_is : given (map string_bytes words) (codes "mode") ≡ Some (mode_word mode)
+  pub chip_is : given (map string_bytes words) (codes "chip") ≡ Some (chip_word chip)
+  pub say : Say (given (map string_bytes words)) options
   pub is : asked mode chip options ≡ Some reading
 
--- options with one more, where they have none of its kind and it is one
-abbrev pub with_range : Options → Option Ram → Option Options
-with_range options None = None
-with_range options (Some ram) = if is_none options.ram then Some (record { ram = Some ram; steps = options.steps }) else None
-
-abbrev pub with_number : Options → Option ℕ → Option Options
-with_number options None = None
-with_number options (Some steps) = if is_none options.steps then Some (record { ram = options.ram; steps = Some steps }) else None
+-- the text that a reference shows, where it is there
+abbrev pub text_of : Option (Bor (List ℕ)) → Option (List ℕ)
+text_of = option_map (λ text. text.now)
 
 -- what a mode, a chip and options ask, where all are there
 abbrev pub reading_with : Option Mode → Option Chip → Option Options → Option Reading

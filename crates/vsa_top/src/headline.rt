@@ -1,37 +1,39 @@
 //! What an answer says of every run.
 
 ghost use Rattle.std.specs.Prelude.{◌≡◌, ℕ, Option, Some, List, ◌⊎◌};
-ghost use Rattle.msp430_flow.specs.Built.{instr_text};
+ghost use Rattle.msp430_flow.specs.Standing.{instr_text};
 ghost use Rattle.msp430_flow.specs.Chip.{msp430_analysis};
 ghost use Rattle.msp430_flow.specs.Machine.{msp430_machine};
 ghost use Rattle.report_text.specs.Promise.{CoversEveryRun, ShowsOpenSites};
 ghost use Rattle.round_core.specs.declared.event.Event.{Event as AnEvent};
 ghost use Rattle.vsa_top.specs.declared.outcome.Status.TheVariants.{Done, Memory, Open, ReadFault, WriteFault};
 ghost use Rattle.vsa_top.specs.declared.outcome.Status.{Status as AStatus};
-ghost use Rattle.vsa_top.specs.Answer.{Answers, Ends};
-ghost use Rattle.vsa_top.specs.Input.{Gives, tail_of};
-ghost use Rattle.vsa_top.specs.Words.{EndsInMemory, rules_of};
+ghost use Rattle.vsa_top.specs.Answer.{Analyses, Answers, Ends};
+ghost use Rattle.vsa_top.specs.Input.{Gives, input_of, tail_of};
+ghost use Rattle.vsa_top.specs.Words.{EndsInMemory, IsBounded, rules_of, setting_of};
 ghost use Rattle.ihex_read.specs.ImageText.{IsRamRange};
-ghost use Rattle.vsa_top.specs.declared.words.Ram.{Ram as ARam};
 ghost use Rattle.vsa_top.specs.declared.words.Reading.TheVariants.{Analyse};
 ghost use Rattle.vsa_top.specs.declared.words.Reading.{Reading as AReading};
+ghost use Rattle.vsa_top.specs.declared.words.Task.{Task as ATask};
 ghost use Rattle.vsa_top.specs.Headline.{ReportsOn};
 
 use ihex_read::{ended_texts_stay, image_or_fault, images_keep_rules};
 use msp430_flow::Msp430Chip;
 use report_text::{closed_reports_cover_runs, open_reports_show_sites};
 
-/// A report that is told as closed covers every run. What is told as open is an analysis, whose report shows its open
-/// sites. An image within the limit gets what is asked of it where nothing fails and memory is there.
+/// A report that is told as closed covers every run, and one that is told as open shows its open sites. Analyses alone are
+/// told as open. An image within the limit gets what is asked of it where nothing fails and memory is there.
 pub(crate) fn reports_hold()
-    ensures closed { (ram : ARam) (input before after : Option (List ℕ)) (journal : List AnEvent)
-        → IsRamRange (rules_of (Analyse ram)) → EndsInMemory (rules_of (Analyse ram)) → Answers (Analyse ram) Done input before after journal →
-        ReportsOn ram input before after (λ device report. CoversEveryRun (msp430_machine device) instr_text report) }
-    ensures open { (reading : AReading) (input before after : Option (List ℕ)) (journal : List AnEvent)
-        → IsRamRange (rules_of reading) → EndsInMemory (rules_of reading) → Answers reading Open input before after journal →
-        (ram : ARam) × (reading ≡ Analyse ram) × ReportsOn ram input before after (λ device report. ShowsOpenSites (msp430_analysis device) journal report) }
+    ensures closed { (task : ATask) (input before after : Option (List ℕ)) (journal : List AnEvent)
+        → IsRamRange (rules_of (Analyse task)) → EndsInMemory (rules_of (Analyse task)) → IsBounded (Analyse task) → Answers (Analyse task) Done input before after journal →
+        ReportsOn task.ram input before after (λ device report. CoversEveryRun (msp430_machine device) instr_text report) }
+    ensures open { (task : ATask) (input before after : Option (List ℕ)) (journal : List AnEvent)
+        → IsRamRange (rules_of (Analyse task)) → EndsInMemory (rules_of (Analyse task)) → IsBounded (Analyse task) → Answers (Analyse task) Open input before after journal →
+        ReportsOn task.ram input before after (λ device report. ShowsOpenSites (msp430_analysis (setting_of task.limits device)) journal report) }
+    ensures open_alone { (reading : AReading) (input before after : Option (List ℕ)) (journal : List AnEvent)
+        → Answers reading Open input before after journal → Analyses reading }
     ensures complete { (reading : AReading) (answered : AStatus) (input before after : Option (List ℕ)) (journal : List AnEvent) (text : List ℕ) (image : List (Option ℕ)) (second : List ℕ)
-        → Answers reading answered input before after journal → input ≡ Some text → Gives (rules_of reading) (tail_of reading) text image second
+        → Answers reading answered input before after journal → input_of reading input ≡ Some text → Gives (rules_of reading) (tail_of reading) text image second
         → ¬ (answered ≡ ReadFault) → ¬ (answered ≡ WriteFault) → Ends reading answered ⊎ (answered ≡ Memory) }
 {
     ended_texts_stay();

@@ -1,31 +1,36 @@
 //! What is answered to an input, before any of it is written.
 
-ghost use Rattle.std.specs.Prelude.{◌≡◌, ◌≢◌, ◌≤◌, [], IfOk, IfErr, OnOk};
+ghost use Rattle.std.specs.Prelude.{◌≡◌, ◌≢◌, ◌≤◌, ℕ, Option, List, [], IfOk, IfErr, OnOk};
 ghost use Rattle.ihex_read.specs.ImageText.{IsRamRange};
 ghost use Rattle.ihex_read.specs.Kept.{IsReadUnder};
 ghost use Rattle.vsa_io.specs.Stream.{HasRisen};
 ghost use Rattle.run_trace.specs.Trace.{run_of};
-ghost use Rattle.vsa_top.specs.Answer.{IsAnalysed, IsImageReply, IsListing, IsReply, IsRun, TellsNoFault, bad_line as the_bad_line, no_line as the_no_line, run_under, status_of_analysis, status_of_end};
+ghost use Rattle.vsa_top.specs.Answer.{IsAnalysed, IsAnalysis, IsImageReply, IsListing, IsReply, IsRun, IsSummed, TellsNoFault, bad_line as the_bad_line, no_line as the_no_line, run_under, status_of_analysis, status_of_end};
 ghost use Rattle.vsa_top.specs.Input.{begun_with};
-ghost use Rattle.vsa_top.specs.Words.{rules_of, target_rules};
+ghost use Rattle.vsa_top.specs.Words.{IsBounded, rules_of, target_rules};
+ghost use Rattle.vsa_top.specs.declared.words.Reading.TheVariants.{Analyse, Gen};
 
 use crate::input::{InputError, image_in};
 use crate::mcs51::{Mcs51Code, Mcs51Run, Mcs51Text};
 use crate::msp430::{Msp430Code, Msp430Run};
 use crate::outcome::Status;
 use crate::script::{ScriptRefusal, script_in};
-use crate::words::{Reading, Target};
-use chip_law::{ChipText, InstrText};
+use crate::summary::summary_of;
+use crate::words::{Ram, Reading, Target, Task};
+use chip_law::{Chip, ChipText, InstrText};
 use disassembly::disassembly_of;
 use ihex_read::{HexFault, Image};
 use msp430_chip::Device;
-use msp430_flow::{Msp430Chip, Msp430Text};
+use msp430_flow::{Limits, Msp430Chip, Msp430Text};
 use report_text::report_of;
-use round_core::Event;
+use round_core::{Book, Event};
 use run_trace::{Emulator, End, trace_of};
 use std::alloc::{AllocError, Global};
+use std::sync::Wait;
+use std::thread::Threads;
 use vsa_io::{Memory, Source};
-use worker_rounds::fixpoint_alone;
+use worker_crew::fixpoint;
+use worker_rounds::{Gate, fixpoint_alone};
 
 /// A status with its text, and the events whose replay gives the book of which the text is the report, if it is one.
 #[derive(Drop)]
@@ -101,12 +106,40 @@ fn status_of_run(end: End) -> Status
     }
 }
 
-/// The analysis of a program, with its report.
-fn analysed<C: ChipText>(alloc: Global, chip: &C) -> Result<Reply, Memory>
-    ensures no_fault { IfOk result (λ reply. TellsNoFault reply.status) }
-    ensures reply { IfOk result (λ reply. IsAnalysed (C.text_of chip.now) (C.analysis (C.base chip.now)) reply.status reply.text.items reply.journal.items) }
+/// The book of a program that one worker analyses.
+fn book_alone<C: Chip>(alloc: Global, chip: &C) -> Result<Book<C>, Memory>
+    ensures base { IfOk result (λ book. book.base ≡ C.base chip.now) }
+    ensures analysis { IfOk result (λ book. IsAnalysis (C.analysis book.base) 1 book.journal) }
 {
-    let book = fixpoint_alone(alloc, chip)?;
+    fixpoint_alone(alloc, chip)
+}
+
+/// The book of a program that so many workers analyse.
+fn book_of<R: Threads + Wait + Sync, C: Chip<Base: Send> + Send + Sync, G: Gate + Sync>(
+    rt: &R,
+    alloc: Global,
+    chip: &C,
+    workers: u32,
+    gate: &G,
+) -> Result<Book<C>, Memory>
+    requires some { 1 ≤ workers }
+    requires few { workers ≤ 16 }
+    ensures base { IfOk result (λ book. book.base ≡ C.base chip.now) }
+    ensures analysis { IfOk result (λ book. IsAnalysis (C.analysis book.base) workers book.journal) }
+{
+    if workers == 1 {
+        return book_alone(alloc, chip);
+    }
+    fixpoint(rt, alloc, chip, workers, gate)
+}
+
+/// The report of a book of so many workers.
+fn analysed<C: ChipText>(alloc: Global, chip: &C, book: Book<C>) -> Result<Reply, Memory>
+    requires base { book.base ≡ C.base chip.now }
+    ensures no_fault { IfOk result (λ reply. TellsNoFault reply.status) }
+    ensures reply { IfOk result (λ reply. (workers : ℕ) → IsAnalysis (C.analysis book.base) workers book.journal
+        → IsAnalysed (C.text_of chip.now) (C.analysis (C.base chip.now)) workers reply.status reply.text.items reply.journal.items) }
+{
     let report = report_of(alloc, chip, &book)?;
     let (_, _, journal) = book.into_parts();
     Ok(Reply {
@@ -223,15 +256,56 @@ fn chip_run_reply<S: Source>(
     }
 }
 
+/// The summary of the analysis of a made program.
+fn made_image_reply(alloc: Global, number: u32, image: Image) -> Result<Reply, NoReply>
+    requires { IsReadUnder (rules_of (Gen number)) image }
+    ensures no_fault { IfOk result (λ reply. TellsNoFault reply.status) }
+    ensures reply { IfOk result (λ reply. IsSummed number image reply.status reply.text.items reply.journal.items) }
+    ensures unread { IfErr result (λ error. error ≢ NoReply.ReadFault) }
+{
+    let chip = Msp430Chip::new(alloc, image, Ram::USUAL.lo, Ram::USUAL.hi, Limits::USUAL)?;
+    let book = book_alone(alloc, &chip)?;
+    let reply = analysed(alloc, &chip, book)?;
+    let text = summary_of(alloc, number, reply.text.as_slice())?;
+    Ok(Reply {
+        status: reply.status,
+        text,
+        journal: reply.journal,
+    })
+}
+
+/// The report of an image.
+fn analysis_reply<R: Threads + Wait + Sync, G: Gate + Sync>(
+    rt: &R,
+    alloc: Global,
+    task: Task,
+    image: Image,
+    gate: &G,
+) -> Result<Reply, NoReply>
+    requires range { IsRamRange (rules_of (Analyse task)) }
+    requires bounded { IsBounded (Analyse task) }
+    requires kept { IsReadUnder (rules_of (Analyse task)) image }
+    ensures no_fault { IfOk result (λ reply. TellsNoFault reply.status) }
+    ensures reply { IfOk result (λ reply. (second : Option (List ℕ)) → IsImageReply (Analyse task) image second reply.status reply.text.items reply.journal.items) }
+    ensures unread { IfErr result (λ error. error ≢ NoReply.ReadFault) }
+{
+    let chip = Msp430Chip::new(alloc, image, task.ram.lo, task.ram.hi, task.limits)?;
+    let book = book_of(rt, alloc, &chip, task.workers, gate)?;
+    Ok(analysed(alloc, &chip, book)?)
+}
+
 /// What the words ask of an image, behind whose text so much was read.
-fn image_reply<S: Source>(
+fn image_reply<R: Threads + Wait + Sync, S: Source, G: Gate + Sync>(
+    rt: &R,
     alloc: Global,
     reading: Reading,
     image: Image,
     begun: &[u8],
     source: &mut S,
+    gate: &G,
 ) -> Result<Reply, NoReply>
     requires range { IsRamRange (rules_of reading) }
+    requires bounded { IsBounded reading }
     requires kept { IsReadUnder (rules_of reading) image }
     ensures no_fault { IfOk result (λ reply. TellsNoFault reply.status) }
     ensures reply { IfOk result (λ reply. IsImageReply reading image (begun_with begun.now (S.left source.old)) reply.status reply.text.items reply.journal.items) }
@@ -240,10 +314,7 @@ fn image_reply<S: Source>(
     ensures quiet_refusal { IfErr result (λ error. error ≢ NoReply.ReadFault → S.faults source.new ≡ S.faults source.old) }
 {
     match reading {
-        Reading::Analyse { ram } => {
-            let chip = Msp430Chip::new(alloc, image, ram.lo, ram.hi)?;
-            Ok(analysed(alloc, &chip)?)
-        }
+        Reading::Analyse { task } => analysis_reply(rt, alloc, task, image, gate),
         Reading::Disasm { target } => {
             let lines = listing_of(alloc, target, &image)?;
             Ok(text_reply(alloc, Status::Done, lines))
@@ -251,16 +322,20 @@ fn image_reply<S: Source>(
         Reading::Run { target, steps } => {
             chip_run_reply(alloc, target, steps, image, begun, source)
         }
+        Reading::Gen { number } => made_image_reply(alloc, number, image),
     }
 }
 
 /// What the words ask of an input: of its image, or its first faulty line, or that it is too long.
-pub fn input_reply<S: Source>(
+pub fn input_reply<R: Threads + Wait + Sync, S: Source, G: Gate + Sync>(
+    rt: &R,
     alloc: Global,
     reading: Reading,
     source: &mut S,
+    gate: &G,
 ) -> Result<Reply, NoReply>
-    requires { IsRamRange (rules_of reading) }
+    requires range { IsRamRange (rules_of reading) }
+    requires bounded { IsBounded reading }
     ensures no_fault { IfOk result (λ reply. TellsNoFault reply.status) }
     ensures reply { IfOk result (λ reply. IsReply reading (S.left source.old) reply.status reply.text.items reply.journal.items) }
     ensures cause { IfErr result (λ error. error ≡ NoReply.ReadFault → HasRisen (S.faults source.old) (S.faults source.new)) }
@@ -268,7 +343,15 @@ pub fn input_reply<S: Source>(
     ensures quiet_refusal { IfErr result (λ error. error ≢ NoReply.ReadFault → S.faults source.new ≡ S.faults source.old) }
 {
     match image_in(alloc, source, reading.rules(), reading.tail()) {
-        Ok((image, begun)) => image_reply(alloc, reading, image, begun.as_slice(), source),
+        Ok((image, begun)) => image_reply(
+            rt,
+            alloc,
+            reading,
+            image,
+            begun.as_slice(),
+            source,
+            gate,
+        ),
         Err(InputError::Bad { line, fault }) => {
             let text = bad_line(alloc, line, fault)?;
             Ok(text_reply(alloc, Status::BadImage, text))

@@ -160,7 +160,6 @@ fn rows_of_words_of_runs(rt: HostRuntime) -> Result<(), Fail> {
         "run msp430 --steps 1 --steps 1",
         "run msp430 --ram 0200-09FF --steps 1 --ram 0200-09FF",
         "run msp430 --step 1",
-        "--steps 1 run msp430",
     ] {
         answers(&rt, words, EIGHT_BYTES, Status::Usage, "USAGE\n")?;
     }

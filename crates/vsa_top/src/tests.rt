@@ -49,6 +49,31 @@ pub(crate) fn answers<R: Abort + Threads + Wait + AllocGlobal + Sync>(
     Ok(())
 }
 
+/// A call answers this status and a text that begins so.
+pub(crate) fn begins<R: Abort + Threads + Wait + AllocGlobal + Sync>(
+    rt: &R,
+    line: &str,
+    input: &str,
+    status: Status,
+    front: &str,
+) -> Result<(), Fail> {
+    let words = words_of(rt.alloc(), line)?;
+    let bytes = Vec::from_slice(rt.alloc(), input.as_bytes())?;
+    let mut source = CleanSource::new(bytes, 4096);
+    let mut sink = CleanSink::with_room(rt.alloc(), 4096, 4096)?;
+    let outcome = vsa(
+        rt,
+        rt.alloc(),
+        words.as_slice(),
+        &mut source,
+        &mut sink,
+        &NoGate,
+    );
+    assert_eq!(rt; outcome.status, status, "{line}");
+    assert!(rt; sink.bytes().starts_with(front.as_bytes()), "{line}");
+    Ok(())
+}
+
 pub(crate) const EIGHT_BYTES: &str = ":06F0000031408002FF3FD9\n:02FFFE0000F011\n:00000001FF\n";
 
 const REPORT: &str =
@@ -174,14 +199,10 @@ fn rows_open(rt: HostRuntime) -> Result<(), Fail> {
             ":02F0000000000E\n:02FFFE0000F011\n:00000001FF\n",
             "OPEN\nO F000 Fetch\nS F000 0000/2/8000\nT none 1\n",
         ),
-        // RETI, and BIS #8,SR
+        // RETI with an unknown stack pointer
         (
             ":02F000000013FB\n:02FFFE0000F011\n:00000001FF\n",
-            "OPEN\nO F000 Unbuilt\nS F000 0000/2/8000\nT none 1\n",
-        ),
-        (
-            ":04F0000032D2FF3FCA\n:02FFFE0000F011\n:00000001FF\n",
-            "OPEN\nO F000 Unbuilt\nS F000 0000/2/8000\nT none 1\n",
+            "OPEN\nI F000 0013 RETI\nM F000 mem r2 0000/2/8000\nO F000 Targets 0000/2/8000\nS F000 0000/2/8000\nT none 1\n",
         ),
         // MOV #0280h,PC
         (
@@ -291,6 +312,13 @@ fn rows_of_a_range(rt: HostRuntime) -> Result<(), Fail> {
         "analyse msp430 --ram 0200-09FF",
         "analyse msp430 --ram 0200-09ff",
         "analyse msp430 --ram 0C00-0CFF",
+        "analyse msp430 --ram=0200-09FF",
+        "analyse --ram=0200-09FF -- msp430",
+        "--ram 0200-09FF analyse msp430",
+        "analyse msp430 --calls 0 --targets 256",
+        "analyse msp430 --targets=01 --calls=0000008",
+        "analyse msp430 --workers 1",
+        "analyse msp430 --workers=16",
     ] {
         answers_behind(&rt, words, at_0a00, Status::Done, REPORT)?;
     }
@@ -330,9 +358,65 @@ fn rows_of_other_words(rt: HostRuntime) -> Result<(), Fail> {
         "analyse msp430 --ram 0200+09FF",
         "analyse msp430 --ram 0200-09FG",
         "analyse msp430 --ram 0200-09FF --ram 0200-09FF",
-        "--ram 0200-09FF analyse msp430",
+        "analyse msp430 mcs51",
+        "analyse msp430 -- --ram 0200-09FF",
+        "analyse msp430 --ra 0200-09FF",
+        "analyse msp430 --ram=",
+        "analyse msp430 -r 0200-09FF",
+        "analyse msp430 --help",
+        "--help",
+        "--version",
+        "help",
+        "disasm msp430 --cert",
+        "check msp430",
+        "analyse msp430 --calls 9",
+        "analyse msp430 --calls 00000001",
+        "analyse msp430 --calls",
+        "analyse msp430 --calls=",
+        "analyse msp430 --calls +1",
+        "analyse msp430 --calls 1 --calls 1",
+        "analyse msp430 --targets 0",
+        "analyse msp430 --targets 257",
+        "analyse msp430 --targets 1F",
+        "disasm msp430 --calls 6",
+        "run msp430 --targets 64",
+        "gen msp430 --number 1 --calls 6",
+        "analyse msp430 --workers 0",
+        "analyse msp430 --workers 17",
+        "disasm msp430 --workers 1",
+        "run msp430 --workers 1",
+        "gen msp430 --number 1 --workers 1",
+        "analyse msp430 --number 1",
+        "run msp430 --number 1",
+        "gen msp430",
+        "gen mcs51 --number 2001",
+        "gen mcs51 --number 1",
+        "gen msp430 --number 0",
+        "gen msp430 --number 2001",
+        "gen msp430 --number 00000001",
+        "gen msp430 --number 1 --number 1",
+        "gen msp430 --number 1 --ram 0200-09FF",
+        "gen msp430 --number 1 --steps 1",
     ] {
         answers(&rt, words, EIGHT_BYTES, Status::Usage, "USAGE\n")?;
+    }
+    Ok(())
+}
+
+#[test]
+fn rows_of_made_programs(rt: HostRuntime) -> Result<(), Fail> {
+    // N functions have 4N + 2 instructions, of which the calls, the stores and the returns access memory.
+    for (words, summary) in [
+        (
+            "gen msp430 --number 0000001",
+            "GEN msp430 1\nCLOSED\nE 6\nI 6\nM 3\nO 0\nS 6\nT 09FE 1\n",
+        ),
+        (
+            "gen msp430 --number 2000",
+            "GEN msp430 2000\nCLOSED\nE 8002\nI 8002\nM 6000\nO 0\nS 8002\nT 09FE 1\n",
+        ),
+    ] {
+        answers(&rt, words, "", Status::Done, summary)?;
     }
     Ok(())
 }

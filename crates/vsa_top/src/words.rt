@@ -1,6 +1,6 @@
 //! The words of the command line.
 
-ghost use Rattle.std.specs.Prelude.{◌≡◌, ◌<◌, ◌≤◌, ◌↔◌, ℕ, IfNone, IfSome, IsTrue, MatchOption, length, map, string_bytes};
+ghost use Rattle.std.specs.Prelude.{◌≡◌, ◌<◌, ◌≤◌, ◌↔◌, ℕ, Option, IfNone, IfOk, IfSome, IsTrue, MatchOption, Some};
 ghost use Rattle.hex.specs.Hex.{hex_digit_value};
 ghost use Rattle.ihex_read.specs.ImageText.{IsRamRange};
 ghost use Rattle.ihex_read.specs.declared.rule_set.Rules.TheVariants.{Msp430};
@@ -10,9 +10,16 @@ ghost use Rattle.vsa_top.specs.declared.words.Mode.{Mode as AMode};
 ghost use Rattle.vsa_top.specs.declared.words.Options.{Options as AOptions};
 ghost use Rattle.vsa_top.specs.declared.words.Ram.{Ram as ARam};
 ghost use Rattle.vsa_top.specs.declared.words.Reading.{Reading as AReading};
-ghost use Rattle.vsa_top.specs.Words.{EndsInMemory, IsNumberBehind, IsRange, IsSteps, Reads, Say, chip_word, mode_word, number_of as the_number, reading_by as the_reading_by, reading_with as all_three, rules_of, target_by as the_target_by, target_of, target_rules, with_number, with_range};
+ghost use Rattle.clap.specs.Words.{first_value, found_of};
+ghost use Rattle.vsa_top.specs.Words.{EndsInMemory, IsBounded, IsNumber, IsNumberBehind, IsNumberIn, IsRange, IsSaid, Reads, Say, asked, chip_word, limits_by, mode_word, number_of as the_number, reading_with as all_three, rules_of, task_of as the_task, target_by as the_target_by, target_of, target_rules, text_of};
+ghost use Rattle.vsa_top.specs.declared.words.Mode.TheVariants as the_mode;
 
+use crate::command::matches_of;
+use clap::ArgMatches;
 use ihex_read::{Rules, Tail};
+use image_gen::MOST;
+use msp430_flow::Limits;
+use std::alloc::{AllocError, Global};
 
 /// What is done with an image.
 #[derive(Clone, Copy, Debug, PartialEq, Eq)]
@@ -23,6 +30,8 @@ pub enum Mode {
     Disasm,
     /// It runs along a script, and the trace is written.
     Run,
+    /// A large program is made and analysed, and the report's summary is written.
+    Gen,
 }
 
 /// The chip whose image it is.
@@ -41,17 +50,24 @@ pub struct Ram {
 
 impl Ram {
     /// RAM from 0200h to 09FFh.
-    const USUAL: Ram = Ram {
+    pub const USUAL: Ram = Ram {
         lo: 0x0200,
         hi: 0x09FF,
     };
 }
 
-/// What the words behind the mode and the chip say.
+/// What the options of the words say.
 #[derive(Clone, Copy, Debug, PartialEq, Eq)]
 pub struct Options {
     pub ram: Option<Ram>,
+    /// How many call sites a location keeps, at most 8.
+    pub calls: Option<u8>,
+    /// How many targets of one instruction are followed, 1 to 256.
+    pub targets: Option<u32>,
+    /// How many workers analyse, 1 to 16.
+    pub workers: Option<u32>,
     pub steps: Option<u32>,
+    pub number: Option<u32>,
 }
 
 /// How many steps a run has, if the words don't say.
@@ -59,6 +75,9 @@ const USUAL_STEPS: u32 = 100;
 
 /// The greatest number of steps.
 const MOST_STEPS: u32 = 1_000_000;
+
+/// The greatest number of workers.
+const MOST_WORKERS: u32 = 16;
 
 /// A chip, with all that the words say of it.
 #[derive(Clone, Copy, Debug, PartialEq, Eq)]
@@ -82,14 +101,26 @@ impl Target {
     }
 }
 
+/// How an image of an MSP430 is analysed.
+#[derive(Clone, Copy, Debug, PartialEq, Eq)]
+pub struct Task {
+    pub ram: Ram,
+    /// Call strings have at most 8 sites.
+    pub limits: Limits,
+    /// How many workers there are, 1 to 16.
+    pub workers: u32,
+}
+
 /// What the words ask.
 #[derive(Clone, Copy, Debug, PartialEq, Eq)]
 pub enum Reading {
     /// The analysis of an MSP430.
-    Analyse { ram: Ram },
+    Analyse { task: Task },
     Disasm { target: Target },
     /// At most so many steps, which are at most 1,000,000.
     Run { target: Target, steps: u32 },
+    /// The analysis of a made program of an MSP430 with so many functions, 1 to 2000, and the usual RAM and limits.
+    Gen { number: u32 },
 }
 
 impl Reading {
@@ -98,9 +129,10 @@ impl Reading {
         ensures { result ≡ target_of self }
     {
         match self {
-            Reading::Analyse { ram } => Target::Msp430 { ram },
+            Reading::Analyse { task } => Target::Msp430 { ram: task.ram },
             Reading::Disasm { target } => target,
             Reading::Run { target, .. } => target,
+            Reading::Gen { .. } => Target::Msp430 { ram: Ram::USUAL },
         }
     }
 
@@ -119,15 +151,9 @@ impl Reading {
             Reading::Analyse { .. } => Tail::Blank,
             Reading::Disasm { .. } => Tail::Blank,
             Reading::Run { .. } => Tail::Second,
+            Reading::Gen { .. } => Tail::Blank,
         }
     }
-}
-
-/// Whether a word is this one.
-fn is_word(word: &String, text: &str) -> bool
-    ensures { IsTrue result ↔ (string_bytes word.now ≡ text.now) }
-{
-    word.as_str() == text
 }
 
 /// The value of a hexadecimal digit in either case.
@@ -196,8 +222,8 @@ fn number_behind(number: u32, digits: &[u8]) -> Option<u32>
 }
 
 /// A number of 1 to 7 decimal digits, at most a million.
-fn steps_of(text: &[u8]) -> Option<u32>
-    ensures { MatchOption result ((steps : ℕ) → ¬ IsSteps text.now steps) (IsSteps text.now) }
+fn decimal_of(text: &[u8]) -> Option<u32>
+    ensures { MatchOption result ((number : ℕ) → ¬ IsNumber text.now number) (IsNumber text.now) }
 {
     if text.is_empty() || text.len() > 7 {
         return None;
@@ -205,86 +231,97 @@ fn steps_of(text: &[u8]) -> Option<u32>
     number_behind(0, text)
 }
 
-/// The mode of a word.
-fn mode_of(word: &String) -> Option<Mode>
-    ensures { MatchOption result ((mode : AMode) → ¬ (string_bytes word.now ≡ mode_word mode)) (λ mode. string_bytes word.now ≡ mode_word mode) }
+/// A number of 1 to 7 decimal digits between two others.
+fn number_in(text: &[u8], least: u32, most: u32) -> Option<u32>
+    ensures { MatchOption result ((number : ℕ) → ¬ IsNumberIn least most text.now number) (IsNumberIn least most text.now) }
 {
-    if is_word(word, "analyse") {
+    let number = decimal_of(text)?;
+    if number < least || number > most {
+        return None;
+    }
+    Some(number)
+}
+
+/// The mode of a text, where it is there.
+fn mode_of(text: Option<&str>) -> Option<Mode>
+    ensures { MatchOption result ((mode : AMode) → ¬ (text_of text.entry ≡ Some (mode_word mode))) (λ mode. text_of text.entry ≡ Some (mode_word mode)) }
+{
+    let text = text?;
+    if text == "analyse" {
         Some(Mode::Analyse)
-    } else if is_word(word, "disasm") {
+    } else if text == "disasm" {
         Some(Mode::Disasm)
-    } else if is_word(word, "run") {
+    } else if text == "run" {
         Some(Mode::Run)
+    } else if text == "gen" {
+        Some(Mode::Gen)
     } else {
         None
     }
 }
 
-/// The chip of a word.
-fn chip_of(word: &String) -> Option<Chip>
-    ensures { MatchOption result ((chip : AChip) → ¬ (string_bytes word.now ≡ chip_word chip)) (λ chip. string_bytes word.now ≡ chip_word chip) }
+/// The chip of a text, where it is there.
+fn chip_of(text: Option<&str>) -> Option<Chip>
+    ensures { MatchOption result ((chip : AChip) → ¬ (text_of text.entry ≡ Some (chip_word chip))) (λ chip. text_of text.entry ≡ Some (chip_word chip)) }
 {
-    if is_word(word, "msp430") {
+    let text = text?;
+    if text == "msp430" {
         Some(Chip::Msp430)
-    } else if is_word(word, "mcs51") {
+    } else if text == "mcs51" {
         Some(Chip::Mcs51)
     } else {
         None
     }
 }
 
-/// Options with a range of RAM, where they have none and it is one.
-fn with_ram(options: Options, ram: Option<Ram>) -> Option<Options>
-    ensures { result ≡ with_range options ram }
+/// What `--ram` says, where it is there: none, if its text is no range of RAM.
+fn ram_of(text: Option<&str>) -> Option<Option<Ram>>
+    ensures { MatchOption result ((said : Option ARam) → ¬ IsSaid IsRange (text_of text.entry) said) (IsSaid IsRange (text_of text.entry)) }
 {
-    match (options.ram, ram) {
-        (None, Some(ram)) => Some(Options {
-            ram: Some(ram),
-            steps: options.steps,
-        }),
-        _ => None,
+    match text {
+        None => Some(None),
+        Some(text) => Some(Some(range_of(text.as_bytes())?)),
     }
 }
 
-/// Options with a number of steps, where they have none and it is one.
-fn with_steps(options: Options, steps: Option<u32>) -> Option<Options>
-    ensures { result ≡ with_number options steps }
+/// What an option with a number says, where it is there: none, if its text is no number between these.
+fn number_said(text: Option<&str>, least: u32, most: u32) -> Option<Option<u32>>
+    ensures { MatchOption result ((said : Option ℕ) → ¬ IsSaid (IsNumberIn least most) (text_of text.entry) said) (IsSaid (IsNumberIn least most) (text_of text.entry)) }
 {
-    match (options.steps, steps) {
-        (None, Some(steps)) => Some(Options {
-            ram: options.ram,
-            steps: Some(steps),
-        }),
-        _ => None,
+    match text {
+        None => Some(None),
+        Some(text) => Some(Some(number_in(text.as_bytes(), least, most)?)),
     }
 }
 
-/// How many words there are at most after the mode and the chip: two options with their texts.
-const MOST_WORDS: usize = 4;
-
-/// What the words behind the mode and the chip say.
-fn options_of(words: &[String]) -> Option<Options>
-    ensures { MatchOption result ((options : AOptions) → ¬ Say (map string_bytes words.now) options) (Say (map string_bytes words.now)) }
+/// What `--calls` says, where it is there: none, if its text is no number up to 8.
+fn calls_said(text: Option<&str>) -> Option<Option<u8>>
+    ensures { MatchOption result ((said : Option ℕ) → ¬ IsSaid (IsNumberIn 0 8) (text_of text.entry) said) (IsSaid (IsNumberIn 0 8) (text_of text.entry)) }
 {
-    // So the stack holds at most three calls, whatever the number of words.
-    if words.len() > MOST_WORDS {
-        return None;
+    match text {
+        None => Some(None),
+        Some(text) => Some(Some(number_in(text.as_bytes(), 0, 8)? as u8)),
     }
-    let Some((option, behind)) = words.split_first() else {
-        return Some(Options {
-            ram: None,
-            steps: None,
-        });
-    };
-    let (text, rest) = behind.split_first()?;
-    let options = options_of(rest)?;
-    if is_word(option, "--ram") {
-        with_ram(options, range_of(text.as_bytes()))
-    } else if is_word(option, "--steps") {
-        with_steps(options, steps_of(text.as_bytes()))
-    } else {
-        None
-    }
+}
+
+/// What the options say: none, if one of them doesn't take its text.
+fn options_of(matches: &ArgMatches<'_>) -> Option<Options>
+    ensures { MatchOption result ((options : AOptions) → ¬ Say (first_value (found_of matches.now)) options) (Say (first_value (found_of matches.now))) }
+{
+    let ram = ram_of(matches.get_str("ram"))?;
+    let calls = calls_said(matches.get_str("calls"))?;
+    let targets = number_said(matches.get_str("targets"), 1, 256)?;
+    let workers = number_said(matches.get_str("workers"), 1, MOST_WORKERS)?;
+    let steps = number_said(matches.get_str("steps"), 0, MOST_STEPS)?;
+    let number = number_said(matches.get_str("number"), 1, MOST)?;
+    Some(Options {
+        ram,
+        calls,
+        targets,
+        workers,
+        steps,
+        number,
+    })
 }
 
 /// The chip with its RAM, where the words say nothing of another chip's.
@@ -300,18 +337,103 @@ fn target_by(chip: Chip, ram: Option<Ram>) -> Option<Target>
     }
 }
 
-/// What a mode does with a chip, where it does and the mode has steps.
-fn reading_by(mode: Mode, target: Option<Target>, steps: Option<u32>) -> Option<Reading>
-    ensures { result ≡ the_reading_by mode target steps }
+/// The limits that the options say, and else the usual ones.
+fn limits_of(options: Options) -> Limits
+    ensures { result ≡ limits_by options.calls options.targets }
 {
-    match (mode, target?, steps) {
-        (Mode::Analyse, Target::Msp430 { ram }, None) => Some(Reading::Analyse { ram }),
-        (Mode::Disasm, target, None) => Some(Reading::Disasm { target }),
-        (Mode::Run, target, steps) => Some(Reading::Run {
-            target,
-            steps: steps.unwrap_or(USUAL_STEPS),
+    Limits {
+        calls: options.calls.unwrap_or(Limits::USUAL.calls),
+        targets: options.targets.unwrap_or(Limits::USUAL.targets),
+    }
+}
+
+/// How the options have it analysed.
+fn task_of(options: Options) -> Task
+    ensures { result ≡ the_task options }
+{
+    Task {
+        ram: options.ram.unwrap_or(Ram::USUAL),
+        limits: limits_of(options),
+        workers: options.workers.unwrap_or(1),
+    }
+}
+
+/// The analysis of a chip.
+fn analysis_by(chip: Chip, options: Options) -> Option<Reading>
+    ensures { result ≡ asked the_mode.Analyse chip options }
+{
+    match (chip, options.steps, options.number) {
+        (Chip::Msp430, None, None) => Some(Reading::Analyse {
+            task: task_of(options),
         }),
         _ => None,
+    }
+}
+
+/// The disassembly of a chip.
+fn disassembly_by(chip: Chip, options: Options) -> Option<Reading>
+    ensures { result ≡ asked the_mode.Disasm chip options }
+{
+    match (
+        options.calls,
+        options.targets,
+        options.workers,
+        options.steps,
+        options.number,
+    ) {
+        (None, None, None, None, None) => Some(Reading::Disasm {
+            target: target_by(chip, options.ram)?,
+        }),
+        _ => None,
+    }
+}
+
+/// The run of a chip.
+fn run_by(chip: Chip, options: Options) -> Option<Reading>
+    ensures { result ≡ asked the_mode.Run chip options }
+{
+    match (
+        options.calls,
+        options.targets,
+        options.workers,
+        options.number,
+    ) {
+        (None, None, None, None) => Some(Reading::Run {
+            target: target_by(chip, options.ram)?,
+            steps: options.steps.unwrap_or(USUAL_STEPS),
+        }),
+        _ => None,
+    }
+}
+
+/// The made program of a chip.
+fn making_by(chip: Chip, options: Options) -> Option<Reading>
+    ensures { result ≡ asked the_mode.Gen chip options }
+{
+    match (
+        options.calls,
+        options.targets,
+        options.workers,
+        options.ram,
+        options.steps,
+    ) {
+        (None, None, None, None, None) => match (chip, options.number) {
+            (Chip::Msp430, Some(number)) => Some(Reading::Gen { number }),
+            _ => None,
+        },
+        _ => None,
+    }
+}
+
+/// What a mode, a chip and options ask, where the mode takes the chip and the options.
+fn reading_by(mode: Mode, chip: Chip, options: Options) -> Option<Reading>
+    ensures { result ≡ asked mode chip options }
+{
+    match mode {
+        Mode::Analyse => analysis_by(chip, options),
+        Mode::Disasm => disassembly_by(chip, options),
+        Mode::Run => run_by(chip, options),
+        Mode::Gen => making_by(chip, options),
     }
 }
 
@@ -320,19 +442,24 @@ fn reading_with(mode: Option<Mode>, chip: Option<Chip>, options: Option<Options>
     ensures { result ≡ all_three mode chip options }
 {
     let (mode, chip, options) = (mode?, chip?, options?);
-    reading_by(mode, target_by(chip, options.ram), options.steps)
+    reading_by(mode, chip, options)
 }
 
-/// What the words ask, where they are a mode and a chip, and then options that both have: `--ram LO-HI` of the MSP430, and
-/// `--steps N` of a run.
-pub fn reading_of(words: &[String]) -> Option<Reading>
-    ensures reads { IfSome result (Reads words.now) }
-    ensures range { IfSome result (λ reading. IsRamRange (rules_of reading)) }
-    ensures end { IfSome result (λ reading. EndsInMemory (rules_of reading)) }
-    ensures alone { IfSome result (λ reading. (other : AReading) → Reads words.now other → other ≡ reading) }
-    ensures none { IfNone result ((reading : AReading) → ¬ Reads words.now reading) }
+/// What the words ask, where the command takes them and the mode takes the chip and the options: `--ram LO-HI` of the
+/// MSP430, `--calls N`, `--targets N` and `--workers N` of an analysis, `--steps N` of a run, and `--number N` of a made program, which needs
+/// it and has no other.
+pub fn reading_of(alloc: Global, words: &[String]) -> Result<Option<Reading>, AllocError>
+    ensures reads { IfOk result (λ found. IfSome found (Reads words.now)) }
+    ensures range { IfOk result (λ found. IfSome found (λ reading. IsRamRange (rules_of reading))) }
+    ensures end { IfOk result (λ found. IfSome found (λ reading. EndsInMemory (rules_of reading))) }
+    ensures bounded { IfOk result (λ found. IfSome found IsBounded) }
+    ensures alone { IfOk result (λ found. IfSome found (λ reading. (other : AReading) → Reads words.now other → other ≡ reading)) }
+    ensures none { IfOk result (λ found. IfNone found ((reading : AReading) → ¬ Reads words.now reading)) }
 {
-    let (mode, behind) = words.split_first()?;
-    let (chip, rest) = behind.split_first()?;
-    reading_with(mode_of(mode), chip_of(chip), options_of(rest))
+    let Some(matches) = matches_of(alloc, words)? else {
+        return Ok(None);
+    };
+    let mode = mode_of(matches.get_str("mode"));
+    let chip = chip_of(matches.get_str("chip"));
+    Ok(reading_with(mode, chip, options_of(&matches)))
 }

@@ -1,4 +1,4 @@
-use Rattle.vsa_top.proofs.HeadlineLemmas.{closed_lem, open_lem, complete_lem}
+use Rattle.vsa_top.proofs.HeadlineLemmas.{closed_lem, open_lem, open_alone_lem, complete_lem}
 use Rattle.vsa_top.proofs.headline.reports_hold.Goals as goal
 
 pub returns-clause-closed : goal.returns-clause-closed
@@ -7,6 +7,9 @@ returns-clause-closed c =
 
 pub returns-clause-open : goal.returns-clause-open
 returns-clause-open c = open_lem c.open_reports_show_sites.ensures c.images_keep_rules.ensures c.image_or_fault.ensures.one_image
+
+pub returns-clause-open_alone : goal.returns-clause-open_alone
+returns-clause-open_alone c = open_alone_lem
 
 pub returns-clause-complete : goal.returns-clause-complete
 returns-clause-complete c = complete_lem c.image_or_fault.ensures.not_both c.ended_texts_stay.ensures.ended c.ended_texts_stay.ensures.denoted

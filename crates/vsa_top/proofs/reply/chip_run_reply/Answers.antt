@@ -3,7 +3,7 @@ use Rattle.std.specs.Prelude.{IfOk, Option}
 use Rattle.mcs51_chip.specs.declared.state.ChipState.{ChipState as Mcs51State}
 use Rattle.msp430_chip.specs.declared.device.Device.{Device}
 use Rattle.msp430_chip.specs.declared.state.ChipState.{ChipState as Msp430State}
-use Rattle.msp430_flow.specs.Built.{instr_text}
+use Rattle.msp430_flow.specs.Standing.{instr_text}
 use Rattle.run_trace.specs.Trace.{run_of}
 use Rattle.vsa_top.specs.Answer.{IsRun, run_under}
 use Rattle.vsa_top.specs.Input.{begun_with}

@@ -1,56 +1,108 @@
-use Rattle.std.proofs.Common.{◌≡◌, sym, subst}
+use Rattle.std.proofs.Common.{◌≡◌, None, refl, sym, subst, inr}
 use Rattle.ihex_read.specs.ImageText.{IsRamRange}
 use Rattle.vsa_top.specs.Answer.{Answers}
-use Rattle.vsa_top.specs.Words.{EndsInMemory, rules_of}
+use Rattle.vsa_top.specs.Answer.Answers.{unreplied}
+use Rattle.vsa_top.specs.Words.{EndsInMemory, IsBounded, Reads, rules_of}
+use Rattle.vsa_top.specs.declared.words.Reading.{Reading}
 use Rattle.vsa_top.specs.declared.words.Reading.TheVariants.{Analyse}
+use Rattle.vsa_top.proofs.WordsLemmas.{none_of, some_of}
 use Rattle.vsa_top.proofs.top.vsa.Goals as goal
 
-pub returns-in_default-clause-answer : goal.returns-in_default-clause-answer
-returns-in_default-clause-answer g c = λ reading reads. absurd (c.in_default.ensures.none reading reads)
-
-pub returns-clause-headline : goal.returns-clause-headline
-returns-clause-headline g c = λ ram reads done.
+pub returns-in-Ok-Some-clause-headline : goal.returns-in-Ok-Some-clause-headline
+returns-in-Ok-Some-clause-headline g c = λ task reads told.
+    let words = c.args.words.now in
+    let reading = c.in-Ok-Some.reading in
+    let found = c.in-Ok-Some.field-0 in
+    let is = c.in-Ok-Some.field-0-is in
     let input = g.S.Source.left c.args.source.now in
     let before = g.K.Sink.held c.args.sink.now in
     let after = g.K.Sink.held c.answer.new.sink in
-    let same : Analyse ram ≡ c.in-Some.reading = c.in-Some.ensures.alone (Analyse ram) reads in
-    c.reports_hold.ensures.closed ram input before after c.answer.result.journal.items
-    (subst (λ r. IsRamRange (rules_of r)) (sym same) c.in-Some.ensures.range) (subst (λ r. EndsInMemory (rules_of r)) (sym same) c.in-Some.ensures.end)
-    (subst (λ status. Answers (Analyse ram) status input before after c.answer.result.journal.items) done
+    let same : Analyse task ≡ reading =
+    some_of found reading (λ r. (other : Reading) → Reads words other → other ≡ r) is c.in-Ok-Some.ensures.alone (Analyse task) reads in
+    let range = some_of found reading (λ r. IsRamRange (rules_of r)) is c.in-Ok-Some.ensures.range in
+    let end = some_of found reading (λ r. EndsInMemory (rules_of r)) is c.in-Ok-Some.ensures.end in
+    let bounded = some_of found reading IsBounded is c.in-Ok-Some.ensures.bounded in
+    c.reports_hold.ensures.closed task input before after c.answer.result.journal.items
+    (subst (λ r. IsRamRange (rules_of r)) (sym same) range) (subst (λ r. EndsInMemory (rules_of r)) (sym same) end) (subst IsBounded (sym same) bounded)
+    (subst (λ status. Answers (Analyse task) status input before after c.answer.result.journal.items) told
     (subst (λ r. Answers r c.answer.result.status input before after c.answer.result.journal.items) (sym same) c.answer.ensures.answer))
 
-pub returns-clause-open_sites : goal.returns-clause-open_sites
-returns-clause-open_sites g c = λ reading reads open_status.
+pub returns-in-Ok-Some-clause-open_sites : goal.returns-in-Ok-Some-clause-open_sites
+returns-in-Ok-Some-clause-open_sites g c = λ task reads told.
+    let words = c.args.words.now in
+    let reading = c.in-Ok-Some.reading in
+    let found = c.in-Ok-Some.field-0 in
+    let is = c.in-Ok-Some.field-0-is in
     let input = g.S.Source.left c.args.source.now in
     let before = g.K.Sink.held c.args.sink.now in
     let after = g.K.Sink.held c.answer.new.sink in
-    let same : reading ≡ c.in-Some.reading = c.in-Some.ensures.alone reading reads in
-    c.reports_hold.ensures.open reading input before after c.answer.result.journal.items
-    (subst (λ r. IsRamRange (rules_of r)) (sym same) c.in-Some.ensures.range) (subst (λ r. EndsInMemory (rules_of r)) (sym same) c.in-Some.ensures.end)
-    (subst (λ status. Answers reading status input before after c.answer.result.journal.items) open_status
+    let same : Analyse task ≡ reading =
+    some_of found reading (λ r. (other : Reading) → Reads words other → other ≡ r) is c.in-Ok-Some.ensures.alone (Analyse task) reads in
+    let range = some_of found reading (λ r. IsRamRange (rules_of r)) is c.in-Ok-Some.ensures.range in
+    let end = some_of found reading (λ r. EndsInMemory (rules_of r)) is c.in-Ok-Some.ensures.end in
+    let bounded = some_of found reading IsBounded is c.in-Ok-Some.ensures.bounded in
+    c.reports_hold.ensures.open task input before after c.answer.result.journal.items
+    (subst (λ r. IsRamRange (rules_of r)) (sym same) range) (subst (λ r. EndsInMemory (rules_of r)) (sym same) end) (subst IsBounded (sym same) bounded)
+    (subst (λ status. Answers (Analyse task) status input before after c.answer.result.journal.items) told
     (subst (λ r. Answers r c.answer.result.status input before after c.answer.result.journal.items) (sym same) c.answer.ensures.answer))
 
-pub returns-clause-usage : goal.returns-clause-usage
-returns-clause-usage g c = λ none. absurd (none c.in-Some.reading c.in-Some.ensures.reads)
-
-pub returns-clause-usage_journal : goal.returns-clause-usage_journal
-returns-clause-usage_journal g c = λ none. absurd (none c.in-Some.reading c.in-Some.ensures.reads)
-
-pub returns-clause-answer : goal.returns-clause-answer
-returns-clause-answer g c = λ reading reads.
-    let same : reading ≡ c.in-Some.reading = c.in-Some.ensures.alone reading reads in
-    subst (λ r. Answers r c.answer.result.status (g.S.Source.left c.args.source.now) (g.K.Sink.held c.args.sink.now)
-    (g.K.Sink.held c.answer.new.sink) c.answer.result.journal.items) (sym same) c.answer.ensures.answer
-
-pub returns-clause-complete : goal.returns-clause-complete
-returns-clause-complete g c = λ reading text image second reads e is quiet_source quiet_sink.
+pub returns-in-Ok-Some-clause-open_alone : goal.returns-in-Ok-Some-clause-open_alone
+returns-in-Ok-Some-clause-open_alone g c = λ other reads told.
+    let words = c.args.words.now in
+    let reading = c.in-Ok-Some.reading in
+    let found = c.in-Ok-Some.field-0 in
+    let is = c.in-Ok-Some.field-0-is in
     let input = g.S.Source.left c.args.source.now in
     let before = g.K.Sink.held c.args.sink.now in
     let after = g.K.Sink.held c.answer.new.sink in
-    let same : reading ≡ c.in-Some.reading = c.in-Some.ensures.alone reading reads in
-    c.reports_hold.ensures.complete reading c.answer.result.status input before after c.answer.result.journal.items text image second
-    (subst (λ r. Answers r c.answer.result.status input before after c.answer.result.journal.items) (sym same) c.answer.ensures.answer) e is
+    let same : other ≡ reading =
+    some_of found reading (λ r. (other : Reading) → Reads words other → other ≡ r) is c.in-Ok-Some.ensures.alone other reads in
+    c.reports_hold.ensures.open_alone other input before after c.answer.result.journal.items
+    (subst (λ status. Answers other status input before after c.answer.result.journal.items) told
+    (subst (λ r. Answers r c.answer.result.status input before after c.answer.result.journal.items) (sym same) c.answer.ensures.answer))
+
+pub returns-in-Ok-Some-clause-usage : goal.returns-in-Ok-Some-clause-usage
+returns-in-Ok-Some-clause-usage g c = λ none.
+    absurd (none c.in-Ok-Some.reading
+    (some_of c.in-Ok-Some.field-0 c.in-Ok-Some.reading (Reads c.args.words.now) c.in-Ok-Some.field-0-is c.in-Ok-Some.ensures.reads))
+
+pub returns-in-Ok-Some-clause-usage_journal : goal.returns-in-Ok-Some-clause-usage_journal
+returns-in-Ok-Some-clause-usage_journal g c = λ none.
+    absurd (none c.in-Ok-Some.reading
+    (some_of c.in-Ok-Some.field-0 c.in-Ok-Some.reading (Reads c.args.words.now) c.in-Ok-Some.field-0-is c.in-Ok-Some.ensures.reads))
+
+pub returns-in-Ok-Some-clause-answer : goal.returns-in-Ok-Some-clause-answer
+returns-in-Ok-Some-clause-answer g c = λ other reads.
+    let words = c.args.words.now in
+    let reading = c.in-Ok-Some.reading in
+    let found = c.in-Ok-Some.field-0 in
+    let is = c.in-Ok-Some.field-0-is in
+    let input = g.S.Source.left c.args.source.now in
+    let before = g.K.Sink.held c.args.sink.now in
+    let after = g.K.Sink.held c.answer.new.sink in
+    let same : other ≡ reading =
+    some_of found reading (λ r. (other : Reading) → Reads words other → other ≡ r) is c.in-Ok-Some.ensures.alone other reads in
+    subst (λ r. Answers r c.answer.result.status input before after c.answer.result.journal.items) (sym same) c.answer.ensures.answer
+
+pub returns-in-Ok-Some-clause-complete : goal.returns-in-Ok-Some-clause-complete
+returns-in-Ok-Some-clause-complete g c = λ other text image second reads e gives quiet_source quiet_sink.
+    let words = c.args.words.now in
+    let reading = c.in-Ok-Some.reading in
+    let found = c.in-Ok-Some.field-0 in
+    let is = c.in-Ok-Some.field-0-is in
+    let input = g.S.Source.left c.args.source.now in
+    let before = g.K.Sink.held c.args.sink.now in
+    let after = g.K.Sink.held c.answer.new.sink in
+    let same : other ≡ reading =
+    some_of found reading (λ r. (other : Reading) → Reads words other → other ≡ r) is c.in-Ok-Some.ensures.alone other reads in
+    c.reports_hold.ensures.complete other c.answer.result.status input before after c.answer.result.journal.items text image second
+    (subst (λ r. Answers r c.answer.result.status input before after c.answer.result.journal.items) (sym same) c.answer.ensures.answer) e gives
     (λ fault. quiet_source (c.answer.ensures.read_fault fault)) (λ fault. quiet_sink (c.answer.ensures.write_fault fault))
 
-pub returns-in_default-clause-complete : goal.returns-in_default-clause-complete
-returns-in_default-clause-complete g c = λ reading text image second reads. absurd (c.in_default.ensures.none reading reads)
+pub returns-in-Ok-None-clause-answer : goal.returns-in-Ok-None-clause-answer
+returns-in-Ok-None-clause-answer g c = λ reading reads.
+    absurd (none_of c.in-Ok-None.field-0 ((r : Reading) → Reads c.args.words.now r → ⊥) c.in-Ok-None.field-0-is c.in-Ok-None.ensures.none reading reads)
+
+pub returns-in-Ok-None-clause-complete : goal.returns-in-Ok-None-clause-complete
+returns-in-Ok-None-clause-complete g c = λ reading text image second reads.
+    absurd (none_of c.in-Ok-None.field-0 ((r : Reading) → Reads c.args.words.now r → ⊥) c.in-Ok-None.field-0-is c.in-Ok-None.ensures.none reading reads)
