@@ -120,10 +120,3 @@ none_behind_end rules tail text more line fault second ended faults =
 
 pub faultless_end : (rules : Rules) (text : List ℕ) (line : ℕ) (fault : HexFault) → HasEnded rules text → FirstFault rules Second (lines_of text) line fault → ⊥
 faultless_end rules text line fault ended = no_fault_behind rules Second (lines_of text) ended.0 ended.1 ended.2 ended.3 refl
-
-pub denotes_more : (rules : Rules) (text more : List ℕ) (image : List (Option ℕ)) → HasEnded rules text → Denotes rules Second (lines_of text) image
-    → Denotes rules Second (lines_of (text ++ more)) image
-denotes_more rules text more image ended denoted =
-    let rest = end_stays rules text more ended in
-    let same = one_end rules (lines_of text) ended.0 denoted.0 ended.1 denoted.1 ended.2 denoted.2 ended.3 denoted.3 in
-    (ended.0, ended.1, rest.0, rest.1, tt, subst (IsImage image) (sym same.0) denoted.5)

@@ -13,7 +13,7 @@ use Rattle.ihex_read.specs.declared.fault.HexFault.{HexFault}
 use Rattle.ihex_read.specs.declared.fault.HexFault.TheVariants.{NoEnd, Trailing}
 use Rattle.ihex_read.specs.Alone.{alone_fault}
 use Rattle.ihex_read.specs.Image.{byte_at}
-use Rattle.ihex_read.specs.ImageText.{fault_of, is_end, IsOpen, Ends, IsImage, IsTail, Denotes, FirstFault, of_line, no_end, trailing}
+use Rattle.ihex_read.specs.ImageText.{fault_of, is_end, IsOpen, Ends, IsImage, IsTail, Denotes, FirstFault, GoesOnBehind, of_line, no_end, trailing}
 use Rattle.ihex_read.specs.Loading.{Made, placing_fault, written}
 use Rattle.ihex_read.specs.Record.{record_of, base_behind, placed_by}
 use Rattle.ihex_read.proofs.MadeLemmas.{made_nothing, made_more, made_blank, fault-made}
@@ -50,7 +50,7 @@ made_line rules before (b ∷ bytes) base image made accepted =
 
 abbrev Outcome : Rules → Tail → List (List ℕ) → Type 0
 Outcome rules tail lines = ((image : List (Option ℕ)) × Denotes rules tail lines image)
-    ⊎ ((line : ℕ) × (fault : HexFault) × FirstFault rules tail lines line fault)
+    ⊎ ((line : ℕ) × (fault : HexFault) × FirstFault rules tail lines line fault) ⊎ GoesOnBehind rules tail lines
 
 -- all blank, or the first that isn't
 blank_front : (lines : List (List ℕ)) → All (λ line. line ≡ []) lines
@@ -65,14 +65,16 @@ blank_front ((b ∷ line) ∷ lines) = inr ([], b ∷ line, lines, refl, All-nil
 -- behind an end record
 behind_end : (rules : Rules) (tail : Tail) (lines before : List (List ℕ)) (line : List ℕ) (behind : List (List ℕ)) (image : List (Option ℕ))
     → Ends rules lines before line behind → IsImage image before → Outcome rules tail lines
-behind_end rules Second lines before line behind image ends placed = inl (image, (before, line, behind, ends, tt, placed))
+behind_end rules Second lines before line [] image ends placed = inl (image, (before, line, [], ends, refl, placed))
+behind_end rules Second lines before line (first ∷ behind) image ends placed =
+    inr (inr (record { expected = refl; before = before; line = line; first = first; behind = behind; ends = ends }))
 behind_end rules Blank lines before line behind image ends placed = elim (blank_front behind) [
   | inl blank ↦ inl (image, (before, line, behind, ends, blank, placed))
-  | inr found ↦ inr (
+  | inr found ↦ inr (inl (
     length before + 1 + length found.0 + 1,
     Trailing,
     trailing before line found.0 found.1 found.2 (subst (Ends rules lines before line) found.3 ends) found.4 found.5 refl,
-  )
+  ))
 ]
 
 -- at a line behind open ones
@@ -83,7 +85,7 @@ at_line : (rules : Rules) (tail : Tail) (rest lines before : List (List ℕ)) (l
     → Outcome rules tail lines)
     → Outcome rules tail lines
 at_line rules tail rest lines before line base image (Some fault) faulty end_record ends whole all_open made go =
-    inr (length before + 1, fault, of_line before line rest fault whole all_open faulty)
+    inr (inl (length before + 1, fault, of_line before line rest fault whole all_open faulty))
 at_line rules tail rest lines before line base image None accepted true ends whole all_open made go =
     behind_end rules tail lines before line rest image
     (record { whole = whole; open_before = all_open; accepted = accepted; ends = ends }) made.placed
@@ -94,7 +96,7 @@ at_line rules tail rest lines before line base image None accepted false ends wh
 outcome_from : (rules : Rules) (tail : Tail) (rest lines before : List (List ℕ)) (base : ℕ) (image : List (Option ℕ)) → lines ≡ before ++ rest
     → IsOpen rules before → Made before base image → Outcome rules tail lines
 outcome_from rules tail [] lines before base image whole all_open made =
-    inr (length lines + 1, NoEnd, no_end (subst (IsOpen rules) (sym (whole ∙ append-nil before)) all_open))
+    inr (inl (length lines + 1, NoEnd, no_end (subst (IsOpen rules) (sym (whole ∙ append-nil before)) all_open)))
 outcome_from rules tail (line ∷ rest) lines before base image whole all_open made =
     at_line rules tail rest lines before line base image (fault_of rules before line) refl (is_end line) refl whole all_open made
     (λ next new_base new_image. outcome_from rules tail rest lines next new_base new_image)

@@ -98,7 +98,7 @@ next_first rules Blank lines (b ∷ line) more true base image fault over goes f
 
 used_tail : (tail : Tail) (behind : List (List ℕ)) → IsUsed tail behind → IsTail tail behind
 used_tail Blank behind used = used
-used_tail Second behind used = tt
+used_tail Second behind used = used
 
 -- the image of lines with an end record
 pub over_image : (rules : Rules) (tail : Tail) (lines : List (List ℕ)) (base : ℕ) (image : List (Option ℕ)) (ended : Bool) → not ended ≡ false

@@ -107,14 +107,23 @@ pub record IsImage (image : List (Option ℕ)) (lines : List (List ℕ)) : Type 
   pub size : length image ≡ 65536
   pub bytes : (at value : ℕ) → (byte_at image at ≡ Some value) ↔ Places lines at value
 
--- where no second text is expected, each line behind the end record's is blank; else they are none of the text
+-- each line behind the end record's is blank; where a second text is expected there is none
 abbrev pub IsTail : Tail → List (List ℕ) → Type 0
 IsTail Blank behind = All (λ line. line ≡ []) behind
-IsTail Second behind = Unit {0}
+IsTail Second behind = behind ≡ []
 
 abbrev pub Denotes : Rules → Tail → List (List ℕ) → List (Option ℕ) → Type 0
 Denotes rules tail lines image = (before : List (List ℕ)) × (line : List ℕ) × (behind : List (List ℕ))
     × Ends rules lines before line behind × IsTail tail behind × IsImage image before
+
+-- where a second text is expected, lines stand behind the end record's: they are none of the image text
+pub record GoesOnBehind (rules : Rules) (tail : Tail) (lines : List (List ℕ)) : Type 0 where
+  pub expected : tail ≡ Second
+  pub before : List (List ℕ)
+  pub line : List ℕ
+  pub first : List ℕ
+  pub behind : List (List ℕ)
+  pub ends : Ends rules lines before line (first ∷ behind)
 
 -- the first faulty line, counted from 1, and its fault
 pub data FirstFault (rules : Rules) (tail : Tail) (lines : List (List ℕ)) : ℕ → HexFault → Type 0 where

@@ -6,16 +6,17 @@ ghost use Rattle.ihex_read.specs.declared.rule_set.Rules.{Rules};
 ghost use Rattle.ihex_read.specs.declared.rule_set.Tail.{Tail};
 ghost use Rattle.ihex_read.specs.declared.rule_set.Tail.TheVariants.{Second};
 ghost use Rattle.ihex_read.specs.Image.{IsByte};
-ghost use Rattle.ihex_read.specs.ImageText.{Denotes, FirstFault};
+ghost use Rattle.ihex_read.specs.ImageText.{Denotes, FirstFault, GoesOnBehind};
 ghost use Rattle.ihex_read.specs.Kept.{IsReadUnder};
 ghost use Rattle.ihex_read.specs.Lines.{lines_of};
 ghost use Rattle.ihex_read.specs.Reading.{FaultsWithin, HasEnded};
 
-/// Every list of lines has an image or a first fault, never both, and no second one of either.
+/// Every list of lines has an image or a first fault, or goes on behind the end record's line where a second text is expected;
+/// never both, and no second one of either.
 pub fn image_or_fault()
     ensures one { (rules : Rules) (tail : Tail) (lines : List (List ℕ)) →
         ((image : List (Option ℕ)) × Denotes rules tail lines image)
-        ⊎ ((line : ℕ) × (fault : HexFault) × FirstFault rules tail lines line fault) }
+        ⊎ ((line : ℕ) × (fault : HexFault) × FirstFault rules tail lines line fault) ⊎ GoesOnBehind rules tail lines }
     ensures not_both { (rules : Rules) (tail : Tail) (lines : List (List ℕ)) (image : List (Option ℕ)) (line : ℕ) (fault : HexFault) →
         Denotes rules tail lines image → ¬ FirstFault rules tail lines line fault }
     ensures one_image { (rules : Rules) (tail : Tail) (lines : List (List ℕ)) (image other : List (Option ℕ)) →
@@ -42,12 +43,9 @@ pub fn whole_faults_stay()
         FaultsWithin rules tail text line fault → FaultsWithin rules tail (text ++ more) line fault }
 {}
 
-/// A text that has ended, where a second text is expected behind it, stays so however the text goes on: it has no fault,
-/// and it denotes the same image.
+/// A text that has ended, where a second text is expected behind it, stays so however the text goes on, and has no fault.
 pub fn ended_texts_stay()
     ensures ended { (rules : Rules) (text more : List ℕ) → HasEnded rules text → HasEnded rules (text ++ more) }
     ensures faultless { (rules : Rules) (text : List ℕ) (line : ℕ) (fault : HexFault) →
         HasEnded rules text → ¬ FirstFault rules Second (lines_of text) line fault }
-    ensures denoted { (rules : Rules) (text more : List ℕ) (image : List (Option ℕ)) →
-        HasEnded rules text → Denotes rules Second (lines_of text) image → Denotes rules Second (lines_of (text ++ more)) image }
 {}

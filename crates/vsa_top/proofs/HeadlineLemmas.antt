@@ -227,9 +227,9 @@ HaveNotBoth = (rules : Rules) (tail : Tail) (lines : List (List ℕ)) (image : L
 abbrev EndedStay : Type 0
 EndedStay = (rules : Rules) (text more : List ℕ) → HasEnded rules text → HasEnded rules (text ++ more)
 
-abbrev ImagesStay : Type 0
-ImagesStay = (rules : Rules) (text more : List ℕ) (image : List (Option ℕ)) → HasEnded rules text → Denotes rules Second (texts.lines_of text) image
-    → Denotes rules Second (texts.lines_of (text ++ more)) image
+abbrev EndedAreFaultless : Type 0
+EndedAreFaultless = (rules : Rules) (text : List ℕ) (line : ℕ) (fault : HexFault) → HasEnded rules text
+    → FirstFault rules Second (texts.lines_of text) line fault → ⊥
 
 -- the first bytes of a text that is all image text
 all_front : (front second text : List ℕ) → text ≡ front ++ second → second ≡ [] → length front ≤ text_limit → (text ≡ front) × (front_of text ≡ front)
@@ -237,25 +237,26 @@ all_front front second text joined none fits =
     let same : text ≡ front = joined ∙ ap (λ t. front ++ t) none ∙ append-nil front in
     (same, ap front_of same ∙ take_all text_limit front fits)
 
--- the first bytes of a text give its image
-front_gives : ImagesStay → (rules : Rules) (text : List ℕ) (image : List (Option ℕ)) (second : List ℕ) → (is : AreTexts rules text image second)
-    → (second ≡ []) ⊎ HasEnded rules is.front → Denotes rules Second (texts.lines_of (front_of text)) image
-front_gives stay rules text image second is (inl none) =
+-- the first bytes of a text that an image text begins have no fault
+front_faultless : HaveNotBoth → EndedStay → EndedAreFaultless → (rules : Rules) (text : List ℕ) (image : List (Option ℕ)) (second : List ℕ) (line : ℕ)
+    (fault : HexFault) → (is : AreTexts rules text image second) → (second ≡ []) ⊎ HasEnded rules is.front
+    → FirstFault rules Second (texts.lines_of (front_of text)) line fault → ⊥
+front_faultless both stay faultless rules text image second line fault is (inl none) first =
     let all = all_front is.front second text is.whole none is.fits in
-    subst (λ t. Denotes rules Second (texts.lines_of t) image) (sym all.1) is.denoted
-front_gives stay rules text image second is (inr ended) =
+    both rules Second (texts.lines_of is.front) image line fault is.denoted (subst (λ t. FirstFault rules Second (texts.lines_of t) line fault) all.1 first)
+front_faultless both stay faultless rules text image second line fault is (inr ended) first =
     let more = take (text_limit - length is.front) second in
     let same : front_of text ≡ is.front ++ more = ap front_of is.whole ∙ front_goes_on is.front second is.fits in
-    subst (λ t. Denotes rules Second (texts.lines_of t) image) (sym same) (stay rules is.front more image ended is.denoted)
+    faultless rules (front_of text) line fault (subst (HasEnded rules) (sym same) (stay rules is.front more ended)) first
 
 -- a text of an image isn't refused
-not_bad : HaveNotBoth → ImagesStay → (rules : Rules) (tail : Tail) (text : List ℕ) (image : List (Option ℕ)) (second : List ℕ) (line : ℕ) (fault : HexFault)
-    → Gives rules tail text image second → IsBad rules tail text line fault → ⊥
-not_bad both stay rules Blank text image second line fault gives bad =
+not_bad : HaveNotBoth → EndedStay → EndedAreFaultless → (rules : Rules) (tail : Tail) (text : List ℕ) (image : List (Option ℕ)) (second : List ℕ) (line : ℕ)
+    (fault : HexFault) → Gives rules tail text image second → IsBad rules tail text line fault → ⊥
+not_bad both stay faultless rules Blank text image second line fault gives bad =
     both rules Blank (texts.lines_of text) image line fault gives.0.denoted
     (subst (λ t. FirstFault rules Blank (texts.lines_of t) line fault) (take_all text_limit text gives.0.fits) bad.first)
-not_bad both stay rules Second text image second line fault gives bad =
-    both rules Second (texts.lines_of (front_of text)) image line fault (front_gives stay rules text image second gives gives.ends) bad.first
+not_bad both stay faultless rules Second text image second line fault gives bad =
+    front_faultless both stay faultless rules text image second line fault gives gives.ends bad.first
 
 not_long_behind : EndedStay → (rules : Rules) (text : List ℕ) (image : List (Option ℕ)) (second : List ℕ) → (is : AreTexts rules text image second)
     → (second ≡ []) ⊎ HasEnded rules is.front → IsTooLong rules Second text → ⊥
@@ -272,26 +273,26 @@ not_long stay rules Blank text image second gives long = omega (arith, gives.0.f
 not_long stay rules Second text image second gives long = not_long_behind stay rules text image second gives gives.ends long
 
 -- the status of the reply to an input that gives an image
-reply_ends : HaveNotBoth → EndedStay → ImagesStay → (reading : Reading) (answered : Status) (input : Option (List ℕ)) (report : List ℕ) (journal : List Event)
+reply_ends : HaveNotBoth → EndedStay → EndedAreFaultless → (reading : Reading) (answered : Status) (input : Option (List ℕ)) (report : List ℕ) (journal : List Event)
     (text : List ℕ) (image : List (Option ℕ)) (second : List ℕ) → IsReply reading input answered report journal → input ≡ Some text
     → Gives (rules_of reading) (tail_of reading) text image second → Ends reading answered
-reply_ends both ended stay reading answered input report journal text image second (of_image other behind found reply) e is =
+reply_ends both ended faultless reading answered input report journal text image second (of_image other behind found reply) e is =
     image_reply_ends reading other behind answered report journal reply
-reply_ends both ended stay reading answered input report journal text image second (of_bad line fault bad told line_is none) e is =
-    absurd (not_bad both stay (rules_of reading) (tail_of reading) text image second line fault is
+reply_ends both ended faultless reading answered input report journal text image second (of_bad line fault bad told line_is none) e is =
+    absurd (not_bad both ended faultless (rules_of reading) (tail_of reading) text image second line fault is
     (subst (λ i. IfSome i (λ t. IsBad (rules_of reading) (tail_of reading) t line fault)) e bad))
-reply_ends both ended stay reading answered input report journal text image second (of_long long told line_is none) e is =
+reply_ends both ended faultless reading answered input report journal text image second (of_long long told line_is none) e is =
     absurd (not_long ended (rules_of reading) (tail_of reading) text image second is
     (subst (λ i. IfSome i (IsTooLong (rules_of reading) (tail_of reading))) e long))
 
-pub complete_lem : HaveNotBoth → EndedStay → ImagesStay → (reading : Reading) (answered : Status) (input before after : Option (List ℕ)) (journal : List Event) (text : List ℕ)
+pub complete_lem : HaveNotBoth → EndedStay → EndedAreFaultless → (reading : Reading) (answered : Status) (input before after : Option (List ℕ)) (journal : List Event) (text : List ℕ)
     (image : List (Option ℕ)) (second : List ℕ) → Answers reading answered input before after journal → input_of reading input ≡ Some text
     → Gives (rules_of reading) (tail_of reading) text image second → (answered ≡ ReadFault → ⊥) → (answered ≡ WriteFault → ⊥)
     → Ends reading answered ⊎ (answered ≡ Memory)
-complete_lem both ended stay reading answered input before after journal text image second (replied reply report is (whole same held)) e gives no_read no_write =
-    inl (subst (Ends reading) (sym same) (reply_ends both ended stay reading reply (input_of reading input) report journal text image second is e gives))
-complete_lem both ended stay reading answered input before after journal text image second (replied reply report is (cut fault held)) e gives no_read no_write =
+complete_lem both ended faultless reading answered input before after journal text image second (replied reply report is (whole same held)) e gives no_read no_write =
+    inl (subst (Ends reading) (sym same) (reply_ends both ended faultless reading reply (input_of reading input) report journal text image second is e gives))
+complete_lem both ended faultless reading answered input before after journal text image second (replied reply report is (cut fault held)) e gives no_read no_write =
     absurd (no_write fault)
-complete_lem both ended stay reading answered input before after journal text image second (unreplied (inl fault) kept none) e gives no_read no_write =
+complete_lem both ended faultless reading answered input before after journal text image second (unreplied (inl fault) kept none) e gives no_read no_write =
     absurd (no_read fault)
-complete_lem both ended stay reading answered input before after journal text image second (unreplied (inr memory) kept none) e gives no_read no_write = inr memory
+complete_lem both ended faultless reading answered input before after journal text image second (unreplied (inr memory) kept none) e gives no_read no_write = inr memory

@@ -12,4 +12,4 @@ pub returns-clause-open_alone : goal.returns-clause-open_alone
 returns-clause-open_alone c = open_alone_lem
 
 pub returns-clause-complete : goal.returns-clause-complete
-returns-clause-complete c = complete_lem c.image_or_fault.ensures.not_both c.ended_texts_stay.ensures.ended c.ended_texts_stay.ensures.denoted
+returns-clause-complete c = complete_lem c.image_or_fault.ensures.not_both c.ended_texts_stay.ensures.ended c.ended_texts_stay.ensures.faultless
