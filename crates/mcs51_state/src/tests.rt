@@ -86,6 +86,7 @@ fn greatest_of_a_handler(rt: HostRuntime) -> Result<(), Fail> {
         level: 1,
     };
     let top: State<CellList> = State::top(rt.alloc(), &frame)?;
-    assert_eq!(rt; top.touched.list(), [(0x00, 0xFF)].as_slice());
+    let copy = top.copy(rt.alloc())?;
+    assert_eq!(rt; copy.touched.list(), [(0x00, 0xFF)].as_slice());
     Ok(())
 }
