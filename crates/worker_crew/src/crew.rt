@@ -20,7 +20,7 @@ use vsa_io::Memory;
 use worker_rounds::Gate;
 
 /// Works at the seat, and lets so many helpers work beside it, each in a thread of its own. Where a thread can't be
-/// started, this one does its helper's work before its own. The helpers' seats are taken in.
+/// started, this one does its helper's work too. The helpers' seats are taken in.
 #[cycle(crew)]
 fn work_beside<R: Threads + Wait + Sync, C: Chip<Base: Send> + Send + Sync, G: Gate + Sync>(
     rt: &R,
@@ -32,7 +32,8 @@ fn work_beside<R: Threads + Wait + Sync, C: Chip<Base: Send> + Send + Sync, G: G
     mut seat: Seat<C>,
     helpers: u32,
 ) -> Seat<C>
-    requires threads { IsSync R.row × IsSend C.row × IsSync C.row × IsSync G.row × IsSend C.Base.row × IsSend C.Abs.row }
+    requires threads { IsSync R.row × IsSend C.row × IsSync C.row × IsSync G.row
+        × IsSend C.Base.row × IsSend C.Abs.row }
     requires table { seat.table ≡ name_of turns.now }
     requires idle { seat.holds ≡ false }
     requires chip { Some (C.base chip.now) ≡ seat.base }
@@ -44,12 +45,15 @@ fn work_beside<R: Threads + Wait + Sync, C: Chip<Base: Send> + Send + Sync, G: G
     }
     let helper = turns.split(&mut seat);
     let help = move || -> Seat<C>
-        requires { (helper.table ≡ name_of turns.now) × (helper.holds ≡ false) × (Some (C.base chip.now) ≡ helper.base) }
+        requires { (helper.table ≡ name_of turns.now) × (helper.holds ≡ false)
+            × (Some (C.base chip.now) ≡ helper.base) }
         ensures { Works helper result }
     { work(rt, alloc, turns, chip, gate, answers, helper) };
     let go_on = move || -> Seat<C>
-        requires threads { IsSync R.row × IsSend C.row × IsSync C.row × IsSync G.row × IsSend C.Base.row × IsSend C.Abs.row }
-        requires seat { (seat.table ≡ name_of turns.now) × (seat.holds ≡ false) × (Some (C.base chip.now) ≡ seat.base) }
+        requires threads { IsSync R.row × IsSend C.row × IsSync C.row × IsSync G.row
+            × IsSend C.Base.row × IsSend C.Abs.row }
+        requires seat { (seat.table ≡ name_of turns.now) × (seat.holds ≡ false)
+            × (Some (C.base chip.now) ≡ seat.base) }
         requires room { (0 < helpers) × (helpers ≤ seat.room + 1) }
         ensures { TakesIn seat result }
     { work_beside(rt, alloc, turns, chip, gate, answers, seat, helpers - 1) };
