@@ -6,6 +6,8 @@
 //! kinds of operands; `specs/State.antt` is a state, `specs/Registers.antt` and `specs/Memory.antt` are its places,
 //! `specs/Arithmetic.antt` is results and flags, and `specs/Interrupts.antt` is which interrupt may come.
 //!
+//! [`direct_address`], [`bit_address`] and [`sfr_at`] find bytes, bits and registers by their addresses.
+//!
 //! Of all states and choices:
 //!
 //! - [`one_front`]: each list of choices has at most one front with a step.
@@ -17,10 +19,15 @@
 //!   (`specs/Leading.antt`).
 #![tactic(auto)]
 
+mod finding;
 mod law;
 mod place;
 mod state;
 
-pub use law::{a_reset_exists, one_front, steps_are_taken, steps_keep_form, the_table_decides};
+pub use finding::{bit_address, direct_address, sfr_at};
+pub use law::{
+    a_reset_exists, formats_lead, one_front, steps_are_taken, steps_keep_form, steps_lead,
+    the_table_decides,
+};
 pub use place::{Access, Address, Sfr};
 pub use state::ChipState;

@@ -11,10 +11,10 @@ ghost use Rattle.mcs51_emu.specs.Form.{unheld};
 
 use crate::bits::{bit_at, bit_of, with_bit};
 use crate::done::{Accesses, NOTHING, one_read, pointer_read, read_and_write};
-use crate::memory::{bit_address, direct_address, read, working_address, write};
+use crate::memory::{read, working_address, write};
 use crate::registers::{carry_of, set_carry};
 use choosing::Unused;
-use mcs51_chip::ChipState;
+use mcs51_chip::{ChipState, bit_address, direct_address};
 use mcs51_decode::{BitTest, Comparison, Condition, Counter, Working};
 
 /// A relative jump from the following address, where it is taken.

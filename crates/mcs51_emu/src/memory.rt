@@ -7,32 +7,10 @@ ghost use Rattle.mcs51_chip.specs.Memory as memories;
 ghost use Rattle.mcs51_chip.specs.State.{IsChipState};
 ghost use Rattle.mcs51_emu.specs.Form.{unheld};
 
-use crate::registers::{read_sfr, register_address, sfr_at, write_sfr};
+use crate::registers::{read_sfr, register_address, write_sfr};
 use choosing::Unused;
-use mcs51_chip::{Address, ChipState};
+use mcs51_chip::{Address, ChipState, direct_address, sfr_at};
 use mcs51_decode::{Image, Memory, Pointer, Working, number_of_pointer, number_of_register};
-
-/// Where a direct byte stands.
-pub(crate) fn direct_address(direct: u8) -> Address
-    ensures { result ≡ memories.direct_address direct }
-{
-    if direct < 128 {
-        Address::InRam(direct)
-    } else {
-        Address::InSfr(direct)
-    }
-}
-
-/// Where the byte of a bit stands.
-pub(crate) fn bit_address(bit: u8) -> Address
-    ensures { result ≡ memories.bit_address bit }
-{
-    if bit < 128 {
-        Address::InRam(32 + bit / 8)
-    } else {
-        Address::InSfr(bit / 8 * 8)
-    }
-}
 
 /// Where R0 or R1 stands.
 pub(crate) fn pointer_address(s: &ChipState, pointer: Pointer) -> u8

@@ -15,10 +15,10 @@ use crate::bits::{bit_at, with_bit};
 use crate::done::{
     Accesses, NOTHING, address_read, one_read, one_write, pointer_read, read_and_write,
 };
-use crate::memory::{address_of, bit_address, direct_address, read, working_address, write};
+use crate::memory::{address_of, read, working_address, write};
 use crate::registers::{carry_of, set_carry};
 use choosing::Unused;
-use mcs51_chip::ChipState;
+use mcs51_chip::{ChipState, bit_address, direct_address};
 use mcs51_decode::{
     BitOperation, CarryByBit, Logic, Mask, Memory, Operation, Place, Pointer, Source, Working,
 };

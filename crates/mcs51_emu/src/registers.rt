@@ -70,23 +70,6 @@ pub(crate) fn set_data_pointer(s: &mut ChipState, x: u16)
     s.dph = (x / 256) as u8;
 }
 
-/// The register at an address.
-pub(crate) fn sfr_at(at: u8) -> Sfr
-    ensures { result ≡ registers.sfr_at at }
-{
-    match at {
-        0x81 => Sfr::Sp,
-        0x82 => Sfr::Dpl,
-        0x83 => Sfr::Dph,
-        0xA8 => Sfr::Ie,
-        0xB8 => Sfr::Ip,
-        0xD0 => Sfr::Psw,
-        0xE0 => Sfr::Acc,
-        0xF0 => Sfr::B,
-        _ => Sfr::Other,
-    }
-}
-
 /// What a register reads as; bits that aren't held are any.
 pub(crate) fn read_sfr(s: &ChipState, sfr: Sfr, choices: &mut Unused) -> Option<u8>
     requires { IsChipState s.now }

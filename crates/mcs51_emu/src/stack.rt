@@ -12,12 +12,11 @@ ghost use Rattle.mcs51_emu.specs.Form.{unheld};
 
 use crate::done::{Accesses, one_more, one_read, pointer_read, read_and_write};
 use crate::memory::{
-    direct_address, pointed_by, pop_address, pop_byte, push_address, push_byte, read, read_code,
-    top_of, write,
+    pointed_by, pop_address, pop_byte, push_address, push_byte, read, read_code, top_of, write,
 };
 use crate::registers::data_pointer;
 use choosing::Unused;
-use mcs51_chip::{Access, Address, ChipState};
+use mcs51_chip::{Access, Address, ChipState, direct_address};
 use mcs51_decode::{CodeBase, External, Image, Working};
 
 /// What a call or an interrupt writes.

@@ -6,3 +6,5 @@ pub mod Known
 pub mod Holding
 pub mod Forms
 pub mod Premises
+pub mod Under
+pub mod Standing

@@ -10,6 +10,9 @@
 //! `HoldsOfParts`. `specs/Places.antt` says what a value may remember, and `specs/Forms.antt` is the form of states and of
 //! their nodes.
 //!
+//! `specs/Under.antt` is the premise of laws on instructions, `IsUnder`. [`Addresses`] are where an operand may stand
+//! (`specs/Standing.antt`).
+//!
 //! The laws are functions that do nothing:
 //!
 //! - [`states_are_ordered`]: being within another is an order. Two states are within their join, within the first one
@@ -19,12 +22,14 @@
 //!   first one, and each state of the chip under the greatest.
 #![tactic(auto)]
 
+mod addresses;
 mod fact;
 mod laws;
 mod levels;
 mod state;
 mod status;
 
+pub use addresses::Addresses;
 pub use fact::{CarryFact, Compared, LinearFact};
 pub use laws::{states_are_ordered, states_cover, states_keep_form};
 pub use levels::Levels;
