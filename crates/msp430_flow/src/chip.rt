@@ -17,6 +17,7 @@ ghost use Rattle.msp430_flow.specs.Running.{followed as the_followed, gie_of as 
 ghost use Rattle.msp430_state.specs.Known.{is_interrupt as the_interrupt};
 
 use crate::entries::{add_store_opens, entering};
+use crate::kept::Kept;
 use crate::labels::effect_of;
 use crate::marks::marks_of;
 use crate::running::{fact_of, leaves_frame, run, stored_width};
@@ -40,7 +41,7 @@ use value_set::Vs16;
 use vsa_io::Memory;
 
 /// What is known of a state, with its RAM as a list of cells.
-pub type Abs = State<CellList>;
+type Abs = State<CellList>;
 
 /// The chip of a device, which contracts see as what its analysis is set to.
 #[derive(Drop)]
@@ -155,7 +156,8 @@ impl Msp430Chip {
         self.keeps_rules();
         if leaves_frame(&self.setting.device, &frame, at, instr) {
             let left = followed(after, gie_of(at), None);
-            ways.posts.push((Node::Exit(pc, frame), left))?;
+            let kept = Kept::new(alloc, left)?;
+            ways.posts.push((Node::Exit(pc, frame), kept))?;
             return Ok(());
         }
         if are_too_many(self.setting.limits.targets, next) {
@@ -192,7 +194,7 @@ impl Msp430Chip {
         at: &Abs,
         instr: &Instr,
         made: Worked<CellList>,
-    ) -> Result<Work<Abs>, Memory>
+    ) -> Result<Work<Kept>, Memory>
         requires { IsInstr instr.now }
         ensures { IfOk result (λ work. work ≡ the_work self.now pc calls.now frame at.now instr.now made) }
     {
@@ -236,7 +238,7 @@ impl Msp430Chip {
         frame: Frame,
         at: &Abs,
         instr: Instr,
-    ) -> Result<Work<Abs>, Memory>
+    ) -> Result<Work<Kept>, Memory>
         requires { IsInstr instr }
         ensures { IfOk result (λ work. work ≡ followed_work self.now pc calls.now frame at.now instr) }
     {
@@ -253,7 +255,7 @@ impl Msp430Chip {
         calls: &Calls,
         frame: Frame,
         at: &Abs,
-    ) -> Result<Work<Abs>, Memory>
+    ) -> Result<Work<Kept>, Memory>
         ensures { IfOk result (λ work. work ≡ work_at self.now pc calls.now frame at.now (fetched self.now.device.image pc)) }
     {
         self.keeps_rules();
@@ -265,7 +267,7 @@ impl Msp430Chip {
 }
 
 /// The work of a location at which no instruction stands.
-fn stopped(alloc: Global, device: &Device, pc: u16, at: &Abs) -> Result<Work<Abs>, Memory>
+fn stopped(alloc: Global, device: &Device, pc: u16, at: &Abs) -> Result<Work<Kept>, Memory>
     requires { device.now.lo ≤ device.now.hi }
     ensures { IfOk result (λ work. work ≡ the_stopped device.now pc at.now) }
 {
@@ -312,14 +314,15 @@ fn resumed(
     sp: u16,
     at: &Abs,
     exit: &Abs,
-) -> Result<Work<Abs>, Memory>
+) -> Result<Work<Kept>, Memory>
     ensures { IfOk result (λ work. work ≡ resumption pc calls.now frame from sp at.now exit.now) }
 {
     let mut work = empty_work(alloc);
     if may_stand_at(at, sp) {
         work.items.push(Item::Edge { from, to: pc })?;
         let state = resume(alloc, is_interrupt(&frame), at, pc, sp, exit)?;
-        work.posts.push((Node::At(pc, *calls, frame), state))?;
+        let kept = Kept::new(alloc, state)?;
+        work.posts.push((Node::At(pc, *calls, frame), kept))?;
     }
     Ok(work)
 }
@@ -332,13 +335,13 @@ fn back(
     frame: Frame,
     exit_node: &Node,
     at: &Abs,
-    exit: Option<&Abs>,
-) -> Result<Work<Abs>, Memory>
+    exit: Option<&Kept>,
+) -> Result<Work<Kept>, Memory>
     ensures { IfOk result (λ work. work ≡ return_work pc calls.now frame exit_node.now at.now (option_copied exit.entry)) }
 {
     match (exit_node, exit) {
         (Node::Exit(from, Frame::Irq { sp: Some(sp), .. }), Some(exit)) => {
-            resumed(alloc, pc, calls, frame, *from, *sp, at, exit)
+            resumed(alloc, pc, calls, frame, *from, *sp, at, exit.state())
         }
         _ => Ok(empty_work(alloc)),
     }
@@ -397,69 +400,62 @@ fn frame_of(node: &Node) -> &Frame
 impl Chip for Msp430Chip {
     type Base = Setting;
 
-    type Abs = State<CellList>;
+    type Abs = Kept;
 
     ghost base = { λ chip. chip };
 
     ghost analysis = { msp430_analysis };
 
-    fn start(&self, alloc: Global) -> Result<(Node, State<CellList>), Memory> {
+    fn start(&self, alloc: Global) -> Result<(Node, Kept), Memory> {
         self.keeps_rules();
         let first = State::first(alloc, self.setting.device.lo, self.setting.device.hi)?;
-        Ok((start_node(self.reset()), first))
+        Ok((start_node(self.reset()), Kept::new(alloc, first)?))
     }
 
     fn work(
         &self,
         alloc: Global,
         unit: &Unit,
-        at: &State<CellList>,
-        exit: Option<&State<CellList>>,
-    ) -> Result<Work<State<CellList>>, Memory> {
+        at: &Kept,
+        exit: Option<&Kept>,
+    ) -> Result<Work<Kept>, Memory> {
         match unit {
-            Unit::One(Node::At(pc, calls, frame)) => self.one(alloc, *pc, calls, *frame, at),
+            Unit::One(Node::At(pc, calls, frame)) => {
+                self.one(alloc, *pc, calls, *frame, at.state())
+            },
             Unit::Back(Node::At(pc, calls, frame), left) => {
-                back(alloc, *pc, calls, *frame, left, at, exit)
+                back(alloc, *pc, calls, *frame, left, at.state(), exit)
             }
             _ => Ok(empty_work(alloc)),
         }
     }
 
-    fn copy(&self, alloc: Global, a: &State<CellList>) -> Result<State<CellList>, Memory> {
-        a.copy(alloc)
+    fn copy(&self, alloc: Global, a: &Kept) -> Result<Kept, Memory> {
+        Kept::new(alloc, a.state().copy(alloc)?)
     }
 
-    fn join(
-        &self,
-        alloc: Global,
-        held: &State<CellList>,
-        new: &State<CellList>,
-    ) -> Result<State<CellList>, Memory> {
-        held.join(alloc, new)
+    fn join(&self, alloc: Global, held: &Kept, new: &Kept) -> Result<Kept, Memory> {
+        Kept::new(alloc, held.state().join(alloc, new.state())?)
     }
 
-    fn widen(
-        &self,
-        alloc: Global,
-        held: &State<CellList>,
-        new: &State<CellList>,
-        coarse: bool,
-    ) -> Result<State<CellList>, Memory> {
-        held.widen(alloc, new, self.stops(coarse))
+    fn widen(&self, alloc: Global, held: &Kept, new: &Kept, coarse: bool) -> Result<Kept, Memory> {
+        let widened = held.state().widen(alloc, new.state(), self.stops(coarse))?;
+        Kept::new(alloc, widened)
     }
 
-    fn top(&self, alloc: Global, node: &Node) -> Result<State<CellList>, Memory> {
+    fn top(&self, alloc: Global, node: &Node) -> Result<Kept, Memory> {
         self.keeps_rules();
-        State::top(
+        let top = State::top(
             alloc,
             frame_of(node),
             self.setting.device.lo,
             self.setting.device.hi,
-        )
+        )?;
+        Kept::new(alloc, top)
     }
 
-    fn within(&self, new: &State<CellList>, held: &State<CellList>) -> bool {
-        new.within(held)
+    fn within(&self, new: &Kept, held: &Kept) -> bool {
+        new.state().within(held.state())
     }
 }
 

@@ -8,6 +8,7 @@ ghost use Rattle.msp430_entry.specs.declared.coming.Coming.{Coming as AComing};
 ghost use Rattle.msp430_entry.specs.Entry.{comings_of, entry_items};
 ghost use Rattle.msp430_flow.specs.Chip as chip;
 
+use crate::kept::Kept;
 use crate::meeting::may_hit;
 use abs_memory::CellList;
 use call_context::{Calls, Cause, Frame, Item, Node, Sequence, Set};
@@ -62,14 +63,15 @@ fn entry_post(
     pc: u16,
     at: &State<CellList>,
     coming: &Coming,
-) -> Result<(Node, State<CellList>), Memory>
+) -> Result<(Node, Kept), Memory>
     requires ram { device.now.lo ≤ device.now.hi }
     requires below { coming.now.vector < 14 }
     ensures { IfOk result (λ post. post ≡ chip.entry_post device.now pc at.now coming.now) }
 {
     let handler = handler_of(device, coming.vector);
     let state = entered(alloc, device, at, pc, &coming.sp)?;
-    Ok((Node::At(handler, Calls::new(), frame_of(coming)), state))
+    let kept = Kept::new(alloc, state)?;
+    Ok((Node::At(handler, Calls::new(), frame_of(coming)), kept))
 }
 
 /// Adds the frame of an interrupt that came at a known stack pointer.
@@ -98,7 +100,7 @@ fn add_push_opens(
 /// Adds what an interrupt that comes at a location shows, posts, waits for and leaves open.
 fn add_entry(
     alloc: Global,
-    work: &mut Work<State<CellList>>,
+    work: &mut Work<Kept>,
     device: &Device,
     pc: u16,
     at: &State<CellList>,
@@ -120,7 +122,7 @@ fn add_entry(
 /// Adds each of some interrupts that come at a location.
 fn add_entries(
     alloc: Global,
-    work: &mut Work<State<CellList>>,
+    work: &mut Work<Kept>,
     device: &Device,
     pc: u16,
     at: &State<CellList>,
@@ -146,7 +148,7 @@ pub fn entering(
     pc: u16,
     at: &State<CellList>,
     accesses: Sequence<Item>,
-) -> Result<Work<State<CellList>>, Memory>
+) -> Result<Work<Kept>, Memory>
     requires { device.now.lo ≤ device.now.hi }
     ensures { IfOk result (λ work. work ≡ chip.entering device.now pc at.now accesses) }
 {

@@ -13,6 +13,7 @@
 
 mod chip;
 mod entries;
+mod kept;
 mod labels;
 mod laws;
 mod marks;
@@ -23,6 +24,7 @@ mod text;
 mod ways;
 
 pub use chip::Msp430Chip;
+pub use kept::Kept;
 pub use setting::{Limits, Setting};
 pub use text::Msp430Text;
 

@@ -8,6 +8,7 @@ ghost use Rattle.msp430_flow.specs.Chip as chip;
 ghost use Rattle.msp430_flow.specs.Labels as labels;
 ghost use Rattle.msp430_flow.specs.Running as running;
 
+use crate::kept::Kept;
 use crate::labels::{CallEffect, calls_by};
 use abs_memory::CellList;
 use call_context::{Calls, Frame, Item, Node, Sequence};
@@ -24,7 +25,7 @@ use vsa_io::Memory;
 #[derive(Drop)]
 pub struct Ways {
     pub items: Sequence<Item>,
-    pub posts: Sequence<(Node, State<CellList>)>,
+    pub posts: Sequence<(Node, Kept)>,
 }
 
 /// Where an instruction stands, what it does to the call string, and how many sites this keeps.
@@ -58,13 +59,20 @@ fn label(site: &Site, to: u16) -> Calls
 }
 
 /// Adds a way from one address to another, in the same frame.
-fn add(ways: &mut Ways, site: &Site, to: u16, state: State<CellList>) -> Result<(), Memory>
+fn add(
+    alloc: Global,
+    ways: &mut Ways,
+    site: &Site,
+    to: u16,
+    state: State<CellList>,
+) -> Result<(), Memory>
     ensures items { OnOk result (ways.new.items ≡ ways.old.items ++ chip.edges_of site.now.pc ((to, state) ∷ [])) }
     ensures posts { OnOk result (ways.new.posts ≡ ways.old.posts ++ chip.posts_of (labels.calls_by site.now.limit site.now.effect site.now.image site.now.pc site.now.calls) site.now.frame ((to, state) ∷ [])) }
 {
+    let kept = Kept::new(alloc, state)?;
     ways.items.push(Item::Edge { from: site.pc, to })?;
     ways.posts
-        .push((Node::At(to, label(site, to), site.frame), state))?;
+        .push((Node::At(to, label(site, to), site.frame), kept))?;
     Ok(())
 }
 
@@ -91,9 +99,9 @@ fn add_each(
     let last = last_place(next);
     for place in 0..last {
         let copy = state.copy(alloc)?;
-        add(ways, site, next.nth(place), copy)?;
+        add(alloc, ways, site, next.nth(place), copy)?;
     }
-    add(ways, site, next.nth(last), state)
+    add(alloc, ways, site, next.nth(last), state)
 }
 
 /// Adds the two ways of a jump, where they can be. Two that lead to one address are joined.
@@ -113,15 +121,15 @@ fn add_both(
     let target = offset_target(site.pc, offset);
     match (on, jumped) {
         (None, None) => Ok(()),
-        (Some(on), None) => add(ways, site, behind, on),
-        (None, Some(jumped)) => add(ways, site, target, jumped),
+        (Some(on), None) => add(alloc, ways, site, behind, on),
+        (None, Some(jumped)) => add(alloc, ways, site, target, jumped),
         (Some(on), Some(jumped)) => {
             if behind == target {
                 let joined = on.join(alloc, &jumped)?;
-                return add(ways, site, behind, joined);
+                return add(alloc, ways, site, behind, joined);
             }
-            add(ways, site, behind, on)?;
-            add(ways, site, target, jumped)
+            add(alloc, ways, site, behind, on)?;
+            add(alloc, ways, site, target, jumped)
         }
     }
 }
