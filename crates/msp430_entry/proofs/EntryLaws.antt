@@ -1,8 +1,11 @@
--- What the law of entries rests on: laws of sets, and of words in memory.
-use Rattle.std.proofs.Common.{◌≡◌, ℕ, ◌+◌, ◌*◌, ◌%◌, ◌<◌, Bool, false, Option, None, List, length}
+-- What the law of entries rests on: laws of sets, of cells without relations, and of words in memory.
+use Rattle.std.proofs.Common.{◌≡◌, ℕ, ◌+◌, ◌*◌, ◌%◌, ◌<◌, Bool, false, Option, None, List, length, Contains}
 use Rattle.std.specs.Option.{option_map}
 use Rattle.entry_value.specs.declared.word.Word.{Word}
-use Rattle.entry_value.specs.Words.{HoldsOfWord}
+use Rattle.entry_cells.specs.Unrelated.{plain_cell, unrelated}
+use Rattle.entry_value.specs.declared.cells.Cell.{Cell}
+use Rattle.entry_value.specs.Cells.{AreCells, StandsUnder, kept}
+use Rattle.entry_value.specs.Words.{HoldsOfWord, Suspended}
 use Rattle.value_set.specs.declared.form.Form.{Form}
 use Rattle.value_set.specs.Form.{Has, IsNormal}
 use Rattle.value_set.specs.Remainders.{HasRemainder}
@@ -19,6 +22,9 @@ use Rattle.msp430_alu.specs.Memory.{IsDevice, IsRam, with_store}
 use Rattle.msp430_alu.specs.Registers.{status_set}
 
 pub record EntryLaws : Type 0 where
+  pub plain_stands : (first other : Option Suspended) (ram : ℕ → ℕ) (cells : List Cell) → StandsUnder first cells ram → StandsUnder other (kept unrelated cells) ram
+  pub plain_form : (lo hi from : ℕ) (cells : List Cell) → AreCells lo hi from cells → AreCells lo hi from (kept unrelated cells)
+  pub plain_each : (cells : List Cell) (cell : Cell) → Contains (kept unrelated cells) cell → (held : Cell) × Contains cells held × (plain_cell held ≡ cell)
   pub below : (m v : ℕ) (set : Form) → IsNormal m set → Has m set v → v < m
   pub single : (m v : ℕ) → v < m → IsNormal m (single v) × Has m (single v) v
   pub add_normal : (m : ℕ) (a b : Form) → IsNormal m a → IsNormal m b → IsNormal m (add m a b)

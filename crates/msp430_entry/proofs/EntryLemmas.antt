@@ -134,7 +134,7 @@ status_word_form laws status long = laws.status_form true (record { bits = statu
 counted_form : (laws : EntryLaws) (device : Device) (framed : Bool) (a : Known) (pc : ℕ) (sp : Form) → IsDevice device → IsKnown device.lo device.hi framed a → pc < 65536 → AreEvenWords sp
     → IsKnown device.lo device.hi true (counted_known device a pc sp)
 counted_form laws device framed a pc sp is form small words =
-    laws.stored_form device true (handed a) (counter_slot sp) (record { set = single pc; entry = Some (itself 0) }) is (handed_form device.lo device.hi framed a form)
+    laws.stored_form device true (handed a) (counter_slot sp) (record { set = single pc; entry = Some (itself 0) }) is (handed_form laws device.lo device.hi framed a form)
     (slot_words laws sp 65534 words (omega arith) refl) (counter_word_form laws pc small)
 
 stored_form : (laws : EntryLaws) (device : Device) (framed : Bool) (a : Known) (pc : ℕ) (sp : Form) → IsDevice device → IsKnown device.lo device.hi framed a → pc < 65536 → AreEvenWords sp
@@ -186,8 +186,8 @@ stored_parts laws device framed a s first sp bits under words has few =
     let counter_ram = with_stored device s.ram Words counter_at pc in
     let counter_holds : HoldsOfWord (Some (suspended_of s)) (record { set = single pc; entry = Some (itself 0) }) pc = ((laws.single 65536 pc small).1, from_itself s 0 pc refl small) in
     let counted = laws.stored device true (handed a) (Some s) s.registers s.ram (counter_slot sp) counter_at pc (record { set = single pc; entry = Some (itself 0) }) is ram_is (λ e. absurd (cc))
-    (handed_form device.lo device.hi framed a form) (slot_words laws sp 65534 words (omega arith) refl) (slot_has laws sp 65534 (register_of s 1) words (omega arith) has)
-    (counter_word_form laws pc small) counter_holds (handed_parts device framed a s first under) in
+    (handed_form laws device.lo device.hi framed a form) (slot_words laws sp 65534 words (omega arith) refl) (slot_has laws sp 65534 (register_of s 1) words (omega arith) has)
+    (counter_word_form laws pc small) counter_holds (handed_parts laws device framed a s first under) in
     let status_holds = laws.status true (Some s) (record { bits = a.status.bits; entry = Some (itself 2) }) sr bits form.bits (refl, omega arith, refl, omega arith) state.status few
     (record { bits = under.holds.parts.status.bits; entry = from_itself s 2 sr refl (omega (arith, state.status)) }) in
     laws.stored device true (counted_known device a pc sp) (Some s) s.registers counter_ram (status_slot sp) status_at (sr + 512 * bits) (record { set = status_set a.status; entry = Some (itself 2) })

@@ -19,8 +19,9 @@ use Rattle.msp430_state.specs.Forms.{is_place, IsChipCell, IsKnown, IsWord}
 use Rattle.msp430_state.specs.Holding.{suspended_of, ram_byte, HoldsOfParts}
 use Rattle.msp430_state.specs.Known.{Known, word_of}
 use Rattle.msp430_alu.specs.Formats.{IsUnder}
-use Rattle.msp430_entry.specs.Entry.{all_related, handed, itself, unrelated}
-use Rattle.msp430_entry.proofs.Members.{from_kept}
+use Rattle.entry_cells.specs.Unrelated.{plain_cell, unrelated}
+use Rattle.msp430_entry.specs.Entry.{all_related, handed, itself}
+use Rattle.msp430_entry.proofs.EntryLaws.{EntryLaws}
 
 -- RELATIONS TO ITSELF
 
@@ -52,33 +53,11 @@ handed_word a register count low high =
     related_at 4 a.registers (register - 4) (unknown 2) (unknown 2) inside
     ∙ ap (λ n. record { set = (get_or a.registers (register - 4) (unknown 2)).set; entry = Some (itself n) }) same
 
--- CELLS
-
-plain_cell : Cell → Cell
-plain_cell cell = record { place = cell.place; size = cell.size; word = record { set = cell.word.set; entry = None } }
-
-unrelated_is : (cell c : Cell) → unrelated cell ≡ Some c → plain_cell cell ≡ c
-unfolding plain_cell
-unrelated_is cell c e = elim (cases_Bool (is_nothing cell.size (plain_cell cell).word)) [
-  | inl nothing ↦ let none : unrelated cell ≡ None = cond-true (is_nothing cell.size (plain_cell cell).word) None (Some (plain_cell cell)) nothing in absurd (cc)
-  | inr tells ↦ same_Some (plain_cell cell) c (sym (cond-false (is_nothing cell.size (plain_cell cell).word) None (Some (plain_cell cell)) tells) ∙ e)
-]
-
-handed_cells : (first : Option Suspended) (s : Suspended) (ram : ℕ → ℕ) (cells : List Cell) → StandsUnder first cells ram → StandsUnder (Some s) (kept unrelated cells) ram
-unfolding plain_cell
-handed_cells first s ram cells stands = (
-  stands.0,
-  λ c there.
-      let found = from_kept unrelated cells c there in
-      let is = unrelated_is found.0 c found.2 in
-      subst (λ cell. HoldsOfWord (Some s) cell.word (number_at ram cell.place cell.size)) is ((stands.1 found.0 found.1).0, tt),
-)
-
 -- PARTS
 
-pub handed_parts : (device : Device) (framed : Bool) (a : Known) (s : ChipState) (first : Option ChipState) → IsUnder device framed a s first
+pub handed_parts : (laws : EntryLaws) (device : Device) (framed : Bool) (a : Known) (s : ChipState) (first : Option ChipState) → IsUnder device framed a s first
     → HoldsOfParts device (handed a) (Some s) s.registers s.ram
-handed_parts device framed a s first under =
+handed_parts laws device framed a s first under =
     let parts = under.holds.parts in
     let state = under.holds.state in
     let small : (register : ℕ) → register < 16 → register_of s register < 65536 =
@@ -89,39 +68,18 @@ handed_parts device framed a s first under =
       words = λ register low high. subst (λ word. HoldsOfWord (Some (suspended_of s)) word (register_of s register)) (sym (handed_word a register under.form.count low high))
           ((parts.words register low high).0, from_itself s register (register_of s register) refl (small register high));
       fact = tt;
-      cells = handed_cells (option_map suspended_of first) (suspended_of s) (ram_byte device s.ram) a.cells.cells parts.cells;
+      cells = laws.plain_stands (option_map suspended_of first) (Some (suspended_of s)) (ram_byte device s.ram) a.cells.cells parts.cells;
       untouched = λ at none. refl;
     }
 
 -- FORM
 
-are_from : (lo hi from lower : ℕ) (cells : List Cell) → lower ≤ from → AreCells lo hi from cells → AreCells lo hi lower cells
-are_from lo hi from lower [] le are = tt
-are_from lo hi from lower (cell ∷ cells) le are = (are.0, omega (arith, le, are.1), are.2)
-
-are_kept : (lo hi from : ℕ) (cells : List Cell) → AreCells lo hi from cells → AreCells lo hi from (kept unrelated cells)
-unfolding plain_cell
-are_kept lo hi from [] are = tt
-are_kept lo hi from (cell ∷ cells) are =
-    let rest = are_kept lo hi (cell.place + cell.size) cells are.2 in
-    let word = (plain_cell cell).word in
-    elim (cases_Bool (is_nothing cell.size word)) [
-      | inl nothing ↦
-          let none : unrelated cell ≡ None = cond-true (is_nothing cell.size word) None (Some (plain_cell cell)) nothing in
-          rw none (are_from lo hi (cell.place + cell.size) from (kept unrelated cells) (omega (arith, are.1)) rest)
-      | inr tells ↦
-          let some : unrelated cell ≡ Some (plain_cell cell) = cond-false (is_nothing cell.size word) None (Some (plain_cell cell)) tells in
-          let one : IsCell lo hi (plain_cell cell) = record { size = are.0.size; low = are.0.low; high = are.0.high; normal = are.0.normal; byte = are.0.byte; says = tells } in
-          rw some (one, are.1, rest)
-    ]
-
-each_kept : (framed : Bool) (cells : List Cell) → ((c : Cell) → Contains cells c → IsChipCell framed c) → (c : Cell) → Contains (kept unrelated cells) c → IsChipCell true c
-unfolding plain_cell
-each_kept framed cells forms c there =
-    let found = from_kept unrelated cells c there in
-    let form = forms found.0 found.1 in
-    let one : IsChipCell true (plain_cell found.0) = record { even = form.even; byte = λ e. refl; entry = tt } in
-    subst (IsChipCell true) (unrelated_is found.0 c found.2) one
+each_kept : (laws : EntryLaws) (framed : Bool) (cells : List Cell) → ((c : Cell) → Contains cells c → IsChipCell framed c) → (c : Cell) → Contains (kept unrelated cells) c → IsChipCell true c
+each_kept laws framed cells forms c there =
+    let (held, among, is) = laws.plain_each cells c there in
+    let form = forms held among in
+    let one : IsChipCell true (plain_cell held) = record { even = form.even; byte = λ e. refl; entry = tt } in
+    subst (IsChipCell true) is one
 
 general_place : (i : ℕ) → i < 12 → is_place (4 + i) ≡ true
 general_place i low = or_right ((4 + i == 0) || (4 + i == 2)) (nat_lt 3 (4 + i) && nat_lt (4 + i) 16)
@@ -136,8 +94,8 @@ related_word words framed count all =
     let one : IsWord true (record { set = (get_or words i (unknown 2)).set; entry = Some (itself (4 + i)) }) = record { normal = form.normal; entry = (named, omega arith, omega arith) } in
     subst (IsWord true) (sym (related_at 4 words i (unknown 2) (unknown 2) place)) one)
 
-pub handed_form : (lo hi : ℕ) (framed : Bool) (a : Known) → IsKnown lo hi framed a → IsKnown lo hi true (handed a)
-handed_form lo hi framed a form = record {
+pub handed_form : (laws : EntryLaws) (lo hi : ℕ) (framed : Bool) (a : Known) → IsKnown lo hi framed a → IsKnown lo hi true (handed a)
+handed_form laws lo hi framed a form = record {
   sp = form.sp;
   bits = form.bits;
   status = (refl, omega arith, refl, omega arith);
@@ -146,8 +104,8 @@ handed_form lo hi framed a form = record {
   fact = tt;
   from = form.from;
   up_to = form.up_to;
-  cells = are_kept lo hi lo a.cells.cells form.cells;
-  each_cell = each_kept framed a.cells.cells form.each_cell;
+  cells = laws.plain_form lo hi lo a.cells.cells form.cells;
+  each_cell = each_kept laws framed a.cells.cells form.each_cell;
   touched = tt;
   none_touched = λ e. refl;
 }

@@ -1,7 +1,6 @@
 pub mod Members
 pub mod EntryLaws
 pub mod ComingLemmas
-pub mod CellsLeft
 pub mod HandingLemmas
 pub mod EntryLemmas
 pub mod ShowingLemmas

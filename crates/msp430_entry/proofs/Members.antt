@@ -5,8 +5,6 @@ use Rattle.std.specs.List.{filter, flat_map, range_with_len}
 use Rattle.std.proofs.lemmas.Bool.{cases_Bool}
 use Rattle.std.proofs.lemmas.List.FromFn.{length-range_with_len, get_or-range_with_len}
 use Rattle.std.proofs.lemmas.List.Elements.{Contains-append_left, Contains-append_right, Contains-append_cases, Contains-push, Contains-push_cases}
-use Rattle.entry_value.specs.declared.cells.Cell.{Cell}
-use Rattle.entry_value.specs.Cells.{kept, with_some}
 
 pub in_none : {X : Type 0} (x : X) → Contains [] x → ⊥
 in_none x h = absurd (omega (arith, h.1))
@@ -82,23 +80,3 @@ in_range count x h =
     let inside : h.0 < count = rw (length-range_with_len 0 count) at h.1 in
     let is : x ≡ 0 + h.0 = sym h.2 ∙ get_or-range_with_len 0 count h.0 x inside in
     omega (arith, is, inside)
-
--- CELLS THAT ARE KEPT
-
-abbrev pub FoundIn : (Cell → Option Cell) → List Cell → Cell → Type 0
-FoundIn f cells c = (cell : Cell) × Contains cells cell × (f cell ≡ Some c)
-
-found_on : (f : Cell → Option Cell) (first : Cell) (cells : List Cell) (c : Cell) → FoundIn f cells c → FoundIn f (first ∷ cells) c
-found_on f first cells c found = (found.0, in_rest first cells found.0 found.1, found.2)
-
-here_or_rest : (f : Cell → Option Cell) (cell : Cell) (cells : List Cell) (c : Cell) (made : Option Cell) → f cell ≡ made → (Contains (kept f cells) c → FoundIn f cells c)
-    → Contains (with_some made (kept f cells)) c → FoundIn f (cell ∷ cells) c
-here_or_rest f cell cells c None e rest there = found_on f cell cells c (rest there)
-here_or_rest f cell cells c (Some made) e rest there = elim (in_cons made (kept f cells) c there) [
-  | inl same ↦ (cell, in_first cell cells, e ∙ ap Some same)
-  | inr later ↦ found_on f cell cells c (rest later)
-]
-
-pub from_kept : (f : Cell → Option Cell) (cells : List Cell) (c : Cell) → Contains (kept f cells) c → FoundIn f cells c
-from_kept f [] c h = absurd (in_none c h)
-from_kept f (cell ∷ cells) c h = here_or_rest f cell cells c (f cell) refl (from_kept f cells c) h

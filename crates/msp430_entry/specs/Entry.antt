@@ -10,10 +10,9 @@ use Rattle.call_context.specs.declared.shown.Item.{Item}
 use Rattle.call_context.specs.declared.shown.Item.TheVariants as items
 use Rattle.call_context.specs.declared.shown.Set.TheVariants.{W}
 use Rattle.call_context.specs.declared.shown.Space.TheVariants.{Mem}
-use Rattle.entry_value.specs.declared.cells.Cell.{Cell}
 use Rattle.entry_value.specs.declared.word.Entry.{Entry}
 use Rattle.entry_value.specs.declared.word.Word.{Word}
-use Rattle.entry_value.specs.Cells.{kept, telling}
+use Rattle.entry_cells.specs.Unrelated.{without_relations}
 use Rattle.value_set.specs.declared.form.Form.{Form}
 use Rattle.value_set.specs.declared.form.Form.TheVariants.{Values, Run}
 use Rattle.value_set.specs.Form.{Has}
@@ -76,10 +75,6 @@ abbrev pub all_related : (register : ℕ) → List Word → List Word
 all_related register [] = []
 all_related register (word ∷ words) = record { set = word.set; entry = Some (itself register) } ∷ all_related (suc register) words
 
--- a cell keeps its set and loses its relation
-abbrev pub unrelated : Cell → Option Cell
-unrelated cell = telling (record { place = cell.place; size = cell.size; word = record { set = cell.word.set; entry = None } })
-
 -- what is known of the state that is suspended, told of itself
 abbrev pub handed : Known → Known
 handed a = record {
@@ -88,7 +83,7 @@ handed a = record {
   late = Zero;
   registers = all_related 4 a.registers;
   fact = None;
-  cells = record { lo = a.cells.lo; hi = a.cells.hi; cells = kept unrelated a.cells.cells };
+  cells = without_relations a.cells;
   touched = [];
 }
 

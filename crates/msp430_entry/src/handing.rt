@@ -1,11 +1,9 @@
 //! What a handler is handed of what is known: values that say how they came from the state that is suspended.
 
-ghost use Rattle.std.specs.Prelude.{◌≡◌, ◌<◌, ◌⊎◌, ℕ, if◌then◌else◌, None, Some, IfOk, OnOk};
-ghost use Rattle.std.specs.Option.{is_none};
-ghost use Rattle.value_set.specs.Form.{Has};
-ghost use Rattle.entry_value.specs.Cells.{kept, write_one};
+ghost use Rattle.std.specs.Prelude.{◌≡◌, None, Some, IfOk};
 ghost use Rattle.msp430_entry.specs.Entry as entry;
 
+use entry_cells::unrelated;
 use entry_value::{Cells, Entry, Word};
 use irq_frames::Ranges;
 use msp430_state::{State, Status};
@@ -51,32 +49,6 @@ fn all_related(words: &[Word; 12]) -> [Word; 12]
         all[i] = related(words[i].set, i as u16 + 4);
     }
     all
-}
-
-/// Takes the relation from a cell, if it has one. A cell that says nothing then goes.
-fn forget<M: Cells>(all: &mut M, place: u16, size: u8, word: Word) -> Result<(), Memory>
-    requires size { (size ≡ 1) ⊎ (size ≡ 2) }
-    requires byte { size ≡ 1 → (v : ℕ) → Has 65536 word.set v → v < 256 }
-    ensures { OnOk result (M.map all.new ≡ (if is_none word.entry then M.map all.old else write_one (M.map all.old) place size (record { set = word.set; entry = None }))) }
-{
-    if word.entry.is_none() {
-        return Ok(());
-    }
-    all.write_one(place, size, plain(word.set))
-}
-
-/// The same cells without relations. Those that say nothing then go.
-fn unrelated<M: Cells>(alloc: Global, cells: &M) -> Result<M, Memory>
-    ensures { IfOk result (λ all. M.map all ≡ record { lo = (M.map cells.now).lo; hi = (M.map cells.now).hi; cells = kept entry.unrelated (M.map cells.now).cells }) }
-{
-    cells.keep_form();
-    let mut all = cells.copy(alloc)?;
-    let mut from = 0;
-    while let Some((place, size, word)) = cells.next(from) {
-        forget(&mut all, place, size, word)?;
-        from = place as u32 + size as u32;
-    }
-    Ok(all)
 }
 
 /// What is known of a state, told of itself.

@@ -7,7 +7,11 @@ use Rattle.msp430_entry.proofs.laws.entries_hold.Goals as goal
 pub returns : goal.returns
 returns c =
     let words = c.words_in_memory.ensures in
+    let plain = c.relations_go.ensures in
     let laws : EntryLaws = record {
+      plain_stands = plain.stands;
+      plain_form = plain.form;
+      plain_each = plain.each;
       below = c.members_are_below.ensures;
       single = c.single_and_whole_sets.ensures.single;
       add_normal = c.sums_hold.ensures.add_normal;
