@@ -7,7 +7,7 @@ use Rattle.std.proofs.Common.{refl, sym, ◌∙◌, ap, subst, inl, inr}
 use Rattle.call_context.specs.declared.node.Unit.{Unit as WorkUnit}
 use Rattle.round_core.specs.declared.place.Place.{Place}
 use Rattle.round_core.specs.declared.parts.Parts.{Parts}
-use Rattle.round_core.specs.Machine.{BookState, IsClaimable, IsFirst, NoneClaimable}
+use Rattle.round_core.specs.Machine.{BookState, IsClaimable, IsFirst, NoneClaimable, HasClaimable}
 use Rattle.round_core.specs.Claims.{placed, claimable_at}
 use Rattle.round_core.specs.Agenda.{IsIn}
 use Rattle.round_core.specs.Turns.{Standing}
@@ -142,8 +142,8 @@ module _ {A : Type 0} where
       or_true true b g = refl
       or_true false b g = g
 
-  pub some-claimable : (b : BookState A) (p : Parts A) → Shows b p → (places : List Place) → list_any (λ place. is_some (found_at p place)) places ≡ true → NoneClaimable b → ⊥
-  some-claimable b p s places h none = let x = any_in p places h in none x.1 (found-is b p s x.0 x.1 x.2).0
+  pub some-claimable : (b : BookState A) (p : Parts A) → Shows b p → (places : List Place) → list_any (λ place. is_some (found_at p place)) places ≡ true → HasClaimable b
+  some-claimable b p s places h = let x = any_in p places h in (x.1, (found-is b p s x.0 x.1 x.2).0)
 
   pub no-claimable : (b : BookState A) (p : Parts A) → Shows b p → list_any (λ place. is_some (found_at p place)) p.agenda.candidates.keys ≡ false
       → list_any (λ place. is_some (found_at p place)) p.turns.returned ≡ false → NoneClaimable b

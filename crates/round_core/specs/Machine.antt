@@ -113,6 +113,9 @@ pub record IsFirst {A : Type 0} (b : BookState A) (unit : WorkUnit) : Type 0 whe
 abbrev pub NoneClaimable : {A : Type 0} → BookState A → Type 0
 NoneClaimable b = (unit : WorkUnit) → IsClaimable b unit → ⊥
 
+abbrev pub HasClaimable : {A : Type 0} → BookState A → Type 0
+HasClaimable b = (unit : WorkUnit) × IsClaimable b unit
+
 -- no unit is out, and none can be claimed
 pub record IsFinished {A : Type 0} (b : BookState A) : Type 0 where
   pub none_out : b.out ≡ []

@@ -2,7 +2,7 @@
 
 ghost use Rattle.std.specs.Prelude.{◌≡◌, ◌↔◌, [], IsTrue, IfOk};
 ghost use Rattle.round_core.specs.Kept.{nodes_of, works_of, is_live, live_pairs};
-ghost use Rattle.round_core.specs.Machine.{replay, IsFinished, IsLegalJournal};
+ghost use Rattle.round_core.specs.Machine.{replay, HasClaimable, IsFinished, IsLegalJournal};
 
 use crate::event::Event;
 use crate::parts::Parts;
@@ -95,6 +95,13 @@ impl<C: Chip> Book<C> {
         ensures { result ≡ is_live (replay (C.analysis self.now.base) self.now.journal).done unit.now }
     {
         self.parts.works.is_live(unit)
+    }
+
+    /// Whether a unit can be claimed.
+    pub fn has_claimable(&self) -> bool
+        ensures { IsTrue result ↔ HasClaimable (replay (C.analysis self.now.base) self.now.journal) }
+    {
+        self.parts.has_claimable()
     }
 
     /// Whether no unit is out and none can be claimed.

@@ -5,7 +5,7 @@ ghost use Rattle.std.specs.List.{AllByRecursion, list_any};
 ghost use Rattle.round_core.specs.Former.{is_no_unit};
 ghost use Rattle.round_core.specs.Kept.{is_live};
 ghost use Rattle.round_core.specs.Claims.{one_of, back_of, unit_at, due_of, claimable_at, placed};
-ghost use Rattle.round_core.specs.Machine.{BookState, Out, done_at, out_at, versions_of, with_done, without, IsClaimable, IsFirst, IsFinished, NoneClaimable};
+ghost use Rattle.round_core.specs.Machine.{BookState, Out, done_at, out_at, versions_of, with_done, without, IsClaimable, IsFirst, IsFinished, NoneClaimable, HasClaimable};
 ghost use Rattle.round_core.specs.Turns.{place_out, TakesHome};
 ghost use Rattle.round_core.specs.Opening.{one_node};
 ghost use Rattle.round_core.specs.Shown.{AreDistinct, Shows, StaysShown, found_at};
@@ -181,7 +181,7 @@ impl<A> Parts<A> {
 
     /// Whether a unit can be claimed.
     pub fn has_claimable(&self) -> bool
-        ensures some { (b : BookState A) → Shows b self.now → IsTrue result → NoneClaimable b → ⊥ }
+        ensures some { (b : BookState A) → Shows b self.now → IsTrue result → HasClaimable b }
         ensures none { (b : BookState A) → Shows b self.now → IsTrue (not result) → NoneClaimable b }
     {
         self.has_claimable_candidate() || self.has_claimable_among(self.turns.returned())

@@ -21,6 +21,7 @@
 //! call of `turn` returns, nor how long it waits. Between seats that told each other nothing no order is known.
 #![tactic(auto)]
 
+mod bells;
 mod board;
 mod journaled;
 mod seat;

@@ -17,10 +17,11 @@ ghost use Rattle.turn_table.specs.Plays.{Begins, Catches, IsIdle, MayPass};
 ghost use Rattle.turn_table.specs.Shown.{IsSized};
 ghost use Rattle.turn_table.specs.Views.{idle, SeatedAnd, on, serves, passes, gives, given_seat, catches_up, both_seats};
 
+use crate::bells::Bells;
 use crate::board::{Board, CatchUp, Draw, Give, Look, Pass, Place, TakeIn};
 use crate::journaled::Journaled;
-use std::hint;
 use std::sync::Wait;
+use std::{hint, thread};
 
 /// The word that counts the tickets drawn.
 const TICKETS: usize = 0;
@@ -28,11 +29,29 @@ const TICKETS: usize = 0;
 /// The word that counts the turns passed.
 const TURNS: usize = 1;
 
+/// How often a waiting seat looks at the turns before it lets other threads run between its looks.
+const SPINS: u32 = 64;
+
 /// How often a waiting seat looks at the turns before it sleeps.
-const LOOKS: u32 = 64;
+const LOOKS: u32 = 256;
+
+/// What a waiting seat does between two looks, where it doesn't sleep yet. It answers how often it has looked.
+fn look_again(looks: u32) -> u32 {
+    if looks < SPINS {
+        hint::spin_loop();
+    } else {
+        thread::yield_now();
+    }
+    looks.saturating_add(1)
+}
 
 /// Draws a ticket, waits until it is served, and takes the value.
-pub(crate) fn wait_turn<B: Journaled, R: Wait>(rt: &R, board: &Board<B>, place: &mut Place<B>) -> B
+pub(crate) fn wait_turn<B: Journaled, R: Wait>(
+    rt: &R,
+    board: &Board<B>,
+    bells: &Bells,
+    place: &mut Place<B>,
+) -> B
     requires table { (place.old.table_id ≡ board.now.table_id) × IsSized board.now.table_id }
     requires idle { IsIdle place.old.me }
     ensures table { place.new.table_id ≡ place.old.table_id }
@@ -42,22 +61,27 @@ pub(crate) fn wait_turn<B: Journaled, R: Wait>(rt: &R, board: &Board<B>, place: 
     let ticket = board.fetch_add::<Draw<B>>(place, TICKETS, 1);
     let mut looks = 0;
     for _ in rt.forever() {
+        // Announced before the look, so that the turn comes at this look, or its bell ends the sleep.
+        let announced = (LOOKS <= looks).then(|| bells.of(ticket).prepare_wait());
         let turns = board.load::<Look<B>>(place, TURNS);
         if turns == ticket {
             return board.exchange(place, 0, None).unwrap();
         }
-        if looks < LOOKS {
-            looks += 1;
-            hint::spin_loop();
-        } else {
-            board.park(rt, TURNS, (turns & 0xffff_ffff) as u32);
+        match announced {
+            Some(key) => key.wait(rt),
+            None => looks = look_again(looks),
         }
     }
     unreachable!()
 }
 
-/// Puts the value back, passes the turn, and wakes those who wait.
-pub(crate) fn pass_turn<B: Journaled>(board: &Board<B>, place: &mut Place<B>, value: B)
+/// Puts the value back, passes the turn, and wakes the seat whose turn comes, if it sleeps.
+pub(crate) fn pass_turn<B: Journaled>(
+    board: &Board<B>,
+    bells: &Bells,
+    place: &mut Place<B>,
+    value: B,
+)
     requires table { (place.old.table_id ≡ board.now.table_id) × IsSized board.now.table_id }
     requires held { place.old.me.1 ≡ (0, None) ∷ [] }
     requires may { SeatedAnd place.old.me.0 (MayPass B.history B.seat_of B.base value) }
@@ -67,10 +91,7 @@ pub(crate) fn pass_turn<B: Journaled>(board: &Board<B>, place: &mut Place<B>, va
     let before = board.exchange(place, 0, Some(value));
     let None = before else { unreachable!() };
     let turns = board.fetch_add::<Pass<B>>(place, TURNS, 1);
-    // Who waits drew its ticket before it looked, so it is seen here, or it saw this turn.
-    if board.peek(TICKETS) != turns.wrapping_add(1) {
-        board.wake_all(TURNS);
-    }
+    bells.of(turns.wrapping_add(1)).notify_all();
 }
 
 /// Gives a number to a new seat.

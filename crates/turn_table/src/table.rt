@@ -4,6 +4,7 @@ ghost use Rattle.turn_table.specs.Events.{StartsWith, AllOf, AllBelow};
 ghost use Rattle.turn_table.specs.Named.{name_of};
 ghost use Rattle.turn_table.specs.Shown.{IsOwn, first_seat, turn_begun, turn_ended, seat_split, new_seat, seats_joined};
 
+use crate::bells::Bells;
 use crate::board::{About, Knowledge, Turns};
 use crate::journaled::Journaled;
 use crate::seat::{Seat, Turn};
@@ -18,6 +19,7 @@ use vsa_io::Memory;
 #[derive(Drop)]
 pub struct TurnTable<B: Journaled> {
     board: Table<Option<B>, Knowledge<B>, About<B>, Turns<B>, Global>,
+    bells: Bells,
 }
 
 impl<B: Journaled> TurnTable<B> {
@@ -44,7 +46,8 @@ impl<B: Journaled> TurnTable<B> {
             room: seats - 1,
             place,
         };
-        Ok((TurnTable { board }, seat))
+        let bells = Bells::new();
+        Ok((TurnTable { board, bells }, seat))
     }
 
     /// Waits for the seat's turn, and gives the value. Its history then begins with all that the seat has seen, and of
@@ -58,7 +61,7 @@ impl<B: Journaled> TurnTable<B> {
         ensures own { IsOwn B.seat_of seat.new }
     {
         Turn {
-            value: wait_turn(rt, &self.board.shared, &mut seat.place),
+            value: wait_turn(rt, &self.board.shared, &self.bells, &mut seat.place),
         }
     }
 
@@ -72,7 +75,7 @@ impl<B: Journaled> TurnTable<B> {
         ensures own { IsOwn B.seat_of seat.new }
     {
         let Turn { value } = turn;
-        pass_turn(&self.board.shared, &mut seat.place, value);
+        pass_turn(&self.board.shared, &self.bells, &mut seat.place, value);
     }
 
     /// Gives the seat's greatest number to a new seat, which has seen as much.
@@ -124,7 +127,7 @@ impl<B: Journaled> TurnTable<B> {
             room: _,
             place,
         } = seat;
-        let TurnTable { board } = self;
+        let TurnTable { board, bells: _ } = self;
         let mut closed = board.close_with(place);
         let slot = closed.take(0);
         closed.free();

@@ -18,16 +18,8 @@ fetch_add-turns-requires g c =
           (subst (λ z. SeatedAnd z (MayPass J.history J.seat_of J.base c.args.value)) (sym (ap (λ z. z.0) is)) c.requires.may),
     )
 
-pub returns-then-peek-turns-clause-passed : goal.returns-then-peek-turns-clause-passed
-returns-then-peek-turns-clause-passed g c =
-    let J = g.B.Journaled in
-    let old = c.args.place.now.me in
-    let new = c.exchange-before.new.seat.me in
-    let is = put J.history J.seat_of J.base old new c.args.value c.exchange-before.ensures.3 c.requires.held in
-    put_passed J.history J.seat_of J.base old new c.fetch_add-turns.new.seat.me c.args.value is c.fetch_add-turns.ensures.2
-
-pub returns-else-peek-turns-clause-passed : goal.returns-else-peek-turns-clause-passed
-returns-else-peek-turns-clause-passed g c =
+pub returns-clause-passed : goal.returns-clause-passed
+returns-clause-passed g c =
     let J = g.B.Journaled in
     let old = c.args.place.now.me in
     let new = c.exchange-before.new.seat.me in
