@@ -62,7 +62,7 @@ read_relation framed cells at size all = cell_relation framed cells at size (put
 kept_relation : (framed : Bool) (touched : List (ℕ × ℕ)) (at : ℕ) → at < 256 → IsRelation framed (kept_by framed touched at)
 kept_relation false touched at inside = tt
 kept_relation true touched at inside =
-    let place : is_place at ≡ true = ap (λ ram. ram || (is_remembered (sfr_of at) || ((at == 512) || (at == 513)))) (lt-ltb at 256 inside) in
+    let place : is_place at ≡ true = ap (λ ram. ram || is_remembered (sfr_of at) || (at == 512) || (at == 513)) (lt-ltb at 256 inside) in
     cond_both (not (has_address touched at)) (Some (kept_from at)) None (IsRelation true) (λ none. (place, omega arith, omega arith)) (λ some. tt)
 
 either_relation : (framed : Bool) (own otherwise : Option Entry) → IsRelation framed own → IsRelation framed otherwise → IsRelation framed (found_or own otherwise)

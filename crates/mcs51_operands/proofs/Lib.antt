@@ -1,5 +1,6 @@
 mod Bits
 mod Forms
+pub mod Lists
 mod Members
 mod Ram
 mod Relations

@@ -1,6 +1,6 @@
 //! Reads of RAM and of the registers.
 
-ghost use Rattle.std.specs.Prelude.{◌≡◌, ◌<◌, drop, slice_index_or};
+ghost use Rattle.std.specs.Prelude.{◌≡◌, ◌<◌, drop, length, slice_index_or};
 ghost use Rattle.value_bits.specs.Bits.{from_bits, known_bit};
 ghost use Rattle.value_bits.specs.declared.tri.Tri.TheVariants.{Either};
 ghost use Rattle.value_set.specs.Form.{members};
@@ -21,16 +21,25 @@ fn ram_set<M: Cells>(state: &State<M>, at: u8) -> Vs8
     w16::low(&state.cells.read(at as u16, 1).set)
 }
 
-/// What a byte of RAM may be at an address of a set.
-#[tactic(auto, unfolding(crate::specs::Reading::ram_values))]
-pub fn ram_values<M: Cells>(state: &State<M>, at: &Vs8) -> Vs8
-    ensures { result ≡ reading.ram_values state.now at.now }
+/// The sets that are read from the second address on, joined with the first one.
+fn joined<M: Cells>(state: &State<M>, at: &Vs8, count: u32, first: Vs8) -> Vs8
+    requires { count ≡ length (members 256 at.now) }
+    ensures { result ≡ reading.sets_joined state.now first (drop 1 (members 256 at.now)) }
 {
-    let mut set = ram_set(state, at.nth(0));
-    for place in 1..at.count() {
+    let mut set = first;
+    for place in 1..count {
         set = set.join(&ram_set(state, at.nth(place)));
     }
     set
+}
+
+/// What a byte of RAM may be at an address of a set.
+#[tactic(auto, unfolding(crate::specs::Reading::ram_values), using(crate::proofs::Lists::list_is))]
+pub fn ram_values<M: Cells>(state: &State<M>, at: &Vs8) -> Vs8
+    ensures { result ≡ reading.ram_values state.now at.now }
+{
+    let count = at.count();
+    joined(state, at, count, ram_set(state, at.nth(0)))
 }
 
 /// In an interrupt's frame a byte that isn't touched is what it was when the interrupt came.
@@ -152,9 +161,16 @@ pub fn read_bit<M: Cells>(state: &State<M>, addresses: &Addresses, place: u8) ->
     }
 }
 
+/// Bit 7 of PSW.
+fn carry_bit(bits: &[Tri; 6]) -> Tri
+    ensures { result ≡ slice_index_or bits.now 5 Either }
+{
+    bits[5]
+}
+
 /// CY.
 pub fn carry<M: Cells>(state: &State<M>) -> Tri
     ensures { result ≡ reading.carry state.now }
 {
-    state.psw.bits[5]
+    carry_bit(&state.psw.bits)
 }

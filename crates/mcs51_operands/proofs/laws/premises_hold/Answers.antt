@@ -20,7 +20,7 @@ returns c =
       from_normal = bits.from_normal;
       from = bits.from;
       low_normal = c.halves_hold.ensures.low_normal;
-      reads = c.cells_hold.ensures;
+      reads = c.reads_hold.ensures;
       read_normal = c.reads_keep_form.ensures.normal;
       to_byte = c.bytes_are_words.ensures.to_byte;
     }
