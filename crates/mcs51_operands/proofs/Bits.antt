@@ -21,7 +21,7 @@ bit_agrees (b ∷ bits) v zero h = subst (IsBit b) (sym (bit_at_lowest v)) h.0
 bit_agrees (b ∷ bits) v (suc n) h = subst (IsBit (get_or bits n Either)) (sym (bit_at-suc v n)) (bit_agrees bits (v / 2) n h.1)
 
 pub known_is : (set : Form) (place : ℕ) → place < 8 → get_or (known_bits 8 set) place Either ≡ known_bit 8 place set
-known_is set place small = get_or-map-range_with_len (λ n. known_bit 8 n set) 0 8 place place Either small refl
+known_is set place small = get_or-map-range_with_len (λ n. known_bit 8 n set) 0 8 place place Either small (omega arith)
 
 -- the address of R0
 pub bank_agrees : (bits : List Tri) (psw : ℕ) → length bits ≡ 6 → Agrees bits (psw / 4) → Agrees (bank_bits bits) (8 * (psw / 8 % 4))
@@ -32,13 +32,13 @@ bank_agrees (b ∷ c ∷ d ∷ more) psw six h =
     let x = 8 * (psw / 8 % 4) in
     let low : psw / 4 / 2 % 2 ≡ x / 2 / 2 / 2 % 2 = omega arith in
     let high : psw / 4 / 2 / 2 % 2 ≡ x / 2 / 2 / 2 / 2 % 2 = omega arith in
-    (omega arith, omega arith, omega arith, subst (IsBit c) low h.1.0, subst (IsBit d) high h.1.1.0, omega arith, omega arith, omega arith, omega arith)
+    (omega arith, (omega arith, (omega arith, (subst (IsBit c) low h.1.0, (subst (IsBit d) high h.1.1.0, (omega arith, (omega arith, (omega arith, omega arith))))))))
 
 -- PSW as it is read, with bits that it doesn't hold
 pub status_agrees : (bits : List Tri) (psw y : ℕ) → psw % 4 ≡ 0 → y < 4 → Agrees bits (psw / 4) → Agrees (status_bits bits) (psw + y)
 status_agrees bits psw y held few h =
     let same : psw / 4 ≡ (psw + y) / 2 / 2 = omega (arith, held, few) in
-    (omega arith, omega arith, subst (Agrees bits) same h)
+    (omega arith, (omega arith, subst (Agrees bits) same h))
 
 -- CY is the last one that PSW holds, and its bit 7
 pub carry_is : (framed : Bool) (known : Known) (s : ChipState) (first : Option ChipState) → IsUnder framed known s first → IsBit (carry known) (carry_of s)

@@ -51,7 +51,7 @@ pub pointer_shown : (laws : Premises) (framed : Bool) (pc : ℕ) (known : Known)
 pointer_shown laws framed pc known s first under (Indirect i) =
     let at : Shows (access_of pc false (InRam (pointer_addresses known i))) (accessed pc (Internal false (AtRam (pointer_address s i)))) = (refl, refl, refl, refl, pointers_have laws framed known s first under i) in
     one_shown (access_of pc false (InRam (pointer_addresses known i))) pc (Internal false (AtRam (pointer_address s i))) at
-pointer_shown laws framed pc known s first under (Register n) access there = absurd (in_none access there)
+pointer_shown laws framed pc known s first under (Register n) = λ access there. absurd (in_none access there)
 
 pub address_shown : (laws : Premises) (framed : Bool) (pc : ℕ) (known : Known) (s : ChipState) (first : Option ChipState) → IsUnder framed known s first → (m : Memory)
     → AreShown (address_accesses pc known m) pc (address_reads s m)
