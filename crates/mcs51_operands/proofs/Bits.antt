@@ -1,10 +1,10 @@
 -- Bits of numbers that agree with what is known of them, and those of a bank's address and of PSW.
-use Rattle.std.proofs.Common.{◌≡◌, ℕ, zero, suc, ◌+◌, ◌*◌, ◌/◌, ◌%◌, ◌<◌, Bool, Option, List, [], ◌∷◌, length, get_or, refl, sym, subst, arith}
+use Rattle.std.proofs.Common.{◌≡◌, ℕ, zero, suc, ◌+◌, ◌*◌, ◌/◌, ◌%◌, ◌<◌, Bool, Option, List, [], ◌∷◌, length, get_or, sym, subst, arith}
 use Rattle.std.specs.Int.{bit_at}
 use Rattle.std.proofs.lemmas.Nat.Bits.{bit_at-lt, bit_at-suc, bit_at_lowest}
 use Rattle.std.proofs.lemmas.List.FromFn.{get_or-map-range_with_len}
 use Rattle.value_bits.specs.declared.tri.Tri.{Tri}
-use Rattle.value_bits.specs.declared.tri.Tri.TheVariants.{Zero, Either}
+use Rattle.value_bits.specs.declared.tri.Tri.TheVariants.{Either}
 use Rattle.value_bits.specs.Bits.{Agrees, IsBit, known_bit, known_bits}
 use Rattle.value_set.specs.declared.form.Form.{Form}
 use Rattle.mcs51_operands.specs.Operands.{bank_bits}

@@ -1,6 +1,6 @@
 -- What is read has its form, and what holds of it and of its bits.
-use Rattle.std.proofs.Common.{◌≡◌, ℕ, ◌+◌, ◌<◌, ◌≤◌, Bool, true, false, Option, None, Some, List, [], ◌∷◌, length, get_or, refl, sym, ap, ◌∙◌, subst, inl, inr, arith, All, Contains}
-use Rattle.std.specs.Prelude.{◌==◌, ◌&&◌, not, nat_lt, ◌||◌}
+use Rattle.std.proofs.Common.{◌≡◌, ℕ, ◌<◌, Bool, true, false, Option, None, Some, List, [], ◌∷◌, length, refl, sym, ap, ◌∙◌, subst, arith, All, Contains}
+use Rattle.std.specs.Prelude.{◌==◌, ◌&&◌, not, ◌||◌}
 use Rattle.std.specs.Int.{bit_at}
 use Rattle.std.specs.Option.{option_map}
 use Rattle.std.proofs.lemmas.Bool.{cond_both, lt-ltb}
@@ -29,9 +29,9 @@ use Rattle.mcs51_state.specs.Places.{ie_place, ip_place, is_place, is_remembered
 use Rattle.mcs51_state.specs.Standing.{AreAddresses, MayStandAt}
 use Rattle.mcs51_state.specs.Under.{IsUnder}
 use Rattle.mcs51_operands.specs.Premises.{Premises}
-use Rattle.mcs51_operands.specs.Reading.{found_or, kept_by, kept_from, list_relation, ram_relation, ram_values, read_bit, read_byte, register_bit, register_byte, status_bits}
+use Rattle.mcs51_operands.specs.Reading.{found_or, kept_by, kept_from, list_relation, ram_values, read_bit, read_byte, register_bit, register_byte, status_bits}
 use Rattle.mcs51_operands.proofs.Bits.{bit_agrees, known_is, status_agrees}
-use Rattle.mcs51_operands.proofs.Members.{in_first, in_none}
+use Rattle.mcs51_operands.proofs.Members.{in_first}
 use Rattle.mcs51_operands.proofs.Ram.{ram_is, values_have, values_normal}
 use Rattle.mcs51_operands.proofs.Registers.{parity_small, register_is, unheld_bits}
 

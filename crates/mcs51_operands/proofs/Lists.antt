@@ -1,5 +1,5 @@
 -- Reads at several addresses, as loops do them.
-use Rattle.std.proofs.Common.{◌≡◌, ℕ, zero, suc, ◌+◌, ◌<◌, ◌≤◌, Bool, None, List, [], ◌∷◌, length, drop, get_or, refl, sym, ◌∙◌, subst, arith}
+use Rattle.std.proofs.Common.{◌≡◌, ℕ, zero, suc, ◌+◌, ◌<◌, ◌≤◌, Bool, None, List, [], ◌∷◌, length, drop, get_or, refl, subst, arith}
 use Rattle.value_set.specs.declared.form.Form.{Form}
 use Rattle.value_set.specs.Joining.{join}
 use Rattle.mcs51_state.specs.Known.{Known}

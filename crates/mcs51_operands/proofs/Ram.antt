@@ -1,5 +1,5 @@
 -- What is read of RAM holds of what stands there.
-use Rattle.std.proofs.Common.{◌≡◌, ℕ, ◌<◌, Bool, Option, None, Some, List, [], ◌∷◌, get_or, refl, sym, subst, inl, inr, arith, Contains}
+use Rattle.std.proofs.Common.{ℕ, ◌<◌, Bool, Option, List, [], ◌∷◌, get_or, refl, sym, subst, inl, inr, arith, Contains}
 use Rattle.std.specs.Option.{option_map}
 use Rattle.entry_value.specs.Cells.{AreCells, StandsUnder, read}
 use Rattle.entry_value.specs.Words.{Suspended, HoldsOfByte, IsFromEntry}

@@ -1,4 +1,4 @@
-use Rattle.mcs51_operands.proofs.Standing.{bit_stands, direct_stands, operand_form, operand_stands, pointers_have, registers_normal, pointer_small, working_form, working_stands}
+use Rattle.mcs51_operands.proofs.Standing.{bit_stands, direct_stands, operand_form, operand_stands, working_form, working_stands}
 use Rattle.mcs51_operands.proofs.laws.operands_stand.Goals as goal
 
 pub returns : goal.returns
