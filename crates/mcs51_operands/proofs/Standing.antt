@@ -1,7 +1,7 @@
 -- Operands stand where they may.
 use Rattle.std.proofs.Common.{◌≡◌, ℕ, ◌+◌, ◌*◌, ◌/◌, ◌%◌, ◌<◌, ◌≤◌, Bool, Option, refl, subst, arith}
 use Rattle.std.specs.Prelude.{nat_lt}
-use Rattle.std.proofs.lemmas.Bool.{cond_both, ltb-false}
+use Rattle.std.proofs.lemmas.Bool.{cond_both, ltb-false, ltb-true}
 use Rattle.value_set.specs.Form.{Has, IsNormal}
 use Rattle.value_set.specs.Summing.{single}
 use Rattle.mcs51_decode.specs.declared.instr.Memory.{Memory}
@@ -89,6 +89,10 @@ direct_stands laws direct small = only_stands laws (direct_address direct) (dire
 pub bit_stands : (laws : Premises) (bit : ℕ) → bit < 256 → MayStandAt (bit_addresses bit) (bit_address bit) × AreAddresses (bit_addresses bit)
 bit_stands laws bit small = only_stands laws (bit_address bit) (bit_is bit small)
 
+direct_may : (laws : Premises) (direct : ℕ) → MayStandAt (direct_addresses direct) (direct_address direct)
+direct_may laws direct = cond_both (nat_lt direct 128) (AtRam direct) (AtSfr direct) (λ address. MayStandAt (only_at address) address)
+    (λ e. let low = ltb-true direct 128 e in (laws.single 256 direct (omega (arith, low))).1) (λ e. refl)
+
 -- OPERANDS
 
 pub working_stands : (laws : Premises) (framed : Bool) (known : Known) (s : ChipState) (first : Option ChipState) → IsUnder framed known s first → (w : Working)
@@ -101,10 +105,10 @@ pub working_form : (laws : Premises) (framed : Bool) (known : Known) → IsKnown
 working_form laws framed known form (Indirect i) = values_normal laws known form.cells (pointer_addresses known i)
 working_form laws framed known form (Register n) = registers_normal laws known (register_number n) (register_small n)
 
-pub operand_stands : (laws : Premises) (framed : Bool) (known : Known) (s : ChipState) (first : Option ChipState) → IsUnder framed known s first → (m : Memory) → IsMemory m
+pub operand_stands : (laws : Premises) (framed : Bool) (known : Known) (s : ChipState) (first : Option ChipState) → IsUnder framed known s first → (m : Memory)
     → MayStandAt (addresses_of known m) (address_of s m)
-operand_stands laws framed known s first under (Direct direct) small = (direct_stands laws direct small).0
-operand_stands laws framed known s first under (InWorking w) small = working_stands laws framed known s first under w
+operand_stands laws framed known s first under (Direct direct) = direct_may laws direct
+operand_stands laws framed known s first under (InWorking w) = working_stands laws framed known s first under w
 
 pub operand_form : (laws : Premises) (framed : Bool) (known : Known) → IsKnown framed known → (m : Memory) → IsMemory m → AreAddresses (addresses_of known m)
 operand_form laws framed known form (Direct direct) small = (direct_stands laws direct small).1

@@ -48,7 +48,7 @@ pub fn operands_stand()
     ensures working { (framed : Bool) (known : Known) (s : AState) (first : Option AState) → IsUnder framed known s first → (w : AWorking)
         → MayStandAt (working_addresses known w) (working_address s w) }
     ensures working_form { (framed : Bool) (known : Known) → IsKnown framed known → (w : AWorking) → AreAddresses (working_addresses known w) }
-    ensures operand { (framed : Bool) (known : Known) (s : AState) (first : Option AState) → IsUnder framed known s first → (m : AMemory) → IsMemory m
+    ensures operand { (framed : Bool) (known : Known) (s : AState) (first : Option AState) → IsUnder framed known s first → (m : AMemory)
         → MayStandAt (addresses_of known m) (address_of s m) }
     ensures operand_form { (framed : Bool) (known : Known) → IsKnown framed known → (m : AMemory) → IsMemory m → AreAddresses (addresses_of known m) }
     ensures direct { (direct : ℕ) → direct < 256 → MayStandAt (direct_addresses direct) (direct_address direct) × AreAddresses (direct_addresses direct) }

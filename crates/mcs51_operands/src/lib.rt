@@ -4,7 +4,7 @@
 //!   [`Addresses`](mcs51_state::Addresses); [`register_addresses`] and [`pointed_addresses`]: the sets in RAM behind them.
 //! - [`read_byte`]: what a byte there may be read as, and how it came from what the place held when an interrupt came;
 //!   [`ram_values`]: the numbers alone, of RAM; [`read_bit`] and [`carry`]: one bit of it, and CY.
-//! - [`access`] and [`show_pointer`]: the accesses to show.
+//! - [`access`], [`show_pointer`] and [`show_address`]: the accesses to show.
 //!
 //! Each is exact by a formula of `specs`. The laws are functions that do nothing:
 //!
@@ -24,4 +24,4 @@ pub use operands::{
     working_addresses,
 };
 pub use reading::{carry, ram_values, read_bit, read_byte};
-pub use showing::{access, show_pointer};
+pub use showing::{access, show_address, show_pointer};

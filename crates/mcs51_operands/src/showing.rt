@@ -43,3 +43,18 @@ pub fn show_pointer<M: Cells>(
     }
     Ok(())
 }
+
+/// Adds the read of the register of an operand `@Ri`. Behind an error the items are of no use.
+pub fn show_address<M: Cells>(
+    accesses: &mut Sequence<Item>,
+    pc: u16,
+    state: &State<M>,
+    memory: mcs51_decode::Memory,
+) -> Result<(), Memory>
+    ensures { OnOk result (accesses.new ≡ accesses.old ++ showing.address_accesses pc state.now memory) }
+{
+    match memory {
+        mcs51_decode::Memory::Direct(_) => Ok(()),
+        mcs51_decode::Memory::Working(working) => show_pointer(accesses, pc, state, working),
+    }
+}
