@@ -25,3 +25,6 @@ pub use operands::{
 };
 pub use reading::{carry, ram_values, read_bit, read_byte};
 pub use showing::{access, show_address, show_pointer};
+
+#[cfg(test)]
+mod tests;
