@@ -1,0 +1,4 @@
+pub mod Operands
+pub mod Premises
+pub mod Reading
+pub mod Showing
