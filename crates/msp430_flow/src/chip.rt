@@ -376,7 +376,7 @@ fn start_node(reset: u16) -> Node
 }
 
 /// A work that gives nothing.
-fn empty_work(alloc: Global) -> Work<Abs>
+fn empty_work(alloc: Global) -> Work<Kept>
     ensures { result ≡ nothing }
 {
     Work {
