@@ -1,5 +1,5 @@
 -- The cells of RAM behind a write of a byte.
-use Rattle.std.proofs.Common.{◌≡◌, ◌≢◌, ℕ, zero, suc, drop, ◌+◌, ◌*◌, ◌%◌, ◌<◌, ◌≤◌, ◌==◌, ◌&&◌, not, Bool, true, false, Option, None, Some, List, [], ◌∷◌, length, get_or, set, refl, sym, ap, ◌∙◌, subst, inl, inr, arith, All, Contains}
+use Rattle.std.proofs.Common.{◌≡◌, ℕ, suc, ◌+◌, ◌*◌, ◌%◌, ◌<◌, ◌≤◌, ◌==◌, ◌&&◌, not, Bool, true, false, Option, None, Some, List, [], ◌∷◌, length, get_or, set, refl, sym, ap, ◌∙◌, subst, inl, inr, arith, All, Contains}
 use Rattle.std.specs.Prelude.{nat_lt, ◌||◌, ◌-◌, slice_index, if◌then◌else◌}
 use Rattle.std.specs.List.{filter}
 use Rattle.std.proofs.Common.{get_or-set_same, get_or-set_other}
@@ -222,35 +222,3 @@ cells_cover laws first framed s after map list address v word low there state st
     laws.cells.agree first (written (slice_index s.ram) address 1 v) (slice_index after.ram) 0 255 0 (cells_written map list word).cells (omega arith) form.cells (ram_small after state_after)
     (λ b from to. set_is_written s.ram address v b small inside ∙ ap (λ list_so. slice_index list_so b) (sym ram_is))
     (list_covers laws first framed (slice_index s.ram) map list address v word low there is are stands holds)
-
--- AS LOOPS WRITE THEM
-
-joined_suc : (map : CellMap) (word : Word) (list : List ℕ) (place d : ℕ) → place < length list
-    → cells_joined map (drop place list) word ≡ cells_joined (cell_joined map (get_or list place d) word) (drop (suc place) list) word
-joined_suc map word [] place d inside = absurd (omega (arith, inside))
-joined_suc map word (at ∷ rest) zero d inside = refl
-joined_suc map word (at ∷ rest) (suc place) d inside = joined_suc map word rest place d (omega (arith, inside))
-
--- one more address
-pub joined_more : (map : CellMap) (word : Word) (list : List ℕ) (place d : ℕ) → place < length list
-    → cells_joined map (drop place list) word ≡ cells_joined (cell_joined map (get_or list place d) word) (drop (place + 1) list) word
-joined_more map word list place d inside =
-    let same : suc place ≡ place + 1 = omega arith in
-    subst (λ n. cells_joined map (drop place list) word ≡ cells_joined (cell_joined map (get_or list place d) word) (drop n list) word) same (joined_suc map word list place d inside)
-
--- none behind the last
-pub joined_end : (map : CellMap) (word : Word) (list : List ℕ) (place : ℕ) → length list ≤ place → cells_joined map (drop place list) word ≡ map
-joined_end map word [] zero past = refl
-joined_end map word [] (suc place) past = refl
-joined_end map word (at ∷ rest) zero past = absurd (omega (arith, past))
-joined_end map word (at ∷ rest) (suc place) past = joined_end map word rest place (omega (arith, past))
-
-pub written_alone : (map : CellMap) (word : Word) (list : List ℕ) → length list ≡ 1 → cells_written map list word ≡ write_one map (get_or list 0 0) 1 word
-written_alone map word [] one = absurd (omega (arith, one))
-written_alone map word (at ∷ []) one = refl
-written_alone map word (at ∷ next ∷ rest) one = absurd (omega (arith, one))
-
-pub written_several : (map : CellMap) (word : Word) (list : List ℕ) → length list ≢ 1 → cells_written map list word ≡ cells_joined map list word
-written_several map word [] several = refl
-written_several map word (at ∷ []) several = absurd (several refl)
-written_several map word (at ∷ next ∷ rest) several = refl
