@@ -125,11 +125,12 @@ pub own_came : (f : Suspended) (unheld held r x : ℕ) (entry : Entry) → Parte
 own_came f unheld held r x entry parted is_held at small same (w, (below, agrees), is) =
     let word = filled w held r unheld in
     let narrow : bit_and w held < 65536 = omega (arith, and_le_l w held, below) in
-    let others : bit_and r unheld < 65536 = omega (arith, and_le_l r unheld, small) in
-    (
+    let others : bit_and r unheld < 65536 = omega (arith, and_le_l r unheld, small) in (
       word,
-      (or_lt 16 (bit_and w held) (bit_and r unheld) narrow others,
-          subst (λ h. bit_and word h ≡ bit_and (f.number entry.place) h) (sym at) (filled_held w held r unheld parted ∙ subst (λ h. bit_and w h ≡ bit_and (f.number entry.place) h) at agrees)),
+      (
+        or_lt 16 (bit_and w held) (bit_and r unheld) narrow others,
+        subst (λ h. bit_and word h ≡ bit_and (f.number entry.place) h) (sym at) (filled_held w held r unheld parted ∙ subst (λ h. bit_and w h ≡ bit_and (f.number entry.place) h) at agrees),
+      ),
       sym (subst (λ h. bit_or (bit_and word (bit_or entry.and unheld)) (bit_and entry.or h) ≡ r) is_held (filled_is w held r unheld entry.and entry.or x parted small is same)),
     )
 

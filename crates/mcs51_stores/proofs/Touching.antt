@@ -96,7 +96,7 @@ stays_untouched laws s f at touched address x b normal are there keeps none =
     let grows = behind_grows laws at touched normal are in
     let before : has_address touched b ≡ false = false_from_ne_true (has_address touched b) (λ has. both_ways (has_address (touched_behind at touched) b) none (grows.keeps b has)) in
     let other : b ≡ address → ⊥ = λ e. both_ways (has_address (touched_behind at touched) b) none
-        (subst (λ n. has_address (touched_behind at touched) n ≡ true) (sym e) (behind_touched laws address at touched normal are there)) in
+    (subst (λ n. has_address (touched_behind at touched) n ≡ true) (sym e) (behind_touched laws address at touched normal are there)) in
     get_or-set_other s.ram address b x 0 other ∙ keeps b before
 
 pub untouched_stay : (laws : Premises) (framed : Bool) (s : ChipState) (first : Option ChipState) (at : Form) (touched : List (ℕ × ℕ)) (address x : ℕ) → IsFramed framed first → IsNormal 256 at

@@ -68,10 +68,12 @@ fn carry_of_ram(fact: Option<CarryFact>) -> Option<CarryFact>
     ensures { result ≡ writing.carry_unless writing.is_accumulator fact }
 {
     match fact {
-        Some(CarryFact {
-            compared: Compared::Ram(at),
-            bound,
-        }) => Some(CarryFact {
+        Some(
+            CarryFact {
+                compared: Compared::Ram(at),
+                bound,
+            },
+        ) => Some(CarryFact {
             compared: Compared::Ram(at),
             bound,
         }),
