@@ -1,0 +1,6 @@
+mod Bits
+mod Cells
+mod Forms
+mod Members
+mod Parts
+mod Touching

@@ -1,0 +1,12 @@
+use Rattle.mcs51_stores.proofs.Parts.{accumulator_follows, byte_follows, counter_follows, pointer_follows}
+use Rattle.mcs51_stores.proofs.laws.writes_follow.Goals as goal
+
+pub returns : goal.returns
+returns c =
+    let laws = c.premises_hold.ensures in
+    record {
+      byte = byte_follows laws;
+      accumulator = accumulator_follows laws;
+      data_pointer = pointer_follows laws;
+      counter = counter_follows;
+    }

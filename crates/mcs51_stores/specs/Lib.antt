@@ -1,0 +1,4 @@
+pub mod Following
+pub mod Premises
+pub mod Stack
+pub mod Writing
