@@ -1,5 +1,5 @@
 -- The accumulator and PSW behind operations.
-use Rattle.std.proofs.Common.{◌≡◌, ℕ, ◌+◌, ◌-◌, ◌*◌, ◌/◌, ◌%◌, ◌^◌, ◌<◌, ◌==◌, Bool, true, false, Option, None, Some, List, [], ◌∷◌, refl, sym, ap, ◌∙◌, subst, arith, bit_and, bit_or}
+use Rattle.std.proofs.Common.{◌≡◌, ℕ, ◌+◌, ◌-◌, ◌/◌, ◌%◌, ◌<◌, Bool, true, false, Option, None, Some, refl, sym, subst, arith}
 use Rattle.std.specs.Int.{bit_at}
 use Rattle.std.proofs.lemmas.Nat.{and_le_l, or_lt}
 use Rattle.std.proofs.lemmas.Nat.Bits.{bit_at_lowest}
@@ -38,8 +38,8 @@ use Rattle.mcs51_results.specs.Holding.{IsResult, AreOperands, IsOperand, IsStat
 use Rattle.mcs51_results.specs.Premises.{Premises}
 use Rattle.mcs51_results.specs.Results.{carry_in, half_carry_in, known_flag, set_of, add_carry, sub_carry, sum_flags, difference_flags, twice_flags, twice_made, bitwise, masked_entry, masked_made, accumulated_made, changed_set, changed_flags, changed_made}
 use Rattle.mcs51_results.specs.Rules.{flag_by}
-use Rattle.mcs51_results.proofs.SetLemmas.{single_is, zero_is, chosen_is, bit_below, member, bit_value, operand_value, operand_is, add_is, sub_is, carry_is, borrow_is, logic_is}
-use Rattle.mcs51_results.proofs.StatusLemmas.{flag_bit, equal_bit, carry_bit, half_carry_bit, flagged_holds, carried_holds, flagged_form, carried_form}
+use Rattle.mcs51_results.proofs.SetLemmas.{single_is, zero_is, chosen_is, member, bit_value, operand_value, operand_is, add_is, sub_is, carry_is, borrow_is, logic_is}
+use Rattle.mcs51_results.proofs.StatusLemmas.{flag_bit, equal_bit, carry_bit, half_carry_bit, flagged_holds, carried_holds}
 
 -- BYTES
 
@@ -279,7 +279,7 @@ pub changed_holds : (laws : Premises) (framed : Bool) (first : Option Suspended)
 changed_holds laws framed first done made s stands =
     let a = byte_is framed first made.a s.a stands.form.a stands.holds.a in
     let is = changed_is laws done made.a.set (carry_in made.psw) (half_carry_in made.psw) s.a (carry_of s) (half_carry_of s) a
-        (carry_bit first made.psw s.psw stands.holds.psw) (half_carry_bit first made.psw s.psw stands.holds.psw) in record {
+    (carry_bit first made.psw s.psw stands.holds.psw) (half_carry_bit first made.psw s.psw stands.holds.psw) in record {
       a = (subst (Has 256 (changed_set done made.a.set (carry_in made.psw) (half_carry_in made.psw))) (changed_a done s) is.has, tt);
       psw = changed_psw laws first done made.a.set made.psw s a stands.holds.psw;
     }

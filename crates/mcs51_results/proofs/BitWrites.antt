@@ -1,6 +1,5 @@
 -- A bit of a byte, of PSW, and CY.
-use Rattle.std.proofs.Common.{◌≡◌, ℕ, zero, suc, ◌+◌, ◌-◌, ◌*◌, ◌/◌, ◌%◌, ◌^◌, ◌<◌, ◌≤◌, ◌==◌, ◌⊎◌, inl, inr, Bool, true, false, min, max, Option, None, Some, List, [], ◌∷◌, length, set, refl, sym, ap, ◌∙◌, subst, arith, bit_and, bit_or}
-use Rattle.std.specs.Prelude.{slice_index_or, slice_set}
+use Rattle.std.proofs.Common.{◌≡◌, ℕ, zero, suc, ◌+◌, ◌-◌, ◌*◌, ◌/◌, ◌%◌, ◌^◌, ◌<◌, ◌≤◌, ◌⊎◌, inl, inr, Bool, true, false, min, max, Option, None, Some, List, [], ◌∷◌, length, set, refl, sym, ap, ◌∙◌, subst, arith, bit_and, bit_or}
 use Rattle.std.specs.Int.{bit_at}
 use Rattle.std.specs.Int.Bits.{or_add_and}
 use Rattle.std.specs.Option.{option_map}
@@ -8,7 +7,7 @@ use Rattle.std.proofs.Math.Nat.{pow-suc}
 use Rattle.std.proofs.lemmas.List.{length-set}
 use Rattle.std.proofs.lemmas.List.FromFn.{length-map-range_with_len}
 use Rattle.std.proofs.lemmas.Nat.{and_comm, and_le_l, and-not, or_lt, pow_below}
-use Rattle.std.proofs.lemmas.Nat.Bits.{and_pow, bit_at-lt, bit_at-suc}
+use Rattle.std.proofs.lemmas.Nat.Bits.{and_pow, bit_at-suc}
 use Rattle.entry_value.specs.declared.byte.Byte.{Byte}
 use Rattle.entry_value.specs.declared.word.Entry.{Entry}
 use Rattle.entry_value.specs.Words.{Suspended, IsFromEntry, HoldsOfByte}
@@ -18,7 +17,6 @@ use Rattle.value_set.specs.Summing.{single}
 use Rattle.value_bits.specs.declared.tri.Tri.{Tri}
 use Rattle.value_bits.specs.declared.tri.Tri.TheVariants.{Zero, One, Either}
 use Rattle.value_bits.specs.Bits.{IsBit, Agrees, from_bits, known_bit, known_bits, tri_and, tri_not, tri_or}
-use Rattle.value_bits.specs.Sets.{chosen}
 use Rattle.mcs51_decode.specs.declared.instr.BitOperation.{BitOperation}
 use Rattle.mcs51_decode.specs.declared.instr.BitOperation.TheVariants as bit
 use Rattle.mcs51_decode.specs.declared.instr.CarryByBit.{CarryByBit}
@@ -39,7 +37,7 @@ use Rattle.mcs51_results.specs.BitRules.{after_below, bit_put, bit_stays}
 use Rattle.mcs51_results.specs.Holding.{IsResult, IsStatus}
 use Rattle.mcs51_results.specs.Premises.{Premises}
 use Rattle.mcs51_results.specs.Results.{carry_in}
-use Rattle.mcs51_results.specs.StatusBytes.{all_bits, own_entry, upper, bit_of_set, bit_of_status, carry_changed, carry_joined, carry_made, carry_bit_made, bit_made, bit_entry, bit_answer, bit_carries, bits_made, byte_with_bit, status_with_bit}
+use Rattle.mcs51_results.specs.StatusBytes.{all_bits, upper, bit_of_set, bit_of_status, carry_changed, carry_joined, carry_made, carry_bit_made, bit_made, bit_entry, bit_answer, bit_carries, bits_made, byte_with_bit, status_with_bit}
 use Rattle.mcs51_results.proofs.SetLemmas.{combined, zero_is, chosen_is, bit_below, bit_value, member}
 use Rattle.mcs51_results.proofs.StatusLemmas.{bit_agrees, carry_bit, carried_holds}
 use Rattle.mcs51_results.proofs.Accumulations.{byte_is}
@@ -220,9 +218,10 @@ byte_set_is laws done at t set x c is bit =
 pub byte_bit_holds : (laws : Premises) (framed : Bool) (first : Option Suspended) (done : BitOperation) (at : ℕ) (t : Tri) (byte : Byte) (x c : ℕ) → IsByte framed byte → HoldsOfByte first byte x → IsBit t c
     → HoldsOfByte first (byte_with_bit done at t byte) (with_bit x (at % 8) (bit_after done c (bit_at x (at % 8))))
 byte_bit_holds laws framed first done at t byte x c form holds bit =
-    let is = byte_is framed first byte x form holds in
-    ((byte_set_is laws done at t byte.set x c is bit).has,
-      bit_entry_holds laws first done (at % 8) byte.entry x c (bit_at x (at % 8)) (place_below at) (laws.below 256 x byte.set is.normal is.has) holds.1)
+    let is = byte_is framed first byte x form holds in (
+      (byte_set_is laws done at t byte.set x c is bit).has,
+      bit_entry_holds laws first done (at % 8) byte.entry x c (bit_at x (at % 8)) (place_below at) (laws.below 256 x byte.set is.normal is.has) holds.1,
+    )
 
 pub byte_bit_form : (laws : Premises) (framed : Bool) (done : BitOperation) (at : ℕ) (t : Tri) (byte : Byte) → IsByte framed byte → IsByte framed (byte_with_bit done at t byte)
 byte_bit_form laws framed done at t byte form =

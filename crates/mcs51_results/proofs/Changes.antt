@@ -1,8 +1,8 @@
 -- INC and DEC of a byte, and INC DPTR.
-use Rattle.std.proofs.Common.{◌≡◌, ℕ, ◌+◌, ◌-◌, ◌*◌, ◌/◌, ◌%◌, ◌<◌, Bool, Option, subst, arith}
+use Rattle.std.proofs.Common.{◌≡◌, ℕ, ◌+◌, ◌-◌, ◌*◌, ◌%◌, ◌<◌, Bool, Option, subst, arith}
 use Rattle.entry_value.specs.declared.byte.Byte.{Byte}
 use Rattle.entry_value.specs.Words.{Suspended, HoldsOfByte}
-use Rattle.value_set.specs.Form.{Has, IsNormal}
+use Rattle.value_set.specs.Form.{IsNormal}
 use Rattle.value_set.specs.Summing.{add, single, sub}
 use Rattle.value_bits.specs.Numbers.{word_of}
 use Rattle.value_bits.specs.Sets.{low_set, high_set, pair_set}

@@ -1,9 +1,8 @@
 -- The accumulator, B and PSW behind MUL and DIV.
-use Rattle.std.proofs.Common.{◌≡◌, ℕ, zero, suc, ◌+◌, ◌*◌, ◌/◌, ◌%◌, ◌<◌, ◌==◌, Bool, true, false, cond, Option, List, [], ◌∷◌, refl, sym, ap, ◌∙◌, subst, arith}
-use Rattle.std.specs.Prelude.{nat_lt, if◌then◌else◌}
-use Rattle.std.proofs.lemmas.Bool.{eqb-true, eqb-false, cond_both}
-use Rattle.entry_value.specs.declared.byte.Byte.{Byte}
-use Rattle.entry_value.specs.Words.{Suspended, HoldsOfByte}
+use Rattle.std.proofs.Common.{◌≡◌, ℕ, zero, suc, ◌+◌, ◌*◌, ◌/◌, ◌%◌, ◌<◌, ◌==◌, Bool, true, false, Option, refl, sym, ap, subst, arith}
+use Rattle.std.specs.Prelude.{nat_lt}
+use Rattle.std.proofs.lemmas.Bool.{eqb-true, cond_both}
+use Rattle.entry_value.specs.Words.{Suspended}
 use Rattle.value_set.specs.declared.form.Form.{Form}
 use Rattle.value_set.specs.Form.{Has, IsNormal}
 use Rattle.value_set.specs.Joining.{is_within}
@@ -15,9 +14,8 @@ use Rattle.mcs51_chip.specs.Arithmetic.{multiplied, divided, divided_by_zero}
 use Rattle.mcs51_chip.specs.Leading.{MayDivide}
 use Rattle.mcs51_chip.specs.Registers.{bit_of, half_carry_of}
 use Rattle.mcs51_chip.specs.Step.{Effect}
-use Rattle.mcs51_state.specs.declared.status.Status.{Status}
 use Rattle.mcs51_state.specs.Holding.{HoldsOfStatus}
-use Rattle.mcs51_state.specs.Known.{any_byte, byte_of}
+use Rattle.mcs51_state.specs.Known.{any_byte}
 use Rattle.mcs51_results.specs.declared.combining.NumberRule.{NumberRule}
 use Rattle.mcs51_results.specs.declared.combining.NumberRule.TheVariants.{ProductLow, ProductHigh, Quotient, Remainder}
 use Rattle.mcs51_results.specs.declared.flags.FlagRule.TheVariants as flag
@@ -28,7 +26,7 @@ use Rattle.mcs51_results.specs.Results.{half_carry_in, known_flag, multiplied_ma
 use Rattle.mcs51_results.specs.Rules.{answer_by, answer_stays, flag_by}
 use Rattle.mcs51_results.proofs.SetLemmas.{combined, zero_is, any_is, member}
 use Rattle.mcs51_results.proofs.StatusLemmas.{flag_bit, half_carry_bit, flagged_holds}
-use Rattle.mcs51_results.proofs.Accumulations.{byte_is, plain_holds, plain_form}
+use Rattle.mcs51_results.proofs.Accumulations.{byte_is}
 
 -- a rule's result over all combinations, or any number
 ruled : (laws : Premises) (rule : NumberRule) (a b : Form) (x y : ℕ) → IsResult 256 a x → IsResult 256 b y → IsResult 256 (combine_or 256 (answer_by rule) a b (single 0) any_byte) (answer_by rule x y 0)
@@ -101,10 +99,16 @@ by_number laws framed first made s stands some =
     let small = λ (rule : NumberRule). answer_stays rule s.a s.b 0 (laws.below 256 s.a made.a.set a.normal a.has) (laws.below 256 s.b made.b.set b.normal b.has) (omega arith) in
     let quotient : answer_by Quotient s.a s.b 0 ≡ s.a / s.b = rw some refl in
     let remainder : answer_by Remainder s.a s.b 0 ≡ s.a % s.b = rw some refl in record {
-      a = (subst (Has 256 (divided_made made.a made.b made.psw).a.set) quotient
-          (divided_is laws (combine_or 256 (answer_by Quotient) made.a.set made.b.set (single 0) any_byte) made.b.set (answer_by Quotient s.a s.b 0) (small Quotient) (ruled laws Quotient made.a.set made.b.set s.a s.b a b).has), tt);
-      b = (subst (Has 256 (divided_made made.a made.b made.psw).b.set) remainder
-          (divided_is laws (combine_or 256 (answer_by Remainder) made.a.set made.b.set (single 0) any_byte) made.b.set (answer_by Remainder s.a s.b 0) (small Remainder) (ruled laws Remainder made.a.set made.b.set s.a s.b a b).has), tt);
+      a = (
+        subst (Has 256 (divided_made made.a made.b made.psw).a.set) quotient
+            (divided_is laws (combine_or 256 (answer_by Quotient) made.a.set made.b.set (single 0) any_byte) made.b.set (answer_by Quotient s.a s.b 0) (small Quotient) (ruled laws Quotient made.a.set made.b.set s.a s.b a b).has),
+        tt,
+      );
+      b = (
+        subst (Has 256 (divided_made made.a made.b made.psw).b.set) remainder
+            (divided_is laws (combine_or 256 (answer_by Remainder) made.a.set made.b.set (single 0) any_byte) made.b.set (answer_by Remainder s.a s.b 0) (small Remainder) (ruled laws Remainder made.a.set made.b.set s.a s.b a b).has),
+        tt,
+      );
       psw = subst (λ bit. HoldsOfStatus first (divided_made made.a made.b made.psw).psw (s.psw / 8 % 8 * 8 + 128 * 0 + 64 * half_carry_of s + 4 * bit)) (ap bit_of some) (overflow_psw laws framed first made s stands);
     }
 

@@ -1,27 +1,25 @@
 -- PSW read and written as a byte.
-use Rattle.std.proofs.Common.{◌≡◌, ℕ, zero, suc, ◌+◌, ◌-◌, ◌*◌, ◌/◌, ◌%◌, ◌^◌, ◌<◌, ◌==◌, Bool, true, false, cond, not, min, max, Option, None, Some, List, [], ◌∷◌, length, refl, sym, ap, ◌∙◌, subst, arith, bit_and, bit_or, bit_xor}
+use Rattle.std.proofs.Common.{◌≡◌, ℕ, ◌+◌, ◌*◌, ◌/◌, ◌%◌, ◌^◌, ◌<◌, ◌==◌, Bool, true, false, min, max, Option, None, Some, List, length, refl, sym, ap, ◌∙◌, subst, arith, bit_and, bit_or}
 use Rattle.std.specs.Prelude.{slice_index_or, if◌then◌else◌}
 use Rattle.std.specs.Int.{bit_at}
 use Rattle.std.specs.Int.Bits.{or_zero_r, and_zero_l}
 use Rattle.std.specs.Option.{option_map}
 use Rattle.std.proofs.Math.Path.{ap₂}
-use Rattle.std.proofs.lemmas.Bool.{cond_both, eqb-true, eqb-false}
-use Rattle.std.proofs.lemmas.List.FromFn.{length-map-range_with_len}
+use Rattle.std.proofs.lemmas.Bool.{eqb-true}
 use Rattle.std.proofs.lemmas.Nat.{and_le_l, and_mask, and_mod, and_or_self, and_shr, or_lt, or_mod, or_shr, shr-shr, xor_lt}
 use Rattle.std.proofs.lemmas.Nat.Bits.{and_high_mask, bit_at_and, bit_at_or, bit_at_xor}
 use Rattle.entry_value.specs.declared.byte.Byte.{Byte}
 use Rattle.entry_value.specs.declared.word.Entry.{Entry}
-use Rattle.entry_value.specs.Words.{Suspended, IsFromEntry, HoldsOfByte}
+use Rattle.entry_value.specs.Words.{IsFromEntry, HoldsOfByte}
 use Rattle.value_set.specs.declared.form.Form.{Form}
-use Rattle.value_set.specs.Form.{Has, IsNormal}
+use Rattle.value_set.specs.Form.{Has}
 use Rattle.value_set.specs.Summing.{single}
 use Rattle.value_bits.specs.declared.tri.Logic.{Logic as Bitwise}
 use Rattle.value_bits.specs.declared.tri.Logic.TheVariants.{And, Or, Xor}
 use Rattle.value_bits.specs.declared.tri.Tri.{Tri}
 use Rattle.value_bits.specs.declared.tri.Tri.TheVariants.{Zero, One, Either}
-use Rattle.value_bits.specs.Bits.{IsBit, Agrees, from_bits, known_bit, known_bits, logic_of, tri_and, tri_logic, tri_not, tri_or, tri_xor}
+use Rattle.value_bits.specs.Bits.{IsBit, Agrees, known_bits, logic_of, tri_and, tri_logic, tri_or, tri_xor}
 use Rattle.mcs51_decode.specs.declared.instr.Logic.{Logic}
-use Rattle.mcs51_decode.specs.declared.instr.Logic.TheVariants as logic
 use Rattle.mcs51_chip.specs.declared.place.Sfr.TheVariants.{Psw}
 use Rattle.mcs51_chip.specs.declared.state.ChipState.{ChipState}
 use Rattle.mcs51_chip.specs.Arithmetic.{masked}
@@ -35,7 +33,7 @@ use Rattle.mcs51_state.specs.Places.{is_place, psw_place, suspended_of}
 use Rattle.mcs51_results.specs.declared.flags.FlagRule.TheVariants as flag
 use Rattle.mcs51_results.specs.declared.made.Operand.{Operand}
 use Rattle.mcs51_results.specs.declared.made.Operand.TheVariants.{Constant, Among}
-use Rattle.mcs51_results.specs.Holding.{IsResult, AreOperands, IsOperand, IsStatus}
+use Rattle.mcs51_results.specs.Holding.{AreOperands, IsOperand, IsStatus}
 use Rattle.mcs51_results.specs.Premises.{Premises}
 use Rattle.mcs51_results.specs.Results.{bit_in, bitwise, masked_entry, set_of}
 use Rattle.mcs51_results.specs.Rules.{flag_by}

@@ -1,5 +1,5 @@
 -- A bit of a byte is changed, and the result is a byte.
-use Rattle.std.specs.Prelude.{◌≡◌, ℕ, ◌+◌, ◌-◌, ◌*◌, ◌/◌, ◌%◌, ◌^◌, ◌<◌}
+use Rattle.std.specs.Prelude.{ℕ, ◌%◌, ◌<◌}
 use Prim.Native.Nat.{zero, suc}
 use Rattle.std.specs.Int.{bit_at}
 use Rattle.std.proofs.Common.{arith}

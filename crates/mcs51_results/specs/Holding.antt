@@ -1,6 +1,5 @@
 -- What holds of what instructions work on and of what they give: in the state they work on, and in the one behind them.
 use Rattle.std.specs.Prelude.{◌≡◌, ℕ, ◌<◌, Bool, Option, length}
-use Rattle.entry_value.specs.declared.byte.Byte.{Byte}
 use Rattle.entry_value.specs.Words.{Suspended, HoldsOfByte}
 use Rattle.value_set.specs.declared.form.Form.{Form}
 use Rattle.value_set.specs.Form.{Has, IsNormal}

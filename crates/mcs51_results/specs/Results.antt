@@ -2,7 +2,7 @@
 -- "WYSINWYX: What You See Is Not What You eXecute", 2010; the operations of Intel, MCS-51 Programmer's Guide and Instruction
 -- Set, "Instruction Definitions"). Of at most 256 combinations of members all results are gathered, with an unknown carry
 -- counted as two, and a flag is known where all of them agree.
-use Rattle.std.specs.Prelude.{ℕ, ◌+◌, ◌-◌, if◌then◌else◌, Option, None, Some, List, [], ◌∷◌, slice_index_or}
+use Rattle.std.specs.Prelude.{ℕ, if◌then◌else◌, Option, None, [], ◌∷◌, slice_index_or}
 use Rattle.std.specs.Option.{option_map}
 use Rattle.entry_value.specs.declared.byte.Byte.{Byte}
 use Rattle.entry_value.specs.declared.word.Entry.{Entry}
@@ -16,7 +16,7 @@ use Rattle.value_bits.specs.declared.tri.Logic.TheVariants.{And, Or, Xor}
 use Rattle.value_bits.specs.declared.tri.Lowest.TheVariants.{High, Given}
 use Rattle.value_bits.specs.declared.tri.Top.TheVariants.{Low, Put}
 use Rattle.value_bits.specs.declared.tri.Tri.{Tri}
-use Rattle.value_bits.specs.declared.tri.Tri.TheVariants.{Zero, One, Either}
+use Rattle.value_bits.specs.declared.tri.Tri.TheVariants.{Zero, Either}
 use Rattle.value_bits.specs.Flags.{agreed}
 use Rattle.value_bits.specs.Lefts.{left_set}
 use Rattle.value_bits.specs.Sets.{chosen, combine_or, logic_set, shift_set, exchange_set, low_set, high_set, pair_set, decimal_adjust_set}

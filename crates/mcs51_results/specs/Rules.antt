@@ -3,7 +3,6 @@
 use Rattle.std.specs.Prelude.{◌≡◌, ℕ, ◌+◌, ◌-◌, ◌*◌, ◌/◌, ◌%◌, ◌<◌, ◌==◌, ◌||◌, nat_lt, nat_le, if◌then◌else◌, Bool, true, false}
 use Rattle.std.proofs.Common.{arith, refl}
 use Rattle.std.proofs.Math.Nat.{mod-lt}
-use Rattle.std.proofs.lemmas.Nat.{div_below}
 use Rattle.value_set.specs.Operations.{StaysBelow}
 use Rattle.value_bits.specs.Numbers.{adjusted_carry}
 use Rattle.mcs51_chip.specs.Arithmetic.{carries, borrows, differ}

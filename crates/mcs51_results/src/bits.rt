@@ -32,7 +32,11 @@ impl Operation for BitChange {
 
     fn apply(&self, x: u16, _y: u16, carry: u16) -> u16 {
         let place = self.at % 8;
-        with_bit(x, place, bit_after(self.operation, carry % 2, bit_in(x, place)))
+        with_bit(
+            x,
+            place,
+            bit_after(self.operation, carry % 2, bit_in(x, place)),
+        )
     }
 
     ghost stays_below = { λ change. bit_stays change.operation change.at };

@@ -99,7 +99,11 @@ fn high_adjusted(low: u16, carry: u16) -> u16
     requires { low < 262 }
     ensures { result ≡ numbers.high_adjusted low carry }
 {
-    if is_high_adjusted(low, carry) { low + 96 } else { low }
+    if is_high_adjusted(low, carry) {
+        low + 96
+    } else {
+        low
+    }
 }
 
 /// CY behind DA.
@@ -114,7 +118,8 @@ fn adjusted_carry(a: u16, carry: u16, half: u16) -> bool
 fn parity(a: u16) -> u16
     ensures { result ≡ registers.parity a }
 {
-    (a % 2 + a / 2 % 2 + a / 4 % 2 + a / 8 % 2 + a / 16 % 2 + a / 32 % 2 + a / 64 % 2 + a / 128 % 2) % 2
+    (a % 2 + a / 2 % 2 + a / 4 % 2 + a / 8 % 2 + a / 16 % 2 + a / 32 % 2 + a / 64 % 2 + a / 128 % 2)
+        % 2
 }
 
 fn flag_by(rule: FlagRule, x: u16, y: u16, carry: u16) -> bool
