@@ -1,0 +1,6 @@
+pub mod Rules
+pub mod Results
+pub mod StatusBytes
+pub mod BitRules
+pub mod Holding
+pub mod Premises
