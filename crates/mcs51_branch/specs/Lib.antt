@@ -1,0 +1,4 @@
+pub mod Ways
+pub mod Cuts
+pub mod Jumps
+pub mod Premises

@@ -1,0 +1,10 @@
+-- A jump that goes one way or not at all.
+use Rattle.std.specs.Prelude.{◌≡◌, Bool, true, false, Option, None, Some, Result, Ok, Err}
+use Rattle.vsa_io.specs.declared.refusal.Memory.{Memory}
+use Rattle.mcs51_state.specs.Known.{Known}
+
+-- what is known where the jump goes this way, if it can; else, and where memory lacks, all is as it was
+abbrev pub IsWay : Option Known → Result Bool Memory → (old new : Known) → Type 0
+IsWay way (Ok true) old new = way ≡ Some new
+IsWay way (Ok false) old new = (way ≡ None) × (new ≡ old)
+IsWay way (Err lack) old new = new ≡ old
