@@ -14,16 +14,16 @@ use Rattle.mcs51_branch.specs.Jumps.{may_be, known_flag}
 -- BITS AT PLACES
 
 -- a number moved down by some places
-abbrev moved : (place v : ℕ) → ℕ
+abbrev pub moved : (place v : ℕ) → ℕ
 moved zero v = v
 moved (suc place) v = moved place (v / 2)
 
-bit_there : (bits : List Tri) (place v : ℕ) → place < length bits → Agrees bits v → IsBit (slice_index_or bits place Either) (moved place v % 2)
+pub bit_there : (bits : List Tri) (place v : ℕ) → place < length bits → Agrees bits v → IsBit (slice_index_or bits place Either) (moved place v % 2)
 bit_there [] place v inside agrees = absurd (omega (arith, inside))
 bit_there (bit ∷ bits) zero v inside agrees = agrees.0
 bit_there (bit ∷ bits) (suc place) v inside agrees = bit_there bits place (v / 2) (omega (arith, inside)) agrees.1
 
-bit_put : (bits : List Tri) (place v : ℕ) (bit : Tri) → place < length bits → Agrees bits v → IsBit bit (moved place v % 2) → Agrees (set bits place bit) v
+pub bit_put : (bits : List Tri) (place v : ℕ) (bit : Tri) → place < length bits → Agrees bits v → IsBit bit (moved place v % 2) → Agrees (set bits place bit) v
 bit_put [] place v bit inside agrees is = absurd (omega (arith, inside))
 bit_put (held ∷ bits) zero v bit inside agrees is = (is, agrees.1)
 bit_put (held ∷ bits) (suc place) v bit inside agrees is = (agrees.0, bit_put bits place (v / 2) bit (omega (arith, inside)) agrees.1 is)
@@ -47,14 +47,25 @@ written_carry psw carry small = omega (arith, small)
 
 -- the other bits stay
 pub carry_put : (bits : List Tri) (psw carry : ℕ) (bit : Tri) → length bits ≡ 6 → Agrees bits (psw / 4) → carry < 2 → IsBit bit carry → Agrees (set bits 5 bit) ((psw % 128 + 128 * carry) / 4)
-carry_put (a ∷ b ∷ c ∷ d ∷ e ∷ f ∷ []) psw carry bit long agrees small is =
-    (subst (IsBit a) (omega arith) agrees.0,
-    (subst (IsBit b) (omega arith) agrees.1.0,
-    (subst (IsBit c) (omega arith) agrees.1.1.0,
-    (subst (IsBit d) (omega arith) agrees.1.1.1.0,
-    (subst (IsBit e) (omega arith) agrees.1.1.1.1.0,
-    (subst (IsBit bit) (omega (arith, small)) is,
-    omega (arith, small)))))))
+carry_put (a ∷ b ∷ c ∷ d ∷ e ∷ f ∷ []) psw carry bit long agrees small is = (
+  subst (IsBit a) (omega arith) agrees.0,
+  (
+    subst (IsBit b) (omega arith) agrees.1.0,
+    (
+      subst (IsBit c) (omega arith) agrees.1.1.0,
+      (
+        subst (IsBit d) (omega arith) agrees.1.1.1.0,
+        (
+          subst (IsBit e) (omega arith) agrees.1.1.1.1.0,
+          (
+            subst (IsBit bit) (omega (arith, small)) is,
+            omega (arith, small),
+          ),
+        ),
+      ),
+    ),
+  ),
+)
 carry_put [] psw carry bit long agrees small is = absurd (omega (arith, long))
 carry_put (a ∷ []) psw carry bit long agrees small is = absurd (omega (arith, long))
 carry_put (a ∷ b ∷ []) psw carry bit long agrees small is = absurd (omega (arith, long))

@@ -5,3 +5,6 @@ pub mod Cells
 pub mod PlaceWays
 pub mod Carries
 pub mod Ways
+pub mod OneRegister
+pub mod TestedSets
+pub mod TestedBits

@@ -149,6 +149,14 @@ with_set_holds laws framed (Ram at) known set s first is normal has under =
       };
     }
 
+pub with_set_under : (laws : Premises) (framed : Bool) (place : Compared) (known : Known) (set : Form) (s : ChipState) (first : Option ChipState) → IsCompared place → IsNormal 256 set
+    → Has 256 set (compared_in place s) → IsUnder framed known s first → IsUnder framed (with_set place known set) s first
+with_set_under laws framed place known set s first is normal has under = record {
+  base = under.base;
+  form = with_set_form laws framed place known set is normal under.form;
+  holds = with_set_holds laws framed place known set s first is normal has under;
+}
+
 -- THE WAY
 
 -- a subset that still has the byte serves each cut
@@ -158,11 +166,7 @@ place_way laws framed place window known s first is inside under =
     let (part, cut, normal, has) = part_has laws.sets (compared_in place s) (set_at place known) window (set_normal laws framed place known under.form) (set_has laws framed place known s first is under) inside in (
       with_set place known part,
       ap (option_map (with_set place known)) cut,
-      record {
-        base = under.base;
-        form = with_set_form laws framed place known part is normal under.form;
-        holds = with_set_holds laws framed place known part s first is normal has under;
-      },
+      with_set_under laws framed place known part s first is normal has under,
     )
 
 pub place_way_form : (laws : Premises) (framed : Bool) (place : Compared) (window : Window) (known way : Known) → IsCompared place → window.low < 256 → IsKnown framed known → place_cut place window known ≡ Some way → IsKnown framed way

@@ -1,13 +1,14 @@
 -- What the laws of jumps rest on: laws of sets, of flags and of cells.
-use Rattle.std.specs.Prelude.{◌≡◌, ℕ, ◌+◌, ◌-◌, ◌%◌, ◌<◌, ◌≤◌, Bool, Option, None, Some, List}
+use Rattle.std.specs.Prelude.{◌≡◌, ℕ, ◌+◌, ◌-◌, ◌%◌, ◌<◌, ◌≤◌, Bool, Option, None, Some, List, Contains, length}
 use Rattle.entry_value.specs.declared.cells.Cell.{Cell}
 use Rattle.entry_value.specs.declared.word.Word.{Word}
 use Rattle.entry_value.specs.Cells.{AreCells, CellMap, StandsUnder, read, write_one, written}
 use Rattle.entry_value.specs.Words.{HoldsOfWord, Suspended}
 use Rattle.value_set.specs.declared.form.Form.{Form}
 use Rattle.value_set.specs.Cutting.{cut}
-use Rattle.value_set.specs.Form.{Has, IsNormal, above}
+use Rattle.value_set.specs.Form.{Has, IsNormal, above, gather}
 use Rattle.value_set.specs.Summing.{single, sub}
+use Rattle.value_bits.specs.Bits.{Agrees, known_bits}
 use Rattle.value_bits.specs.Flags.{IsFlag, agreed}
 use Rattle.value_bits.specs.Numbers.{low_byte, word_of}
 use Rattle.value_bits.specs.Sets.{low_set, pair_set}
@@ -20,6 +21,9 @@ pub record OfSets : Type 0 where
   pub cut_none : (m low len v : ℕ) (a : Form) → IsNormal m a → low < m → cut m a low len ≡ None → Has m a v → len ≤ above m low v
   pub difference_normal : (m : ℕ) (a b : Form) → IsNormal m a → IsNormal m b → IsNormal m (sub m a b)
   pub difference : (m x y : ℕ) (a b : Form) → IsNormal m a → IsNormal m b → Has m a x → Has m b y → Has m (sub m a b) ((x + m - y) % m)
+  pub gather_normal : (xs : List ℕ) → 1 ≤ length xs → ((v : ℕ) → Contains xs v → v < 256) → IsNormal 256 (gather 256 xs)
+  pub gather_holds : (v : ℕ) (xs : List ℕ) → ((n : ℕ) → Contains xs n → n < 256) → Contains xs v → Has 256 (gather 256 xs) v
+  pub known : (v : ℕ) (a : Form) → IsNormal 256 a → Has 256 a v → Agrees (known_bits 8 a) v
   pub low_normal : (a : Form) → IsNormal 65536 a → IsNormal 256 (low_set a)
   pub low : (v : ℕ) (a : Form) → IsNormal 65536 a → Has 65536 a v → Has 256 (low_set a) (low_byte v)
   pub pair_normal : (low high : Form) → IsNormal 256 low → IsNormal 256 high → IsNormal 65536 (pair_set low high)

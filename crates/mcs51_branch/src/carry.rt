@@ -26,7 +26,7 @@ pub(crate) fn may_be(known: Tri, flag: bool) -> bool
     }
 }
 
-fn known_flag(flag: bool) -> Tri
+pub(crate) fn known_flag(flag: bool) -> Tri
     ensures { result ≡ jumps.known_flag flag }
 {
     if flag { Tri::One } else { Tri::Zero }

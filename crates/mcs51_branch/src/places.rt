@@ -42,7 +42,7 @@ fn words_of(set: &Vs8) -> Vs16
 
 /// Gives a byte other numbers. A refusal leaves all as it was.
 #[tactic(auto, unfolding(crate::specs::Cuts::with_set))]
-fn put<M: Cells>(state: &mut State<M>, place: Compared, set: Vs8) -> Result<(), Memory>
+pub(crate) fn put<M: Cells>(state: &mut State<M>, place: Compared, set: Vs8) -> Result<(), Memory>
     ensures value { OnOk result (state.new ≡ cuts.with_set place state.old set) }
     ensures kept { OnErr result (state.new ≡ state.old) }
 {
