@@ -1,5 +1,5 @@
 -- What is known where one register is known otherwise.
-use Rattle.std.proofs.Common.{◌≡◌, ℕ, ◌/◌, Bool, Option, length, List}
+use Rattle.std.proofs.Common.{◌≡◌, ◌/◌, Bool, Option, length, List}
 use Rattle.std.specs.Option.{option_map}
 use Rattle.entry_value.specs.declared.byte.Byte.{Byte}
 use Rattle.entry_value.specs.Words.{HoldsOfByte}

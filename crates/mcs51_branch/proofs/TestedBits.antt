@@ -1,10 +1,10 @@
 -- The way that a jump by a bit goes.
-use Rattle.std.proofs.Common.{◌≡◌, ℕ, zero, suc, ◌+◌, ◌-◌, ◌*◌, ◌/◌, ◌%◌, ◌<◌, ◌==◌, Bool, true, false, Option, None, Some, List, length, set, refl, sym, ap, ◌∙◌, subst, inl, inr, arith}
+use Rattle.std.proofs.Common.{◌≡◌, ℕ, zero, suc, ◌+◌, ◌-◌, ◌*◌, ◌/◌, ◌%◌, ◌<◌, ◌==◌, Bool, true, false, Option, None, Some, length, set, refl, sym, ap, ◌∙◌, subst, arith}
 use Rattle.std.proofs.Math.Nat.{mod-lt}
-use Rattle.std.specs.Prelude.{if◌then◌else◌, nat_lt, not, slice_index, slice_index_or}
+use Rattle.std.specs.Prelude.{if◌then◌else◌, nat_lt, slice_index, slice_index_or}
 use Rattle.std.specs.Int.{bit_at}
 use Rattle.std.specs.Option.{option_map}
-use Rattle.std.proofs.lemmas.Bool.{cases_Bool, cond_both, cond-true, cond-false}
+use Rattle.std.proofs.lemmas.Bool.{cond_both, cond-true}
 use Rattle.std.proofs.lemmas.Bool.Decides.{nat_tests}
 use Rattle.std.proofs.lemmas.List.{length-set}
 use Rattle.std.proofs.lemmas.Option.{same_Some}
@@ -12,9 +12,8 @@ use Rattle.entry_value.specs.declared.byte.Byte.{Byte}
 use Rattle.entry_value.specs.Words.{HoldsOfByte, IsFromEntry, Suspended}
 use Rattle.value_set.specs.declared.form.Form.{Form}
 use Rattle.value_set.specs.Form.{Has, IsNormal}
-use Rattle.value_bits.specs.declared.tri.Tri.{Tri}
-use Rattle.value_bits.specs.declared.tri.Tri.TheVariants.{Zero, One, Either}
-use Rattle.value_bits.specs.Bits.{Agrees, IsBit}
+use Rattle.value_bits.specs.declared.tri.Tri.TheVariants.{Either}
+use Rattle.value_bits.specs.Bits.{IsBit}
 use Rattle.mcs51_chip.specs.declared.place.Address.{Address}
 use Rattle.mcs51_chip.specs.declared.place.Address.TheVariants.{InRam, InSfr}
 use Rattle.mcs51_chip.specs.declared.place.Sfr.{Sfr}
@@ -24,7 +23,6 @@ use Rattle.mcs51_chip.specs.Leading.{MayRead, MayReadSfr}
 use Rattle.mcs51_chip.specs.Registers.{bit_of, parity, sfr_at}
 use Rattle.mcs51_state.specs.declared.fact.Compared.TheVariants.{Ram}
 use Rattle.mcs51_state.specs.Forms.{IsByte, IsKnown, IsOwnByte, IsOwnRelation, IsRelation}
-use Rattle.mcs51_state.specs.Holding.{HoldsOfReads}
 use Rattle.mcs51_state.specs.Known.{Known}
 use Rattle.mcs51_state.specs.Places.{ie_place, ip_place, suspended_of}
 use Rattle.mcs51_state.specs.Under.{IsUnder}
@@ -219,9 +217,9 @@ status_way framed known s first place x bit under low (free, small, is) so =
     cond_both (nat_lt place 2) (Some known) (if may_be (slice_index_or known.psw.bits (place - 2) Either) bit then Some (with_seen_bit place bit known) else None) (λ (cut : Option Known). Way framed cut s first)
     (λ e. (known, refl, under))
     (λ e. let high : place < 2 → ⊥ = λ less. grind (arith, nat_tests, e, less) in
-      let odd : parity s.a < 2 = mod-lt _ {m = 2} (omega arith) in
-      let held = psw_bit s.psw free (parity s.a) place under.holds.state.psw_held small odd high low in
-      seen_way framed known s first place bit under high low (sym held ∙ ap (λ n. bit_at n place) (sym is) ∙ so))
+    let odd : parity s.a < 2 = mod-lt _ {m = 2} (omega arith) in
+    let held = psw_bit s.psw free (parity s.a) place under.holds.state.psw_held small odd high low in
+    seen_way framed known s first place bit under high low (sym held ∙ ap (λ n. bit_at n place) (sym is) ∙ so))
 
 register_way : (laws : Premises) (framed : Bool) (known : Known) (s : ChipState) (first : Option ChipState) (sfr : Sfr) (x place : ℕ) (bit : Bool) → IsUnder framed known s first → MayReadSfr s sfr x → place < 8 → bit_at x place ≡ bit_of bit
     → Way framed (register_tested sfr place bit known) s first
@@ -257,8 +255,8 @@ status_form framed known way place bit form e =
     cond_both (nat_lt place 2) (Some known) (if may_be t bit then Some seen else None) (λ (cut : Option Known). cut ≡ Some way → IsKnown framed way)
     (λ low there. subst (IsKnown framed) (same_Some known way there) form)
     (λ low. cond_both (may_be t bit) (Some seen) None (λ (cut : Option Known). cut ≡ Some way → IsKnown framed way)
-      (λ may there. subst (IsKnown framed) (same_Some seen way there) (bits_form framed known (set bits (place - 2) (known_flag bit)) (length-set bits (place - 2) (known_flag bit) ∙ form.bits) form))
-      (λ may there. absurd (cc))) e
+    (λ may there. subst (IsKnown framed) (same_Some seen way there) (bits_form framed known (set bits (place - 2) (known_flag bit)) (length-set bits (place - 2) (known_flag bit) ∙ form.bits) form))
+    (λ may there. absurd (cc))) e
 
 register_form : (laws : Premises) (framed : Bool) (known way : Known) (sfr : Sfr) (place : ℕ) (bit : Bool) → IsKnown framed known → register_tested sfr place bit known ≡ Some way → IsKnown framed way
 unfolding register_tested
@@ -276,15 +274,15 @@ register_form laws framed known way Ie place bit form e =
     cond_both (place == 6) (Some known) (option_map with (byte_tested place bit known.ie)) (λ (cut : Option Known). cut ≡ Some way → IsKnown framed way)
     (λ six there. subst (IsKnown framed) (same_Some known way there) form)
     (λ six there. let (left, cut, same) = mapped with (byte_tested place bit known.ie) way there in
-      let (normal, entry) = byte_normal laws known.ie left place bit form.ie.normal cut in
-      subst (IsKnown framed) same (ie_form framed known left (own_form framed ie_place 64 known.ie left normal entry form.ie) form)) e
+    let (normal, entry) = byte_normal laws known.ie left place bit form.ie.normal cut in
+    subst (IsKnown framed) same (ie_form framed known left (own_form framed ie_place 64 known.ie left normal entry form.ie) form)) e
 register_form laws framed known way Ip place bit form e =
     let with = λ (ip : Byte). record known { ip = ip } in
     cond_both (nat_lt 5 place) (Some known) (option_map with (byte_tested place bit known.ip)) (λ (cut : Option Known). cut ≡ Some way → IsKnown framed way)
     (λ high there. subst (IsKnown framed) (same_Some known way there) form)
     (λ high there. let (left, cut, same) = mapped with (byte_tested place bit known.ip) way there in
-      let (normal, entry) = byte_normal laws known.ip left place bit form.ip.normal cut in
-      subst (IsKnown framed) same (ip_form framed known left (own_form framed ip_place 192 known.ip left normal entry form.ip) form)) e
+    let (normal, entry) = byte_normal laws known.ip left place bit form.ip.normal cut in
+    subst (IsKnown framed) same (ip_form framed known left (own_form framed ip_place 192 known.ip left normal entry form.ip) form)) e
 register_form laws framed known way Sp place bit form e = subst (IsKnown framed) (same_Some known way e) form
 register_form laws framed known way Dpl place bit form e = subst (IsKnown framed) (same_Some known way e) form
 register_form laws framed known way Dph place bit form e = subst (IsKnown framed) (same_Some known way e) form

@@ -1,6 +1,6 @@
 -- The way that a jump goes.
-use Rattle.std.proofs.Common.{◌≡◌, ℕ, ◌+◌, ◌-◌, ◌%◌, ◌<◌, ◌==◌, Bool, true, false, Option, None, Some, List, [], refl, sym, ap, ◌∙◌, subst, arith}
-use Rattle.std.specs.Prelude.{if◌then◌else◌, nat_lt, not, slice_index_or}
+use Rattle.std.proofs.Common.{◌≡◌, ℕ, ◌+◌, ◌%◌, ◌<◌, ◌==◌, Bool, true, false, Option, None, Some, [], refl, sym, ap, ◌∙◌, subst, arith}
+use Rattle.std.specs.Prelude.{nat_lt, not}
 use Rattle.std.specs.Option.{option_map}
 use Rattle.std.proofs.lemmas.Bool.{cond_both, cond-true}
 use Rattle.std.proofs.lemmas.List.Elements.{Contains-push}
@@ -8,8 +8,7 @@ use Rattle.std.proofs.lemmas.Option.{same_Some}
 use Rattle.value_set.specs.declared.form.Form.{Form}
 use Rattle.value_set.specs.Form.{Has, IsNormal}
 use Rattle.value_set.specs.Summing.{single, sub}
-use Rattle.value_bits.specs.declared.tri.Tri.{Tri}
-use Rattle.value_bits.specs.declared.tri.Tri.TheVariants.{Zero as Clear, Either}
+use Rattle.value_bits.specs.declared.tri.Tri.TheVariants.{Zero as Clear}
 use Rattle.value_bits.specs.Bits.{IsBit}
 use Rattle.value_bits.specs.Sets.{chosen}
 use Rattle.mcs51_decode.specs.declared.instr.Condition.{Condition}
@@ -20,7 +19,7 @@ use Rattle.mcs51_chip.specs.Step.{holds}
 use Rattle.mcs51_state.specs.declared.fact.CarryFact.{CarryFact}
 use Rattle.mcs51_state.specs.declared.fact.Compared.{Compared}
 use Rattle.mcs51_state.specs.declared.fact.Compared.TheVariants.{Accumulator, Ram}
-use Rattle.mcs51_state.specs.Forms.{IsCarry, IsCompared, IsKnown}
+use Rattle.mcs51_state.specs.Forms.{IsCarry, IsKnown}
 use Rattle.mcs51_state.specs.Holding.{HoldsOfCarry, compared_in}
 use Rattle.mcs51_state.specs.Known.{Known}
 use Rattle.mcs51_state.specs.Under.{IsUnder}
@@ -33,8 +32,8 @@ use Rattle.mcs51_branch.specs.Jumps.{IsNumberOf, IsOperand, carry_cut, compariso
 use Rattle.mcs51_branch.specs.Premises.{Premises}
 use Rattle.mcs51_branch.proofs.Carries.{seen_carry_form, seen_under, told_of_place, written_form, written_under}
 use Rattle.mcs51_branch.proofs.CarryBits.{carry_there, flag_bit, flag_is_set, flag_small, not_clear, set_may}
-use Rattle.mcs51_branch.proofs.Cutting.{IsInside, mapped, part_has, part_normal}
-use Rattle.mcs51_branch.proofs.PlaceWays.{place_way, place_way_form, set_has, set_normal}
+use Rattle.mcs51_branch.proofs.Cutting.{mapped, part_has, part_normal}
+use Rattle.mcs51_branch.proofs.PlaceWays.{place_way, place_way_form, set_has}
 use Rattle.mcs51_branch.proofs.Windows.{equality_inside, equality_low, order_inside, order_low, twice_not}
 
 -- the jump goes this way, and the state is under what is known there

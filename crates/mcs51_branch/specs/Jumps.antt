@@ -1,6 +1,6 @@
 -- What is known where a conditional jump is taken, and where it isn't (Intel, MCS-51 Programmer's Guide and Instruction Set:
 -- JC, JNC, JZ, JNZ, SJMP, CJNE and DJNZ).
-use Rattle.std.specs.Prelude.{◌≡◌, ℕ, ◌<◌, if◌then◌else◌, nat_lt, not, Bool, true, false, Option, None, Some, option_map, slice_set, slice_index_or}
+use Rattle.std.specs.Prelude.{◌≡◌, ℕ, if◌then◌else◌, nat_lt, not, Bool, true, Option, None, Some, option_map, slice_set, slice_index_or}
 use Rattle.value_set.specs.declared.form.Form.{Form}
 use Rattle.value_set.specs.Form.{Has, IsNormal}
 use Rattle.value_set.specs.Summing.{single, sub}

@@ -20,7 +20,10 @@ fn jump(alloc: Global, condition: Condition, taken: bool) -> Result<Option<Vs8>,
         bound: 4,
     });
     let goes = cut_by_condition(&mut state, condition, taken)?;
-    Ok(if goes { Some(state.a.set) } else { None })
+    if !goes {
+        return Ok(None);
+    }
+    Ok(Some(state.a.set))
 }
 
 /// `CJNE R0,#4`, with any byte in R0 of bank 0: what it is on a way, and CY.

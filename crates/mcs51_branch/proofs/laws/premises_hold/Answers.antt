@@ -1,8 +1,5 @@
-use Rattle.std.proofs.Common.{◌≡◌, ℕ, ◌<◌, ◌≤◌, Option, List, refl, sym, subst, inl, arith}
-use Rattle.entry_value.specs.declared.word.Word.{Word}
-use Rattle.entry_value.specs.Words.{HoldsOfWord, Suspended}
-use Rattle.entry_value.specs.Cells.{AreCells, CellMap, StandsUnder, write_one, written}
-use Rattle.value_set.specs.Form.{Has, IsNormal}
+use Rattle.std.proofs.Common.{◌≡◌, refl, sym, subst, inl, arith}
+use Rattle.entry_value.specs.Cells.{AreCells, CellMap, write_one}
 use Rattle.mcs51_branch.proofs.laws.premises_hold.Goals as goal
 
 -- the cells of all 256 bytes of RAM

@@ -1,6 +1,5 @@
-use Rattle.std.proofs.Common.{◌≡◌, ◌<◌, List, length, get_or, sym, subst}
-use Rattle.std.proofs.lemmas.List.Elements.{Contains-get_or}
-use Rattle.value_set.specs.Form.{Has, IsNormal}
+use Rattle.std.proofs.Common.{sym, subst}
+use Rattle.value_set.specs.Form.{IsNormal}
 use Rattle.mcs51_branch.proofs.TestedSets.{list_below}
 use Rattle.mcs51_branch.proofs.testing.tested.Goals as goal
 
