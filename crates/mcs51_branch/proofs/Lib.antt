@@ -1,0 +1,10 @@
+pub mod Cutting
+pub mod Windows
+pub mod CarryBits
+pub mod Cells
+pub mod PlaceWays
+pub mod Carries
+pub mod Ways
+pub mod OneRegister
+pub mod TestedSets
+pub mod TestedBits

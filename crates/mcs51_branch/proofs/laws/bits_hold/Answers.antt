@@ -1,0 +1,7 @@
+use Rattle.mcs51_branch.proofs.TestedBits.{bit_way, bit_way_form}
+use Rattle.mcs51_branch.proofs.laws.bits_hold.Goals as goal
+
+pub returns : goal.returns
+returns c =
+    let laws = c.premises_hold.ensures in
+    record { way = bit_way laws; form = bit_way_form laws }

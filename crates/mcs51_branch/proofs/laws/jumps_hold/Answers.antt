@@ -1,0 +1,15 @@
+use Rattle.mcs51_branch.proofs.Ways.{condition_way, condition_way_form, comparison_way, comparison_way_form, byte_way, lowered_way, lowered_form}
+use Rattle.mcs51_branch.proofs.laws.jumps_hold.Goals as goal
+
+pub returns : goal.returns
+returns c =
+    let laws = c.premises_hold.ensures in
+    record {
+      condition = condition_way laws;
+      condition_form = condition_way_form laws;
+      comparison = comparison_way laws;
+      comparison_form = comparison_way_form laws;
+      with_byte = byte_way laws;
+      lowered = lowered_way laws;
+      lowered_form = lowered_form laws;
+    }

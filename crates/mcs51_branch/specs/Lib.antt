@@ -1,0 +1,5 @@
+pub mod Ways
+pub mod Cuts
+pub mod Jumps
+pub mod Testing
+pub mod Premises
