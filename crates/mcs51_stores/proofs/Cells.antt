@@ -1,17 +1,17 @@
 -- The cells of RAM behind a write of a byte.
-use Rattle.std.proofs.Common.{◌≡◌, ℕ, suc, ◌+◌, ◌*◌, ◌%◌, ◌<◌, ◌≤◌, ◌==◌, ◌&&◌, not, Bool, true, false, Option, None, Some, List, [], ◌∷◌, length, get_or, set, refl, sym, ap, ◌∙◌, subst, inl, inr, arith, All, Contains}
-use Rattle.std.specs.Prelude.{nat_lt, ◌||◌, ◌-◌, slice_index, if◌then◌else◌}
+use Rattle.std.proofs.Common.{◌≡◌, ℕ, suc, ◌+◌, ◌%◌, ◌<◌, ◌==◌, ◌&&◌, not, Bool, true, false, Option, None, Some, List, [], ◌∷◌, length, get_or, set, refl, sym, ap, ◌∙◌, subst, inl, inr, arith, All, Contains}
+use Rattle.std.specs.Prelude.{nat_lt, ◌||◌, ◌-◌, slice_index}
 use Rattle.std.specs.List.{filter}
 use Rattle.std.proofs.Common.{get_or-set_same, get_or-set_other}
 use Rattle.std.proofs.lemmas.Bool.{cond_both, cond-true, cond-false, cases_eq, cases_lt, eq-eqb, ne_eqb}
 use Rattle.std.proofs.lemmas.List.{get_or_past}
-use Rattle.std.proofs.lemmas.List.Elements.{All-nil, All-cons, All-head, All-tail, All-filter, All-get_or}
+use Rattle.std.proofs.lemmas.List.Elements.{All-cons, All-head, All-tail, All-filter, All-get_or}
 use Rattle.entry_value.specs.declared.byte.Byte.{Byte}
 use Rattle.entry_value.specs.declared.cells.Cell.{Cell}
 use Rattle.entry_value.specs.declared.word.Entry.{Entry}
 use Rattle.entry_value.specs.declared.word.Word.{Word}
 use Rattle.entry_value.specs.Cells.{CellMap, AreCells, StandsUnder, cell_at, found_or, put_together, read, meets, insert, is_nothing, with_cell, write_one, written}
-use Rattle.entry_value.specs.Words.{Suspended, HoldsOfByte, HoldsOfWord, is_same_entry, common_entry, word_join}
+use Rattle.entry_value.specs.Words.{Suspended, HoldsOfWord, is_same_entry, common_entry, word_join}
 use Rattle.value_set.specs.Form.{Has, IsNormal}
 use Rattle.mcs51_chip.specs.declared.state.ChipState.{ChipState}
 use Rattle.mcs51_chip.specs.State.{IsChipState}

@@ -1,12 +1,11 @@
 -- What is known keeps its form behind writes.
-use Rattle.std.proofs.Common.{◌≡◌, ℕ, zero, suc, ◌+◌, ◌-◌, ◌/◌, ◌%◌, ◌^◌, ◌<◌, ◌≤◌, ◌==◌, Bool, true, false, Option, None, Some, List, [], ◌∷◌, length, map, drop, set, bit_and, bit_or, refl, sym, ap, ◌∙◌, subst, arith, Contains}
+use Rattle.std.proofs.Common.{◌≡◌, ℕ, zero, suc, ◌-◌, ◌/◌, ◌%◌, ◌<◌, ◌≤◌, ◌==◌, Bool, true, false, Option, None, Some, List, [], ◌∷◌, length, drop, set, bit_and, refl, sym, ap, ◌∙◌, subst, arith, Contains}
 use Rattle.std.proofs.lemmas.Bool.{cond_both, eqb-true}
 use Rattle.std.proofs.lemmas.List.{length-set, length-drop}
 use Rattle.std.proofs.lemmas.List.FromFn.{length-map-range_with_len}
 use Rattle.std.proofs.lemmas.Nat.{and_le_l, or_lt}
 use Rattle.entry_value.specs.declared.byte.Byte.{Byte}
 use Rattle.entry_value.specs.declared.word.Entry.{Entry}
-use Rattle.entry_value.specs.Cells.{CellMap}
 use Rattle.value_bits.specs.declared.tri.Logic.TheVariants.{And, Or}
 use Rattle.value_bits.specs.declared.tri.Tri.{Tri}
 use Rattle.value_bits.specs.Bits.{known_bit, known_bits}
@@ -31,8 +30,8 @@ use Rattle.mcs51_state.specs.Standing.{AreAddresses}
 use Rattle.mcs51_stores.specs.Following.{KeepsForm}
 use Rattle.mcs51_stores.specs.Premises.{Premises}
 use Rattle.mcs51_stores.specs.Stack.{raised, lowered, byte_pushed, pair_pushed, address_pushed, byte_popped}
-use Rattle.mcs51_stores.specs.Writing.{linear_beside, is_compared_in, is_accumulator, carry_unless, word_of_byte, cells_written, touched_behind, ram_written, own_masks, own_entry, own_byte, status_of_byte, status_written, accumulator_written, register_written, byte_written, data_pointer_written, carry_set, flags_set}
-use Rattle.mcs51_stores.proofs.Bits.{Parted, gained, lost, ie_parted, ip_parted, psw_parted, ie_other, ip_other}
+use Rattle.mcs51_stores.specs.Writing.{linear_beside, is_compared_in, is_accumulator, carry_unless, word_of_byte, cells_written, ram_written, own_masks, own_entry, own_byte, status_of_byte, status_written, accumulator_written, register_written, byte_written, data_pointer_written, carry_set, flags_set}
+use Rattle.mcs51_stores.proofs.Bits.{Parted, gained, lost, ie_parted, ip_parted, psw_parted}
 use Rattle.mcs51_stores.proofs.Cells.{AreByteCells, cells_form, byte_stored, no_relation}
 use Rattle.mcs51_stores.proofs.Touching.{touched_form, touched_none}
 

@@ -1,15 +1,15 @@
 -- What stands under what is known of a state stands under it behind a write.
-use Rattle.std.proofs.Common.{◌≡◌, ◌≢◌, ℕ, zero, suc, ◌+◌, ◌-◌, ◌*◌, ◌/◌, ◌%◌, ◌^◌, ◌<◌, ◌≤◌, ◌==◌, Bool, true, false, Option, None, Some, List, [], ◌∷◌, length, drop, get_or, set, bit_and, bit_or, refl, sym, ap, ◌∙◌, subst, inl, inr, arith, All, Contains}
+use Rattle.std.proofs.Common.{◌≡◌, ℕ, ◌+◌, ◌-◌, ◌*◌, ◌/◌, ◌%◌, ◌<◌, ◌==◌, Bool, true, false, Option, None, Some, List, [], ◌∷◌, length, drop, set, bit_and, refl, sym, ap, ◌∙◌, subst, arith, All}
 use Rattle.std.specs.Prelude.{nat_lt, slice_index}
 use Rattle.std.specs.Option.{option_map}
 use Rattle.std.specs.Int.{bit_at}
 use Rattle.std.proofs.Common.{get_or-set_other}
-use Rattle.std.proofs.lemmas.Bool.{cond_both, cases_eq, both_ways, eqb-true}
+use Rattle.std.proofs.lemmas.Bool.{cond_both, both_ways, eqb-true}
 use Rattle.std.proofs.lemmas.List.{length-set}
 use Rattle.std.proofs.lemmas.List.Elements.{All-set}
 use Rattle.entry_value.specs.declared.byte.Byte.{Byte}
 use Rattle.entry_value.specs.declared.word.Entry.{Entry}
-use Rattle.entry_value.specs.Words.{Suspended, IsFromEntry, HoldsOfByte}
+use Rattle.entry_value.specs.Words.{IsFromEntry, HoldsOfByte}
 use Rattle.value_bits.specs.declared.tri.Logic.TheVariants.{And, Or}
 use Rattle.value_bits.specs.declared.tri.Tri.{Tri}
 use Rattle.value_bits.specs.declared.tri.Tri.TheVariants as tri
@@ -25,7 +25,7 @@ use Rattle.mcs51_chip.specs.declared.place.Sfr.{Sfr}
 use Rattle.mcs51_chip.specs.declared.place.Sfr.TheVariants.{Sp, Dpl, Dph, Ie, Ip, Psw, Acc, B, Other}
 use Rattle.mcs51_chip.specs.declared.state.ChipState.{ChipState}
 use Rattle.mcs51_chip.specs.Memory.{write, pushed, popped, with_pushed_address}
-use Rattle.mcs51_chip.specs.Registers.{bit_of, carry_of, sfr_at, write_sfr, with_accumulator, with_carry, with_data_pointer, with_flags}
+use Rattle.mcs51_chip.specs.Registers.{bit_of, sfr_at, write_sfr, with_accumulator, with_carry, with_data_pointer, with_flags}
 use Rattle.mcs51_chip.specs.State.{IsChipState}
 use Rattle.mcs51_state.specs.declared.addresses.Addresses.{Addresses}
 use Rattle.mcs51_state.specs.declared.addresses.Addresses.TheVariants.{InRam, InSfr}
@@ -34,19 +34,19 @@ use Rattle.mcs51_state.specs.declared.fact.Compared.TheVariants.{Accumulator, Ra
 use Rattle.mcs51_state.specs.declared.fact.LinearFact.{LinearFact}
 use Rattle.mcs51_state.specs.declared.fact.CarryFact.{CarryFact}
 use Rattle.mcs51_state.specs.declared.status.Status.{Status}
-use Rattle.mcs51_state.specs.Forms.{IsByte, IsKnown, IsOwnRelation}
-use Rattle.mcs51_state.specs.Holding.{HoldsOf, HoldsOfCarry, HoldsOfLinear, HoldsOfParts, HoldsOfReads, HoldsOfStatus, KeepsUntouched, compared_in}
+use Rattle.mcs51_state.specs.Forms.{IsKnown, IsOwnRelation}
+use Rattle.mcs51_state.specs.Holding.{HoldsOfCarry, HoldsOfLinear, HoldsOfParts, HoldsOfReads, HoldsOfStatus, KeepsUntouched, compared_in}
 use Rattle.mcs51_state.specs.Known.{Known, byte_of}
 use Rattle.mcs51_state.specs.Places.{held_by, sfr_of, suspended_of, ie_place, ip_place, psw_place}
 use Rattle.mcs51_state.specs.Standing.{AreAddresses, MayStandAt}
 use Rattle.mcs51_state.specs.Under.{IsFramed, IsUnder}
-use Rattle.mcs51_stores.specs.Following.{Follows, IsValue, KeepsForm}
+use Rattle.mcs51_stores.specs.Following.{Follows, IsValue}
 use Rattle.mcs51_stores.specs.Premises.{Premises}
 use Rattle.mcs51_stores.specs.Stack.{raised, lowered, byte_pushed, pair_pushed, address_pushed, byte_popped}
 use Rattle.mcs51_stores.specs.Writing.{linear_beside, is_compared_in, is_accumulator, carry_unless, word_of_byte, ram_written, own_masks, own_entry, own_byte, status_of_byte, status_written, accumulator_written, register_written, byte_written, data_pointer_written, carry_set, flags_set}
 use Rattle.mcs51_stores.proofs.Bits.{Parted, AgreesBeside, own_came, ie_parted, ip_parted, psw_parted, ie_read, ip_read, psw_held, ie_below, ip_below, ie_beside, ip_beside, psw_beside, ie_joined, ip_joined, ie_other, ip_other}
-use Rattle.mcs51_stores.proofs.Cells.{cells_cover, byte_stored, no_relation, AreByteCells}
-use Rattle.mcs51_stores.proofs.Forms.{accumulator_form, address_form, byte_form, carry_set_form, data_pointer_form, flags_set_form, ie_bytes, ip_bytes, number_form, pair_form, pop_form, push_form, ram_form, raised_normal, register_form, sp_form, status_form}
+use Rattle.mcs51_stores.proofs.Cells.{cells_cover, byte_stored}
+use Rattle.mcs51_stores.proofs.Forms.{accumulator_form, carry_set_form, data_pointer_form, flags_set_form, ie_bytes, ip_bytes, number_form, ram_form, raised_normal, register_form, sp_form, status_form}
 use Rattle.mcs51_stores.proofs.Members.{member_in}
 use Rattle.mcs51_stores.proofs.Touching.{untouched_stay}
 

@@ -1,5 +1,5 @@
 -- How a change of what is known follows a change of the chip's state.
-use Rattle.std.specs.Prelude.{Bool, Option, option_map, ℕ, ◌<◌}
+use Rattle.std.specs.Prelude.{Bool, Option, option_map, ℕ}
 use Rattle.entry_value.specs.declared.byte.Byte.{Byte}
 use Rattle.entry_value.specs.Words.{HoldsOfByte}
 use Rattle.mcs51_chip.specs.declared.state.ChipState.{ChipState}

@@ -1,4 +1,3 @@
-use Rattle.std.proofs.Common.{refl}
 use Rattle.mcs51_stores.proofs.laws.premises_hold.Goals as goal
 
 pub returns : goal.returns

@@ -1,4 +1,4 @@
-use Rattle.std.proofs.Common.{ap, subst}
+use Rattle.std.proofs.Common.{subst}
 use Rattle.entry_value.specs.declared.word.Word.{Word}
 use Rattle.value_set.specs.Form.{Has}
 use Rattle.mcs51_stores.proofs.ram.join_cell.Goals as goal
