@@ -1,0 +1,6 @@
+pub mod Members
+pub mod Levels
+pub mod ComingLemmas
+pub mod Relations
+pub mod HandingLemmas
+pub mod EntryLemmas
