@@ -24,3 +24,44 @@ pass-requires-clause-adds g c =
     (grows_both m turn.new.seat.number k k' event posted.result
     (subst (λ number. IfOk posted.result (λ next. AnswersNext m (with_event k event) k' number next)) c.number-2.ensures.number posted.ensures.posted)
     posted.ensures.refused (c.requires.ticket.seat ∙ sym (ap (λ s. s.number) turn.ensures.seat)))
+
+pub returns-clause-posted : goal.returns-clause-posted
+returns-clause-posted g c =
+    let old = c.args.seat.now in
+    let begun = c.turn-turn.new.seat in
+    let new = c.pass.new.seat in
+    let k = c.turn-turn.result.value.book in
+    let k' = c.post_and_claim-posted.new.book in
+    let ticket = c.args.done.ticket in
+    let event = Post ticket.seat ticket.unit in
+    let m = g.C.Chip.analysis k.base in
+    let posted = c.post_and_claim-posted in
+    let turn : IsTurn old begun new k k' = record {
+      base = c.turn-turn.ensures.base;
+      idle = c.requires.idle;
+      begun_is = c.turn-turn.ensures.seat;
+      new_is = c.pass.ensures.seat;
+      begins = c.turn-turn.ensures.begins;
+    } in
+    let out = out_at_turn g.C.Chip.analysis old begun k ticket c.outs_stay.ensures turn.base turn.begun_is turn.begins
+    c.number.ensures.own c.turn-turn.ensures.own c.journal.ensures.legal c.requires.ticket in
+    ends_and_claims_ok g.C.Chip.analysis old begun new k k' ticket event posted.result turn out
+    (subst (λ number. IfOk posted.result (λ next. AnswersNext m (with_event k event) k' number next))
+    (c.number-2.ensures.number ∙ ap (λ s. s.number) c.turn-turn.ensures.seat) posted.ensures.posted)
+
+pub returns-clause-still_out : goal.returns-clause-still_out
+returns-clause-still_out g c =
+    let k = c.turn-turn.result.value.book in
+    let k' = c.post_and_claim-posted.new.book in
+    let ticket = c.args.done.ticket in
+    let turn : IsTurn c.args.seat.now c.turn-turn.new.seat c.pass.new.seat k k' = record {
+      base = c.turn-turn.ensures.base;
+      idle = c.requires.idle;
+      begun_is = c.turn-turn.ensures.seat;
+      new_is = c.pass.ensures.seat;
+      begins = c.turn-turn.ensures.begins;
+    } in
+    let out = out_at_turn g.C.Chip.analysis c.args.seat.now c.turn-turn.new.seat k ticket c.outs_stay.ensures turn.base turn.begun_is turn.begins
+    c.number.ensures.own c.turn-turn.ensures.own c.journal.ensures.legal c.requires.ticket in
+    on_err c.post_and_claim-posted.result c.post_and_claim-posted.ensures.refused
+    (λ same. still_out g.C.Chip.analysis c.args.seat.now c.turn-turn.new.seat c.pass.new.seat k k' ticket turn same out c.requires.ticket)
