@@ -39,6 +39,23 @@ abbrev pub IsLast : {C B A X : Type 0} → Result (Claimed C B A × Bool) X → 
 IsLast (Ok next) = IsNone next.0
 IsLast (Err refused) = Unit {0}
 
+-- an answer is last where its claim gave no ticket, or was refused
+pub none_idle : {C B A : Type 0} (claimed : Claimed C B A) → claimed ≡ Idle → IsNone claimed
+none_idle claimed e = subst (λ k. IsNone k) (sym e) tt
+
+pub none_finished : {C B A : Type 0} (claimed : Claimed C B A) → claimed ≡ Finished → IsNone claimed
+none_finished claimed e = subst (λ k. IsNone k) (sym e) tt
+
+pub last_ok : {C B A X : Type 0} (next : Result (Claimed C B A × Bool) X) (claimed : Claimed C B A) (left : Bool) → next ≡ Ok (claimed, left) → IsNone claimed → IsLast next
+last_ok next claimed left e h = subst (λ r. IsLast r) (sym e) h
+
+pub last_err : {C B A X : Type 0} (next : Result (Claimed C B A × Bool) X) (refused : X) → next ≡ Err refused → IsLast next
+last_err next refused e = subst (λ r. IsLast r) (sym e) tt
+
+-- an answer with what its claim gave
+pub ok_at : {K X : Type 0} (next : Result (K × Bool) X) (claimed other : K) (left : Bool) → next ≡ Ok (claimed, left) → claimed ≡ other → next ≡ Ok (other, left)
+ok_at next claimed other left e f = e ∙ ap (λ k. Ok (k, left)) f
+
 module _ {B : Type 0} where
   -- the seat has seen a journal that begins with what it had seen, and has made these events since
   pub record Adds (events : List Event) (old new : ShownSeat Event B) : Type 0 where
