@@ -10,5 +10,5 @@ returns g c =
     let k' = c.claim.new.self in (
       a,
       subst (λ base. TellsOf (g.C.Chip.analysis base) k'.journal c.has_claimable.result)
-      (base_kept m c.args.seat c.args.book.now k' c.in_ok-claimed.claimed a) c.has_claimable.ensures,
+          (base_kept m c.args.seat c.args.book.now k' c.in_ok-claimed.claimed a) c.has_claimable.ensures,
     )
