@@ -1,13 +1,14 @@
 -- Turns of a seat at the book.
-use Rattle.std.proofs.Common.{◌≡◌, ◌≢◌, ℕ, ◌==◌, Bool, true, false, cond, List, [], ◌∷◌, ◌++◌, length, Some, Result, Ok, Err, IfOk, OnOk, OnErr, sym, refl, ap, ◌∙◌, subst, append-nil, arith, length-append, eq-eqb, true≢false}
+use Rattle.std.proofs.Common.{◌≡◌, ◌≢◌, ℕ, ◌==◌, Bool, true, false, cond, List, [], ◌∷◌, ◌++◌, length, Some, Result, Ok, Err, IfOk, OnOk, OnErr, sym, refl, ap, ◌∙◌, subst, append-nil, append_assoc, arith, length-append, eq-eqb, true≢false}
 use Rattle.std.proofs.Math.Path.{ap₂}
 use Rattle.std.proofs.Math.Seq.{drop-append_seam}
 use Rattle.std.proofs.lemmas.List.{nil_from_length}
-use Rattle.std.proofs.lemmas.List.Elements.{All-nil, All-cons, filter-append}
+use Rattle.std.proofs.lemmas.List.Elements.{All-nil, All-cons, All-append, filter-append}
 use Rattle.std.proofs.lemmas.Option.{same_Some}
 use Rattle.call_context.specs.declared.node.Unit.{Unit as WorkUnit}
 use Rattle.chip_law.specs.Analysis.{Analysis}
-use Rattle.fact_table.specs.Seats.{looked, claimed_seat, Looks, IsOutTo, Ends, Claims}
+use Rattle.fact_table.specs.Next.{TellsOf, AnswersNext}
+use Rattle.fact_table.specs.Seats.{looked, recorded, claimed_seat, Looks, IsOutTo, Ends, Claims, TellsAnother, ClaimsNext, EndsAndClaims}
 use Rattle.round_core.specs.Answers.{AnswersClaim}
 use Rattle.round_core.specs.Counts.{seat_of, NoneOfSeat}
 use Rattle.round_core.specs.Kept.{Kept, with_event, IsOutOf}
@@ -76,13 +77,33 @@ module _ {B : Type 0} where
   pub grows_by : (number : ℕ) (k k' : Kept B) (event : Event) → k' ≡ with_event k event → seat_of event ≡ number → Grows number k k'
   grows_by number k k' event e s = (event ∷ [], ap (λ b. b.journal) e, All-cons (λ x. seat_of x ≡ number) event [] s (All-nil (λ x. seat_of x ≡ number)))
 
+  pub grows_then : (number : ℕ) (a b c : Kept B) → Grows number a b → Grows number b c → Grows number a c
+  grows_then number a b c u v = (
+    u.0 ++ v.0,
+    v.1 ∙ ap (λ l. l ++ v.0) u.1 ∙ append_assoc a.journal u.0 v.0,
+    All-append (λ x. seat_of x ≡ number) u.0 v.0 u.2 v.2,
+  )
+
   module _ {A : Type 0} (m : Analysis A) where
-    pub grows_claim : {C X : Type 0} (number : ℕ) (k k' : Kept B) (r : Result (Claimed C B A) X) → IfOk r (λ claimed. AnswersClaim m k k' number claimed)
-        → OnErr r (k' ≡ k) → Grows number k k'
-    grows_claim number k k' (Ok (Ticket t)) a e = grows_by number k k' (Claim number t.unit) a.2 refl
-    grows_claim number k k' (Ok Idle) a e = grows_not number k k' a.0
-    grows_claim number k k' (Ok Finished) a e = grows_not number k k' a.0
-    grows_claim number k k' (Err x) a e = grows_not number k k' e
+    pub base_kept : {C : Type 0} (number : ℕ) (k k' : Kept B) (claimed : Claimed C B A) → AnswersClaim m k k' number claimed → k'.base ≡ k.base
+    base_kept number k k' (Ticket t) a = ap (λ b. b.base) a.2
+    base_kept number k k' Idle a = ap (λ b. b.base) a.0
+    base_kept number k k' Finished a = ap (λ b. b.base) a.0
+
+    grows_claim : {C : Type 0} (number : ℕ) (k k' : Kept B) (claimed : Claimed C B A) → AnswersClaim m k k' number claimed → Grows number k k'
+    grows_claim number k k' (Ticket t) a = grows_by number k k' (Claim number t.unit) a.2 refl
+    grows_claim number k k' Idle a = grows_not number k k' a.0
+    grows_claim number k k' Finished a = grows_not number k k' a.0
+
+    pub grows_next : {C X : Type 0} (number : ℕ) (k k' : Kept B) (r : Result (Claimed C B A × Bool) X) → AnswersNext m k k' number r → Grows number k k'
+    grows_next number k k' (Ok (claimed, another)) a = grows_claim number k k' claimed a.0
+    grows_next number k k' (Err x) a = grows_not number k k' a
+
+    pub grows_both : {C X Y : Type 0} (number : ℕ) (k k' : Kept B) (event : Event) (r : Result (Result (Claimed C B A × Bool) X) Y)
+        → IfOk r (λ next. AnswersNext m (with_event k event) k' number next) → OnErr r (k' ≡ k) → seat_of event ≡ number → Grows number k k'
+    grows_both number k k' event (Ok next) a e s =
+        grows_then number k (with_event k event) k' (grows_by number k (with_event k event) event refl s) (grows_next number (with_event k event) k' next a)
+    grows_both number k k' event (Err y) a e s = grows_not number k k' e
 
   -- a seat's turn at the book, and what the call made of both
   pub record IsTurn (old begun new : ShownSeat Event B) (k k' : Kept B) : Type 0 where
@@ -124,18 +145,93 @@ module _ {B : Type 0} where
       seat = s;
     }
 
-    pub claims : {C X : Type 0} (old begun new : ShownSeat Event B) (k k' : Kept B) (r : Result (Claimed C B A) X) → IsTurn old begun new k k'
-        → IfOk r (λ claimed. AnswersClaim (analysis k.base) k k' old.number claimed) → IfOk r (λ claimed. Claims analysis old claimed new)
-    claims old begun new k k' (Ok (Ticket ticket)) t a =
+    claimed_turn : {C : Type 0} (old begun new : ShownSeat Event B) (k k' : Kept B) (claimed : Claimed C B A) → IsTurn old begun new k k'
+        → AnswersClaim (analysis k.base) k k' old.number claimed → Claims analysis old claimed new
+    claimed_turn old begun new k k' (Ticket ticket) t a =
         let s = behind_turn old begun new k.journal (Claim old.number ticket.unit ∷ []) k'.journal t.idle t.begun_is t.new_is (ap (λ b. b.journal) a.2) in
         claims_as old new k k' (Ticket ticket) t.base t.begins (ap (λ b. b.base) a.2) (ap (λ b. b.journal) a.2 ∙ sym (ap (λ x. x.seen) s)) a s
-    claims old begun new k k' (Ok Idle) t a =
+    claimed_turn old begun new k k' Idle t a =
         let s = looked_turn old begun new k.journal k'.journal t.idle t.begun_is t.new_is (ap (λ b. b.journal) a.0) in
         claims_as old new k k' Idle t.base t.begins (ap (λ b. b.base) a.0) (ap (λ b. b.journal) a.0 ∙ sym (ap (λ x. x.seen) s)) a s
-    claims old begun new k k' (Ok Finished) t a =
+    claimed_turn old begun new k k' Finished t a =
         let s = looked_turn old begun new k.journal k'.journal t.idle t.begun_is t.new_is (ap (λ b. b.journal) a.0) in
         claims_as old new k k' Finished t.base t.begins (ap (λ b. b.base) a.0) (ap (λ b. b.journal) a.0 ∙ sym (ap (λ x. x.seen) s)) a s
-    claims old begun new k k' (Err x) t a = a
+
+    pub claims_ok : {C X : Type 0} (old begun new : ShownSeat Event B) (k k' : Kept B) (r : Result (Claimed C B A × Bool) X) → IsTurn old begun new k k'
+        → AnswersNext (analysis k.base) k k' old.number r → IfOk r (λ next. Claims analysis old next.0 new)
+    claims_ok old begun new k k' (Ok (claimed, another)) t a = claimed_turn old begun new k k' claimed t a.0
+    claims_ok old begun new k k' (Err x) t a = tt
+
+    -- a turn ends with what the book tells behind it
+    tells : (old begun new : ShownSeat Event B) (k k' : Kept B) (another : Bool) → IsTurn old begun new k k'
+        → TellsOf (analysis k.base) k'.journal another → TellsAnother analysis new another
+    tells old begun new k k' another t a = record {
+      base = k.base;
+      base_is = t.base ∙ sym (ap (λ s. s.base) t.new_is ∙ ap (λ s. s.base) t.begun_is);
+      tells = subst (λ l. TellsOf (analysis k.base) l another) (sym (ap (λ s. s.seen) t.new_is)) a;
+    }
+
+    pub tells_ok : {C X : Type 0} (old begun new : ShownSeat Event B) (k k' : Kept B) (r : Result (Claimed C B A × Bool) X) → IsTurn old begun new k k'
+        → AnswersNext (analysis k.base) k k' old.number r → IfOk r (λ next. TellsAnother analysis new next.1)
+    tells_ok old begun new k k' (Ok (claimed, another)) t a = tells old begun new k k' another t a.1
+    tells_ok old begun new k k' (Err x) t a = tt
+
+    pub looks_err : {C X : Type 0} (old begun new : ShownSeat Event B) (k k' : Kept B) (r : Result (Claimed C B A × Bool) X) → IsTurn old begun new k k'
+        → AnswersNext (analysis k.base) k k' old.number r → OnErr r (Looks old new)
+    looks_err old begun new k k' (Ok (claimed, another)) t a = tt
+    looks_err old begun new k k' (Err x) t a = looks old begun new k k' t a
+
+    -- the seat behind an event of its own in its turn
+    ended_turn : (old begun new : ShownSeat Event B) (k k' : Kept B) (event : Event) → IsTurn old begun new k k' → k' ≡ with_event k event
+        → new ≡ recorded old k.journal event
+    ended_turn old begun new k k' event t e =
+        behind_turn old begun new k.journal (event ∷ []) k'.journal t.idle t.begun_is t.new_is (ap (λ b. b.journal) e)
+
+    -- and behind two
+    twice_turn : (old begun new : ShownSeat Event B) (k k' : Kept B) (event more : Event) → IsTurn old begun new k k'
+        → k' ≡ with_event (with_event k event) more
+        → new ≡ recorded (recorded old k.journal event) (k.journal ++ event ∷ []) more
+    twice_turn old begun new k k' event more t e =
+        let both = append_assoc k.journal (event ∷ []) (more ∷ []) in
+        behind_turn old begun new k.journal (event ∷ more ∷ []) k'.journal t.idle t.begun_is t.new_is (ap (λ b. b.journal) e ∙ both)
+        ∙ ap₂ (λ s m. record old { seen = s; mine = m }) (sym both) (sym (append_assoc old.mine (event ∷ []) (more ∷ [])))
+
+    claimed_behind : {C : Type 0} (old begun new : ShownSeat Event B) (k k' : Kept B) (event : Event) (claimed : Claimed C B A) → IsTurn old begun new k k'
+        → AnswersClaim (analysis k.base) (with_event k event) k' old.number claimed
+        → new ≡ claimed_seat (recorded old k.journal event) (k.journal ++ event ∷ []) claimed
+    claimed_behind old begun new k k' event (Ticket ticket) t a = twice_turn old begun new k k' event (Claim old.number ticket.unit) t a.2
+    claimed_behind old begun new k k' event Idle t a = ended_turn old begun new k k' event t a.0
+    claimed_behind old begun new k k' event Finished t a = ended_turn old begun new k k' event t a.0
+
+    claims_next : {C X : Type 0} (old begun new : ShownSeat Event B) (k k' : Kept B) (event : Event) (r : Result (Claimed C B A × Bool) X) → IsTurn old begun new k k'
+        → AnswersNext (analysis k.base) (with_event k event) k' old.number r → ClaimsNext analysis (recorded old k.journal event) r new
+    claims_next old begun new k k' event (Ok (claimed, another)) t a =
+        let base : k'.base ≡ k.base = base_kept (analysis k.base) old.number (with_event k event) k' claimed a.0 in
+        let seen : k'.journal ≡ new.seen = sym (ap (λ s. s.seen) t.new_is) in (
+          record {
+            base = k.base;
+            base_is = t.base;
+            log = k.journal ++ event ∷ [];
+            begins = ([], sym (append-nil (k.journal ++ event ∷ [])));
+            answer = subst (λ x. AnswersClaim (analysis k.base) (with_event k event) x old.number claimed) (ap₂ (λ c l. record { base = c; journal = l }) base seen) a.0;
+            seat = claimed_behind old begun new k k' event claimed t a.0;
+          },
+          refl,
+          tells old begun new k k' another t a.1,
+        )
+    claims_next old begun new k k' event (Err x) t a = ended_turn old begun new k k' event t a
+
+    -- the ticket was out, and the post and the next claim were told of the seat
+    pub ends_and_claims_ok : {C X Y : Type 0} (old begun new : ShownSeat Event B) (k k' : Kept B) (ticket : Out A) (event : Event)
+        (r : Result (Result (Claimed C B A × Bool) X) Y) → IsTurn old begun new k k' → IsOutOf (replay (analysis k.base) k.journal) ticket
+        → IfOk r (λ next. AnswersNext (analysis k.base) (with_event k event) k' old.number next)
+        → IfOk r (λ next. EndsAndClaims analysis old ticket event next new)
+    ends_and_claims_ok old begun new k k' ticket event (Ok next) t out a = record {
+      ended = recorded old k.journal event;
+      ends = record { base = k.base; base_is = t.base; log = k.journal; begins = t.begins; out = out; seat = refl };
+      claims = claims_next old begun new k k' event next t a;
+    }
+    ends_and_claims_ok old begun new k k' ticket event (Err y) t out a = tt
 
     pub out_at_turn : (old begun : ShownSeat Event B) (k : Kept B) (ticket : Out A) → ((base : B) → Stays (analysis base)) → Some k.base ≡ old.base
         → begun ≡ turn_begun old k.journal → StartsWith k.journal old.seen → IsOwn seat_of old → IsOwn seat_of begun

@@ -1,6 +1,7 @@
 -- What each call makes of a seat at the book.
-use Rattle.std.specs.Prelude.{◌≡◌, Some, List, [], ◌∷◌, ◌++◌}
+use Rattle.std.specs.Prelude.{◌≡◌, Bool, Some, Result, Ok, Err, List, [], ◌∷◌, ◌++◌}
 use Rattle.chip_law.specs.Analysis.{Analysis}
+use Rattle.fact_table.specs.Next.{TellsOf}
 use Rattle.round_core.specs.Answers.{AnswersClaim}
 use Rattle.round_core.specs.Kept.{IsOutOf}
 use Rattle.round_core.specs.Machine.{Out, replay}
@@ -57,3 +58,20 @@ module _ {B : Type 0} where
         pub begins : StartsWith log old.seen
         pub answer : AnswersClaim (analysis base) (record { base = base; journal = log }) (record { base = base; journal = new.seen }) old.number claimed
         pub seat : new ≡ claimed_seat old log claimed
+
+      -- whether another unit can be claimed, behind the journal that the seat has seen
+      pub record TellsAnother (s : ShownSeat Event B) (another : Bool) : Type 0 where
+        pub base : B
+        pub base_is : Some base ≡ s.base
+        pub tells : TellsOf (analysis base) s.seen another
+
+      -- what the book answers a claim behind just the journal that the seat has seen, or memory ran out at it
+      abbrev pub ClaimsNext : {C X : Type 0} → ShownSeat Event B → Result (Claimed C B A × Bool) X → ShownSeat Event B → Type 0
+      ClaimsNext old (Ok next) new = (claims : Claims old next.0 new) × (claims.log ≡ old.seen) × TellsAnother new next.1
+      ClaimsNext old (Err refused) new = new ≡ old
+
+      -- the seat ended a ticket and claimed the next unit in one turn, with no event of others in between
+      pub record EndsAndClaims {C X : Type 0} (old : ShownSeat Event B) (ticket : Out A) (event : Event) (next : Result (Claimed C B A × Bool) X) (new : ShownSeat Event B) : Type 0 where
+        pub ended : ShownSeat Event B
+        pub ends : Ends old ticket event ended
+        pub claims : ClaimsNext ended next new

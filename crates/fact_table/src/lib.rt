@@ -3,6 +3,8 @@
 //!
 //! [`FactTable::new`] lays a book down, and [`FactTable::split`] gives a seat to each worker. [`FactTable::claim`] takes
 //! out a unit for the seat, [`FactTable::post`] takes in its work, and [`FactTable::give_back`] puts it back without.
+//! [`post_and_claim_at`] takes in a work and takes out the next unit in one turn, and like [`claim_at`] it says whether
+//! another unit is left for other workers.
 //! [`FactTable::join`] takes in the seat of a worker that has ended, and [`FactTable::close`] gives the book back.
 //!
 //! Contracts see a seat as `turn_table` shows it: `seen` is the journal as far as the seat knows it. Each call is one
@@ -15,10 +17,11 @@
 
 mod calls;
 mod facts;
+mod next;
 mod table;
 #[cfg(test)]
 mod tests;
 
-pub use calls::{claim_at, give_back_at, post_at};
+pub use calls::{claim_at, give_back_at, post_and_claim_at, post_at};
 pub use facts::{Facts, Seat, Turns};
 pub use table::FactTable;

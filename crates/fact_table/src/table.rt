@@ -36,7 +36,8 @@ impl<C: Chip> FactTable<C> {
         Ok((FactTable { turns }, seat))
     }
 
-    /// The lock around the book, which threads share: they call [`claim_at`], [`post_at`] and [`give_back_at`] on it.
+    /// The lock around the book, which threads share: they call [`claim_at`], [`post_at`],
+    /// [`post_and_claim_at`](crate::post_and_claim_at) and [`give_back_at`] on it.
     pub fn turns(&self) -> &Turns<C>
         ensures { name_of result.now ≡ table_of self.now }
     {
@@ -51,7 +52,8 @@ impl<C: Chip> FactTable<C> {
         ensures answer { IfOk result (λ claimed. Claims C.analysis seat.old claimed seat.new) }
         ensures refused { OnErr result (Looks seat.old seat.new) }
     {
-        claim_at(rt, &self.turns, chip, seat)
+        let (claimed, _another) = claim_at(rt, &self.turns, chip, seat)?;
+        Ok(claimed)
     }
 
     /// Posts the work of a ticket, as [`post_at`] does.

@@ -6,7 +6,7 @@ ghost use Rattle.round_core.specs.Machine.{replay, IsFinished, IsLegalJournal};
 ghost use Rattle.std.specs.Thread.{IsSend, IsSync};
 ghost use Rattle.turn_table.specs.Events.{AllBelow};
 ghost use Rattle.turn_table.specs.Named.{name_of};
-ghost use Rattle.worker_crew.specs.Turns.{TakesIn, Works};
+ghost use Rattle.worker_crew.specs.Turns.{IsReady, TakesIn, Works};
 
 use crate::worker::work;
 use chip_law::Chip;
@@ -34,9 +34,7 @@ fn work_beside<R: Threads + Wait + Sync, C: Chip<Base: Send> + Send + Sync, G: G
 ) -> Seat<C>
     requires threads { IsSync R.row × IsSend C.row × IsSync C.row × IsSync G.row
         × IsSend C.Base.row × IsSend C.Abs.row }
-    requires table { seat.table ≡ name_of turns.now }
-    requires idle { seat.holds ≡ false }
-    requires chip { Some (C.base chip.now) ≡ seat.base }
+    requires ready { IsReady (name_of turns.now) (C.base chip.now) seat }
     requires room { helpers ≤ seat.room }
     ensures { TakesIn seat result }
 {
@@ -45,15 +43,13 @@ fn work_beside<R: Threads + Wait + Sync, C: Chip<Base: Send> + Send + Sync, G: G
     }
     let helper = turns.split(&mut seat);
     let help = move || -> Seat<C>
-        requires { (helper.table ≡ name_of turns.now) × (helper.holds ≡ false)
-            × (Some (C.base chip.now) ≡ helper.base) }
+        requires { IsReady (name_of turns.now) (C.base chip.now) helper }
         ensures { Works helper result }
     { work(rt, alloc, turns, chip, gate, answers, helper) };
     let go_on = move || -> Seat<C>
         requires threads { IsSync R.row × IsSend C.row × IsSync C.row × IsSync G.row
             × IsSend C.Base.row × IsSend C.Abs.row }
-        requires seat { (seat.table ≡ name_of turns.now) × (seat.holds ≡ false)
-            × (Some (C.base chip.now) ≡ seat.base) }
+        requires ready { IsReady (name_of turns.now) (C.base chip.now) seat }
         requires room { (0 < helpers) × (helpers ≤ seat.room + 1) }
         ensures { TakesIn seat result }
     { work_beside(rt, alloc, turns, chip, gate, answers, seat, helpers - 1) };

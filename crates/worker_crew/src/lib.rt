@@ -1,13 +1,15 @@
 //! The analysis of a program by several workers, who share one book.
 //!
 //! [`fixpoint`] opens a book, lays it under the lock of `fact_table`, and gives each worker a seat at it and a thread. A
-//! worker claims a unit, works on it outside the lock, and posts the work. A worker that is out of memory gives its unit
-//! back and ends; the others go on. The caller does the work of threads that couldn't be started.
+//! worker claims a unit, works on it outside the lock, and in one turn posts the work and claims the next unit. A worker
+//! that is out of memory gives its unit back and ends; the others go on. The caller does the work of threads that couldn't
+//! be started.
 //!
 //! An idle worker sleeps: where no unit can be claimed and some unit is out, nothing changes before that unit is posted
-//! or given back. It announces that it waits at an `EventCount`, claims once more, and sleeps at the system until another
-//! worker wakes it. Who claims, posts or gives back wakes one: that one claims, and wakes the next, as long as there are
-//! units. Who finds the book finished wakes all. Where no one waits this is no call of the system.
+//! or given back. It announces that it waits at an `EventCount`, claims, and sleeps at the system until another worker
+//! wakes it. Each claim tells whether it leaves another unit, and only then its worker wakes one that sleeps: that one
+//! claims, and wakes the next, as long as there are units. Who runs out of memory wakes one too, and who finds the book
+//! finished wakes all. Where no one waits this is no call of the system.
 //!
 //! Proved:
 //!

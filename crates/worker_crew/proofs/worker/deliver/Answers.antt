@@ -6,5 +6,5 @@ use Rattle.worker_crew.proofs.worker.deliver.Goals as goal
 pub returns-in-Err-clause-given_back : goal.returns-in-Err-clause-given_back
 returns-in-Err-clause-given_back g c =
     let ticket = c.args.done.ticket in
-    ends_later g.C.Chip.analysis c.args.seat.now c.post_at.new.seat c.give_back_at.new.seat ticket (GiveBack ticket.seat ticket.unit)
+    ends_later g.C.Chip.analysis c.args.seat.now c.post_and_claim_at.new.seat c.give_back_at.new.seat ticket (GiveBack ticket.seat ticket.unit)
     (search rules) (search rules)
