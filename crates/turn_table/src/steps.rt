@@ -20,8 +20,8 @@ ghost use Rattle.turn_table.specs.Views.{idle, SeatedAnd, on, serves, passes, gi
 use crate::bells::Bells;
 use crate::board::{Board, CatchUp, Draw, Give, Look, Pass, Place, TakeIn};
 use crate::journaled::Journaled;
+use std::hint;
 use std::sync::Wait;
-use std::{hint, thread};
 
 /// The word that counts the tickets drawn.
 const TICKETS: usize = 0;
@@ -29,19 +29,12 @@ const TICKETS: usize = 0;
 /// The word that counts the turns passed.
 const TURNS: usize = 1;
 
-/// How often a waiting seat looks at the turns before it lets other threads run between its looks.
-const SPINS: u32 = 64;
-
-/// How often a waiting seat looks at the turns before it sleeps.
+/// How often a waiting seat looks at the turns before it sleeps: for some microseconds, as long as a few turns take.
 const LOOKS: u32 = 256;
 
 /// What a waiting seat does between two looks, where it doesn't sleep yet. It answers how often it has looked.
 fn look_again(looks: u32) -> u32 {
-    if looks < SPINS {
-        hint::spin_loop();
-    } else {
-        thread::yield_now();
-    }
+    hint::spin_loop();
     looks.saturating_add(1)
 }
 
