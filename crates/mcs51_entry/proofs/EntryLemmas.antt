@@ -1,9 +1,7 @@
 -- What is known where a handler begins stands for the state that the entry of its interrupt leaves, over the suspended one.
-use Rattle.std.proofs.Common.{◌≡◌, ℕ, ◌+◌, ◌/◌, ◌%◌, ◌<◌, Bool, true, false, Option, Some, None, List, [], ◌∷◌, refl, sym, ap, ◌∙◌, subst, inl, inr, arith, Contains}
-use Rattle.std.specs.Prelude.{◌⊎◌, if◌then◌else◌}
-use Rattle.std.specs.Option.{option_map}
+use Rattle.std.proofs.Common.{◌≡◌, ℕ, ◌+◌, ◌/◌, ◌%◌, ◌<◌, Bool, true, false, Option, Some, None, [], ◌∷◌, refl, sym, subst, inl, inr, arith, Contains}
+use Rattle.std.specs.Prelude.{if◌then◌else◌}
 use Rattle.std.proofs.lemmas.List.Elements.{Contains-append_left, Contains-append_right, Contains-push}
-use Rattle.entry_value.specs.declared.byte.Byte.{Byte}
 use Rattle.value_set.specs.declared.form.Form.{Form}
 use Rattle.value_set.specs.Form.{Has, IsNormal}
 use Rattle.value_set.specs.Summing.{single}
@@ -14,9 +12,8 @@ use Rattle.mcs51_chip.specs.declared.place.Access.{Access}
 use Rattle.mcs51_chip.specs.declared.place.Access.TheVariants.{Internal}
 use Rattle.mcs51_chip.specs.declared.place.Address.TheVariants.{InRam as AtRam}
 use Rattle.mcs51_chip.specs.declared.state.ChipState.{ChipState}
-use Rattle.mcs51_chip.specs.Interrupts.{coming, is_high, serving, vector_of}
+use Rattle.mcs51_chip.specs.Interrupts.{is_high, serving, vector_of}
 use Rattle.mcs51_chip.specs.Memory.{push_writes, with_pushed_address}
-use Rattle.mcs51_chip.specs.State.{IsChipState}
 use Rattle.mcs51_chip.specs.Step.{accessed, called, going_to}
 use Rattle.mcs51_state.specs.declared.addresses.Addresses.TheVariants.{InRam}
 use Rattle.mcs51_state.specs.declared.fact.CarryFact.{CarryFact}
@@ -33,12 +30,12 @@ use Rattle.mcs51_operands.specs.Showing.{AreShown, access_of}
 use Rattle.mcs51_stores.specs.Following.{IsValue}
 use Rattle.mcs51_stores.specs.Stack.{pair_pushed, raised}
 use Rattle.mcs51_entry.specs.declared.coming.Coming.{Coming}
-use Rattle.mcs51_entry.specs.Coming.{ComesSo, comings_of, frame_of_coming, level_in}
+use Rattle.mcs51_entry.specs.Coming.{ComesSo, comings_of, frame_of_coming}
 use Rattle.mcs51_entry.specs.Entering.{counter_pushed, entered_known, entry_accesses, handed, levels_at, related}
 use Rattle.mcs51_entry.specs.Premises.{Premises}
 use Rattle.mcs51_entry.proofs.ComingLemmas.{allowed_when, is_listed}
 use Rattle.mcs51_entry.proofs.HandingLemmas.{handed_form, handed_under}
-use Rattle.mcs51_entry.proofs.Levels.{allows, level_by, level_serves, levels_some}
+use Rattle.mcs51_entry.proofs.Levels.{level_by, level_serves, levels_some}
 use Rattle.mcs51_entry.proofs.Members.{in_cons, in_none}
 use Rattle.mcs51_entry.proofs.Relations.{from_itself}
 

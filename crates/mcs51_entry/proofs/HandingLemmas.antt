@@ -1,5 +1,5 @@
 -- What the handler is handed holds of the state that is suspended, over that state itself.
-use Rattle.std.proofs.Common.{◌≡◌, ℕ, ◌+◌, ◌*◌, ◌<◌, Bool, true, Option, Some, List, get_or, length, refl, sym, ap, ◌∙◌, subst, arith, All, Contains}
+use Rattle.std.proofs.Common.{◌≡◌, ℕ, ◌<◌, Bool, true, Option, Some, List, get_or, refl, ap, ◌∙◌, subst, arith, All}
 use Rattle.std.specs.Prelude.{bit_and, slice_index}
 use Rattle.std.specs.Option.{option_map}
 use Rattle.std.proofs.lemmas.List.Elements.{All-contains, Contains-get_or}
@@ -14,7 +14,7 @@ use Rattle.mcs51_state.specs.Holding.{HoldsOf}
 use Rattle.mcs51_state.specs.Known.{Known}
 use Rattle.mcs51_state.specs.Places.{ie_place, ip_place, psw_place, is_place, suspended_of}
 use Rattle.mcs51_state.specs.Under.{IsUnder}
-use Rattle.mcs51_entry.specs.Entering.{handed, itself, related}
+use Rattle.mcs51_entry.specs.Entering.{handed, related}
 use Rattle.mcs51_entry.specs.Premises.{Premises}
 use Rattle.mcs51_entry.proofs.Relations.{from_itself, ie_same, ip_same}
 

@@ -1,7 +1,7 @@
 -- Which interrupts may come, by what is known of a state (Intel, MCS-51 Microcontroller Family User's Manual, "Interrupts" and
 -- "Priority Level Structure").
-use Rattle.std.specs.Prelude.{◌≡◌, ℕ, ◌==◌, ◌&&◌, if◌then◌else◌, not, Bool, true, false, Option, None, Some, List, [], ◌∷◌, ◌++◌, Contains, map}
-use Rattle.std.specs.List.{flat_map, range_with_len, slice_index_or}
+use Rattle.std.specs.Prelude.{◌≡◌, ℕ, ◌==◌, ◌&&◌, if◌then◌else◌, not, Bool, true, false, None, Some, List, [], ◌∷◌, ◌++◌, Contains, map}
+use Rattle.std.specs.List.{flat_map, range_with_len}
 use Rattle.call_context.specs.declared.node.Frame.{Frame}
 use Rattle.call_context.specs.declared.node.Frame.TheVariants.{Irq}
 use Rattle.value_set.specs.declared.form.Form.{Form}

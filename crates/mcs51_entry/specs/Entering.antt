@@ -1,6 +1,6 @@
 -- What is known where an interrupt's handler begins (Intel, MCS-51 Microcontroller Family User's Manual, "How Interrupts Are
 -- Handled"): the address where the program goes on is pushed, and the level is in service.
-use Rattle.std.specs.Prelude.{ℕ, ◌==◌, if◌then◌else◌, ◌/◌, ◌%◌, true, false, Option, Some, List, [], ◌∷◌}
+use Rattle.std.specs.Prelude.{ℕ, ◌==◌, if◌then◌else◌, ◌/◌, ◌%◌, true, false, Some, List, [], ◌∷◌}
 use Rattle.call_context.specs.declared.shown.Item.{Item}
 use Rattle.call_context.specs.declared.shown.Item.TheVariants.{Edge}
 use Rattle.entry_cells.specs.Unrelated.{without_relations}

@@ -1,5 +1,5 @@
 -- What the law of entries rests on: laws of sets and of their bits, of cells without relations, and of writes.
-use Rattle.std.specs.Prelude.{◌≡◌, ℕ, ◌+◌, ◌/◌, ◌%◌, ◌<◌, Bool, true, Option, Some, List, [], ◌∷◌, Contains}
+use Rattle.std.specs.Prelude.{◌≡◌, ℕ, ◌+◌, ◌/◌, ◌%◌, ◌<◌, Bool, Option, List, [], ◌∷◌, Contains}
 use Rattle.entry_value.specs.declared.byte.Byte.{Byte}
 use Rattle.entry_value.specs.declared.cells.Cell.{Cell}
 use Rattle.entry_value.specs.Cells.{AreCells, StandsUnder, kept}

@@ -31,7 +31,7 @@ fn coming(source: u8, level: u8) -> Coming {
 fn two_sources(rt: HostRuntime) -> Result<(), Fail> {
     let state = enabled(rt.alloc())?;
     let all = comings(rt.alloc(), &state)?;
-    assert_eq!(rt; all.as_slice(), [coming(0, 1), coming(3, 2)]);
+    assert_eq!(rt; all.as_slice(), [coming(0, 1), coming(3, 2)].as_slice());
     let handler = entered(rt.alloc(), &state, 0x1234, &coming(3, 2))?;
     assert_eq!(rt; handler.sp, Vs8::one(9));
     assert_eq!(rt;
