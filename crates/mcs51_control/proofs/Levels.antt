@@ -1,6 +1,6 @@
 -- The levels in service behind RETI.
 use Rattle.std.proofs.Common.{◌≡◌, ℕ, Bool, true, false, Option, None, Some, List, refl, sym, ap, ◌∙◌, subst}
-use Rattle.std.specs.Prelude.{◌||◌, if◌then◌else◌}
+use Rattle.std.specs.Prelude.{◌||◌}
 use Rattle.std.proofs.lemmas.Bool.{cond-true, cond-false, or_left, or_right}
 use Rattle.mcs51_chip.specs.declared.state.ChipState.{ChipState}
 use Rattle.mcs51_chip.specs.Interrupts.{level_ended}
@@ -10,7 +10,7 @@ use Rattle.mcs51_state.specs.declared.fact.Compared.TheVariants.{Accumulator, Ra
 use Rattle.mcs51_state.specs.declared.fact.LinearFact.{LinearFact}
 use Rattle.mcs51_state.specs.declared.levels.Levels.{Levels}
 use Rattle.mcs51_state.specs.Forms.{AreLevels, IsKnown}
-use Rattle.mcs51_state.specs.Holding.{HoldsOf, HoldsOfCarry, HoldsOfLinear, KeepsUntouched}
+use Rattle.mcs51_state.specs.Holding.{HoldsOfCarry, HoldsOfLinear, KeepsUntouched}
 use Rattle.mcs51_state.specs.Known.{Known}
 use Rattle.mcs51_state.specs.Levels.{may_serve}
 use Rattle.mcs51_state.specs.Under.{IsUnder}

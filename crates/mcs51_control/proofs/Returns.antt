@@ -1,5 +1,5 @@
 -- Behind RET and RETI, and the targets of JMP @A+DPTR.
-use Rattle.std.proofs.Common.{◌≡◌, ℕ, ◌+◌, ◌*◌, ◌%◌, ◌<◌, Bool, Option, sym, subst, arith}
+use Rattle.std.proofs.Common.{◌+◌, ◌*◌, ◌%◌, ◌<◌, Bool, Option, subst, arith}
 use Rattle.value_bits.specs.Sets.{pair_set}
 use Rattle.value_set.specs.Form.{Has, IsNormal}
 use Rattle.value_set.specs.Summing.{single}

@@ -1,17 +1,12 @@
 -- The accesses of calls and returns are shown.
-use Rattle.std.proofs.Common.{◌≡◌, ℕ, ◌+◌, ◌%◌, Bool, true, false, Option, List, [], ◌∷◌, subst, inl, inr, arith, Contains}
-use Rattle.std.specs.Prelude.{◌⊎◌}
-use Rattle.std.proofs.lemmas.List.Elements.{Contains-append_cases, Contains-append_left, Contains-append_right, Contains-push, Contains-push_cases}
-use Rattle.call_context.specs.declared.shown.Item.{Item}
-use Rattle.call_context.specs.Single.{AreShowing}
+use Rattle.std.proofs.Common.{ℕ, ◌+◌, ◌%◌, Bool, true, false, Option, [], ◌∷◌, subst, inl, inr, arith}
+use Rattle.std.proofs.lemmas.List.Elements.{Contains-append_cases, Contains-append_left, Contains-append_right}
 use Rattle.value_set.specs.Form.{Has}
-use Rattle.mcs51_chip.specs.declared.place.Access.{Access}
 use Rattle.mcs51_chip.specs.declared.place.Access.TheVariants.{Internal}
 use Rattle.mcs51_chip.specs.declared.place.Address.{Address}
 use Rattle.mcs51_chip.specs.declared.place.Address.TheVariants.{InRam as AtRam}
 use Rattle.mcs51_chip.specs.declared.state.ChipState.{ChipState}
 use Rattle.mcs51_chip.specs.Memory.{pop_reads, push_writes}
-use Rattle.mcs51_chip.specs.Step.{accessed}
 use Rattle.mcs51_state.specs.declared.addresses.Addresses.{Addresses}
 use Rattle.mcs51_state.specs.declared.addresses.Addresses.TheVariants.{InRam}
 use Rattle.mcs51_state.specs.Known.{Known}

@@ -1,5 +1,5 @@
 -- What the law of returns rests on: laws of sets, of reads, of the stack and of accesses.
-use Rattle.std.specs.Prelude.{◌≡◌, ℕ, ◌+◌, ◌-◌, ◌%◌, ◌<◌, ◌↔◌, Bool, true, Option, option_map, List, [], ◌∷◌}
+use Rattle.std.specs.Prelude.{◌≡◌, ℕ, ◌+◌, ◌%◌, ◌<◌, ◌↔◌, Bool, true, Option, option_map, [], ◌∷◌}
 use Rattle.entry_value.specs.Words.{HoldsOfByte}
 use Rattle.value_bits.specs.Numbers.{word_of}
 use Rattle.value_bits.specs.Sets.{pair_set}
