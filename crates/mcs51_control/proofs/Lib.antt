@@ -1,0 +1,5 @@
+pub mod Tops
+pub mod Levels
+pub mod Returns
+pub mod Backs
+pub mod Showing

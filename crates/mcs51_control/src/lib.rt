@@ -1,0 +1,22 @@
+//! Returns of the MCS-51, and jumps by DPTR, over what is known of a state.
+//!
+//! - [`return_targets`]: where RET and RETI may go. [`return_from`] and [`return_from_interrupt`] take the address from the stack,
+//!   and RETI ends a level. [`goes_back`]: whether RETI goes back to the state that the frame's interrupt suspended.
+//! - [`jump_targets`]: where JMP @A+DPTR may go.
+//! - [`show_call`] and [`show_return`]: the accesses to show.
+//!
+//! Each is exact by a formula of `specs/Returning.antt`. The laws are functions that do nothing: [`returns_hold`] and
+//! [`jumps_hold`]. What a call leaves is a push of `mcs51_stores`.
+#![tactic(auto)]
+
+mod laws;
+mod returning;
+
+pub use laws::{jumps_hold, returns_hold};
+pub use returning::{
+    goes_back, jump_targets, return_from, return_from_interrupt, return_targets, show_call,
+    show_return,
+};
+
+#[cfg(test)]
+mod tests;
