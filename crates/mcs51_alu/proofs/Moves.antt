@@ -1,19 +1,15 @@
 -- MOV A, INC A and DEC A.
-use Rattle.std.proofs.Common.{◌≡◌, ℕ, ◌+◌, ◌*◌, ◌%◌, ◌<◌, Bool, true, false, Option, None, Some, refl, sym, subst, arith}
+use Rattle.std.proofs.Common.{◌≡◌, ℕ, ◌+◌, ◌%◌, ◌<◌, Bool, true, false, Option, None, Some, refl, arith}
 use Rattle.std.specs.Prelude.{if◌then◌else◌, slice_index}
 use Rattle.std.specs.Option.{option_map}
-use Rattle.entry_value.specs.declared.byte.Byte.{Byte}
 use Rattle.value_set.specs.Form.{IsNormal}
 use Rattle.value_set.specs.Summing.{single}
 use Rattle.mcs51_decode.specs.declared.instr.Memory.{Memory}
 use Rattle.mcs51_decode.specs.Fitting.{IsMemory}
-use Rattle.mcs51_chip.specs.declared.place.Address.{Address}
 use Rattle.mcs51_chip.specs.declared.state.ChipState.{ChipState}
 use Rattle.mcs51_chip.specs.Leading.{MayRead}
 use Rattle.mcs51_chip.specs.Memory.{address_of}
 use Rattle.mcs51_chip.specs.Registers.{with_accumulator}
-use Rattle.mcs51_state.specs.declared.addresses.Addresses.{Addresses}
-use Rattle.mcs51_state.specs.declared.fact.LinearFact.{LinearFact}
 use Rattle.mcs51_state.specs.Forms.{IsByte, IsKnown, IsLinear}
 use Rattle.mcs51_state.specs.Holding.{HoldsOfLinear}
 use Rattle.mcs51_state.specs.Known.{Known, byte_of}
@@ -22,7 +18,7 @@ use Rattle.mcs51_state.specs.Under.{IsUnder}
 use Rattle.mcs51_operands.specs.Operands.{addresses_of}
 use Rattle.mcs51_operands.specs.Reading.{read_byte}
 use Rattle.mcs51_results.specs.Results.{decreased, increased}
-use Rattle.mcs51_alu.specs.Accumulator.{counted, immediate, loaded, with_byte}
+use Rattle.mcs51_alu.specs.Accumulator.{counted, immediate, loaded}
 use Rattle.mcs51_alu.specs.LinearFacts.{loaded_fact, only_address, whole}
 use Rattle.mcs51_alu.specs.Premises.{Premises}
 use Rattle.mcs51_alu.proofs.OnlyBytes.{address_small, only_read}

@@ -1,13 +1,11 @@
 -- The accumulator and a byte.
-use Rattle.std.proofs.Common.{◌≡◌, ℕ, zero, suc, ◌+◌, ◌*◌, ◌/◌, ◌-◌, ◌%◌, ◌<◌, ◌≤◌, ◌==◌, Bool, true, false, Option, None, Some, refl, sym, ap, ◌∙◌, subst, inl, inr, arith}
-use Rattle.std.specs.Prelude.{◌⊎◌, bit_and, bit_or, bit_xor, if◌then◌else◌, slice_index}
+use Rattle.std.proofs.Common.{◌≡◌, ℕ, ◌+◌, ◌*◌, ◌/◌, ◌-◌, ◌%◌, ◌<◌, ◌==◌, Bool, true, false, Option, None, Some, refl, sym, ap, ◌∙◌, subst, inl, inr, arith}
+use Rattle.std.specs.Prelude.{bit_and, bit_or, bit_xor, if◌then◌else◌, slice_index}
 use Rattle.std.specs.Option.{option_map}
 use Rattle.std.proofs.lemmas.Bool.{cases_lt, cond_both, cond-false, eqb-true}
 use Rattle.entry_value.specs.declared.byte.Byte.{Byte}
-use Rattle.entry_value.specs.Words.{Suspended}
 use Rattle.value_set.specs.declared.form.Form.{Form}
 use Rattle.value_set.specs.Form.{Has, IsNormal}
-use Rattle.mcs51_decode.specs.declared.instr.Memory.{Memory}
 use Rattle.mcs51_decode.specs.declared.instr.Memory.TheVariants.{Direct, Working}
 use Rattle.mcs51_decode.specs.declared.instr.Operation.{Operation}
 use Rattle.mcs51_decode.specs.declared.instr.Operation.TheVariants.{Add, Addc, Orl, Anl, Xrl, Subb}
@@ -26,12 +24,11 @@ use Rattle.mcs51_state.specs.Known.{Known, byte_of}
 use Rattle.mcs51_state.specs.Places.{suspended_of}
 use Rattle.mcs51_state.specs.Under.{IsUnder}
 use Rattle.mcs51_operands.specs.Operands.{addresses_of}
-use Rattle.mcs51_operands.specs.Reading.{read_byte}
 use Rattle.mcs51_results.specs.declared.made.Made.{Made}
 use Rattle.mcs51_results.specs.Holding.{AreOperands, HoldsOfMade, IsMade, IsOperand}
 use Rattle.mcs51_results.specs.Results.{accumulated_made, twice_made}
 use Rattle.mcs51_alu.specs.Accumulator.{MayBe, accumulated_known, carry_left, gathered_made, is_add, is_itself, made_of, operand_of, sets_carry, with_made}
-use Rattle.mcs51_alu.specs.LinearFacts.{added_fact, fact_behind, fact_with, linear_value, linear_values, once_more, only_address, raised_by, with_byte}
+use Rattle.mcs51_alu.specs.LinearFacts.{added_fact, fact_behind, linear_values, once_more, only_address, raised_by, with_byte}
 use Rattle.mcs51_alu.specs.Premises.{Premises}
 use Rattle.mcs51_alu.proofs.Gathers.{values_have, values_normal}
 use Rattle.mcs51_alu.proofs.OnlyBytes.{only_read}

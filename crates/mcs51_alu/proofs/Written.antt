@@ -1,5 +1,5 @@
 -- What is known where the accumulator and PSW are written.
-use Rattle.std.proofs.Common.{◌≡◌, ℕ, ◌+◌, ◌*◌, ◌/◌, ◌%◌, ◌<◌, Bool, true, false, Option, None, Some, List, refl, sym, subst, arith}
+use Rattle.std.proofs.Common.{◌≡◌, ℕ, ◌+◌, ◌*◌, ◌/◌, ◌%◌, ◌<◌, Bool, true, false, Option, None, Some, List, arith}
 use Rattle.std.specs.Option.{option_map}
 use Rattle.std.proofs.lemmas.Bool.{cond_both}
 use Rattle.entry_value.specs.declared.byte.Byte.{Byte}
@@ -11,14 +11,14 @@ use Rattle.mcs51_state.specs.declared.fact.Compared.{Compared}
 use Rattle.mcs51_state.specs.declared.fact.Compared.TheVariants.{Accumulator, Ram}
 use Rattle.mcs51_state.specs.declared.fact.LinearFact.{LinearFact}
 use Rattle.mcs51_state.specs.Forms.{IsByte, IsCarry, IsKnown, IsLinear}
-use Rattle.mcs51_state.specs.Holding.{HoldsOfCarry, HoldsOfLinear, HoldsOfStatus, KeepsUntouched}
+use Rattle.mcs51_state.specs.Holding.{HoldsOfCarry, HoldsOfLinear, KeepsUntouched}
 use Rattle.mcs51_state.specs.Known.{Known}
 use Rattle.mcs51_state.specs.Places.{suspended_of}
 use Rattle.mcs51_state.specs.Under.{IsUnder}
 use Rattle.mcs51_results.specs.declared.made.Made.{Made}
 use Rattle.mcs51_results.specs.Holding.{HoldsOfMade, IsMade, StandsMade}
-use Rattle.mcs51_stores.specs.Writing.{carry_unless, is_accumulator}
-use Rattle.mcs51_alu.specs.Accumulator.{carry_left, with_byte, with_made}
+use Rattle.mcs51_stores.specs.Writing.{is_accumulator}
+use Rattle.mcs51_alu.specs.Accumulator.{carry_left, with_byte}
 use Rattle.mcs51_alu.specs.Premises.{Premises}
 
 -- BITS OF PSW

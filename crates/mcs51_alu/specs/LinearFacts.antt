@@ -1,6 +1,6 @@
 -- What the accumulator is by a byte of RAM (G. Balakrishnan and T. Reps, "WYSINWYX: What You See Is Not What You eXecute", 2010:
 -- affine relations): a factor times the byte plus a number, modulo 256.
-use Rattle.std.specs.Prelude.{ℕ, ◌+◌, ◌*◌, ◌%◌, ◌==◌, if◌then◌else◌, Option, None, Some, option_map, List, [], ◌∷◌, map}
+use Rattle.std.specs.Prelude.{ℕ, ◌+◌, ◌*◌, ◌%◌, ◌==◌, if◌then◌else◌, Option, None, Some, option_map, [], ◌∷◌, map}
 use Rattle.entry_value.specs.declared.byte.Byte.{Byte}
 use Rattle.value_set.specs.declared.form.Form.{Form}
 use Rattle.value_set.specs.declared.form.Form.TheVariants.{Values, Run}

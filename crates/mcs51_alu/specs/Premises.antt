@@ -1,5 +1,5 @@
 -- What the law of the accumulator rests on: laws of sets, of operands and reads, and of results.
-use Rattle.std.specs.Prelude.{◌≡◌, ℕ, ◌+◌, ◌%◌, ◌<◌, ◌≤◌, Bool, Option, option_map, List, Contains, length}
+use Rattle.std.specs.Prelude.{ℕ, ◌+◌, ◌%◌, ◌<◌, ◌≤◌, Bool, Option, option_map, List, Contains, length}
 use Rattle.entry_value.specs.declared.byte.Byte.{Byte}
 use Rattle.entry_value.specs.Words.{HoldsOfByte, Suspended}
 use Rattle.value_set.specs.declared.form.Form.{Form}
