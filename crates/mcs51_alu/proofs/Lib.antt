@@ -1,0 +1,7 @@
+pub mod Members
+pub mod Written
+pub mod OnlyBytes
+pub mod Gathers
+pub mod Moves
+pub mod Sums
+pub mod Changes

@@ -1,0 +1,3 @@
+pub mod LinearFacts
+pub mod Accumulator
+pub mod Premises
