@@ -5,3 +5,4 @@ pub mod Gathers
 pub mod Moves
 pub mod Sums
 pub mod Changes
+pub mod Doing

@@ -1,6 +1,7 @@
 -- What instructions that write the accumulator make of what is known of a state (Intel, MCS-51 Programmer's Guide and Instruction
 -- Set: MOV, ADD, ADDC, SUBB, ORL, ANL, XRL, INC and DEC of A, and the operations on A alone).
-use Rattle.std.specs.Prelude.{◌≡◌, ℕ, ◌==◌, if◌then◌else◌, Bool, true, false, Option, None}
+use Rattle.std.specs.Prelude.{◌≡◌, ℕ, ◌==◌, if◌then◌else◌, Bool, true, false, Option, None, List, []}
+use Rattle.call_context.specs.declared.shown.Item.{Item}
 use Rattle.entry_value.specs.declared.byte.Byte.{Byte}
 use Rattle.value_set.specs.Summing.{single}
 use Rattle.mcs51_decode.specs.declared.instr.AccumulatorOperation.{AccumulatorOperation}
@@ -19,6 +20,7 @@ use Rattle.mcs51_state.specs.declared.fact.LinearFact.{LinearFact}
 use Rattle.mcs51_state.specs.Known.{Known, byte_of}
 use Rattle.mcs51_operands.specs.Operands.{addresses_of}
 use Rattle.mcs51_operands.specs.Reading.{read_byte}
+use Rattle.mcs51_formats.specs.Shown.{read_items}
 use Rattle.mcs51_results.specs.declared.made.Made.{Made}
 use Rattle.mcs51_results.specs.declared.made.Operand.{Operand}
 use Rattle.mcs51_results.specs.declared.made.Operand.TheVariants.{Constant, Among}
@@ -113,3 +115,10 @@ changed_known done a = with_made (changed_made done a.a a.psw) (changes_carry do
 abbrev pub MayBe : ChipState → Source → ℕ → Type 0
 MayBe s (source.Immediate value) x = x ≡ value
 MayBe s (source.Memory m) x = MayRead s (address_of s m) x
+
+-- WHAT IS SHOWN
+
+-- the accesses to a source
+abbrev pub source_items : (pc : ℕ) → Known → Source → List Item
+source_items pc a (source.Immediate value) = []
+source_items pc a (source.Memory m) = read_items pc a m

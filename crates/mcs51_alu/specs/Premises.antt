@@ -1,5 +1,7 @@
--- What the law of the accumulator rests on: laws of sets, of operands and reads, and of results.
-use Rattle.std.specs.Prelude.{ℕ, ◌+◌, ◌%◌, ◌<◌, ◌≤◌, Bool, Option, option_map, List, Contains, length}
+-- What the laws of the accumulator rest on: laws of sets, of operands and reads, of results, and of formats.
+use Rattle.std.specs.Prelude.{ℕ, ◌+◌, ◌%◌, ◌<◌, ◌≤◌, Bool, Option, option_map, List, [], ◌++◌, Contains, length}
+use Rattle.call_context.specs.declared.shown.Item.{Item}
+use Rattle.choosing.specs.Gives.{Gives}
 use Rattle.entry_value.specs.declared.byte.Byte.{Byte}
 use Rattle.entry_value.specs.Words.{HoldsOfByte, Suspended}
 use Rattle.value_set.specs.declared.form.Form.{Form}
@@ -10,11 +12,13 @@ use Rattle.mcs51_decode.specs.declared.instr.Memory.{Memory}
 use Rattle.mcs51_decode.specs.declared.instr.Operation.{Operation}
 use Rattle.mcs51_decode.specs.declared.instr.Operation.TheVariants.{Add}
 use Rattle.mcs51_decode.specs.Fitting.{IsMemory}
+use Rattle.mcs51_chip.specs.declared.place.Access.{Access}
 use Rattle.mcs51_chip.specs.declared.place.Address.{Address}
 use Rattle.mcs51_chip.specs.declared.state.ChipState.{ChipState}
 use Rattle.mcs51_chip.specs.Arithmetic.{accumulated, changed}
 use Rattle.mcs51_chip.specs.Leading.{MayRead}
-use Rattle.mcs51_chip.specs.Memory.{address_of}
+use Rattle.mcs51_chip.specs.Memory.{address_of, address_reads}
+use Rattle.mcs51_chip.specs.Step.{implied, reading}
 use Rattle.mcs51_state.specs.declared.addresses.Addresses.{Addresses}
 use Rattle.mcs51_state.specs.Forms.{IsByte, IsKnown}
 use Rattle.mcs51_state.specs.Known.{Known}
@@ -23,6 +27,9 @@ use Rattle.mcs51_state.specs.Standing.{AreAddresses, MayStandAt}
 use Rattle.mcs51_state.specs.Under.{IsUnder}
 use Rattle.mcs51_operands.specs.Operands.{addresses_of}
 use Rattle.mcs51_operands.specs.Reading.{read_byte}
+use Rattle.mcs51_operands.specs.Showing.{AreShown, address_accesses}
+use Rattle.mcs51_formats.specs.Doing.{DoesSo, LeadsSo}
+use Rattle.mcs51_formats.specs.Shown.{read_at}
 use Rattle.mcs51_results.specs.declared.made.Made.{Made}
 use Rattle.mcs51_results.specs.declared.made.Operand.{Operand}
 use Rattle.mcs51_results.specs.Holding.{AreOperands, HoldsOfMade, IsMade, IsOperand, StandsMade}
@@ -56,7 +63,15 @@ pub record OfResults : Type 0 where
   pub decreased : (framed : Bool) (first : Option Suspended) (byte : Byte) (x : ℕ) → IsByte framed byte → HoldsOfByte first byte x → HoldsOfByte first (results.decreased byte) ((x + 255) % 256)
   pub decreased_form : (framed : Bool) (byte : Byte) → IsByte framed byte → IsByte framed (results.decreased byte)
 
+pub record OfFormats : Type 0 where
+  pub shown : (framed : Bool) (pc : ℕ) (known : Known) (s : ChipState) (first : Option ChipState) → IsUnder framed known s first → (m : Memory) → AreShown (address_accesses pc known m) pc (address_reads s m)
+  pub implied : (framed : Bool) (first : Option ChipState) (pc : ℕ) (behind : Known) (s t : ChipState) → LeadsSo framed first behind s t → Gives (DoesSo framed first [] pc behind s) (implied t)
+  pub reading : (framed : Bool) (first : Option ChipState) (items : List Item) (pc : ℕ) (behind : Known) (s : ChipState) (before : List Access) (at : Addresses) (address : Address) (leads : ℕ → ChipState)
+      → AreShown items pc before → MayStandAt at address → AreAddresses at → ((x : ℕ) → MayRead s address x → LeadsSo framed first behind s (leads x))
+      → Gives (DoesSo framed first (items ++ read_at pc at) pc behind s) (reading s before address leads)
+
 pub record Premises : Type 0 where
   pub sets : OfSets
   pub reads : OfReads
   pub results_so : OfResults
+  pub formats : OfFormats

@@ -1,11 +1,13 @@
 //! Instructions that write the accumulator.
 
-ghost use Rattle.std.specs.Prelude.{◌≡◌};
+ghost use Rattle.std.specs.Prelude.{◌≡◌, ◌++◌, OnOk};
 ghost use Rattle.mcs51_alu.specs.Accumulator as accumulator;
 
 use crate::linear::{added_fact, gathered_by, loaded_fact};
+use call_context::{Item, Sequence};
 use entry_value::{Byte, Cells};
 use mcs51_decode::{AccumulatorOperation, Memory, Operation, Source};
+use mcs51_formats::show_read;
 use mcs51_operands::{addresses_of, read_byte};
 use mcs51_results::{
     Made, Operand, accumulated_made, changed_made, decreased, increased, twice_made,
@@ -169,4 +171,19 @@ pub fn change<M: Cells>(state: &mut State<M>, operation: AccumulatorOperation)
 {
     let made = changed_made(operation, &state.a, &state.psw);
     write(state, &made, changes_carry(operation), None);
+}
+
+/// Adds the accesses to the second operand of [`accumulate`]. Behind an error the items are of no use.
+pub fn show_source<M: Cells>(
+    items: &mut Sequence<Item>,
+    pc: u16,
+    state: &State<M>,
+    origin: &Source,
+) -> Result<(), vsa_io::Memory>
+    ensures { OnOk result (items.new ≡ items.old ++ accumulator.source_items pc state.now origin.now) }
+{
+    match origin {
+        Source::Immediate(_) => Ok(()),
+        Source::Memory(memory) => show_read(items, pc, state, *memory),
+    }
 }

@@ -1,9 +1,12 @@
 //! What holds of instructions that write the accumulator.
 
-ghost use Rattle.std.specs.Prelude.{◌≡◌, ◌+◌, ◌%◌, ◌<◌, if◌then◌else◌, ℕ, Bool, Option};
+ghost use Rattle.std.specs.Prelude.{◌≡◌, ◌+◌, ◌%◌, ◌<◌, if◌then◌else◌, ℕ, Bool, true, false, List, [], Option};
+ghost use Rattle.choosing.specs.Gives.{Gives};
 ghost use Rattle.mcs51_decode.specs.declared.instr.AccumulatorOperation.{AccumulatorOperation as AnAccumulatorOperation};
+ghost use Rattle.mcs51_decode.specs.declared.instr.Instr.TheVariants.{Accumulate, ChangeAccumulator, Decrement, Increment, Load, MoveImmediate};
 ghost use Rattle.mcs51_decode.specs.declared.instr.Memory.{Memory as AMemory};
 ghost use Rattle.mcs51_decode.specs.declared.instr.Operation.{Operation as AnOperation};
+ghost use Rattle.mcs51_decode.specs.declared.instr.Place.TheVariants.{Accumulator};
 ghost use Rattle.mcs51_decode.specs.declared.instr.Source.{Source as ASource};
 ghost use Rattle.mcs51_decode.specs.Fitting.{IsMemory, IsSource};
 ghost use Rattle.mcs51_chip.specs.declared.state.ChipState.{ChipState as AState};
@@ -11,17 +14,21 @@ ghost use Rattle.mcs51_chip.specs.Arithmetic.{accumulated, changed};
 ghost use Rattle.mcs51_chip.specs.Leading.{MayRead};
 ghost use Rattle.mcs51_chip.specs.Memory.{address_of};
 ghost use Rattle.mcs51_chip.specs.Registers.{with_accumulator};
+ghost use Rattle.mcs51_chip.specs.Step.{effect_of};
 ghost use Rattle.mcs51_state.specs.Forms.{IsKnown};
 ghost use Rattle.mcs51_state.specs.Known.{Known};
 ghost use Rattle.mcs51_state.specs.Under.{IsUnder};
-ghost use Rattle.mcs51_alu.specs.Accumulator.{MayBe, accumulated_known, changed_known, counted, immediate, loaded};
+ghost use Rattle.mcs51_formats.specs.Doing.{DoesSo};
+ghost use Rattle.mcs51_formats.specs.Shown.{read_items};
+ghost use Rattle.mcs51_alu.specs.Accumulator.{MayBe, accumulated_known, changed_known, counted, immediate, loaded, source_items};
 ghost use Rattle.mcs51_alu.specs.Premises.{Premises};
 
-use mcs51_operands::{operands_stand, reads_hold};
+use mcs51_formats::formats_do;
+use mcs51_operands::{accesses_are_shown, operands_stand, reads_hold};
 use mcs51_results::{accumulations_hold, changes_hold};
 use value_set::{gathers_hold, members_are_below, sets_have_members, single_and_whole_sets};
 
-/// The laws of sets, operands, reads and results that those below rest on.
+/// The laws of sets, operands, reads, results and formats that those below rest on.
 fn premises_hold()
     ensures { Premises }
 {
@@ -33,6 +40,8 @@ fn premises_hold()
     reads_hold();
     accumulations_hold();
     changes_hold();
+    accesses_are_shown();
+    formats_do();
 }
 
 /// The state that the chip comes to by an instruction that writes the accumulator stands under what is said, whatever number the
@@ -54,6 +63,25 @@ pub fn accumulators_hold()
     ensures change { (framed : Bool) (a : Known) (s : AState) (first : Option AState) (done : AnAccumulatorOperation) → IsUnder framed a s first
         → IsUnder framed (changed_known done a) (changed done s) first }
     ensures change_form { (framed : Bool) (a : Known) (done : AnAccumulatorOperation) → IsKnown framed a → IsKnown framed (changed_known done a) }
+{
+    premises_hold();
+}
+
+/// An instruction that writes the accumulator does what is said of it: it shows its accesses, goes on behind itself, and the state
+/// that it leads to stands under what is said.
+pub fn accumulators_do()
+    ensures load { (framed : Bool) (a : Known) (s : AState) (first : Option AState) (image : List (Option ℕ)) (pc : ℕ) (m : AMemory) → IsUnder framed a s first → IsMemory m
+        → Gives (DoesSo framed first (read_items pc a m) pc (loaded framed m a) s) (effect_of image s (Load m)) }
+    ensures immediate { (framed : Bool) (a : Known) (s : AState) (first : Option AState) (image : List (Option ℕ)) (pc value : ℕ) → IsUnder framed a s first → value < 256
+        → Gives (DoesSo framed first [] pc (immediate value a) s) (effect_of image s (MoveImmediate Accumulator value)) }
+    ensures increment { (framed : Bool) (a : Known) (s : AState) (first : Option AState) (image : List (Option ℕ)) (pc : ℕ) → IsUnder framed a s first
+        → Gives (DoesSo framed first [] pc (counted true a) s) (effect_of image s (Increment Accumulator)) }
+    ensures decrement { (framed : Bool) (a : Known) (s : AState) (first : Option AState) (image : List (Option ℕ)) (pc : ℕ) → IsUnder framed a s first
+        → Gives (DoesSo framed first [] pc (counted false a) s) (effect_of image s (Decrement Accumulator)) }
+    ensures accumulate { (framed : Bool) (a : Known) (s : AState) (first : Option AState) (image : List (Option ℕ)) (pc : ℕ) (done : AnOperation) (origin : ASource) → IsUnder framed a s first → IsSource origin
+        → Gives (DoesSo framed first (source_items pc a origin) pc (accumulated_known framed done origin a) s) (effect_of image s (Accumulate done origin)) }
+    ensures change { (framed : Bool) (a : Known) (s : AState) (first : Option AState) (image : List (Option ℕ)) (pc : ℕ) (done : AnAccumulatorOperation) → IsUnder framed a s first
+        → Gives (DoesSo framed first [] pc (changed_known done a) s) (effect_of image s (ChangeAccumulator done)) }
 {
     premises_hold();
 }

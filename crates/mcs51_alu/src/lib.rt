@@ -8,15 +8,16 @@
 //! one.
 //!
 //! Each is exact by a formula of `specs/Accumulator.antt`. [`accumulators_hold`] says what holds of them: the state that the chip
-//! comes to stands under what is said, and that is in form.
+//! comes to stands under what is said, and that is in form. [`accumulators_do`] says it of the instructions, whose accesses are
+//! shown by [`show_source`].
 #![tactic(auto)]
 
 mod accumulator;
 mod laws;
 mod linear;
 
-pub use accumulator::{accumulate, change, count, load, load_immediate};
-pub use laws::accumulators_hold;
+pub use accumulator::{accumulate, change, count, load, load_immediate, show_source};
+pub use laws::{accumulators_do, accumulators_hold};
 
 #[cfg(test)]
 mod tests;

@@ -3,3 +3,4 @@ pub mod Levels
 pub mod Returns
 pub mod Backs
 pub mod Showing
+pub mod Transfers

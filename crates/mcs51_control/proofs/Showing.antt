@@ -31,15 +31,15 @@ two_shown laws pc write one other at next stands form stands_too form_too access
           (shows.0, Contains-append_right (first_item ∷ []) (second_item ∷ []) shows.0 shows.1, shows.2)
     ]
 
-pub return_shown : (laws : Premises) (framed : Bool) (a : Known) (s : ChipState) (first : Option ChipState) → IsUnder framed a s first → AreShown (return_accesses s.pc a) s.pc (pop_reads s)
-return_shown laws framed a s first under =
-    two_shown laws s.pc false (stack_top a) (below_top a) (AtRam s.sp) (AtRam ((s.sp + 255) % 256)) (laws.top framed first a s under) (laws.top_form framed first a s under)
+pub return_shown : (laws : Premises) (framed : Bool) (pc : ℕ) (a : Known) (s : ChipState) (first : Option ChipState) → IsUnder framed a s first → AreShown (return_accesses pc a) pc (pop_reads s)
+return_shown laws framed pc a s first under =
+    two_shown laws pc false (stack_top a) (below_top a) (AtRam s.sp) (AtRam ((s.sp + 255) % 256)) (laws.top framed first a s under) (laws.top_form framed first a s under)
     (below_stands laws framed a s first under) (below_form laws framed a under.form)
 
-pub call_shown : (laws : Premises) (framed : Bool) (a : Known) (s : ChipState) (first : Option ChipState) → IsUnder framed a s first → AreShown (call_accesses s.pc a) s.pc (push_writes s)
-call_shown laws framed a s first under =
+pub call_shown : (laws : Premises) (framed : Bool) (pc : ℕ) (a : Known) (s : ChipState) (first : Option ChipState) → IsUnder framed a s first → AreShown (call_accesses pc a) pc (push_writes s)
+call_shown laws framed pc a s first under =
     let low = raised a.sp in
     let low_normal = raised_normal laws a.sp under.form.sp in
     let low_has = raised_has laws a.sp s.sp under.form.sp under.holds.parts.sp in
     let high_has : Has 256 (raised low) ((s.sp + 2) % 256) = subst (Has 256 (raised low)) (omega arith) (raised_has laws low ((s.sp + 1) % 256) low_normal low_has) in
-    two_shown laws s.pc true (InRam low) (InRam (raised low)) (AtRam ((s.sp + 1) % 256)) (AtRam ((s.sp + 2) % 256)) low_has low_normal high_has (raised_normal laws low low_normal)
+    two_shown laws pc true (InRam low) (InRam (raised low)) (AtRam ((s.sp + 1) % 256)) (AtRam ((s.sp + 2) % 256)) low_has low_normal high_has (raised_normal laws low low_normal)

@@ -1,4 +1,4 @@
--- What the law of returns rests on: laws of sets, of reads, of the stack and of accesses.
+-- What the laws of calls, returns and jumps rest on: laws of sets, of reads, of the stack and of accesses.
 use Rattle.std.specs.Prelude.{◌≡◌, ℕ, ◌+◌, ◌%◌, ◌<◌, ◌↔◌, Bool, true, Option, option_map, [], ◌∷◌}
 use Rattle.entry_value.specs.Words.{HoldsOfByte}
 use Rattle.value_bits.specs.Numbers.{word_of}
@@ -12,7 +12,7 @@ use Rattle.mcs51_chip.specs.declared.place.Address.{Address}
 use Rattle.mcs51_chip.specs.declared.place.Address.TheVariants.{InRam as AtRam}
 use Rattle.mcs51_chip.specs.declared.state.ChipState.{ChipState}
 use Rattle.mcs51_chip.specs.Leading.{MayRead}
-use Rattle.mcs51_chip.specs.Memory.{popped}
+use Rattle.mcs51_chip.specs.Memory.{popped, with_pushed_address}
 use Rattle.mcs51_state.specs.declared.addresses.Addresses.{Addresses}
 use Rattle.mcs51_state.specs.Forms.{IsByte, IsKnown}
 use Rattle.mcs51_state.specs.Known.{Known}
@@ -22,7 +22,7 @@ use Rattle.mcs51_state.specs.Under.{IsUnder}
 use Rattle.mcs51_operands.specs.Reading.{read_byte}
 use Rattle.mcs51_operands.specs.Showing.{AreShown, access_of}
 use Rattle.mcs51_stores.specs.Following.{Follows, KeepsForm}
-use Rattle.mcs51_stores.specs.Stack.{byte_popped, stack_top}
+use Rattle.mcs51_stores.specs.Stack.{address_pushed, byte_popped, stack_top}
 
 pub record Premises : Type 0 where
   pub below : (m v : ℕ) (set : Form) → IsNormal m set → Has m set v → v < m
@@ -38,6 +38,7 @@ pub record Premises : Type 0 where
   pub reads_form : (framed : Bool) (known : Known) → IsKnown framed known → (addresses : Addresses) → AreAddresses addresses → IsByte framed (read_byte framed known addresses)
   pub pops : (framed : Bool) (first : Option ChipState) → Follows framed first byte_popped popped
   pub pops_form : (framed : Bool) → KeepsForm framed byte_popped
+  pub pushes : (framed : Bool) (first : Option ChipState) (address : ℕ) → address < 65536 → Follows framed first (address_pushed framed address) (with_pushed_address address)
   pub goes_to : (framed : Bool) (first : Option ChipState) (pc : ℕ) → pc < 65536 → Follows framed first (λ known. known) (λ s. record s { pc = pc })
   pub top_form : (framed : Bool) (first : Option ChipState) (known : Known) (s : ChipState) → IsUnder framed known s first → AreAddresses (stack_top known)
   pub top : (framed : Bool) (first : Option ChipState) (known : Known) (s : ChipState) → IsUnder framed known s first → MayStandAt (stack_top known) (AtRam s.sp)

@@ -5,14 +5,14 @@
 //! - [`jump_targets`]: where JMP @A+DPTR may go.
 //! - [`show_call`] and [`show_return`]: the accesses to show.
 //!
-//! Each is exact by a formula of `specs/Returning.antt`. The laws are functions that do nothing: [`returns_hold`] and
-//! [`jumps_hold`]. What a call leaves is a push of `mcs51_stores`.
+//! Each is exact by a formula of `specs/Returning.antt`. What a call leaves is a push of `mcs51_stores`. The laws are functions
+//! that do nothing: [`returns_hold`], [`jumps_hold`], and [`transfers_do`], that each instruction does what is said of it.
 #![tactic(auto)]
 
 mod laws;
 mod returning;
 
-pub use laws::{jumps_hold, returns_hold};
+pub use laws::{jumps_hold, returns_hold, transfers_do};
 pub use returning::{
     goes_back, jump_targets, return_from, return_from_interrupt, return_targets, show_call,
     show_return,

@@ -1,6 +1,7 @@
 -- What an analysis makes of a program of the MSP430, in sets.
 use Rattle.std.specs.Prelude.{◌≡◌, ◌<◌, ◌≤◌, ◌⊎◌, ℕ, if◌then◌else◌, true, Option, None, Some, List, [], ◌∷◌, ◌++◌, map}
 use Rattle.std.specs.List.{flat_map}
+use Rattle.analysis_limits.specs.declared.limits.Limits.{Limits}
 use Rattle.call_context.specs.declared.node.Frame.{Frame}
 use Rattle.call_context.specs.declared.node.Frame.TheVariants.{Base, Irq}
 use Rattle.call_context.specs.declared.node.Node.{Node}
@@ -37,7 +38,6 @@ use Rattle.msp430_alu.specs.Formats.{Worked}
 use Rattle.msp430_entry.specs.declared.coming.Coming.{Coming}
 use Rattle.msp430_entry.specs.Entry.{comings_of, counter_slot, entered_known, entry_items, frame_of_coming, status_slot}
 use Rattle.msp430_resume.specs.Resume.{resumed_known}
-use Rattle.msp430_flow.specs.declared.setting.Limits.{Limits}
 use Rattle.msp430_flow.specs.declared.setting.Setting.{Setting}
 use Rattle.msp430_flow.specs.Standing.{fetched}
 use Rattle.msp430_flow.specs.Marks.{stops}

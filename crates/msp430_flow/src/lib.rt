@@ -25,7 +25,7 @@ mod ways;
 
 pub use chip::Msp430Chip;
 pub use kept::Kept;
-pub use setting::{Limits, Setting};
+pub use setting::Setting;
 pub use text::Msp430Text;
 
 #[cfg(test)]

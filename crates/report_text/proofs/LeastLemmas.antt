@@ -9,17 +9,17 @@ use Rattle.value_set.specs.declared.form.Form.{Form}
 use Rattle.value_set.specs.declared.form.Form.TheVariants.{Values, Run}
 use Rattle.value_set.specs.declared.form.Progression.{Progression}
 use Rattle.value_set.specs.Form.{Ascends, IsNormal, steps, IsNormalRun}
-use Rattle.report_text.specs.Report.{first_value, is_whole, least_in_run, least_word, IsLeast}
+use Rattle.report_text.specs.Deepest.{first_value, is_whole, least_in_run, least_word, IsLeast}
 use Rattle.report_text.proofs.ShownLemmas.{in_none, in_cons, in_first}
 
 -- the numbers of a run, by their places in it
-steps_have : (m base stride count i : ℕ) → i < count → Contains (steps m base stride count) ((base + i * stride) % m)
+pub steps_have : (m base stride count i : ℕ) → i < count → Contains (steps m base stride count) ((base + i * stride) % m)
 unfolding steps
 steps_have m base stride count i h =
     let f : ℕ → ℕ = λ k. (base + k * stride) % m in
     (i, rw (length-map-range_with_len f 0 count) h, get_or-map-range_with_len f 0 count i i ((base + i * stride) % m) h (omega arith))
 
-steps_from : (m base stride count v : ℕ) → Contains (steps m base stride count) v → (i : ℕ) × (i < count) × (v ≡ (base + i * stride) % m)
+pub steps_from : (m base stride count v : ℕ) → Contains (steps m base stride count) v → (i : ℕ) × (i < count) × (v ≡ (base + i * stride) % m)
 unfolding steps
 steps_from m base stride count v h =
     let f : ℕ → ℕ = λ k. (base + k * stride) % m in

@@ -1,3 +1,4 @@
+pub mod GreatestLemmas
 pub mod LeastLemmas
 pub mod PromiseLemmas
 pub mod ReportLemmas

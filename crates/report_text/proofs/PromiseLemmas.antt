@@ -13,7 +13,8 @@ use Rattle.closing_law.specs.Covered.{NoneIsOpen, AreCovering, IsBroken}
 use Rattle.round_core.specs.Machine.{replay, IsLegalJournal, IsFinished}
 use Rattle.round_core.specs.declared.event.Event.{Event}
 use Rattle.report_text.specs.Promise.{Says, CoversEveryRun, ShowsOpenSites}
-use Rattle.report_text.specs.Report.{are_closed, is_empty, lines_of, with_lines, least_of, head_line, summary_of, report_text, report_of, last_works, report_of_journal}
+use Rattle.report_text.specs.Deepest.{deepest_of}
+use Rattle.report_text.specs.Report.{are_closed, is_empty, lines_of, with_lines, head_line, summary_of, report_text, report_of, last_works, report_of_journal}
 use Rattle.report_text.proofs.ShownLemmas.{in_none, in_cons, in_first, in_rest, in_flat_map, in_map, in_with_lines_new, report_has, report_has_item}
 
 both : (x y : Bool) → (x && y) ≡ true → (x ≡ true) × (y ≡ true)
@@ -53,15 +54,15 @@ says_head : {A : Type 0} (text : ℕ → List ℕ → List ℕ) (closed : Bool) 
     → Says (head_line closed) (report_of text true works)
 says_head {A = A} text closed works e =
     let lines = with_lines [] (flat_map (lines_of text) works) in
-    let least = least_of _ (flat_map (λ (w : Work A). w.items) works) in
+    let deepest = deepest_of _ (flat_map (λ (w : Work A). w.items) works) in
     let body = flat_map (λ line. line ++ 10 ∷ []) lines in
-    (body ++ summary_of least lines, ap (λ c. report_text c lines least) e ∙ append_assoc (head_line closed) body (summary_of least lines))
+    (body ++ summary_of deepest lines, ap (λ c. report_text c lines deepest) e ∙ append_assoc (head_line closed) body (summary_of deepest lines))
 
 -- the report has the line of each open
 report_has_open : {A : Type 0} (text : ℕ → List ℕ → List ℕ) (works : List (Work A)) (work : Work A) (site : ℕ × Cause) → Contains works work
     → Contains work.opens site → HasLine (report_of text true works) (open_line_of site.0 site.1)
 report_has_open text works work site w o =
-    report_has (are_closed works) (with_lines [] (flat_map (lines_of text) works)) (least_of _ (flat_map (λ w. w.items) works)) (open_line_of site.0 site.1)
+    report_has (are_closed works) (with_lines [] (flat_map (lines_of text) works)) (deepest_of _ (flat_map (λ w. w.items) works)) (open_line_of site.0 site.1)
     (in_with_lines_new (flat_map (lines_of text) works) [] (open_line_of site.0 site.1)
     (in_flat_map (lines_of text) works work (open_line_of site.0 site.1) w
     (Contains-append_right (map (item_line_of text) work.items) (map (λ o. open_line_of o.0 o.1) work.opens) (open_line_of site.0 site.1)

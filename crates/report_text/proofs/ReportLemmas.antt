@@ -9,7 +9,9 @@ use Rattle.std.specs.declared.cmp.Ordering.TheVariants.{Less, Equal, Greater}
 use Rattle.call_context.specs.declared.shown.Item.{Item}
 use Rattle.std.proofs.Math.Bool.{and-true, and_assoc}
 use Rattle.chip_law.specs.declared.chip.Work.{Work}
-use Rattle.report_text.specs.Report.{bytes_of, with_lines, least_of, lesser, least_stack, are_closed, is_empty}
+use Rattle.report_text.specs.declared.deepest.Deepest.{Deepest}
+use Rattle.report_text.specs.Deepest.{deepest_of, deeper_of, deepest_in}
+use Rattle.report_text.specs.Report.{bytes_of, with_lines, are_closed, is_empty}
 
 -- a set of vectors grows as the set of their bytes does
 pub bytes_of-insert_key : (keys : List (Vec ℕ Global)) (line : Vec ℕ Global) → bytes_of (insert_key (λ x y. slice_cmp nat_cmp x.items y.items) keys line) ≡ insert_key (slice_cmp nat_cmp) (bytes_of keys) line.items
@@ -25,9 +27,9 @@ pub with_lines-append : (set front back : List (List ℕ)) → with_lines set (f
 with_lines-append set [] back = refl
 with_lines-append set (line ∷ front) back = with_lines-append (insert_key (slice_cmp nat_cmp) set line) front back
 
-pub least_of-append : (front back : List Item) (least : Option ℕ) → least_of least (front ++ back) ≡ least_of (least_of least front) back
-least_of-append [] back least = refl
-least_of-append (item ∷ front) back least = least_of-append front back (lesser least (least_stack item))
+pub deepest_of-append : (front back : List Item) (deepest : Option Deepest) → deepest_of deepest (front ++ back) ≡ deepest_of (deepest_of deepest front) back
+deepest_of-append [] back deepest = refl
+deepest_of-append (item ∷ front) back deepest = deepest_of-append front back (deeper_of deepest (deepest_in item))
 
 -- the lines of items and then of opens, where both are told
 pub told_lines : (live : Bool) (set items opens middle new : List (List ℕ)) → live ≡ true → middle ≡ with_lines set items → new ≡ with_lines middle opens → new ≡ with_lines set (if live then items ++ opens else [])
@@ -52,6 +54,6 @@ pub closed_more : {A : Type 0} (live : Bool) (work : Work A) (left : List (Work 
 closed_more true work left old new all e h = ap (λ b. b && are_closed left) e ∙ and_assoc old (is_empty work.opens) (are_closed left) ∙ h
 closed_more false work left old new all e h = ap (λ b. b && are_closed left) e ∙ ap (λ b. b && are_closed left) (and-true old) ∙ h
 
-pub least_more : {A : Type 0} (live : Bool) (work : Work A) (left : List (Work A)) (old new all : Option ℕ) → new ≡ least_of old (if live then work.items else []) → least_of old (flat_map (λ w. w.items) (if live then work ∷ left else left)) ≡ all → least_of new (flat_map (λ w. w.items) left) ≡ all
-least_more true work left old new all e h = ap (λ l. least_of l (flat_map (λ w. w.items) left)) e ∙ sym (least_of-append work.items (flat_map (λ w. w.items) left) old) ∙ h
-least_more false work left old new all e h = ap (λ l. least_of l (flat_map (λ w. w.items) left)) e ∙ h
+pub deepest_more : {A : Type 0} (live : Bool) (work : Work A) (left : List (Work A)) (old new all : Option Deepest) → new ≡ deepest_of old (if live then work.items else []) → deepest_of old (flat_map (λ w. w.items) (if live then work ∷ left else left)) ≡ all → deepest_of new (flat_map (λ w. w.items) left) ≡ all
+deepest_more true work left old new all e h = ap (λ l. deepest_of l (flat_map (λ w. w.items) left)) e ∙ sym (deepest_of-append work.items (flat_map (λ w. w.items) left) old) ∙ h
+deepest_more false work left old new all e h = ap (λ l. deepest_of l (flat_map (λ w. w.items) left)) e ∙ h

@@ -12,7 +12,9 @@ use Rattle.call_context.specs.declared.shown.Item.{Item}
 use Rattle.chip_law.specs.Line.{item_line_of, open_line_of}
 use Rattle.chip_law.specs.Shown.{EndsLine, HasLine}
 use Rattle.chip_law.specs.declared.chip.Work.{Work}
-use Rattle.report_text.specs.Report.{with_lines, lines_of, head_line, summary_of, report_text, report_of, are_closed, least_of}
+use Rattle.report_text.specs.declared.deepest.Deepest.{Deepest}
+use Rattle.report_text.specs.Deepest.{deepest_of}
+use Rattle.report_text.specs.Report.{with_lines, lines_of, head_line, summary_of, report_text, report_of, are_closed}
 
 -- membership, element by element
 pub in_none : {X : Type 0} (x : X) → Contains [] x → ⊥
@@ -117,18 +119,18 @@ head_ends true = (codes "CLOSED", refl)
 head_ends false = (codes "OPEN", refl)
 
 -- the report has each line that is put into it
-pub report_has : (closed : Bool) (lines : List (List ℕ)) (least : Option ℕ) (line : List ℕ) → Contains lines line → HasLine (report_text closed lines least) line
-report_has closed lines least line h =
+pub report_has : (closed : Bool) (lines : List (List ℕ)) (deepest : Option Deepest) (line : List ℕ) → Contains lines line → HasLine (report_text closed lines deepest) line
+report_has closed lines deepest line h =
     let head = head_ends closed in
     let body = flat_map (λ l. l ++ 10 ∷ []) lines in
-    let within = has_line-before ((head.0 ++ 10 ∷ []) ++ body) (summary_of least lines) line (has_line-behind head.0 body line (has_line-body lines line h)) in
-    subst (λ front. HasLine ((front ++ body) ++ summary_of least lines) line) (sym head.1) within
+    let within = has_line-before ((head.0 ++ 10 ∷ []) ++ body) (summary_of deepest lines) line (has_line-behind head.0 body line (has_line-body lines line h)) in
+    subst (λ front. HasLine ((front ++ body) ++ summary_of deepest lines) line) (sym head.1) within
 
 -- the report of works has the line of each item, and of each open
 pub report_has_item : {A : Type 0} (text : ℕ → List ℕ → List ℕ) (works : List (Work A)) (work : Work A) (item : Item) → Contains works work → Contains work.items item
     → HasLine (report_of text true works) (item_line_of text item)
 report_has_item text works work item w i =
-    report_has (are_closed works) (with_lines [] (flat_map (lines_of text) works)) (least_of _ (flat_map (λ w. w.items) works)) (item_line_of text item)
+    report_has (are_closed works) (with_lines [] (flat_map (lines_of text) works)) (deepest_of _ (flat_map (λ w. w.items) works)) (item_line_of text item)
     (in_with_lines_new (flat_map (lines_of text) works) [] (item_line_of text item)
     (in_flat_map (lines_of text) works work (item_line_of text item) w
     (Contains-append_left (map (item_line_of text) work.items) (map (λ o. open_line_of o.0 o.1) work.opens) (item_line_of text item)

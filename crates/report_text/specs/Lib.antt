@@ -1,2 +1,3 @@
+pub mod Deepest
 pub mod Promise
 pub mod Report

@@ -1,5 +1,5 @@
 -- The report of an analysis, made from the works of its units.
-use Rattle.std.specs.Prelude.{ℕ, ◌+◌, ◌-◌, ◌*◌, ◌%◌, ◌≤◌, ◌==◌, nat_lt, ◌&&◌, ◌||◌, min, if◌then◌else◌, Bool, true, false, Option, None, Some, List, [], ◌∷◌, ◌++◌, map, count_by, codes, nat_eq, ◌≡◌, ◌↔◌, IsTrue}
+use Rattle.std.specs.Prelude.{ℕ, ◌&&◌, ◌||◌, if◌then◌else◌, Bool, true, false, Option, None, List, [], ◌∷◌, ◌++◌, map, count_by, codes, nat_eq, ◌≡◌, ◌↔◌, IsTrue}
 use Rattle.std.specs.List.{flat_map, starts_with, ends_with}
 use Rattle.std.specs.Fmt.{decimal}
 use Rattle.std.specs.Ordering.{nat_cmp}
@@ -7,21 +7,15 @@ use Rattle.std.specs.Cmp.Lexicographic.{slice_cmp}
 use Rattle.std.specs.BTreeSet.{insert_key}
 use Rattle.std.specs.declared.alloc.Global.{Global}
 use Rattle.std.specs.declared.vec.Vec.{Vec}
-use Rattle.value_set.specs.declared.form.Form.{Form}
-use Rattle.value_set.specs.declared.form.Form.TheVariants.{Values, Run}
-use Rattle.value_set.specs.declared.form.Progression.{Progression}
-use Rattle.value_set.specs.Form.{Has}
-use Rattle.call_context.specs.declared.shown.Set.TheVariants.{B, W}
 use Rattle.call_context.specs.declared.shown.Cause.{Cause}
-use Rattle.call_context.specs.declared.shown.Item.{Item}
-use Rattle.call_context.specs.declared.shown.Item.TheVariants.{Instr, Edge, Access, Stack}
 use Rattle.chip_law.specs.Analysis.{Analysis}
 use Rattle.chip_law.specs.declared.chip.Work.{Work}
-use Rattle.chip_law.specs.Digits.{hex}
 use Rattle.chip_law.specs.Line.{item_line_of, open_line_of}
 use Rattle.round_core.specs.Kept.{live_works}
 use Rattle.round_core.specs.declared.event.Event.{Event}
 use Rattle.round_core.specs.Machine.{BookState, IsFinished, replay}
+use Rattle.report_text.specs.declared.deepest.Deepest.{Deepest}
+use Rattle.report_text.specs.Deepest.{deepest_of, deepest_text}
 
 -- the bytes of lines
 abbrev pub bytes_of : List (Vec ℕ Global) → List (List ℕ)
@@ -45,71 +39,26 @@ abbrev pub are_closed : {A : Type 0} → List (Work A) → Bool
 are_closed [] = true
 are_closed (work ∷ works) = is_empty work.opens && are_closed works
 
-abbrev pub lesser : Option ℕ → Option ℕ → Option ℕ
-lesser None b = b
-lesser (Some a) None = Some a
-lesser (Some a) (Some b) = Some (min a b)
-
--- the first of some values that ascend
-abbrev pub first_value : List ℕ → Option ℕ
-first_value [] = None
-first_value (value ∷ values) = Some value
-
--- a run of all words, or of all even words
-abbrev pub is_whole : Progression → Bool
-is_whole run = (run.count == 65536) || ((run.count == 32768) && (run.stride == 2) && (run.base == 0))
-
--- the least number of a run modulo 65536: its base, or where it goes round the first number behind the turn
-abbrev pub least_in_run : Progression → ℕ
-least_in_run run =
-    if nat_lt (run.base + (run.count - 1) * run.stride) 65536 then run.base
-    else (run.stride - (65536 - run.base) % run.stride) % run.stride
-
--- the least number of a set of words that isn't whole
-abbrev pub least_word : Form → Option ℕ
-least_word (Values values) = first_value values
-least_word (Run run) = if is_whole run then None else Some (least_in_run run)
-
--- a number of a set of words, and no other is less
-abbrev pub IsLeast : Form → ℕ → Type 0
-IsLeast set least = Has 65536 set least × ((value : ℕ) → Has 65536 set value → least ≤ value)
-
--- the least stack pointer that an item shows by a set that isn't whole
-abbrev pub least_stack : Item → Option ℕ
-least_stack (Stack pc (W values)) = least_word values
-least_stack (Stack pc (B values)) = None
-least_stack (Instr pc bytes) = None
-least_stack (Edge origin target) = None
-least_stack (Access pc space write size at) = None
-
-abbrev pub least_of : Option ℕ → List Item → Option ℕ
-least_of least [] = least
-least_of least (item ∷ items) = least_of (lesser least (least_stack item)) items
-
 -- a line that tells a whole set of stack pointers
 abbrev pub is_whole_stack : List ℕ → Bool
 is_whole_stack line =
     starts_with nat_eq line (codes "S ") && (ends_with nat_eq line (codes " *") || ends_with nat_eq line (codes " 0000/2/8000"))
 
-abbrev pub value_text : Option ℕ → List ℕ
-value_text None = codes "none"
-value_text (Some value) = hex 4 value
-
--- the least stack pointer of the lines that don't tell a whole set, and the number of those that do
-abbrev pub summary_of : Option ℕ → List (List ℕ) → List ℕ
-summary_of least lines = codes "T " ++ value_text least ++ codes " " ++ decimal (count_by is_whole_stack lines) ++ codes "\n"
+-- the deepest stack pointer of the lines that don't tell a whole set, and the number of those that do
+abbrev pub summary_of : Option Deepest → List (List ℕ) → List ℕ
+summary_of deepest lines = codes "T " ++ deepest_text deepest ++ codes " " ++ decimal (count_by is_whole_stack lines) ++ codes "\n"
 
 abbrev pub head_line : Bool → List ℕ
 head_line closed = if closed then codes "CLOSED\n" else codes "OPEN\n"
 
 -- a head, the lines with a line feed each, and the summary
-abbrev pub report_text : Bool → List (List ℕ) → Option ℕ → List ℕ
-report_text closed lines least = head_line closed ++ flat_map (λ line. line ++ 10 ∷ []) lines ++ summary_of least lines
+abbrev pub report_text : Bool → List (List ℕ) → Option Deepest → List ℕ
+report_text closed lines deepest = head_line closed ++ flat_map (λ line. line ++ 10 ∷ []) lines ++ summary_of deepest lines
 
 -- the report of works, which is closed where the book that has them is finished and none leaves a site open
 abbrev pub report_of : {A : Type 0} → (ℕ → List ℕ → List ℕ) → Bool → List (Work A) → List ℕ
 report_of text finished works = report_text (finished && are_closed works) (with_lines [] (flat_map (lines_of text) works))
-    (least_of None (flat_map (λ work. work.items) works))
+    (deepest_of None (flat_map (λ work. work.items) works))
 
 -- the report of a book, and whether it says that it is closed
 pub record IsReportOf {A : Type 0} (text : ℕ → List ℕ → List ℕ) (b : BookState A) (report : List ℕ) (closed : Bool) : Type 0 where

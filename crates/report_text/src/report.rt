@@ -1,22 +1,22 @@
 //! The report of a book.
 
-ghost use Rattle.std.specs.Prelude.{◌≡◌, ◌++◌, ◌∷◌, ◌&&◌, if◌then◌else◌, true, [], None, map, count_by, IfOk, OnOk, IfSome};
+ghost use Rattle.std.specs.Prelude.{◌≡◌, ◌++◌, ◌∷◌, ◌&&◌, if◌then◌else◌, true, [], None, map, count_by, IfOk, OnOk};
 ghost use Rattle.round_core.specs.Kept.{live_works};
 ghost use Rattle.round_core.specs.Machine.{replay};
-ghost use Rattle.value_set.specs.Form.{IsNormalRun};
-ghost use Rattle.report_text.specs.Report.{with_lines, lines_of, is_empty, are_closed, lesser as the_lesser, least_stack as least_shown, least_of, is_whole, least_in_run, least_word, IsLeast, is_whole_stack as tells_whole_stack, report_text, bytes_of, summary_of, IsReportOf};
+ghost use Rattle.report_text.specs.Deepest.{deepest_of as the_deepest_of, deepest_text};
+ghost use Rattle.report_text.specs.Report.{with_lines, lines_of, is_empty, are_closed, is_whole_stack as tells_whole_stack, report_text, bytes_of, summary_of, IsReportOf};
 ghost use Rattle.std.specs.BTreeSet.{insert_key};
 ghost use Rattle.std.specs.Cmp.Lexicographic.{slice_cmp};
 ghost use Rattle.std.specs.List.{flat_map};
 ghost use Rattle.std.specs.Ordering.{nat_cmp};
 ghost use Rattle.chip_law.specs.Line.{item_line_of, open_line_of};
 
-use call_context::{Cause, Item, Set};
-use chip_law::{ChipText, Work, hex_word, item_line, open_line};
+use crate::deepest::{Deepest, deepest_of};
+use call_context::{Cause, Item};
+use chip_law::{ChipText, Work, hex_byte, hex_word, item_line, open_line};
 use round_core::Book;
 use std::alloc::{AllocError, Global};
 use std::collections::BTreeSet;
-use value_set::{Form, Progression, Vs16};
 use vsa_io::Memory;
 
 /// The text of a report, and whether it is closed.
@@ -24,77 +24,6 @@ use vsa_io::Memory;
 pub struct Report {
     pub text: Vec<u8>,
     pub is_closed: bool,
-}
-
-/// The lesser of two numbers, where either is there.
-fn lesser(a: Option<u16>, b: Option<u16>) -> Option<u16>
-    ensures { result ≡ the_lesser a b }
-{
-    match (a, b) {
-        (Some(a), Some(b)) => Some(a.min(b)),
-        (None, b) => b,
-        (a, None) => a,
-    }
-}
-
-/// Whether a run has all words, or all even words.
-fn is_whole_run(run: &Progression) -> bool
-    ensures { result ≡ is_whole run.now }
-{
-    run.count == 65536 || (run.count == 32768 && run.stride == 2 && run.base == 0)
-}
-
-/// The least number of a run of words.
-fn least_of_run(run: &Progression) -> u16
-    requires { IsNormalRun 65536 run.now.base run.now.stride run.now.count }
-    ensures { result ≡ least_in_run run.now }
-{
-    let stride = run.stride as u32;
-    let base = run.base as u32;
-    if base + (run.count - 1) * stride < 65536 {
-        return run.base;
-    }
-    ((stride - (65536 - base) % stride) % stride) as u16
-}
-
-/// The least number of a set of words that isn't whole.
-pub fn least_number(values: &Vs16) -> Option<u16>
-    ensures value { result ≡ least_word values.now }
-    ensures least { IfSome result (IsLeast values.now) }
-{
-    match values.form() {
-        Form::Values(few) => few.as_slice().first().copied(),
-        Form::Run(run) => {
-            if is_whole_run(&run) {
-                return None;
-            }
-            Some(least_of_run(&run))
-        }
-    }
-}
-
-/// The least stack pointer that an item shows by a set that isn't whole.
-fn least_stack(item: &Item) -> Option<u16>
-    ensures { result ≡ least_shown item.now }
-{
-    match item {
-        Item::Stack {
-            at: Set::W(values),
-            ..
-        } => least_number(values),
-        _ => None,
-    }
-}
-
-/// The least stack pointer of a number and of what items show.
-fn least_stack_of(least: Option<u16>, items: &[Item]) -> Option<u16>
-    ensures { result ≡ least_of least items.now }
-{
-    let mut least = least;
-    for item in items {
-        least = lesser(least, least_stack(item));
-    }
-    least
 }
 
 /// Whether a line tells a whole set of stack pointers.
@@ -146,7 +75,7 @@ fn add_opens(
 struct Told {
     lines: BTreeSet<Vec<u8>>,
     is_closed: bool,
-    least: Option<u16>,
+    deepest: Option<Deepest>,
 }
 
 /// Adds what is told of a work, if its unit is one of the book.
@@ -159,7 +88,7 @@ fn tell<C: ChipText>(
 ) -> Result<(), Memory>
     ensures lines { OnOk result (bytes_of told.new.lines.keys ≡ with_lines (bytes_of told.old.lines.keys) (if is_live then lines_of (C.text_of chip.now) work.now else [])) }
     ensures closed { OnOk result (told.new.is_closed ≡ (told.old.is_closed && (if is_live then is_empty work.now.opens else true))) }
-    ensures least { OnOk result (told.new.least ≡ least_of told.old.least (if is_live then work.now.items else [])) }
+    ensures deepest { OnOk result (told.new.deepest ≡ the_deepest_of told.old.deepest (if is_live then work.now.items else [])) }
 {
     if !is_live {
         return Ok(());
@@ -167,7 +96,7 @@ fn tell<C: ChipText>(
     add_items(alloc, chip, work.items.as_slice(), &mut told.lines)?;
     add_opens(alloc, work.opens.as_slice(), &mut told.lines)?;
     told.is_closed = told.is_closed && work.opens.as_slice().is_empty();
-    told.least = least_stack_of(told.least, work.items.as_slice());
+    told.deepest = deepest_of(told.deepest, work.items.as_slice());
     Ok(())
 }
 
@@ -175,12 +104,12 @@ fn tell<C: ChipText>(
 fn tell_all<C: ChipText>(alloc: Global, chip: &C, book: &Book<C>) -> Result<Told, Memory>
     ensures lines { IfOk result (λ told. bytes_of told.lines.keys ≡ with_lines [] (flat_map (lines_of (C.text_of chip.now)) (live_works (replay (C.analysis book.now.base) book.now.journal)))) }
     ensures closed { IfOk result (λ told. told.is_closed ≡ are_closed (live_works (replay (C.analysis book.now.base) book.now.journal))) }
-    ensures least { IfOk result (λ told. told.least ≡ least_of None (flat_map (λ work. work.items) (live_works (replay (C.analysis book.now.base) book.now.journal)))) }
+    ensures deepest { IfOk result (λ told. told.deepest ≡ the_deepest_of None (flat_map (λ work. work.items) (live_works (replay (C.analysis book.now.base) book.now.journal)))) }
 {
     let mut told = Told {
         lines: BTreeSet::new(alloc),
         is_closed: true,
-        least: None,
+        deepest: None,
     };
     for (unit, work) in book.works() {
         let is_live = book.is_live(unit);
@@ -213,20 +142,28 @@ fn push_lines(text: &mut Vec<u8>, lines: &BTreeSet<Vec<u8>>) -> Result<(), Alloc
     Ok(())
 }
 
+/// Adds the deepest stack pointer.
+fn push_deepest(text: &mut Vec<u8>, deepest: Option<Deepest>) -> Result<(), AllocError>
+    ensures { OnOk result (text.new.items ≡ text.old.items ++ deepest_text deepest) }
+{
+    match deepest {
+        Some(Deepest::Least(value)) => text.extend_from_slice(&hex_word(value)),
+        Some(Deepest::Greatest(value)) => text.extend_from_slice(&hex_byte(value)),
+        None => text.extend_from_slice(b"none"),
+    }
+}
+
 /// Adds the summary.
 fn push_summary(
     text: &mut Vec<u8>,
-    least: Option<u16>,
+    deepest: Option<Deepest>,
     lines: &BTreeSet<Vec<u8>>,
 ) -> Result<(), AllocError>
-    ensures { OnOk result (text.new.items ≡ text.old.items ++ summary_of least (bytes_of lines.now.keys)) }
+    ensures { OnOk result (text.new.items ≡ text.old.items ++ summary_of deepest (bytes_of lines.now.keys)) }
 {
     let count = count_whole(lines);
     text.extend_from_slice(b"T ")?;
-    match least {
-        Some(value) => text.extend_from_slice(&hex_word(value))?,
-        None => text.extend_from_slice(b"none")?,
-    }
+    push_deepest(text, deepest)?;
     let count = count.to_string(*text.allocator())?;
     text.push(b' ')?;
     text.extend_from_slice(count.as_str().as_bytes())?;
@@ -235,7 +172,7 @@ fn push_summary(
 
 /// The text of what was told.
 fn text_of(alloc: Global, told: &Told) -> Result<Vec<u8>, AllocError>
-    ensures { IfOk result (λ text. text.items ≡ report_text told.now.is_closed (bytes_of told.now.lines.keys) told.now.least) }
+    ensures { IfOk result (λ text. text.items ≡ report_text told.now.is_closed (bytes_of told.now.lines.keys) told.now.deepest) }
 {
     let mut text = Vec::new(alloc);
     text.extend_from_slice(if told.is_closed {
@@ -244,7 +181,7 @@ fn text_of(alloc: Global, told: &Told) -> Result<Vec<u8>, AllocError>
         b"OPEN\n"
     })?;
     push_lines(&mut text, &told.lines)?;
-    push_summary(&mut text, told.least, &told.lines)?;
+    push_summary(&mut text, told.deepest, &told.lines)?;
     Ok(text)
 }
 

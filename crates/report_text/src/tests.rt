@@ -1,7 +1,7 @@
-//! The least stack pointer of a set, and a report over a sink.
+//! The least and the greatest stack pointer of a set.
 
-use crate::report::least_number;
-use value_set::Vs16;
+use crate::deepest::{greatest_number, least_number};
+use value_set::{Vs8, Vs16};
 
 #[test]
 fn rows_of_the_least_stack_pointer(rt: HostRuntime) {
@@ -18,6 +18,26 @@ fn rows_of_the_least_stack_pointer(rt: HostRuntime) {
     ] {
         if let Some(set) = Vs16::run(base, stride, count) {
             assert_eq!(rt; least_number(&set), least);
+        } else {
+            assert!(rt; false);
+        }
+    }
+}
+
+#[test]
+fn rows_of_the_greatest_stack_pointer(rt: HostRuntime) {
+    for (base, stride, count, greatest) in [
+        (0x07, 2, 0x20, Some(0x45)),
+        (0x33, 1, 3, Some(0x35)),
+        // runs that go round
+        (0xF0, 2, 0x20, Some(0xFE)),
+        (0xF1, 3, 0x20, Some(0xFD)),
+        (0x00, 2, 0x80, Some(0xFE)),
+        // all bytes
+        (0x00, 1, 0x100, None),
+    ] {
+        if let Some(set) = Vs8::run(base, stride, count) {
+            assert_eq!(rt; greatest_number(&set), greatest);
         } else {
             assert!(rt; false);
         }

@@ -6,13 +6,13 @@ use vsa_top::Status;
 /// The command line, printed where it isn't valid.
 const USAGE: &str = "\
 usage: vsa MODE CHIP [--ram LO-HI] [--calls N] [--targets N] [--workers N] [--steps N] < INPUT
-       vsa gen msp430 --number N
+       vsa gen CHIP --number N
 
 Modes, with the input that each reads from standard input:
-  analyse   an Intel HEX text: prints what the program can do (msp430 alone)
+  analyse   an Intel HEX text: prints what the program can do
   disasm    an Intel HEX text: prints its instructions
   run       an Intel HEX text, and a script after its end record: runs the program, prints what each step does
-  gen       nothing: makes a program of N functions, analyses it, prints how many lines its report has (msp430 alone)
+  gen       nothing: makes a program of N functions, analyses it, prints how many lines its report has
 
 Chips: msp430, and mcs51 (the 8051, as an 8052).
 
@@ -31,7 +31,7 @@ Examples:
   vsa analyse msp430 < image.hex
   vsa disasm msp430 --ram 0200-03FF < image.hex
   cat image.hex script.txt | vsa run msp430 --steps 1000
-  vsa disasm mcs51 < image.ihx
+  vsa analyse mcs51 < image.ihx
 
 docs/REPORT.md says what each line of an answer means.";
 

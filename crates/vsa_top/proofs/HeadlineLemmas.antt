@@ -4,9 +4,12 @@ use Rattle.std.proofs.Common.{arith, ◌≡◌, ◌++◌, ◌-◌, ◌≤◌, �
 use Rattle.std.specs.Prelude.{◌⊎◌, IfSome, length}
 use Rattle.std.proofs.lemmas.List.{append-nil, take_all}
 use Rattle.std.proofs.lemmas.Option.{same_Some}
+use Rattle.image_gen.specs.Made.{made_image}
+use Rattle.image_gen.specs.declared.chip_name.ChipName.{ChipName}
+use Rattle.image_gen.specs.declared.chip_name.ChipName.TheVariants as made
+use Rattle.made_programs.specs.Chips.{rules_of as made_rules}
 use Rattle.ihex_read.specs.declared.fault.HexFault.{HexFault}
 use Rattle.ihex_read.specs.declared.rule_set.Rules.{Rules}
-use Rattle.ihex_read.specs.declared.rule_set.Rules.TheVariants.{Msp430}
 use Rattle.ihex_read.specs.declared.rule_set.Tail.{Tail}
 use Rattle.ihex_read.specs.declared.rule_set.Tail.TheVariants.{Blank, Second}
 use Rattle.ihex_read.specs.ImageText.{Denotes, FirstFault, IsRamRange}
@@ -16,10 +19,16 @@ use Rattle.ihex_read.specs.Reading.{HasEnded}
 use Rattle.vsa_io.specs.Stream.{appended}
 use Rattle.round_core.specs.Machine.{replay, IsLegalJournal, IsFinished}
 use Rattle.round_core.specs.declared.event.Event.{Event}
-use Rattle.msp430_chip.specs.declared.device.Device.{Device}
-use Rattle.msp430_flow.specs.Standing.{instr_text}
-use Rattle.msp430_flow.specs.Chip.{msp430_analysis, IsSetting}
-use Rattle.msp430_flow.specs.declared.setting.Setting.{Setting}
+use Rattle.analysis_limits.specs.declared.limits.Limits.{Limits}
+use Rattle.chip_law.specs.Analysis.{Analysis}
+use Rattle.chip_law.specs.Machine.{Machine}
+use Rattle.mcs51_flow.specs.Standing.{instr_text as mcs51_text}
+use Rattle.mcs51_flow.specs.Chip.{mcs51_analysis, IsSetting as IsMcs51Program}
+use Rattle.mcs51_flow.specs.declared.setting.Setting.{Setting as Mcs51Setting}
+use Rattle.mcs51_flow.specs.Machine.{mcs51_machine}
+use Rattle.msp430_flow.specs.Standing.{instr_text as msp430_text}
+use Rattle.msp430_flow.specs.Chip.{msp430_analysis, IsSetting as IsMsp430Program}
+use Rattle.msp430_flow.specs.declared.setting.Setting.{Setting as Msp430Setting}
 use Rattle.msp430_flow.specs.Machine.{msp430_machine}
 use Rattle.run_trace.specs.declared.trace.End.{End}
 use Rattle.run_trace.specs.declared.trace.End.TheVariants as ended
@@ -28,21 +37,24 @@ use Rattle.report_text.specs.Promise.{CoversEveryRun, ShowsOpenSites}
 use Rattle.report_text.specs.Report.{are_closed, last_works, report_of_journal}
 use Rattle.vsa_top.specs.declared.outcome.Status.{Status}
 use Rattle.vsa_top.specs.declared.outcome.Status.TheVariants.{Done, Open, ReadFault, WriteFault, Memory}
-use Rattle.vsa_top.specs.Answer.{Analyses, Answers, Ends, IsAnalysed, IsImageReply, IsReply, IsRun, TellsNoFault, run_under, status_of_analysis, status_of_end}
+use Rattle.vsa_top.specs.Answer.{Analyses, Answers, Ends, IsAnalysed, IsAnalysedBy, IsAnalysedOn, IsImageReply, IsReply, IsRun, TellsNoFault, run_under, status_of_analysis, status_of_end}
 use Rattle.vsa_top.specs.Answer.Analyses.{of_input, of_made}
 use Rattle.vsa_top.specs.Answer.Answers.{replied, unreplied}
 use Rattle.vsa_top.specs.Answer.Ends.{closed, left_open, disassembled, ran_on, went_wild, lacked_a_choice, refused_script, script_too_long, summed, summed_open}
 use Rattle.vsa_top.specs.Answer.IsReply.{of_image, of_bad, of_long}
 use Rattle.vsa_top.specs.Answer.IsRun.{ran, refused, longer}
 use Rattle.vsa_top.specs.Answer.IsWritten.{whole, cut}
-use Rattle.vsa_top.specs.Headline.{ReportsOn}
+use Rattle.vsa_top.specs.Headline.{CoversRunsOf, ReportsOn, ShowsSitesOf}
 use Rattle.vsa_top.specs.Input.{text_limit, front_of, input_of, tail_of, AreTexts, Gives, InputGives, IsBad, IsTooLong, IsImageOf}
+use Rattle.vsa_top.specs.declared.words.Chip.{Chip}
+use Rattle.vsa_top.specs.declared.words.Chip.TheVariants as chip
 use Rattle.vsa_top.specs.declared.words.Ram.{Ram}
 use Rattle.vsa_top.specs.declared.words.Reading.{Reading}
 use Rattle.vsa_top.specs.declared.words.Reading.TheVariants.{Analyse, Disasm, Run, Gen}
 use Rattle.vsa_top.specs.declared.words.Target.{Target}
+use Rattle.vsa_top.specs.declared.words.Target.TheVariants.{Msp430, Mcs51}
 use Rattle.vsa_top.specs.declared.words.Task.{Task}
-use Rattle.vsa_top.specs.Words.{EndsInMemory, IsBounded, rules_of, device_of, setting_of, usual, usual_limits}
+use Rattle.vsa_top.specs.Words.{EndsInMemory, IsBounded, mcs51_setting, msp430_setting, rules_of, target_rules, usual_task}
 use Rattle.vsa_top.proofs.InputLemmas.{front_goes_on}
 
 -- the reply that an answer gives whole
@@ -71,19 +83,48 @@ open_is : (is_closed : Bool) → Open ≡ status_of_analysis is_closed → is_cl
 open_is true e = absurd (cc)
 open_is false e = refl
 
--- what is known of the reports of the MSP430's books, and of texts
-abbrev CoverRuns : Type 0
-CoverRuns = (setting : Setting) (text_of : ℕ → List ℕ → List ℕ) (journal : List Event) → IsSetting setting
-    → IsLegalJournal (msp430_analysis setting) journal → IsFinished (replay (msp430_analysis setting) journal)
-    → are_closed (last_works (msp430_analysis setting) journal) ≡ true
-    → CoversEveryRun (msp430_machine setting.device) text_of (report_of_journal text_of (msp430_analysis setting) journal)
+-- the closed reports of a chip's programs cover every run, whatever the texts of instructions
+abbrev CoverRuns : {B S A : Type 0} → (B → Type 0) → (B → Machine S) → (B → Analysis A) → Type 0
+CoverRuns {B} program machine analysis = (base : B) (text_of : ℕ → List ℕ → List ℕ) (journal : List Event) → program base
+    → IsLegalJournal (analysis base) journal → IsFinished (replay (analysis base) journal)
+    → are_closed (last_works (analysis base) journal) ≡ true
+    → CoversEveryRun (machine base) text_of (report_of_journal text_of (analysis base) journal)
 
-abbrev ShowSites : Type 0
-ShowSites = (setting : Setting) (text_of : ℕ → List ℕ → List ℕ) (journal : List Event) → IsSetting setting
-    → IsLegalJournal (msp430_analysis setting) journal
-    → are_closed (last_works (msp430_analysis setting) journal) ≡ false
-    → ShowsOpenSites (msp430_analysis setting) journal (report_of_journal text_of (msp430_analysis setting) journal)
+-- the open reports of a chip's programs show their open sites
+abbrev ShowSites : {B A : Type 0} → (B → Type 0) → (B → Analysis A) → Type 0
+ShowSites {B} program analysis = (base : B) (text_of : ℕ → List ℕ → List ℕ) (journal : List Event) → program base
+    → IsLegalJournal (analysis base) journal → are_closed (last_works (analysis base) journal) ≡ false
+    → ShowsOpenSites (analysis base) journal (report_of_journal text_of (analysis base) journal)
 
+covers_of : {B S A : Type 0} (program : B → Type 0) (machine : B → Machine S) (analysis : B → Analysis A) → CoverRuns program machine analysis
+    → (base : B) (text_of : ℕ → List ℕ → List ℕ) (workers : ℕ) (report : List ℕ) (journal : List Event) → program base
+    → IsAnalysed text_of (analysis base) workers Done report journal → CoversEveryRun (machine base) text_of report
+covers_of program machine analysis cover base text_of workers report journal is_program is =
+    let none_left = closed_is (are_closed (last_works (analysis base) journal)) is.status_is in
+    subst (CoversEveryRun (machine base) text_of) (sym is.text_is)
+    (cover base text_of journal is_program is.is_analysis.legal is.is_analysis.finished none_left)
+
+shows_of : {B A : Type 0} (program : B → Type 0) (analysis : B → Analysis A) → ShowSites program analysis
+    → (base : B) (text_of : ℕ → List ℕ → List ℕ) (workers : ℕ) (report : List ℕ) (journal : List Event) → program base
+    → IsAnalysed text_of (analysis base) workers Open report journal → ShowsOpenSites (analysis base) journal report
+shows_of program analysis shows base text_of workers report journal is_program is =
+    let left = open_is (are_closed (last_works (analysis base) journal)) is.status_is in
+    subst (ShowsOpenSites (analysis base) journal) (sym is.text_is) (shows base text_of journal is_program is.is_analysis.legal left)
+
+-- what is known of the reports of both chips
+abbrev CoverMsp430 : Type 0
+CoverMsp430 = CoverRuns IsMsp430Program (λ (setting : Msp430Setting). msp430_machine setting.device) msp430_analysis
+
+abbrev CoverMcs51 : Type 0
+CoverMcs51 = CoverRuns IsMcs51Program (λ (setting : Mcs51Setting). mcs51_machine setting.image) mcs51_analysis
+
+abbrev ShowMsp430 : Type 0
+ShowMsp430 = ShowSites IsMsp430Program msp430_analysis
+
+abbrev ShowMcs51 : Type 0
+ShowMcs51 = ShowSites IsMcs51Program mcs51_analysis
+
+-- what is known of texts
 abbrev HaveRules : Type 0
 HaveRules = (rules : Rules) (tail : Tail) (lines : List (List ℕ)) (image : List (Option ℕ)) → Denotes rules tail lines image → IsReadUnder rules image
 
@@ -105,45 +146,71 @@ gives_image : (rules : Rules) (input second : Option (List ℕ)) (image : List (
 gives_image rules None second image gives = tt
 gives_image rules (Some text) second image gives = gives.2.0
 
--- the rules of an image that is analysed
-abbrev RulesOf : Ram → Rules
-RulesOf ram = Msp430 ram.lo ram.hi
+-- an image that is analysed was read under its rules, and the words bound its RAM and the call strings
+record IsGiven (target : Target) (limits : Limits) (image : List (Option ℕ)) : Type 0 where
+  pub read : IsReadUnder (target_rules target) image
+  pub ram : IsRamRange (target_rules target)
+  pub top : EndsInMemory (target_rules target)
+  pub calls : limits.calls ≤ 8
 
--- the analysis of the device with the image that the text denotes
+is_msp430 : (ram : Ram) (limits : Limits) (image : List (Option ℕ)) → IsGiven (Msp430 ram) limits image → IsMsp430Program (msp430_setting ram limits image)
+is_msp430 ram limits image given = record { program = record { read = given.read; ram = given.ram; top = given.top }; calls = given.calls }
+
+is_mcs51 : (limits : Limits) (image : List (Option ℕ)) → IsGiven Mcs51 limits image → IsMcs51Program (mcs51_setting limits image)
+is_mcs51 limits image given = record { program = given.read; calls = given.calls }
+
+covers_image : CoverMsp430 → CoverMcs51 → (target : Target) (limits : Limits) (workers : ℕ) (image : List (Option ℕ)) (report : List ℕ) (journal : List Event)
+    → IsGiven target limits image → IsAnalysedOn target limits workers image Done report journal → CoversRunsOf target image report
+covers_image msp430 mcs51 (Msp430 ram) limits workers image report journal given is =
+    covers_of IsMsp430Program (λ (setting : Msp430Setting). msp430_machine setting.device) msp430_analysis msp430 (msp430_setting ram limits image) msp430_text
+    workers report journal (is_msp430 ram limits image given) is
+covers_image msp430 mcs51 Mcs51 limits workers image report journal given is =
+    covers_of IsMcs51Program (λ (setting : Mcs51Setting). mcs51_machine setting.image) mcs51_analysis mcs51 (mcs51_setting limits image) mcs51_text
+    workers report journal (is_mcs51 limits image given) is
+
+shows_image : ShowMsp430 → ShowMcs51 → (target : Target) (limits : Limits) (workers : ℕ) (image : List (Option ℕ)) (report : List ℕ) (journal : List Event)
+    → IsGiven target limits image → IsAnalysedOn target limits workers image Open report journal → ShowsSitesOf target limits image journal report
+shows_image msp430 mcs51 (Msp430 ram) limits workers image report journal given is =
+    shows_of IsMsp430Program msp430_analysis msp430 (msp430_setting ram limits image) msp430_text workers report journal (is_msp430 ram limits image given) is
+shows_image msp430 mcs51 Mcs51 limits workers image report journal given is =
+    shows_of IsMcs51Program mcs51_analysis mcs51 (mcs51_setting limits image) mcs51_text workers report journal (is_mcs51 limits image given) is
+
+-- the analysis of the image that the text denotes
 analysed : HaveOneImage → (task : Task) (input second : Option (List ℕ)) (answered : Status) (report : List ℕ) (journal : List Event) (text : List ℕ)
-    (image other : List (Option ℕ)) → InputGives (RulesOf task.ram) Blank input second other
-    → IsAnalysed instr_text (msp430_analysis (setting_of task.limits (device_of task.ram other))) task.workers answered report journal
-    → input ≡ Some text → Denotes (RulesOf task.ram) Blank (texts.lines_of text) image
-    → IsAnalysed instr_text (msp430_analysis (setting_of task.limits (device_of task.ram image))) task.workers answered report journal
+    (image other : List (Option ℕ)) → InputGives (target_rules task.target) Blank input second other
+    → IsAnalysedBy task other answered report journal
+    → input ≡ Some text → Denotes (target_rules task.target) Blank (texts.lines_of text) image → IsAnalysedBy task image answered report journal
 analysed one task input second answered report journal text image other gives reply e denoted =
-    subst (λ i. IsAnalysed instr_text (msp430_analysis (setting_of task.limits (device_of task.ram i))) task.workers answered report journal)
-    (same_image one (RulesOf task.ram) input text image other e denoted (gives_image (RulesOf task.ram) input second other gives)) reply
+    let rules = target_rules task.target in
+    subst (λ i. IsAnalysedBy task i answered report journal)
+    (same_image one rules input text image other e denoted (gives_image rules input second other gives)) reply
 
--- the device with an image that was read is a program
-program_of : HaveRules → (task : Task) (text : List ℕ) (image : List (Option ℕ)) → IsRamRange (RulesOf task.ram) → EndsInMemory (RulesOf task.ram) → IsBounded (Analyse task)
-    → Denotes (RulesOf task.ram) Blank (texts.lines_of text) image → IsSetting (setting_of task.limits (device_of task.ram image))
-program_of rules task text image range end few denoted =
-    record { program = record { read = rules (RulesOf task.ram) Blank (texts.lines_of text) image denoted; ram = range; top = end }; calls = few.0 }
+-- an image that was read is given
+given_image : HaveRules → (task : Task) (text : List ℕ) (image : List (Option ℕ)) → IsRamRange (target_rules task.target)
+    → EndsInMemory (target_rules task.target) → IsBounded (Analyse task)
+    → Denotes (target_rules task.target) Blank (texts.lines_of text) image → IsGiven task.target task.limits image
+given_image rules task text image range end few denoted =
+    record { read = rules (target_rules task.target) Blank (texts.lines_of text) image denoted; ram = range; top = end; calls = few.0 }
 
-closed_reply : CoverRuns → HaveRules → HaveOneImage → (task : Task) → IsRamRange (RulesOf task.ram) → EndsInMemory (RulesOf task.ram) → IsBounded (Analyse task) → (input : Option (List ℕ)) (report : List ℕ) (journal : List Event)
+closed_reply : CoverMsp430 → CoverMcs51 → HaveRules → HaveOneImage → (task : Task) → IsRamRange (target_rules task.target)
+    → EndsInMemory (target_rules task.target) → IsBounded (Analyse task) → (input : Option (List ℕ)) (report : List ℕ) (journal : List Event)
     → IsReply (Analyse task) input Done report journal → (text : List ℕ) (image : List (Option ℕ)) → input ≡ Some text
-    → Denotes (RulesOf task.ram) Blank (texts.lines_of text) image → CoversEveryRun (msp430_machine (device_of task.ram image)) instr_text report
-closed_reply cover rules one task range end few input report journal (of_image other second gives reply) text image e denoted =
-    let device = device_of task.ram image in
-    let is = analysed one task input second Done report journal text image other gives reply e denoted in
-    let program = program_of rules task text image range end few denoted in
-    let none_left = closed_is (are_closed (last_works (msp430_analysis (setting_of task.limits device)) journal)) is.status_is in
-    subst (CoversEveryRun (msp430_machine device) instr_text) (sym is.text_is)
-    (cover (setting_of task.limits device) instr_text journal program is.is_analysis.legal is.is_analysis.finished none_left)
-closed_reply cover rules one task range end few input report journal (of_bad line fault bad is line_is none) text image e denoted = absurd (cc)
-closed_reply cover rules one task range end few input report journal (of_long long is line_is none) text image e denoted = absurd (cc)
+    → Denotes (target_rules task.target) Blank (texts.lines_of text) image → CoversRunsOf task.target image report
+closed_reply msp430 mcs51 rules one task range end few input report journal (of_image other second gives reply) text image e denoted =
+    covers_image msp430 mcs51 task.target task.limits task.workers image report journal (given_image rules task text image range end few denoted)
+    (analysed one task input second Done report journal text image other gives reply e denoted)
+closed_reply msp430 mcs51 rules one task range end few input report journal (of_bad line fault bad is line_is none) text image e denoted = absurd (cc)
+closed_reply msp430 mcs51 rules one task range end few input report journal (of_long long is line_is none) text image e denoted = absurd (cc)
 
-pub closed_lem : CoverRuns → HaveRules → HaveOneImage → (task : Task) (input before after : Option (List ℕ)) (journal : List Event)
-    → IsRamRange (RulesOf task.ram) → EndsInMemory (RulesOf task.ram) → IsBounded (Analyse task) → Answers (Analyse task) Done input before after journal →
-    ReportsOn task.ram input before after (λ device report. CoversEveryRun (msp430_machine device) instr_text report)
-closed_lem cover rules one task input before after journal range end few answers text image e denoted =
-    let given = gives_reply (Analyse task) Done input before after journal answers ((λ f. cc f), (λ f. cc f)) (λ f. cc f) in
-    (given.text, given.held, closed_reply cover rules one task range end few input given.text journal given.reply text image e denoted)
+pub closed_lem : CoverMsp430 → CoverMcs51 → HaveRules → HaveOneImage → (task : Task) (input before after : Option (List ℕ)) (journal : List Event)
+    → IsRamRange (target_rules task.target) → EndsInMemory (target_rules task.target) → IsBounded (Analyse task)
+    → Answers (Analyse task) Done input before after journal → ReportsOn task.target input before after (CoversRunsOf task.target)
+closed_lem msp430 mcs51 rules one task input before after journal range end few answers text image e denoted =
+    let given = gives_reply (Analyse task) Done input before after journal answers ((λ f. cc f), (λ f. cc f)) (λ f. cc f) in (
+      given.text,
+      given.held,
+      closed_reply msp430 mcs51 rules one task range end few input given.text journal given.reply text image e denoted,
+    )
 
 end_ends : (target : Target) (steps : ℕ) (end : End) → Ends (Run target steps) (status_of_end end)
 end_ends target steps ended.Ran = ran_on target steps
@@ -154,9 +221,17 @@ analysis_ends : (task : Task) (is_closed : Bool) → Ends (Analyse task) (status
 analysis_ends task true = closed task
 analysis_ends task false = left_open task
 
-summary_ends : (number : ℕ) (is_closed : Bool) → Ends (Gen number) (status_of_analysis is_closed)
-summary_ends number true = summed number
-summary_ends number false = summed_open number
+summary_ends : (chip : Chip) (number : ℕ) (is_closed : Bool) → Ends (Gen chip number) (status_of_analysis is_closed)
+summary_ends chip number true = summed chip number
+summary_ends chip number false = summed_open chip number
+
+-- the status of an analysis, whatever the chip
+analysed_status : (target : Target) (limits : Limits) (workers : ℕ) (image : List (Option ℕ)) (answered : Status) (report : List ℕ) (journal : List Event)
+    → IsAnalysedOn target limits workers image answered report journal → (is_closed : Bool) × (status_of_analysis is_closed ≡ answered)
+analysed_status (Msp430 ram) limits workers image answered report journal is =
+    (are_closed (last_works (msp430_analysis (msp430_setting ram limits image)) journal), sym is.status_is)
+analysed_status Mcs51 limits workers image answered report journal is =
+    (are_closed (last_works (mcs51_analysis (mcs51_setting limits image)) journal), sym is.status_is)
 
 run_reply_ends : (target : Target) (steps : ℕ) (run : List ℕ → Ended) (second : Option (List ℕ)) (answered : Status) (text : List ℕ)
     → IsRun run second answered text → Ends (Run target steps) answered
@@ -168,12 +243,15 @@ run_reply_ends target steps run second answered text (longer is told line_is) = 
 image_reply_ends : (reading : Reading) (image : List (Option ℕ)) (second : Option (List ℕ)) (answered : Status) (text : List ℕ) (journal : List Event)
     → IsImageReply reading image second answered text journal → Ends reading answered
 image_reply_ends (Analyse task) image second answered text journal is =
-    subst (Ends (Analyse task)) (sym is.status_is) (analysis_ends task (are_closed (last_works (msp430_analysis (setting_of task.limits (device_of task.ram image))) journal)))
+    let status = analysed_status task.target task.limits task.workers image answered text journal is in
+    subst (Ends (Analyse task)) status.1 (analysis_ends task status.0)
 image_reply_ends (Disasm target) image second answered text journal is = subst (Ends (Disasm target)) (sym is.0) (disassembled target)
 image_reply_ends (Run target steps) image second answered text journal is =
     run_reply_ends target steps (run_under target steps image) second answered text is.0
-image_reply_ends (Gen number) image second answered text journal is =
-    subst (Ends (Gen number)) (sym is.1.status_is) (summary_ends number (are_closed (last_works (msp430_analysis (setting_of usual_limits (device_of usual image))) journal)))
+image_reply_ends (Gen chip number) image second answered text journal is =
+    let task = usual_task chip in
+    let status = analysed_status task.target task.limits task.workers image answered is.0 journal is.1 in
+    subst (Ends (Gen chip number)) status.1 (summary_ends chip number status.0)
 
 -- an analysis alone leaves something open
 analyses_open : (reading : Reading) (answered : Status) → Ends reading answered → answered ≡ Open → Analyses reading
@@ -185,8 +263,8 @@ analyses_open reading answered (went_wild target steps) e = absurd (cc)
 analyses_open reading answered (lacked_a_choice target steps) e = absurd (cc)
 analyses_open reading answered (refused_script target steps) e = absurd (cc)
 analyses_open reading answered (script_too_long target steps) e = absurd (cc)
-analyses_open reading answered (summed number) e = of_made number
-analyses_open reading answered (summed_open number) e = of_made number
+analyses_open reading answered (summed chip number) e = of_made chip number
+analyses_open reading answered (summed_open chip number) e = of_made chip number
 
 open_reply_analyses : (reading : Reading) (input : Option (List ℕ)) (report : List ℕ) (journal : List Event) → IsReply reading input Open report journal
     → Analyses reading
@@ -200,24 +278,26 @@ open_alone_lem reading input before after journal answers =
     let given = gives_reply reading Open input before after journal answers ((λ f. cc f), (λ f. cc f)) (λ f. cc f) in
     open_reply_analyses reading (input_of reading input) given.text journal given.reply
 
-open_reply : ShowSites → HaveRules → HaveOneImage → (task : Task) → IsRamRange (RulesOf task.ram) → EndsInMemory (RulesOf task.ram) → IsBounded (Analyse task) → (input : Option (List ℕ)) (report : List ℕ) (journal : List Event)
+open_reply : ShowMsp430 → ShowMcs51 → HaveRules → HaveOneImage → (task : Task) → IsRamRange (target_rules task.target)
+    → EndsInMemory (target_rules task.target) → IsBounded (Analyse task) → (input : Option (List ℕ)) (report : List ℕ) (journal : List Event)
     → IsReply (Analyse task) input Open report journal → (text : List ℕ) (image : List (Option ℕ)) → input ≡ Some text
-    → Denotes (RulesOf task.ram) Blank (texts.lines_of text) image → ShowsOpenSites (msp430_analysis (setting_of task.limits (device_of task.ram image))) journal report
-open_reply shows rules one task range end few input report journal (of_image other second gives reply) text image e denoted =
-    let device = device_of task.ram image in
-    let is = analysed one task input second Open report journal text image other gives reply e denoted in
-    let program = program_of rules task text image range end few denoted in
-    let left = open_is (are_closed (last_works (msp430_analysis (setting_of task.limits device)) journal)) is.status_is in
-    subst (ShowsOpenSites (msp430_analysis (setting_of task.limits device)) journal) (sym is.text_is) (shows (setting_of task.limits device) instr_text journal program is.is_analysis.legal left)
-open_reply shows rules one task range end few input report journal (of_bad line fault bad is line_is none) text image e denoted = absurd (cc)
-open_reply shows rules one task range end few input report journal (of_long long is line_is none) text image e denoted = absurd (cc)
+    → Denotes (target_rules task.target) Blank (texts.lines_of text) image → ShowsSitesOf task.target task.limits image journal report
+open_reply msp430 mcs51 rules one task range end few input report journal (of_image other second gives reply) text image e denoted =
+    shows_image msp430 mcs51 task.target task.limits task.workers image report journal (given_image rules task text image range end few denoted)
+    (analysed one task input second Open report journal text image other gives reply e denoted)
+open_reply msp430 mcs51 rules one task range end few input report journal (of_bad line fault bad is line_is none) text image e denoted = absurd (cc)
+open_reply msp430 mcs51 rules one task range end few input report journal (of_long long is line_is none) text image e denoted = absurd (cc)
 
-pub open_lem : ShowSites → HaveRules → HaveOneImage → (task : Task) (input before after : Option (List ℕ)) (journal : List Event)
-    → IsRamRange (RulesOf task.ram) → EndsInMemory (RulesOf task.ram) → IsBounded (Analyse task) → Answers (Analyse task) Open input before after journal →
-    ReportsOn task.ram input before after (λ device report. ShowsOpenSites (msp430_analysis (setting_of task.limits device)) journal report)
-open_lem shows rules one task input before after journal range end few answers text image e denoted =
-    let given = gives_reply (Analyse task) Open input before after journal answers ((λ f. cc f), (λ f. cc f)) (λ f. cc f) in
-    (given.text, given.held, open_reply shows rules one task range end few input given.text journal given.reply text image e denoted)
+pub open_lem : ShowMsp430 → ShowMcs51 → HaveRules → HaveOneImage → (task : Task) (input before after : Option (List ℕ)) (journal : List Event)
+    → IsRamRange (target_rules task.target) → EndsInMemory (target_rules task.target) → IsBounded (Analyse task)
+    → Answers (Analyse task) Open input before after journal
+    → ReportsOn task.target input before after (λ image report. ShowsSitesOf task.target task.limits image journal report)
+open_lem msp430 mcs51 rules one task input before after journal range end few answers text image e denoted =
+    let given = gives_reply (Analyse task) Open input before after journal answers ((λ f. cc f), (λ f. cc f)) (λ f. cc f) in (
+      given.text,
+      given.held,
+      open_reply msp430 mcs51 rules one task range end few input given.text journal given.reply text image e denoted,
+    )
 
 abbrev HaveNotBoth : Type 0
 HaveNotBoth = (rules : Rules) (tail : Tail) (lines : List (List ℕ)) (image : List (Option ℕ)) (line : ℕ) (fault : HexFault)
@@ -296,3 +376,24 @@ complete_lem both ended faultless reading answered input before after journal te
 complete_lem both ended faultless reading answered input before after journal text image second (unreplied (inl fault) kept none) e gives no_read no_write =
     absurd (no_read fault)
 complete_lem both ended faultless reading answered input before after journal text image second (unreplied (inr memory) kept none) e gives no_read no_write = inr memory
+
+-- MADE PROGRAMS
+
+abbrev HaveImages : Type 0
+HaveImages = (chip : ChipName) (number : ℕ) → number ≤ 2000 → (image : List (Option ℕ)) × Denotes (made_rules chip) Blank (texts.lines_of (made_image chip number)) image
+
+abbrev HaveSizes : Type 0
+HaveSizes = (chip : ChipName) (number : ℕ) → number ≤ 2000 → length (made_image chip number) ≤ text_limit
+
+-- each made text gives an image, so its summary is told
+pub made_lem : HaveNotBoth → EndedStay → EndedAreFaultless → HaveImages → HaveSizes → (chip : Chip) (number : ℕ) (answered : Status) (input before after : Option (List ℕ)) (journal : List Event)
+    → number ≤ 2000 → Answers (Gen chip number) answered input before after journal → (answered ≡ ReadFault → ⊥) → (answered ≡ WriteFault → ⊥)
+    → Ends (Gen chip number) answered ⊎ (answered ≡ Memory)
+made_lem both ended faultless images sizes chip.Msp430 number answered input before after journal few answers no_read no_write =
+    let denotes = images made.Msp430 number few in
+    complete_lem both ended faultless (Gen chip.Msp430 number) answered input before after journal (made_image made.Msp430 number) denotes.0 [] answers refl
+    ((record { fits = sizes made.Msp430 number few; denoted = denotes.1 }), refl) no_read no_write
+made_lem both ended faultless images sizes chip.Mcs51 number answered input before after journal few answers no_read no_write =
+    let denotes = images made.Mcs51 number few in
+    complete_lem both ended faultless (Gen chip.Mcs51 number) answered input before after journal (made_image made.Mcs51 number) denotes.0 [] answers refl
+    ((record { fits = sizes made.Mcs51 number few; denoted = denotes.1 }), refl) no_read no_write

@@ -23,7 +23,7 @@ use Rattle.clap.specs.Words.{first_value, matches_of, rows_of}
 use Rattle.clap.specs.declared.parser.matches.Found.{Found}
 use Rattle.vsa_top.specs.Command.{AreTaken, command, given}
 use Rattle.vsa_top.proofs.CommandLemmas.{given_is}
-use Rattle.vsa_top.specs.Words.{EndsInMemory, IsDigit, IsNumberBehind, IsRange, IsNumber, IsNumberIn, IsSaid, Reads, Say, asked, analysis_of, chip_word, disassembly_of, making_of, number_behind, number_from, number_of, mode_word, reading_with, run_by, untasked, unsaid, IsBounded, target_by, target_rules, or_else, rules_of, usual}
+use Rattle.vsa_top.specs.Words.{EndsInMemory, IsDigit, IsNumberBehind, IsRange, IsNumber, IsNumberIn, IsSaid, Reads, Say, asked, analysis_by, chip_word, disassembly_of, making_of, number_behind, number_from, number_of, mode_word, reading_with, run_by, untasked, unsaid, IsBounded, target_by, target_rules, or_else, rules_of, usual, usual_target}
 
 -- NUMBERS
 
@@ -323,9 +323,9 @@ some_or_one : (workers : Option ℕ) → WorkersOf workers → (1 ≤ or_else wo
 some_or_one None some = (omega arith, omega arith)
 some_or_one (Some workers) some = some
 
-analysis_range : (chip : Chip) (o : Options) → RangeOf o.ram → CallsOf o.calls → WorkersOf o.workers → RangeOfReading (analysis_of chip o)
-analysis_range chip.Msp430 o held few some = (range_or_usual o.ram held, (few_or_usual o.calls few, (some_or_one o.workers some).0, (some_or_one o.workers some).1))
-analysis_range chip.Mcs51 o held few some = tt
+analysis_range : (target : Option Target) (o : Options) → RangeIn target → CallsOf o.calls → WorkersOf o.workers → RangeOfReading (analysis_by target o)
+analysis_range None o held few some = tt
+analysis_range (Some target) o held few some = (held, (few_or_usual o.calls few, (some_or_one o.workers some).0, (some_or_one o.workers some).1))
 
 disassembly_range : (target : Option Target) → RangeIn target → RangeOfReading (disassembly_of target)
 disassembly_range None held = tt
@@ -338,13 +338,16 @@ run_range (Some target) steps held = (held, tt)
 abbrev CountOf : Option ℕ → Type 0
 CountOf number = IfSome number (λ n. (1 ≤ n) × (n ≤ 2000))
 
+usual_range : (chip : Chip) → IsRam (target_rules (usual_target chip))
+usual_range chip.Msp430 = range_or_usual None tt
+usual_range chip.Mcs51 = (tt, tt)
+
 making_range : (chip : Chip) (number : Option ℕ) → CountOf number → RangeOfReading (making_of chip number)
-making_range chip.Msp430 None held = tt
-making_range chip.Msp430 (Some number) held = (range_or_usual None tt, held)
-making_range chip.Mcs51 number held = tt
+making_range chip None held = tt
+making_range chip (Some number) held = (usual_range chip, held)
 
 asked_range : (mode : Mode) (chip : Chip) (o : Options) → RangeOf o.ram → CallsOf o.calls → WorkersOf o.workers → CountOf o.number → RangeOfReading (asked mode chip o)
-asked_range mode.Analyse chip o range few some count = unsaid_range o.steps _ (unsaid_range o.number _ (analysis_range chip o range few some))
+asked_range mode.Analyse chip o range few some count = unsaid_range o.steps _ (unsaid_range o.number _ (analysis_range (target_by chip o.ram) o (target_range chip o.ram range) few some))
 asked_range mode.Disasm chip o range few some count =
     untasked_range o _ (unsaid_range o.steps _ (unsaid_range o.number _ (disassembly_range (target_by chip o.ram) (target_range chip o.ram range))))
 asked_range mode.Run chip o range few some count =

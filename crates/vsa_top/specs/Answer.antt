@@ -4,6 +4,7 @@ use Rattle.std.specs.Fmt.{decimal}
 use Rattle.ihex_read.specs.declared.fault.HexFault.{HexFault}
 use Rattle.ihex_read.specs.Names.{fault_name}
 use Rattle.vsa_io.specs.Stream.{appended, AppendsPrefix}
+use Rattle.analysis_limits.specs.declared.limits.Limits.{Limits}
 use Rattle.chip_law.specs.Analysis.{Analysis}
 use Rattle.round_core.specs.declared.event.Event.{Event}
 use Rattle.round_core.specs.Counts.{seat_of}
@@ -13,7 +14,9 @@ use Rattle.run_trace.specs.declared.trace.End.{End}
 use Rattle.run_trace.specs.declared.trace.End.TheVariants as ended
 use Rattle.run_trace.specs.Trace.{Ended}
 use Rattle.report_text.specs.Report.{are_closed, last_works, report_of_journal}
-use Rattle.msp430_flow.specs.Standing.{instr_text}
+use Rattle.mcs51_flow.specs.Standing.{instr_text as mcs51_text}
+use Rattle.mcs51_flow.specs.Chip.{mcs51_analysis}
+use Rattle.msp430_flow.specs.Standing.{instr_text as msp430_text}
 use Rattle.msp430_flow.specs.Chip.{msp430_analysis}
 use Rattle.disassembly.specs.Listing.{IsDisassembly}
 use Rattle.vsa_top.specs.Input.{InputGives, IsBad, IsTooLong, input_of, tail_of}
@@ -21,7 +24,8 @@ use Rattle.vsa_top.specs.Scripts.{IsRefused, IsScript, second_limit}
 use Rattle.vsa_top.specs.Summary.{summary}
 use Rattle.vsa_top.specs.Mcs51.{mcs51_reads, mcs51_run}
 use Rattle.vsa_top.specs.Msp430.{msp430_reads, msp430_run}
-use Rattle.vsa_top.specs.Words.{rules_of, device_of, setting_of, usual, usual_limits}
+use Rattle.vsa_top.specs.Words.{rules_of, device_of, mcs51_setting, msp430_setting, usual_task}
+use Rattle.vsa_top.specs.declared.words.Chip.{Chip}
 use Rattle.vsa_top.specs.declared.outcome.Status.{Status}
 use Rattle.vsa_top.specs.declared.outcome.Status.TheVariants as status
 use Rattle.vsa_top.specs.declared.words.Reading.{Reading}
@@ -85,18 +89,27 @@ abbrev pub run_under : Target → (steps : ℕ) → List (Option ℕ) → (scrip
 run_under (Msp430 ram) steps image script = msp430_run (device_of ram image) script steps
 run_under Mcs51 steps image script = mcs51_run image script steps
 
+-- the reply to an image that is analysed: the report of the chip with this image, by so many workers under these limits
+abbrev pub IsAnalysedOn : Target → Limits → (workers : ℕ) → List (Option ℕ) → Status → List ℕ → List Event → Type 0
+IsAnalysedOn (Msp430 ram) limits workers image replied text journal =
+    IsAnalysed msp430_text (msp430_analysis (msp430_setting ram limits image)) workers replied text journal
+IsAnalysedOn Mcs51 limits workers image replied text journal =
+    IsAnalysed mcs51_text (mcs51_analysis (mcs51_setting limits image)) workers replied text journal
+
+abbrev pub IsAnalysedBy : Task → List (Option ℕ) → Status → List ℕ → List Event → Type 0
+IsAnalysedBy task image replied text journal = IsAnalysedOn task.target task.limits task.workers image replied text journal
+
 -- the reply to the image of a made program: the summary of its report
-abbrev pub IsSummed : (number : ℕ) → List (Option ℕ) → Status → List ℕ → List Event → Type 0
-IsSummed number image replied text journal =
-    (report : List ℕ) × IsAnalysed instr_text (msp430_analysis (setting_of usual_limits (device_of usual image))) 1 replied report journal × (text ≡ summary number report)
+abbrev pub IsSummed : Chip → (number : ℕ) → List (Option ℕ) → Status → List ℕ → List Event → Type 0
+IsSummed chip number image replied text journal =
+    (report : List ℕ) × IsAnalysedBy (usual_task chip) image replied report journal × (text ≡ summary chip number report)
 
 -- the reply to an image
 abbrev pub IsImageReply : Reading → List (Option ℕ) → (second : Option (List ℕ)) → Status → List ℕ → List Event → Type 0
-IsImageReply (Analyse task) image second replied text journal =
-    IsAnalysed instr_text (msp430_analysis (setting_of task.limits (device_of task.ram image))) task.workers replied text journal
+IsImageReply (Analyse task) image second replied text journal = IsAnalysedBy task image replied text journal
 IsImageReply (Disasm target) image second replied text journal = (replied ≡ status.Done) × IsListing target image text × (journal ≡ [])
 IsImageReply (Run target steps) image second replied text journal = IsRun (run_under target steps image) second replied text × (journal ≡ [])
-IsImageReply (Gen number) image second replied text journal = IsSummed number image replied text journal
+IsImageReply (Gen chip number) image second replied text journal = IsSummed chip number image replied text journal
 
 -- The reply to words that are a reading, over the text that the input is, where it is told: that to the image which it
 -- gives, or its first faulty line, or that it is too long.
@@ -144,11 +157,11 @@ pub data Ends : Reading → Status → Type 0 where
   went_wild : (target : Target) (steps : ℕ) → Ends (Run target steps) status.Wild
   lacked_a_choice : (target : Target) (steps : ℕ) → Ends (Run target steps) status.NeedChoice
   refused_script : (target : Target) (steps : ℕ) → Ends (Run target steps) status.BadCert
-  summed : (number : ℕ) → Ends (Gen number) status.Done
-  summed_open : (number : ℕ) → Ends (Gen number) status.Open
+  summed : (chip : Chip) (number : ℕ) → Ends (Gen chip number) status.Done
+  summed_open : (chip : Chip) (number : ℕ) → Ends (Gen chip number) status.Open
   script_too_long : (target : Target) (steps : ℕ) → Ends (Run target steps) status.TooLong
 
 -- what is analysed: the image of the input, or a made program
 pub data Analyses : Reading → Type 0 where
   of_input : (task : Task) → Analyses (Analyse task)
-  of_made : (number : ℕ) → Analyses (Gen number)
+  of_made : (chip : Chip) (number : ℕ) → Analyses (Gen chip number)

@@ -1,17 +1,35 @@
 -- What a report says of every run of the chip whose image the input denotes.
 use Rattle.std.specs.Prelude.{◌≡◌, ℕ, Option, Some, List}
-use Rattle.ihex_read.specs.declared.rule_set.Rules.TheVariants.{Msp430}
+use Rattle.analysis_limits.specs.declared.limits.Limits.{Limits}
 use Rattle.ihex_read.specs.declared.rule_set.Tail.TheVariants.{Blank}
 use Rattle.ihex_read.specs.ImageText.{Denotes}
 use Rattle.ihex_read.specs.Lines as texts
 use Rattle.vsa_io.specs.Stream.{appended}
-use Rattle.msp430_chip.specs.declared.device.Device.{Device}
-use Rattle.vsa_top.specs.declared.words.Ram.{Ram}
-use Rattle.vsa_top.specs.Words.{device_of}
+use Rattle.round_core.specs.declared.event.Event.{Event}
+use Rattle.report_text.specs.Promise.{CoversEveryRun, ShowsOpenSites}
+use Rattle.mcs51_flow.specs.Chip.{mcs51_analysis}
+use Rattle.mcs51_flow.specs.Machine.{mcs51_machine}
+use Rattle.mcs51_flow.specs.Standing.{instr_text as mcs51_text}
+use Rattle.msp430_flow.specs.Chip.{msp430_analysis}
+use Rattle.msp430_flow.specs.Machine.{msp430_machine}
+use Rattle.msp430_flow.specs.Standing.{instr_text as msp430_text}
+use Rattle.vsa_top.specs.declared.words.Target.{Target}
+use Rattle.vsa_top.specs.declared.words.Target.TheVariants.{Msp430, Mcs51}
+use Rattle.vsa_top.specs.Words.{device_of, mcs51_setting, msp430_setting, target_rules}
 
--- Where the input is told and denotes an image of an MSP430 with this RAM, the sink got a report of which P holds, of the
--- device with this image.
-abbrev pub ReportsOn : Ram → (input before after : Option (List ℕ)) → (Device → List ℕ → Type 0) → Type 0
-ReportsOn ram input before after P = (text : List ℕ) (image : List (Option ℕ)) → input ≡ Some text
-    → Denotes (Msp430 ram.lo ram.hi) Blank (texts.lines_of text) image
-    → (report : List ℕ) × (after ≡ appended before report) × P (device_of ram image) report
+-- the report covers every run of the chip with this image
+abbrev pub CoversRunsOf : Target → (image : List (Option ℕ)) → (report : List ℕ) → Type 0
+CoversRunsOf (Msp430 ram) image report = CoversEveryRun (msp430_machine (device_of ram image)) msp430_text report
+CoversRunsOf Mcs51 image report = CoversEveryRun (mcs51_machine image) mcs51_text report
+
+-- the report shows the open sites of the chip's analysis under these limits, of the book that the journal leads to
+abbrev pub ShowsSitesOf : Target → Limits → (image : List (Option ℕ)) → List Event → (report : List ℕ) → Type 0
+ShowsSitesOf (Msp430 ram) limits image journal report = ShowsOpenSites (msp430_analysis (msp430_setting ram limits image)) journal report
+ShowsSitesOf Mcs51 limits image journal report = ShowsOpenSites (mcs51_analysis (mcs51_setting limits image)) journal report
+
+-- Where the input is told and denotes an image of the chip with its RAM, the sink got a report of which P holds, with this
+-- image.
+abbrev pub ReportsOn : Target → (input before after : Option (List ℕ)) → (List (Option ℕ) → List ℕ → Type 0) → Type 0
+ReportsOn target input before after P = (text : List ℕ) (image : List (Option ℕ)) → input ≡ Some text
+    → Denotes (target_rules target) Blank (texts.lines_of text) image
+    → (report : List ℕ) × (after ≡ appended before report) × P image report

@@ -1,15 +1,15 @@
 -- The MCS-51 as it is disassembled and run: by its table, its texts and its step.
-use Rattle.std.specs.Prelude.{ℕ, ◌≡◌, Option, None, Some, Result, Ok, Err, List, []}
+use Rattle.std.specs.Prelude.{ℕ, ◌≡◌, Option, None, Some, Result, Ok, Err, List}
 use Rattle.disassembly.specs.Listing.{Found}
 use Rattle.mcs51_chip.specs.declared.state.ChipState.{ChipState}
 use Rattle.mcs51_chip.specs.State.{first_state}
 use Rattle.mcs51_chip.specs.Step.{step_of}
 use Rattle.mcs51_decode.specs.declared.instr.Instr.{Instr}
 use Rattle.mcs51_decode.specs.declared.refusal.NoInstr.{NoInstr}
-use Rattle.mcs51_decode.specs.Decoding.{instr_of_bytes}
 use Rattle.mcs51_decode.specs.Encoding.{bytes_of}
 use Rattle.mcs51_decode.specs.Standing.{Decodes}
 use Rattle.mcs51_emu.specs.Listing.{item_of}
+use Rattle.mcs51_flow.specs.Standing.{instr_text}
 use Rattle.mcs51_text.specs.Text.{text_of}
 use Rattle.run_trace.specs.Runner.{Runner}
 use Rattle.run_trace.specs.Trace.{Ended, run_of}
@@ -23,17 +23,9 @@ mcs51_found at (Err refusal) = None
 abbrev pub mcs51_reads : List (Option ℕ) → ℕ → Found → Type 0
 mcs51_reads image at found = (answer : Result (Instr × ℕ) NoInstr) × Decodes image at answer × (found ≡ mcs51_found at answer)
 
-abbrev pub text_where : ℕ → Option Instr → List ℕ
-text_where pc None = []
-text_where pc (Some instr) = text_of pc instr
-
--- the text of the instruction of these bytes at an address
-abbrev pub mcs51_text : ℕ → List ℕ → List ℕ
-mcs51_text pc bytes = text_where pc (instr_of_bytes bytes)
-
 abbrev pub mcs51_runner : List (Option ℕ) → Runner ChipState NoInstr
 mcs51_runner image = record { step = step_of image; pc = λ s. s.pc; item = item_of }
 
 -- the run from a reset that leaves 0 in RAM, along a script
 abbrev pub mcs51_run : List (Option ℕ) → (script : List ℕ) → (steps : ℕ) → Ended
-mcs51_run image script steps = run_of (mcs51_runner image) mcs51_text steps first_state script
+mcs51_run image script steps = run_of (mcs51_runner image) instr_text steps first_state script

@@ -3,13 +3,14 @@ use Rattle.std.specs.Prelude.{◌≡◌, ℕ, ◌+◌, ◌-◌, ◌*◌, ◌<◌
 use Rattle.std.specs.declared.string.String.{String}
 use Rattle.std.specs.declared.alloc.Global.{Global}
 use Rattle.std.specs.Borrow.{Bor}
+use Rattle.analysis_limits.specs.declared.limits.Limits.{Limits}
 use Rattle.hex.specs.Hex.{hex_digit_value}
 use Rattle.ihex_read.specs.declared.rule_set.Rules.{Rules}
 use Rattle.ihex_read.specs.declared.rule_set.Rules.TheVariants as rules
 use Rattle.ihex_read.specs.ImageText.{IsRamRange}
 use Rattle.msp430_chip.specs.declared.device.Device.{Device}
-use Rattle.msp430_flow.specs.declared.setting.Limits.{Limits}
-use Rattle.msp430_flow.specs.declared.setting.Setting.{Setting}
+use Rattle.mcs51_flow.specs.declared.setting.Setting.{Setting as Mcs51Setting}
+use Rattle.msp430_flow.specs.declared.setting.Setting.{Setting as Msp430Setting}
 use Rattle.vsa_top.specs.Command.{AreTaken, given}
 use Rattle.vsa_top.specs.declared.words.Chip.{Chip}
 use Rattle.vsa_top.specs.declared.words.Chip.TheVariants as chip
@@ -27,12 +28,17 @@ use Rattle.vsa_top.specs.declared.words.Target.TheVariants.{Msp430, Mcs51}
 abbrev pub usual : Ram
 usual = record { lo = 512; hi = 2559 }
 
--- the chip whose image is read: the MSP430 alone is analysed, a made program with the usual RAM
+-- a chip with the usual RAM
+abbrev pub usual_target : Chip → Target
+usual_target chip.Msp430 = Msp430 usual
+usual_target chip.Mcs51 = Mcs51
+
+-- the chip whose image is read, of a made program with the usual RAM
 abbrev pub target_of : Reading → Target
-target_of (Analyse task) = Msp430 task.ram
+target_of (Analyse task) = task.target
 target_of (Disasm target) = target
 target_of (Run target steps) = target
-target_of (Gen number) = Msp430 usual
+target_of (Gen chip number) = usual_target chip
 
 abbrev pub target_rules : Target → Rules
 target_rules (Msp430 ram) = rules.Msp430 ram.lo ram.hi
@@ -55,8 +61,15 @@ device_of ram image = record { image = image; lo = ram.lo; hi = ram.hi }
 abbrev pub usual_limits : Limits
 usual_limits = record { calls = 6; targets = 64 }
 
-abbrev pub setting_of : Limits → Device → Setting
-setting_of limits device = record { device = device; limits = limits }
+-- how a made program is analysed: with the usual RAM and limits, by one worker
+abbrev pub usual_task : Chip → Task
+usual_task chip = record { target = usual_target chip; limits = usual_limits; workers = 1 }
+
+abbrev pub msp430_setting : Ram → Limits → List (Option ℕ) → Msp430Setting
+msp430_setting ram limits image = record { device = device_of ram image; limits = limits }
+
+abbrev pub mcs51_setting : Limits → List (Option ℕ) → Mcs51Setting
+mcs51_setting limits image = record { image = image; limits = limits }
 
 -- the number of four digits, the highest first, where each has a value
 abbrev pub number_from : (a b c d : Option ℕ) → Option ℕ
@@ -158,17 +171,16 @@ abbrev pub limits_by : (calls targets : Option ℕ) → Limits
 limits_by calls targets = record { calls = or_else calls usual_limits.calls; targets = or_else targets usual_limits.targets }
 
 -- how it is analysed: one worker does it where the options name no number
-abbrev pub task_of : Options → Task
-task_of o = record { ram = or_else o.ram usual; limits = limits_by o.calls o.targets; workers = or_else o.workers 1 }
+abbrev pub task_of : Target → Options → Task
+task_of target o = record { target = target; limits = limits_by o.calls o.targets; workers = or_else o.workers 1 }
 
-abbrev pub analysis_of : Chip → Options → Option Reading
-analysis_of chip.Msp430 o = Some (Analyse (task_of o))
-analysis_of chip.Mcs51 o = None
+abbrev pub analysis_by : Option Target → Options → Option Reading
+analysis_by None o = None
+analysis_by (Some target) o = Some (Analyse (task_of target o))
 
 abbrev pub making_of : Chip → (number : Option ℕ) → Option Reading
-making_of chip.Msp430 (Some number) = Some (Gen number)
-making_of chip.Msp430 None = None
-making_of chip.Mcs51 number = None
+making_of chip None = None
+making_of chip (Some number) = Some (Gen chip number)
 
 abbrev pub disassembly_of : Option Target → Option Reading
 disassembly_of None = None
@@ -182,10 +194,10 @@ run_by (Some target) steps = Some (Run target (or_else steps usual_steps))
 abbrev pub untasked : Options → Option Reading → Option Reading
 untasked o asked = unsaid o.calls (unsaid o.targets (unsaid o.workers asked))
 
--- What a mode, a chip and options ask. The MSP430 alone is analysed, within limits and by workers, and has made programs,
--- which need their number and have the usual RAM and limits; a run alone has steps.
+-- What a mode, a chip and options ask. An analysis alone has limits and workers, and a run alone has steps. A made program
+-- needs its number, and has the usual RAM and limits.
 abbrev pub asked : Mode → Chip → Options → Option Reading
-asked mode.Analyse chip o = unsaid o.steps (unsaid o.number (analysis_of chip o))
+asked mode.Analyse chip o = unsaid o.steps (unsaid o.number (analysis_by (target_by chip o.ram) o))
 asked mode.Disasm chip o = untasked o (unsaid o.steps (unsaid o.number (disassembly_of (target_by chip o.ram))))
 asked mode.Run chip o = untasked o (unsaid o.number (run_by (target_by chip o.ram) o.steps))
 asked mode.Gen chip o = untasked o (unsaid o.ram (unsaid o.steps (making_of chip o.number)))
@@ -193,7 +205,7 @@ asked mode.Gen chip o = untasked o (unsaid o.ram (unsaid o.steps (making_of chip
 -- an analysis keeps at most eight call sites and has 1 to 16 workers, and a made program has 1 to 2000 functions
 abbrev pub IsBounded : Reading → Type 0
 IsBounded (Analyse task) = (task.limits.calls ≤ 8) × (1 ≤ task.workers) × (task.workers ≤ 16)
-IsBounded (Gen number) = (1 ≤ number) × (number ≤ 2000)
+IsBounded (Gen chip number) = (1 ≤ number) × (number ≤ 2000)
 IsBounded (Disasm target) = Unit {0}
 IsBounded (Run target steps) = Unit {0}
 

@@ -3,15 +3,14 @@
 ghost use Rattle.std.specs.Prelude.{◌≡◌, ◌≢◌, ◌≤◌, IfOk, IfErr, OnOk, Some};
 ghost use Rattle.ihex_read.specs.ImageText.{IsRamRange};
 ghost use Rattle.image_gen.specs.Made.{made_image};
-ghost use Rattle.image_gen.specs.declared.chip_name.ChipName.TheVariants.{Msp430};
 ghost use Rattle.vsa_io.specs.Stream.{HasRisen};
 ghost use Rattle.vsa_top.specs.Answer.{IsReply, TellsNoFault};
-ghost use Rattle.vsa_top.specs.Input.{input_of};
+ghost use Rattle.vsa_top.specs.Input.{input_of, made_chip};
 ghost use Rattle.vsa_top.specs.Words.{IsBounded, rules_of};
 ghost use Rattle.vsa_top.specs.declared.words.Reading.TheVariants.{Gen};
 
 use crate::reply::{NoReply, Reply, input_reply};
-use crate::words::Reading;
+use crate::words::{Chip, Reading};
 use image_gen::{ChipName, MOST, make};
 use std::alloc::Global;
 use std::sync::Wait;
@@ -19,22 +18,33 @@ use std::thread::Threads;
 use vsa_io::{CleanSource, Source};
 use worker_rounds::Gate;
 
+/// The chip of a made program.
+fn name_of(chip: Chip) -> ChipName
+    ensures { result ≡ made_chip chip }
+{
+    match chip {
+        Chip::Msp430 => ChipName::Msp430,
+        Chip::Mcs51 => ChipName::Mcs51,
+    }
+}
+
 /// The reply to a made program of so many functions.
 fn made_reply<R: Threads + Wait + Sync, G: Gate + Sync>(
     rt: &R,
     alloc: Global,
+    chip: Chip,
     number: u32,
     gate: &G,
 ) -> Result<Reply, NoReply>
     requires least { 1 ≤ number }
     requires most { number ≤ MOST }
     ensures no_fault { IfOk result (λ reply. TellsNoFault reply.status) }
-    ensures reply { IfOk result (λ reply. IsReply (Gen number) (Some (made_image Msp430 number)) reply.status reply.text.items reply.journal.items) }
+    ensures reply { IfOk result (λ reply. IsReply (Gen chip number) (Some (made_image (made_chip chip) number)) reply.status reply.text.items reply.journal.items) }
     ensures unread { IfErr result (λ error. error ≢ NoReply.ReadFault) }
 {
-    let text = make(alloc, ChipName::Msp430, number)?;
+    let text = make(alloc, name_of(chip), number)?;
     let mut source = CleanSource::new(text, 4096);
-    input_reply(rt, alloc, Reading::Gen { number }, &mut source, gate)
+    input_reply(rt, alloc, Reading::Gen { chip, number }, &mut source, gate)
 }
 
 /// The reply to words that are a reading. For a made program nothing is read.
@@ -54,7 +64,7 @@ pub fn reply_to<R: Threads + Wait + Sync, S: Source, G: Gate + Sync>(
     ensures quiet_refusal { IfErr result (λ error. error ≢ NoReply.ReadFault → S.faults source.new ≡ S.faults source.old) }
 {
     match reading {
-        Reading::Gen { number } => made_reply(rt, alloc, number, gate),
+        Reading::Gen { chip, number } => made_reply(rt, alloc, chip, number, gate),
         Reading::Analyse { .. } | Reading::Disasm { .. } | Reading::Run { .. } => {
             input_reply(rt, alloc, reading, source, gate)
         }

@@ -2,15 +2,13 @@
 
 ghost use Rattle.std.specs.Prelude.{◌≡◌, ◌%◌};
 ghost use Rattle.mcs51_chip.specs.State.{first_state};
-ghost use Rattle.vsa_top.specs.Mcs51.{mcs51_reads, mcs51_runner, mcs51_text as the_text};
+ghost use Rattle.vsa_top.specs.Mcs51.{mcs51_reads, mcs51_runner};
 
-use arrayvec::ArrayString;
-use chip_law::InstrText;
 use choosing::Choices;
 use disassembly::{Code, Line};
 use ihex_read::Image;
 use mcs51_chip::ChipState;
-use mcs51_decode::{NoInstr, decode, encode, from_bytes, one_of_three};
+use mcs51_decode::{NoInstr, decode, encode, one_of_three};
 use mcs51_emu::{Machine, Stepped};
 use mcs51_text::text;
 use run_trace::{Emulator, Ran};
@@ -40,21 +38,6 @@ impl Code for Mcs51Code {
 
     fn one_answer() {
         one_of_three();
-    }
-}
-
-/// The texts of the MCS-51's instructions.
-#[derive(Clone, Copy, Debug, PartialEq, Eq)]
-pub struct Mcs51Text;
-
-impl InstrText for Mcs51Text {
-    ghost text_of = { λ _ pc bytes. the_text pc bytes };
-
-    fn instr_text(&self, pc: u16, bytes: &[u8]) -> ArrayString<40> {
-        match from_bytes(bytes) {
-            Some(instr) => text(&instr, pc),
-            None => ArrayString::new(),
-        }
     }
 }
 

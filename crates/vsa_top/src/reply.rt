@@ -1,27 +1,28 @@
 //! What is answered to an input, before any of it is written.
 
-ghost use Rattle.std.specs.Prelude.{◌≡◌, ◌≢◌, ◌≤◌, ℕ, Option, List, [], IfOk, IfErr, OnOk};
+ghost use Rattle.std.specs.Prelude.{◌≡◌, ◌≢◌, ◌≤◌, ℕ, [], IfOk, IfErr, OnOk};
 ghost use Rattle.ihex_read.specs.ImageText.{IsRamRange};
 ghost use Rattle.ihex_read.specs.Kept.{IsReadUnder};
 ghost use Rattle.vsa_io.specs.Stream.{HasRisen};
 ghost use Rattle.run_trace.specs.Trace.{run_of};
-ghost use Rattle.vsa_top.specs.Answer.{IsAnalysed, IsAnalysis, IsImageReply, IsListing, IsReply, IsRun, IsSummed, TellsNoFault, bad_line as the_bad_line, no_line as the_no_line, run_under, status_of_analysis, status_of_end};
+ghost use Rattle.vsa_top.specs.Answer.{IsAnalysed, IsAnalysedBy, IsAnalysis, IsImageReply, IsListing, IsReply, IsRun, IsSummed, TellsNoFault, bad_line as the_bad_line, no_line as the_no_line, run_under, status_of_analysis, status_of_end};
 ghost use Rattle.vsa_top.specs.Input.{begun_with};
 ghost use Rattle.vsa_top.specs.Words.{IsBounded, rules_of, target_rules};
 ghost use Rattle.vsa_top.specs.declared.words.Reading.TheVariants.{Analyse, Gen};
 
 use crate::input::{InputError, image_in};
-use crate::mcs51::{Mcs51Code, Mcs51Run, Mcs51Text};
+use crate::mcs51::{Mcs51Code, Mcs51Run};
 use crate::msp430::{Msp430Code, Msp430Run};
 use crate::outcome::Status;
 use crate::script::{ScriptRefusal, script_in};
 use crate::summary::summary_of;
-use crate::words::{Ram, Reading, Target, Task};
+use crate::words::{Chip as ChipWord, Reading, Target, Task};
 use chip_law::{Chip, ChipText, InstrText};
 use disassembly::disassembly_of;
 use ihex_read::{HexFault, Image};
+use mcs51_flow::{Mcs51Chip, Mcs51Text};
 use msp430_chip::Device;
-use msp430_flow::{Limits, Msp430Chip, Msp430Text};
+use msp430_flow::{Msp430Chip, Msp430Text};
 use report_text::report_of;
 use round_core::{Book, Event};
 use run_trace::{Emulator, End, trace_of};
@@ -256,22 +257,22 @@ fn chip_run_reply<S: Source>(
     }
 }
 
-/// The summary of the analysis of a made program.
-fn made_image_reply(alloc: Global, number: u32, image: Image) -> Result<Reply, NoReply>
-    requires { IsReadUnder (rules_of (Gen number)) image }
+/// The report of a program that so many workers analyse.
+fn chip_reply<R: Threads + Wait + Sync, C: ChipText<Base: Send> + Send + Sync, G: Gate + Sync>(
+    rt: &R,
+    alloc: Global,
+    chip: &C,
+    workers: u32,
+    gate: &G,
+) -> Result<Reply, Memory>
+    requires some { 1 ≤ workers }
+    requires few { workers ≤ 16 }
     ensures no_fault { IfOk result (λ reply. TellsNoFault reply.status) }
-    ensures reply { IfOk result (λ reply. IsSummed number image reply.status reply.text.items reply.journal.items) }
-    ensures unread { IfErr result (λ error. error ≢ NoReply.ReadFault) }
+    ensures reply { IfOk result (λ reply.
+        IsAnalysed (C.text_of chip.now) (C.analysis (C.base chip.now)) workers reply.status reply.text.items reply.journal.items) }
 {
-    let chip = Msp430Chip::new(alloc, image, Ram::USUAL.lo, Ram::USUAL.hi, Limits::USUAL)?;
-    let book = book_alone(alloc, &chip)?;
-    let reply = analysed(alloc, &chip, book)?;
-    let text = summary_of(alloc, number, reply.text.as_slice())?;
-    Ok(Reply {
-        status: reply.status,
-        text,
-        journal: reply.journal,
-    })
+    let book = book_of(rt, alloc, chip, workers, gate)?;
+    analysed(alloc, chip, book)
 }
 
 /// The report of an image.
@@ -281,17 +282,46 @@ fn analysis_reply<R: Threads + Wait + Sync, G: Gate + Sync>(
     task: Task,
     image: Image,
     gate: &G,
-) -> Result<Reply, NoReply>
+) -> Result<Reply, Memory>
     requires range { IsRamRange (rules_of (Analyse task)) }
     requires bounded { IsBounded (Analyse task) }
     requires kept { IsReadUnder (rules_of (Analyse task)) image }
     ensures no_fault { IfOk result (λ reply. TellsNoFault reply.status) }
-    ensures reply { IfOk result (λ reply. (second : Option (List ℕ)) → IsImageReply (Analyse task) image second reply.status reply.text.items reply.journal.items) }
-    ensures unread { IfErr result (λ error. error ≢ NoReply.ReadFault) }
+    ensures reply { IfOk result (λ reply. IsAnalysedBy task image reply.status reply.text.items reply.journal.items) }
 {
-    let chip = Msp430Chip::new(alloc, image, task.ram.lo, task.ram.hi, task.limits)?;
-    let book = book_of(rt, alloc, &chip, task.workers, gate)?;
-    Ok(analysed(alloc, &chip, book)?)
+    match task.target {
+        Target::Msp430 { ram } => {
+            let chip = Msp430Chip::new(alloc, image, ram.lo, ram.hi, task.limits)?;
+            chip_reply(rt, alloc, &chip, task.workers, gate)
+        }
+        Target::Mcs51 => {
+            let chip = Mcs51Chip::new(alloc, image, task.limits)?;
+            chip_reply(rt, alloc, &chip, task.workers, gate)
+        }
+    }
+}
+
+/// The summary of the analysis of a made program.
+fn made_image_reply<R: Threads + Wait + Sync, G: Gate + Sync>(
+    rt: &R,
+    alloc: Global,
+    chip: ChipWord,
+    number: u32,
+    image: Image,
+    gate: &G,
+) -> Result<Reply, Memory>
+    requires range { IsRamRange (rules_of (Gen chip number)) }
+    requires kept { IsReadUnder (rules_of (Gen chip number)) image }
+    ensures no_fault { IfOk result (λ reply. TellsNoFault reply.status) }
+    ensures reply { IfOk result (λ reply. IsSummed chip number image reply.status reply.text.items reply.journal.items) }
+{
+    let reply = analysis_reply(rt, alloc, Task::usual(chip), image, gate)?;
+    let text = summary_of(alloc, chip, number, reply.text.as_slice())?;
+    Ok(Reply {
+        status: reply.status,
+        text,
+        journal: reply.journal,
+    })
 }
 
 /// What the words ask of an image, behind whose text so much was read.
@@ -314,7 +344,7 @@ fn image_reply<R: Threads + Wait + Sync, S: Source, G: Gate + Sync>(
     ensures quiet_refusal { IfErr result (λ error. error ≢ NoReply.ReadFault → S.faults source.new ≡ S.faults source.old) }
 {
     match reading {
-        Reading::Analyse { task } => analysis_reply(rt, alloc, task, image, gate),
+        Reading::Analyse { task } => Ok(analysis_reply(rt, alloc, task, image, gate)?),
         Reading::Disasm { target } => {
             let lines = listing_of(alloc, target, &image)?;
             Ok(text_reply(alloc, Status::Done, lines))
@@ -322,7 +352,9 @@ fn image_reply<R: Threads + Wait + Sync, S: Source, G: Gate + Sync>(
         Reading::Run { target, steps } => {
             chip_run_reply(alloc, target, steps, image, begun, source)
         }
-        Reading::Gen { number } => made_image_reply(alloc, number, image),
+        Reading::Gen { chip, number } => {
+            Ok(made_image_reply(rt, alloc, chip, number, image, gate)?)
+        }
     }
 }
 

@@ -343,7 +343,8 @@ fn rows_of_other_words(rt: HostRuntime) -> Result<(), Fail> {
         "disasm",
         "disasm msp430 --ram 0201-09FF",
         "disassemble msp430",
-        "analyse mcs51",
+        "analyse mcs51 --ram 0200-09FF",
+        "analyse mcs51 --steps 3",
         "disasm mcs51 --steps 3",
         "disasm mcs51 --ram 0200-09FF",
         "analyse z80",
@@ -389,8 +390,9 @@ fn rows_of_other_words(rt: HostRuntime) -> Result<(), Fail> {
         "analyse msp430 --number 1",
         "run msp430 --number 1",
         "gen msp430",
+        "gen mcs51",
         "gen mcs51 --number 2001",
-        "gen mcs51 --number 1",
+        "gen mcs51 --number 1 --ram 0200-09FF",
         "gen msp430 --number 0",
         "gen msp430 --number 2001",
         "gen msp430 --number 00000001",
@@ -405,7 +407,8 @@ fn rows_of_other_words(rt: HostRuntime) -> Result<(), Fail> {
 
 #[test]
 fn rows_of_made_programs(rt: HostRuntime) -> Result<(), Fail> {
-    // N functions have 4N + 2 instructions, of which the calls, the stores and the returns access memory.
+    // N functions of the MSP430 have 4N + 2 instructions, of which the calls, the stores and the returns access memory, and
+    // those of the MCS-51 have 5N + 3, whose calls and returns access two bytes each.
     for (words, summary) in [
         (
             "gen msp430 --number 0000001",
@@ -414,6 +417,18 @@ fn rows_of_made_programs(rt: HostRuntime) -> Result<(), Fail> {
         (
             "gen msp430 --number 2000",
             "GEN msp430 2000\nCLOSED\nE 8002\nI 8002\nM 6000\nO 0\nS 8002\nT 09FE 1\n",
+        ),
+        (
+            "gen msp430 --number 3",
+            "GEN msp430 3\nCLOSED\nE 14\nI 14\nM 9\nO 0\nS 14\nT 09FE 1\n",
+        ),
+        (
+            "gen mcs51 --number 3",
+            "GEN mcs51 3\nCLOSED\nE 18\nI 18\nM 19\nO 0\nS 18\nT 62 0\n",
+        ),
+        (
+            "gen mcs51 --number 2000",
+            "GEN mcs51 2000\nCLOSED\nE 10003\nI 10003\nM 12001\nO 0\nS 10003\nT 62 0\n",
         ),
     ] {
         answers(&rt, words, "", Status::Done, summary)?;

@@ -3,17 +3,14 @@
 ghost use Rattle.std.specs.Prelude.{◌≡◌, ◌≢◌, [], ◌≤◌, ℕ, List, Option, Some, ◌⊎◌};
 ghost use Rattle.vsa_io.specs.Stream.{HasRisen, AppendsPrefix, appended};
 ghost use Rattle.ihex_read.specs.ImageText.{IsRamRange};
-ghost use Rattle.msp430_flow.specs.Standing.{instr_text};
-ghost use Rattle.msp430_flow.specs.Chip.{msp430_analysis};
-ghost use Rattle.msp430_flow.specs.Machine.{msp430_machine};
-ghost use Rattle.report_text.specs.Promise.{CoversEveryRun, ShowsOpenSites};
-ghost use Rattle.vsa_top.specs.Headline.{ReportsOn};
-ghost use Rattle.vsa_top.specs.declared.words.Reading.TheVariants.{Analyse};
+ghost use Rattle.vsa_top.specs.Headline.{CoversRunsOf, ReportsOn, ShowsSitesOf};
+ghost use Rattle.vsa_top.specs.declared.words.Chip.{Chip as AChip};
+ghost use Rattle.vsa_top.specs.declared.words.Reading.TheVariants.{Analyse, Gen};
 ghost use Rattle.vsa_top.specs.declared.words.Reading.{Reading as AReading};
 ghost use Rattle.vsa_top.specs.declared.words.Task.{Task as ATask};
 ghost use Rattle.vsa_top.specs.Answer.{Analyses, Answers, AreRefused, Ends, IsCutShort, IsWritten};
 ghost use Rattle.vsa_top.specs.Input.{Gives, input_of, tail_of};
-ghost use Rattle.vsa_top.specs.Words.{IsBounded, Reads, rules_of, setting_of};
+ghost use Rattle.vsa_top.specs.Words.{IsBounded, Reads, rules_of};
 
 use crate::headline::reports_hold;
 use crate::made::reply_to;
@@ -90,11 +87,12 @@ pub fn vsa<R: Threads + Wait + Sync, S: Source, K: Sink, G: Gate + Sync>(
     // which tells a report that says CLOSED, whatever the chip meets on any run has its line in the report, and no run
     // leaves the model.
     ensures headline { (task : ATask) → Reads words.now (Analyse task) → result.status ≡ Status.Done
-        → ReportsOn task.ram (S.left source.old) (K.held sink.old) (K.held sink.new) (λ device report. CoversEveryRun (msp430_machine device) instr_text report) }
+        → ReportsOn task.target (S.left source.old) (K.held sink.old) (K.held sink.new) (CoversRunsOf task.target) }
     // Where the words ask an analysis and the status is Open, the report says OPEN and shows each open site, of which there
     // is one: the address of a location of the book at which the limit that its cause names is broken.
     ensures open_sites { (task : ATask) → Reads words.now (Analyse task) → result.status ≡ Status.Open
-        → ReportsOn task.ram (S.left source.old) (K.held sink.old) (K.held sink.new) (λ device report. ShowsOpenSites (msp430_analysis (setting_of task.limits device)) result.journal.items report) }
+        → ReportsOn task.target (S.left source.old) (K.held sink.old) (K.held sink.new)
+        (λ image report. ShowsSitesOf task.target task.limits image result.journal.items report) }
     // Open is the status of an analysis alone: that of the input's image, or that of a made program.
     ensures open_alone { (reading : AReading) → Reads words.now reading → result.status ≡ Status.Open → Analyses reading }
 
@@ -115,6 +113,11 @@ pub fn vsa<R: Threads + Wait + Sync, S: Source, K: Sink, G: Gate + Sync>(
         → input_of reading (S.left source.old) ≡ Some text → Gives (rules_of reading) (tail_of reading) text image second
         → ¬ HasRisen (S.faults source.old) (S.faults source.new) → ¬ HasRisen (K.faults sink.old) (K.faults sink.new)
         → Ends reading result.status ⊎ (result.status ≡ Status.Memory) }
+
+    // Each made program's text gives an image, so its summary is told, or Memory.
+    ensures made { (chip : AChip) (number : ℕ) → Reads words.now (Gen chip number)
+        → ¬ HasRisen (S.faults source.old) (S.faults source.new) → ¬ HasRisen (K.faults sink.old) (K.faults sink.new)
+        → Ends (Gen chip number) result.status ⊎ (result.status ≡ Status.Memory) }
 
     // A fault is told only where its count rose, and a status that tells none is given only where none did.
     ensures read_fault { result.status ≡ Status.ReadFault → HasRisen (S.faults source.old) (S.faults source.new) }

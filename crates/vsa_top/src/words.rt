@@ -11,14 +11,14 @@ ghost use Rattle.vsa_top.specs.declared.words.Options.{Options as AOptions};
 ghost use Rattle.vsa_top.specs.declared.words.Ram.{Ram as ARam};
 ghost use Rattle.vsa_top.specs.declared.words.Reading.{Reading as AReading};
 ghost use Rattle.clap.specs.Words.{first_value, found_of};
-ghost use Rattle.vsa_top.specs.Words.{EndsInMemory, IsBounded, IsNumber, IsNumberBehind, IsNumberIn, IsRange, IsSaid, Reads, Say, asked, chip_word, limits_by, mode_word, number_of as the_number, reading_with as all_three, rules_of, task_of as the_task, target_by as the_target_by, target_of, target_rules, text_of};
+ghost use Rattle.vsa_top.specs.Words.{EndsInMemory, IsBounded, IsNumber, IsNumberBehind, IsNumberIn, IsRange, IsSaid, Reads, Say, asked, chip_word, limits_by, mode_word, number_of as the_number, reading_with as all_three, rules_of, task_of as the_task, target_by as the_target_by, target_of, target_rules, text_of, usual_target, usual_task};
 ghost use Rattle.vsa_top.specs.declared.words.Mode.TheVariants as the_mode;
 
 use crate::command::matches_of;
+use analysis_limits::Limits;
 use clap::ArgMatches;
 use ihex_read::{Rules, Tail};
 use image_gen::MOST;
-use msp430_flow::Limits;
 use std::alloc::{AllocError, Global};
 
 /// What is done with an image.
@@ -39,6 +39,18 @@ pub enum Mode {
 pub enum Chip {
     Msp430,
     Mcs51,
+}
+
+impl Chip {
+    /// The word of a chip.
+    pub fn word(self) -> &'static str
+        ensures { result.now ≡ chip_word self }
+    {
+        match self {
+            Chip::Msp430 => "msp430",
+            Chip::Mcs51 => "mcs51",
+        }
+    }
 }
 
 /// The first and the last address of the MSP430's RAM. They begin and end whole words, behind the peripherals.
@@ -87,6 +99,16 @@ pub enum Target {
 }
 
 impl Target {
+    /// A chip with the usual RAM.
+    pub fn usual(chip: Chip) -> Target
+        ensures { result ≡ usual_target chip }
+    {
+        match chip {
+            Chip::Msp430 => Target::Msp430 { ram: Ram::USUAL },
+            Chip::Mcs51 => Target::Mcs51,
+        }
+    }
+
     /// The rules of an image.
     pub fn rules(self) -> Rules
         ensures { result ≡ target_rules self }
@@ -101,26 +123,38 @@ impl Target {
     }
 }
 
-/// How an image of an MSP430 is analysed.
+/// How an image is analysed.
 #[derive(Clone, Copy, Debug, PartialEq, Eq)]
 pub struct Task {
-    pub ram: Ram,
+    pub target: Target,
     /// Call strings have at most 8 sites.
     pub limits: Limits,
     /// How many workers there are, 1 to 16.
     pub workers: u32,
 }
 
+impl Task {
+    /// How a made program is analysed: with the usual RAM and limits, by one worker.
+    pub fn usual(chip: Chip) -> Task
+        ensures { result ≡ usual_task chip }
+    {
+        Task {
+            target: Target::usual(chip),
+            limits: Limits::USUAL,
+            workers: 1,
+        }
+    }
+}
+
 /// What the words ask.
 #[derive(Clone, Copy, Debug, PartialEq, Eq)]
 pub enum Reading {
-    /// The analysis of an MSP430.
     Analyse { task: Task },
     Disasm { target: Target },
     /// At most so many steps, which are at most 1,000,000.
     Run { target: Target, steps: u32 },
-    /// The analysis of a made program of an MSP430 with so many functions, 1 to 2000, and the usual RAM and limits.
-    Gen { number: u32 },
+    /// The analysis of a made program with so many functions, 1 to 2000, and the usual RAM and limits.
+    Gen { chip: Chip, number: u32 },
 }
 
 impl Reading {
@@ -129,10 +163,10 @@ impl Reading {
         ensures { result ≡ target_of self }
     {
         match self {
-            Reading::Analyse { task } => Target::Msp430 { ram: task.ram },
+            Reading::Analyse { task } => task.target,
             Reading::Disasm { target } => target,
             Reading::Run { target, .. } => target,
-            Reading::Gen { .. } => Target::Msp430 { ram: Ram::USUAL },
+            Reading::Gen { chip, .. } => Target::usual(chip),
         }
     }
 
@@ -347,12 +381,12 @@ fn limits_of(options: Options) -> Limits
     }
 }
 
-/// How the options have it analysed.
-fn task_of(options: Options) -> Task
-    ensures { result ≡ the_task options }
+/// How the options have an image of a chip analysed.
+fn task_of(target: Target, options: Options) -> Task
+    ensures { result ≡ the_task target options }
 {
     Task {
-        ram: options.ram.unwrap_or(Ram::USUAL),
+        target,
         limits: limits_of(options),
         workers: options.workers.unwrap_or(1),
     }
@@ -362,9 +396,9 @@ fn task_of(options: Options) -> Task
 fn analysis_by(chip: Chip, options: Options) -> Option<Reading>
     ensures { result ≡ asked the_mode.Analyse chip options }
 {
-    match (chip, options.steps, options.number) {
-        (Chip::Msp430, None, None) => Some(Reading::Analyse {
-            task: task_of(options),
+    match (options.steps, options.number) {
+        (None, None) => Some(Reading::Analyse {
+            task: task_of(target_by(chip, options.ram)?, options),
         }),
         _ => None,
     }
@@ -417,10 +451,10 @@ fn making_by(chip: Chip, options: Options) -> Option<Reading>
         options.ram,
         options.steps,
     ) {
-        (None, None, None, None, None) => match (chip, options.number) {
-            (Chip::Msp430, Some(number)) => Some(Reading::Gen { number }),
-            _ => None,
-        },
+        (None, None, None, None, None) => Some(Reading::Gen {
+            chip,
+            number: options.number?,
+        }),
         _ => None,
     }
 }

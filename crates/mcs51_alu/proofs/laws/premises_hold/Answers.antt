@@ -4,6 +4,7 @@ pub returns : goal.returns
 returns c =
     let results = c.accumulations_hold.ensures in
     let changes = c.changes_hold.ensures in
+    let formats = c.formats_do.ensures in
     record {
       sets = record {
         below = c.members_are_below.ensures;
@@ -29,5 +30,10 @@ returns c =
         increased_form = changes.increased_form;
         decreased = changes.decreased;
         decreased_form = changes.decreased_form;
+      };
+      formats = record {
+        shown = c.accesses_are_shown.ensures.address;
+        implied = formats.implied;
+        reading = formats.reading;
       };
     }

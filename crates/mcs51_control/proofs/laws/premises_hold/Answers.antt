@@ -18,6 +18,7 @@ returns c =
       reads_form = c.reads_hold.ensures.form;
       pops = stack.pop;
       pops_form = c.stores_keep_form.ensures.pop;
+      pushes = stack.push_address;
       goes_to = c.writes_follow.ensures.counter;
       top_form = stack.top_form;
       top = stack.top;

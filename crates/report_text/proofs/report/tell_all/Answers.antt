@@ -2,8 +2,9 @@ use Rattle.std.proofs.Common.{◌≡◌, [], ◌∷◌, ◌&&◌, ◌+◌, ◌<�
 use Rattle.std.specs.List.{flat_map}
 use Rattle.round_core.specs.Kept.{is_live, live_works}
 use Rattle.round_core.specs.Machine.{replay}
-use Rattle.report_text.specs.Report.{bytes_of, with_lines, lines_of, are_closed, least_of}
-use Rattle.report_text.proofs.ReportLemmas.{passing, passing-cons, lines_more, closed_more, least_more}
+use Rattle.report_text.specs.Deepest.{deepest_of}
+use Rattle.report_text.specs.Report.{bytes_of, with_lines, lines_of, are_closed}
+use Rattle.report_text.proofs.ReportLemmas.{passing, passing-cons, lines_more, closed_more, deepest_more}
 use Rattle.report_text.proofs.report.tell_all.Goals as goal
 
 -- what is left begins with the item at the index
@@ -26,6 +27,6 @@ loop-unit-preserved g c =
           (subst (λ works. with_lines (bytes_of c.loop-unit.told.lines.keys) (flat_map (lines_of text) works) ≡ with_lines [] (flat_map (lines_of text) (live_works b))) left c.loop-unit.invariant.lines);
       closed = closed_more live pair.1 rest c.loop-unit.told.is_closed c.tell.new.told.is_closed (are_closed (live_works b)) c.in_ok-tell.ensures.closed
           (subst (λ works. (c.loop-unit.told.is_closed && are_closed works) ≡ are_closed (live_works b)) left c.loop-unit.invariant.closed);
-      least = least_more live pair.1 rest c.loop-unit.told.least c.tell.new.told.least (least_of None (flat_map (λ work. work.items) (live_works b))) c.in_ok-tell.ensures.least
-          (subst (λ works. least_of c.loop-unit.told.least (flat_map (λ work. work.items) works) ≡ least_of None (flat_map (λ work. work.items) (live_works b))) left c.loop-unit.invariant.least);
+      deepest = deepest_more live pair.1 rest c.loop-unit.told.deepest c.tell.new.told.deepest (deepest_of None (flat_map (λ work. work.items) (live_works b))) c.in_ok-tell.ensures.deepest
+          (subst (λ works. deepest_of c.loop-unit.told.deepest (flat_map (λ work. work.items) works) ≡ deepest_of None (flat_map (λ work. work.items) (live_works b))) left c.loop-unit.invariant.deepest);
     }

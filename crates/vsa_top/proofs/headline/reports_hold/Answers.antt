@@ -1,15 +1,19 @@
-use Rattle.vsa_top.proofs.HeadlineLemmas.{closed_lem, open_lem, open_alone_lem, complete_lem}
+use Rattle.vsa_top.proofs.HeadlineLemmas.{closed_lem, open_lem, open_alone_lem, complete_lem, made_lem}
 use Rattle.vsa_top.proofs.headline.reports_hold.Goals as goal
 
 pub returns-clause-closed : goal.returns-clause-closed
 returns-clause-closed c =
-    closed_lem c.closed_reports_cover_runs.ensures c.images_keep_rules.ensures c.image_or_fault.ensures.one_image
+    closed_lem c.closed_reports_cover_runs.ensures c.closed_reports_cover_runs-2.ensures c.images_keep_rules.ensures c.image_or_fault.ensures.one_image
 
 pub returns-clause-open : goal.returns-clause-open
-returns-clause-open c = open_lem c.open_reports_show_sites.ensures c.images_keep_rules.ensures c.image_or_fault.ensures.one_image
+returns-clause-open c = open_lem c.open_reports_show_sites.ensures c.open_reports_show_sites-2.ensures c.images_keep_rules.ensures c.image_or_fault.ensures.one_image
 
 pub returns-clause-open_alone : goal.returns-clause-open_alone
 returns-clause-open_alone c = open_alone_lem
 
 pub returns-clause-complete : goal.returns-clause-complete
 returns-clause-complete c = complete_lem c.image_or_fault.ensures.not_both c.ended_texts_stay.ensures.ended c.ended_texts_stay.ensures.faultless
+
+pub returns-clause-made : goal.returns-clause-made
+returns-clause-made c =
+    made_lem c.image_or_fault.ensures.not_both c.ended_texts_stay.ensures.ended c.ended_texts_stay.ensures.faultless c.made_texts_denote.ensures.image c.made_texts_denote.ensures.size

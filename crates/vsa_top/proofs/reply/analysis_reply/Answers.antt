@@ -1,12 +1,27 @@
-use Rattle.std.proofs.Common.{subst}
-use Rattle.msp430_flow.specs.Standing.{instr_text}
+use Rattle.std.proofs.Common.{sym, subst}
+use Rattle.std.specs.Prelude.{IfOk}
+use Rattle.mcs51_flow.specs.Chip.{mcs51_analysis}
+use Rattle.mcs51_flow.specs.Standing.{instr_text as mcs51_text}
+use Rattle.mcs51_flow.specs.declared.setting.Setting.{Setting as Mcs51Setting}
 use Rattle.msp430_flow.specs.Chip.{msp430_analysis}
-use Rattle.vsa_top.specs.Answer.{IsAnalysed}
+use Rattle.msp430_flow.specs.Standing.{instr_text as msp430_text}
+use Rattle.msp430_flow.specs.declared.setting.Setting.{Setting as Msp430Setting}
+use Rattle.vsa_top.specs.Answer.{IsAnalysed, IsAnalysedOn}
+use Rattle.vsa_top.specs.declared.reply.Reply.{Reply}
 use Rattle.vsa_top.proofs.reply.analysis_reply.Goals as goal
 
-pub returns-clause-reply : goal.returns-clause-reply
-returns-clause-reply g c = λ second.
+pub returns-in_ok-chip-in-Msp430-clause-reply : goal.returns-in_ok-chip-in-Msp430-clause-reply
+returns-in_ok-chip-in-Msp430-clause-reply g c =
+    let limits = c.args.task.limits in
     let workers = c.args.task.workers in
-    let reply = c.in_ok-analysed.field-0 in
-    subst (λ d. IsAnalysed instr_text (msp430_analysis d) workers reply.status reply.text.items reply.journal.items) c.in_ok-chip.ensures
-    (c.in_ok-analysed.ensures.reply workers c.in_ok-book.ensures.analysis)
+    subst (λ target. IfOk c.chip_reply.result (λ (r : Reply). IsAnalysedOn target limits workers c.args.image r.status r.text.items r.journal.items)) (sym c.in-Msp430.is)
+    (subst (λ (setting : Msp430Setting). IfOk c.chip_reply.result
+    (λ (r : Reply). IsAnalysed msp430_text (msp430_analysis setting) workers r.status r.text.items r.journal.items)) c.in_ok-chip-in-Msp430.ensures c.chip_reply.ensures.reply)
+
+pub returns-in_ok-chip-in-Mcs51-clause-reply : goal.returns-in_ok-chip-in-Mcs51-clause-reply
+returns-in_ok-chip-in-Mcs51-clause-reply g c =
+    let limits = c.args.task.limits in
+    let workers = c.args.task.workers in
+    subst (λ target. IfOk c.chip_reply-in-Mcs51.result (λ (r : Reply). IsAnalysedOn target limits workers c.args.image r.status r.text.items r.journal.items)) (sym c.in-Mcs51.is)
+    (subst (λ (setting : Mcs51Setting). IfOk c.chip_reply-in-Mcs51.result
+    (λ (r : Reply). IsAnalysed mcs51_text (mcs51_analysis setting) workers r.status r.text.items r.journal.items)) c.in_ok-chip-in-Mcs51.ensures c.chip_reply-in-Mcs51.ensures.reply)

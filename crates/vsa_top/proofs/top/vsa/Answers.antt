@@ -4,7 +4,7 @@ use Rattle.vsa_top.specs.Answer.{Answers}
 use Rattle.vsa_top.specs.Answer.Answers.{unreplied}
 use Rattle.vsa_top.specs.Words.{EndsInMemory, IsBounded, Reads, rules_of}
 use Rattle.vsa_top.specs.declared.words.Reading.{Reading}
-use Rattle.vsa_top.specs.declared.words.Reading.TheVariants.{Analyse}
+use Rattle.vsa_top.specs.declared.words.Reading.TheVariants.{Analyse, Gen}
 use Rattle.vsa_top.proofs.WordsLemmas.{none_of, some_of}
 use Rattle.vsa_top.proofs.top.vsa.Goals as goal
 
@@ -99,6 +99,22 @@ returns-in-Ok-Some-clause-complete g c = λ other text image second reads e give
     (subst (λ r. Answers r c.answer.result.status input before after c.answer.result.journal.items) (sym same) c.answer.ensures.answer) e gives
     (λ fault. quiet_source (c.answer.ensures.read_fault fault)) (λ fault. quiet_sink (c.answer.ensures.write_fault fault))
 
+pub returns-in-Ok-Some-clause-made : goal.returns-in-Ok-Some-clause-made
+returns-in-Ok-Some-clause-made g c = λ chip number reads quiet_source quiet_sink.
+    let words = c.args.words.now in
+    let reading = c.in-Ok-Some.reading in
+    let found = c.in-Ok-Some.field-0 in
+    let is = c.in-Ok-Some.field-0-is in
+    let input = g.S.Source.left c.args.source.now in
+    let before = g.K.Sink.held c.args.sink.now in
+    let after = g.K.Sink.held c.answer.new.sink in
+    let same : Gen chip number ≡ reading =
+    some_of found reading (λ r. (other : Reading) → Reads words other → other ≡ r) is c.in-Ok-Some.ensures.alone (Gen chip number) reads in
+    let bounded = some_of found reading IsBounded is c.in-Ok-Some.ensures.bounded in
+    c.reports_hold.ensures.made chip number c.answer.result.status input before after c.answer.result.journal.items (subst IsBounded (sym same) bounded).1
+    (subst (λ r. Answers r c.answer.result.status input before after c.answer.result.journal.items) (sym same) c.answer.ensures.answer)
+    (λ fault. quiet_source (c.answer.ensures.read_fault fault)) (λ fault. quiet_sink (c.answer.ensures.write_fault fault))
+
 pub returns-in-Ok-None-clause-answer : goal.returns-in-Ok-None-clause-answer
 returns-in-Ok-None-clause-answer g c = λ reading reads.
     absurd (none_of c.in-Ok-None.field-0 ((r : Reading) → Reads c.args.words.now r → ⊥) c.in-Ok-None.field-0-is c.in-Ok-None.ensures.none reading reads)
@@ -106,3 +122,7 @@ returns-in-Ok-None-clause-answer g c = λ reading reads.
 pub returns-in-Ok-None-clause-complete : goal.returns-in-Ok-None-clause-complete
 returns-in-Ok-None-clause-complete g c = λ reading text image second reads.
     absurd (none_of c.in-Ok-None.field-0 ((r : Reading) → Reads c.args.words.now r → ⊥) c.in-Ok-None.field-0-is c.in-Ok-None.ensures.none reading reads)
+
+pub returns-in-Ok-None-clause-made : goal.returns-in-Ok-None-clause-made
+returns-in-Ok-None-clause-made g c = λ chip number reads.
+    absurd (none_of c.in-Ok-None.field-0 ((r : Reading) → Reads c.args.words.now r → ⊥) c.in-Ok-None.field-0-is c.in-Ok-None.ensures.none (Gen chip number) reads)

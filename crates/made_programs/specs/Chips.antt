@@ -1,0 +1,10 @@
+-- The rules under which the text of a program is read.
+use Rattle.image_gen.specs.declared.chip_name.ChipName.{ChipName}
+use Rattle.image_gen.specs.declared.chip_name.ChipName.TheVariants.{Msp430, Mcs51}
+use Rattle.ihex_read.specs.declared.rule_set.Rules.{Rules}
+use Rattle.ihex_read.specs.declared.rule_set.Rules.TheVariants as rules
+
+-- RAM of the MSP430 from 0200h to 09FFh
+abbrev pub rules_of : ChipName → Rules
+rules_of Msp430 = rules.Msp430 0x0200 0x09FF
+rules_of Mcs51 = rules.Mcs51

@@ -1,0 +1,13 @@
+pub mod Arriving
+pub mod CallStrings
+pub mod InstrForms
+pub mod Landing
+pub mod Lawful
+pub mod Made
+pub mod MarksLemmas
+pub mod Members
+pub mod Premises
+pub mod Returning
+pub mod SetTests
+pub mod Stepping
+pub mod WayLists

@@ -1,0 +1,28 @@
+//! The MCS-51 as an analysis sees it: all of its instructions, over registers and memory, and its interrupts.
+//!
+//! `specs/Machine.antt` says what the chip does, in single states; `specs/Chip.antt` what the analysis makes of a program,
+//! in sets.
+//!
+//! Proved:
+//!
+//! - Each call of [`Mcs51Chip`] gives exactly what `specs/Chip.antt` says.
+//! - [`LawfulChip`](chip_law::LawfulChip): the start stands for each reset state, the work of a unit for each step of the
+//!   chip from a state that its input stands for, and the states are in order. An open is left only where a stated limit
+//!   is broken.
+#![tactic(auto)]
+
+mod chip;
+mod entries;
+mod kept;
+mod labels;
+mod laws;
+mod marks;
+mod setting;
+mod text;
+mod ways;
+
+pub use analysis_limits::Limits;
+pub use chip::Mcs51Chip;
+pub use kept::Kept;
+pub use setting::Setting;
+pub use text::Mcs51Text;

@@ -1,0 +1,11 @@
+//! What an analysis is set to.
+
+use analysis_limits::Limits;
+use ihex_read::Image;
+
+/// A program, and the limits of its analysis.
+#[derive(Drop)]
+pub struct Setting {
+    pub image: Image,
+    pub limits: Limits,
+}

@@ -1,0 +1,130 @@
+-- JB, JNB and JBC.
+use Rattle.std.proofs.Common.{◌≡◌, ℕ, ◌%◌, ◌<◌, ◌==◌, ◌++◌, Bool, true, false, Option, None, Some, List, [], refl, subst, ap}
+use Rattle.std.specs.Prelude.{not}
+use Rattle.std.specs.Int.{bit_at}
+use Rattle.std.specs.Option.{option_map}
+use Rattle.std.proofs.lemmas.Bool.{cond_both}
+use Rattle.choosing.specs.Gives.{Gives}
+use Rattle.mcs51_decode.specs.declared.instr.BitTest.{BitTest}
+use Rattle.mcs51_decode.specs.declared.instr.BitTest.TheVariants.{SetAndClear, Set, Clear}
+use Rattle.mcs51_decode.specs.declared.instr.Instr.TheVariants.{JumpOnBit}
+use Rattle.mcs51_decode.specs.Targets.{relative_target}
+use Rattle.mcs51_chip.specs.declared.state.ChipState.{ChipState}
+use Rattle.mcs51_chip.specs.Leading.{MayRead}
+use Rattle.mcs51_chip.specs.Memory.{bit_address, reads, write, writes}
+use Rattle.mcs51_chip.specs.Registers.{bit_of, with_bit}
+use Rattle.mcs51_chip.specs.Step.{branched, cleared, effect_of, jumping_on_bit}
+use Rattle.mcs51_state.specs.Forms.{IsKnown}
+use Rattle.mcs51_state.specs.Known.{Known}
+use Rattle.mcs51_state.specs.Under.{IsUnder}
+use Rattle.mcs51_operands.specs.Operands.{bit_addresses}
+use Rattle.mcs51_operands.specs.Showing.{AreShown}
+use Rattle.mcs51_formats.specs.Giving.{of_one}
+use Rattle.mcs51_formats.specs.Doing.{GoesSo}
+use Rattle.mcs51_formats.specs.Shown.{write_at}
+use Rattle.mcs51_jumps.specs.Jumps.{AreWays, bit_cleared, bit_items, clearing_items, read_of, ways_on_bit, where_bit, where_cleared}
+use Rattle.mcs51_jumps.specs.Premises.{Premises}
+use Rattle.mcs51_jumps.proofs.Branching.{goes, goes_on, jumps, mapped}
+use Rattle.mcs51_jumps.proofs.Clearing.{cleared_form, cleared_under}
+use Rattle.mcs51_jumps.proofs.Numbers.{bit_not_so, bit_place, bit_small, bit_so, clear_bit, place_small, set_bit}
+
+-- WHERE A BIT IS SO
+
+so : (laws : Premises) (framed : Bool) (a : Known) (s : ChipState) (first : Option ChipState) (bit x : ℕ) (flag : Bool) → IsUnder framed a s first → bit < 256 → MayRead s (bit_address bit) x
+    → bit_at x (bit % 8) ≡ bit_of flag → (way : Known) × (where_bit bit flag a ≡ Some way) × IsUnder framed way s first
+so laws framed a s first bit x flag under small may is = laws.cuts.bit framed a s first (bit_address bit) x (bit % 8) flag under (bit_place bit small) may (place_small bit) is
+
+so_form : (laws : Premises) (framed : Bool) (a way : Known) (bit : ℕ) (flag : Bool) → IsKnown framed a → bit < 256 → where_bit bit flag a ≡ Some way → IsKnown framed way
+so_form laws framed a way bit flag form small e = laws.cuts.bit_form framed a way (bit_address bit) (bit % 8) flag form (bit_place bit small) (place_small bit) e
+
+read_shown : (laws : Premises) (pc bit : ℕ) → bit < 256 → AreShown (read_of pc bit) pc (reads (bit_address bit))
+read_shown laws pc bit small = laws.accesses.read pc (bit_addresses bit) (bit_address bit) (laws.operands.bit bit small).0 (laws.operands.bit bit small).1
+
+-- JB AND JNB
+
+set_does : (laws : Premises) (framed : Bool) (a : Known) (s : ChipState) (first : Option ChipState) (pc bit rel : ℕ) → IsUnder framed a s first → bit < 256
+    → Gives (GoesSo framed first (read_of pc bit) pc (relative_target s.pc rel) (where_bit bit false a) (where_bit bit true a) s) (jumping_on_bit s Set (bit_address bit) (bit % 8) rel)
+set_does laws framed a s first pc bit rel under small =
+    of_one (GoesSo framed first (read_of pc bit) pc (relative_target s.pc rel) (where_bit bit false a) (where_bit bit true a) s) (MayRead s (bit_address bit))
+    (λ x. (reads (bit_address bit), branched (bit_at x (bit % 8) == 1) rel s)) (jumping_on_bit s Set (bit_address bit) (bit % 8) rel) (laws.formats.set s (bit_address bit) (bit % 8) rel)
+    (λ x may. let v = bit_at x (bit % 8) in
+    let (way, tested, there) = so laws framed a s first bit x (v == 1) under small may (set_bit v (bit_small x (bit % 8))) in
+    record { shown = read_shown laws pc bit small; goes = goes laws framed first (λ taken. where_bit bit taken a) (v == 1) way rel s s tested refl there })
+
+clear_does : (laws : Premises) (framed : Bool) (a : Known) (s : ChipState) (first : Option ChipState) (pc bit rel : ℕ) → IsUnder framed a s first → bit < 256
+    → Gives (GoesSo framed first (read_of pc bit) pc (relative_target s.pc rel) (where_bit bit true a) (where_bit bit false a) s) (jumping_on_bit s Clear (bit_address bit) (bit % 8) rel)
+clear_does laws framed a s first pc bit rel under small =
+    of_one (GoesSo framed first (read_of pc bit) pc (relative_target s.pc rel) (where_bit bit true a) (where_bit bit false a) s) (MayRead s (bit_address bit))
+    (λ x. (reads (bit_address bit), branched (bit_at x (bit % 8) == 0) rel s)) (jumping_on_bit s Clear (bit_address bit) (bit % 8) rel) (laws.formats.clear s (bit_address bit) (bit % 8) rel)
+    (λ x may. let v = bit_at x (bit % 8) in
+    let (way, tested, there) = so laws framed a s first bit x (not (v == 0)) under small may (clear_bit v (bit_small x (bit % 8))) in
+    record { shown = read_shown laws pc bit small; goes = goes laws framed first (λ taken. where_bit bit (not taken) a) (v == 0) way rel s s tested refl there })
+
+-- JBC
+
+update_shown : (laws : Premises) (pc bit : ℕ) (jumped : Option Known) (way : Known) → bit < 256 → jumped ≡ Some way
+    → AreShown (clearing_items pc bit jumped) pc (reads (bit_address bit) ++ writes (bit_address bit))
+update_shown laws pc bit None way small e = absurd (cc)
+update_shown laws pc bit (Some behind) way small e = laws.accesses.update pc (bit_addresses bit) (bit_address bit) (laws.operands.bit bit small).0 (laws.operands.bit bit small).1
+
+test_shown : (laws : Premises) (pc bit : ℕ) (jumped : Option Known) → bit < 256 → AreShown (clearing_items pc bit jumped) pc (reads (bit_address bit))
+test_shown laws pc bit None small = read_shown laws pc bit small
+test_shown laws pc bit (Some behind) small =
+    laws.accesses.both (read_of pc bit) (write_at pc (bit_addresses bit)) pc (reads (bit_address bit)) [] (read_shown laws pc bit small) (laws.accesses.none (write_at pc (bit_addresses bit)) pc)
+
+cleared_so : (laws : Premises) (framed : Bool) (a : Known) (s : ChipState) (first : Option ChipState) (pc bit rel x : ℕ) → IsUnder framed a s first → bit < 256 → MayRead s (bit_address bit) x
+    → GoesSo framed first (clearing_items pc bit (where_cleared framed bit a)) pc (relative_target s.pc rel) (where_bit bit false a) (where_cleared framed bit a) s (cleared s (bit_address bit) (bit % 8) rel x)
+cleared_so laws framed a s first pc bit rel x under small may =
+    let v = bit_at x (bit % 8) in
+    let address = bit_address bit in
+    let lowered = with_bit x (bit % 8) 0 in
+    let jumped = where_cleared framed bit a in
+    cond_both (v == 1) (reads address ++ writes address, branched true rel (write address lowered s)) (reads address, branched false rel s)
+    (GoesSo framed first (clearing_items pc bit jumped) pc (relative_target s.pc rel) (where_bit bit false a) jumped s)
+    (λ e. let (way, tested, there) = so laws framed a s first bit x true under small may (bit_so v e) in
+    let known : jumped ≡ Some (bit_cleared framed bit way) = ap (option_map (bit_cleared framed bit)) tested in
+    record {
+      shown = update_shown laws pc bit jumped (bit_cleared framed bit way) small known;
+      goes = jumps laws framed first (where_bit bit false a) jumped (bit_cleared framed bit way) rel s (write address lowered s) known (laws.stores.onward address lowered s)
+          (cleared_under laws framed way s first bit x small there may);
+    })
+    (λ e. let (way, tested, there) = so laws framed a s first bit x false under small may (bit_not_so v (bit_small x (bit % 8)) e) in
+    record { shown = test_shown laws pc bit jumped small; goes = goes_on laws framed first (where_bit bit false a) jumped way rel s s tested refl there })
+
+clearing_does : (laws : Premises) (framed : Bool) (a : Known) (s : ChipState) (first : Option ChipState) (pc bit rel : ℕ) → IsUnder framed a s first → bit < 256
+    → Gives (GoesSo framed first (clearing_items pc bit (where_cleared framed bit a)) pc (relative_target s.pc rel) (where_bit bit false a) (where_cleared framed bit a) s)
+    (jumping_on_bit s SetAndClear (bit_address bit) (bit % 8) rel)
+clearing_does laws framed a s first pc bit rel under small =
+    of_one (GoesSo framed first (clearing_items pc bit (where_cleared framed bit a)) pc (relative_target s.pc rel) (where_bit bit false a) (where_cleared framed bit a) s)
+    (MayRead s (bit_address bit)) (cleared s (bit_address bit) (bit % 8) rel) (jumping_on_bit s SetAndClear (bit_address bit) (bit % 8) rel) (laws.formats.clearing s (bit_address bit) (bit % 8) rel)
+    (λ x may. cleared_so laws framed a s first pc bit rel x under small may)
+
+-- EACH
+
+pub bit_does : (laws : Premises) (framed : Bool) (a : Known) (s : ChipState) (first : Option ChipState) (image : List (Option ℕ)) (pc : ℕ) (test : BitTest) (bit rel : ℕ) → IsUnder framed a s first → bit < 256
+    → Gives (GoesSo framed first (bit_items pc test bit (ways_on_bit framed test bit a).jumped) pc (relative_target s.pc rel) (ways_on_bit framed test bit a).on (ways_on_bit framed test bit a).jumped s)
+    (effect_of image s (JumpOnBit test bit rel))
+unfolding effect_of ways_on_bit
+bit_does laws framed a s first image pc Set bit rel under small = set_does laws framed a s first pc bit rel under small
+bit_does laws framed a s first image pc Clear bit rel under small = clear_does laws framed a s first pc bit rel under small
+bit_does laws framed a s first image pc SetAndClear bit rel under small = clearing_does laws framed a s first pc bit rel under small
+
+where_cleared_form : (laws : Premises) (framed : Bool) (a way : Known) (bit : ℕ) → IsKnown framed a → bit < 256 → where_cleared framed bit a ≡ Some way → IsKnown framed way
+where_cleared_form laws framed a way bit form small e =
+    let (held, tested, same) = mapped (bit_cleared framed bit) (where_bit bit true a) way e in
+    subst (IsKnown framed) same (cleared_form laws framed held bit small (so_form laws framed a held bit true form small tested))
+
+pub bit_form : (laws : Premises) (framed : Bool) (a : Known) (test : BitTest) (bit : ℕ) → IsKnown framed a → bit < 256 → AreWays framed (ways_on_bit framed test bit a)
+unfolding ways_on_bit
+bit_form laws framed a Set bit form small = record {
+  on = λ way e. so_form laws framed a way bit false form small e;
+  jumped = λ way e. so_form laws framed a way bit true form small e;
+}
+bit_form laws framed a Clear bit form small = record {
+  on = λ way e. so_form laws framed a way bit true form small e;
+  jumped = λ way e. so_form laws framed a way bit false form small e;
+}
+bit_form laws framed a SetAndClear bit form small = record {
+  on = λ way e. so_form laws framed a way bit false form small e;
+  jumped = λ way e. where_cleared_form laws framed a way bit form small e;
+}

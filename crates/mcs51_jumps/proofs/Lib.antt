@@ -1,0 +1,8 @@
+pub mod Numbers
+pub mod Branching
+pub mod Clearing
+pub mod ByCondition
+pub mod ByBit
+pub mod Operands
+pub mod ByComparison
+pub mod ByCounter

@@ -1,0 +1,53 @@
+-- What MOVC makes of what is known of a state (Intel, MCS-51 Programmer's Guide and Instruction Set: MOVC). It reads the program,
+-- of which an image has some bytes; any other one is any.
+use Rattle.std.specs.Prelude.{ℕ, nat_lt, if◌then◌else◌, false, Option, None, Some, List, [], ◌∷◌, length}
+use Rattle.ihex_read.specs.Image.{byte_at}
+use Rattle.call_context.specs.declared.shown.Item.{Item}
+use Rattle.call_context.specs.declared.shown.Item.TheVariants.{Access}
+use Rattle.call_context.specs.declared.shown.Set.TheVariants.{W}
+use Rattle.call_context.specs.declared.shown.Space.TheVariants.{Code}
+use Rattle.value_bits.specs.Sets.{pair_set}
+use Rattle.value_set.specs.declared.form.Form.{Form}
+use Rattle.value_set.specs.Form.{members}
+use Rattle.value_set.specs.Joining.{join}
+use Rattle.value_set.specs.Summing.{add, single}
+use Rattle.mcs51_decode.specs.declared.instr.CodeBase.{CodeBase}
+use Rattle.mcs51_decode.specs.declared.instr.CodeBase.TheVariants.{ProgramCounter, DataPointer}
+use Rattle.mcs51_state.specs.Known.{Known, any_byte, byte_of}
+use Rattle.mcs51_control.specs.Returning.{jump_targets}
+use Rattle.mcs51_stores.specs.Writing.{accumulator_written}
+
+-- BYTES OF THE PROGRAM
+
+abbrev pub byte_set : Option ℕ → Form
+byte_set None = any_byte
+byte_set (Some byte) = single byte
+
+abbrev pub code_set : List (Option ℕ) → (at : ℕ) → Form
+code_set image at = byte_set (byte_at image at)
+
+-- those of several addresses: the sets joined in this order
+abbrev pub codes_joined : List (Option ℕ) → Form → List ℕ → Form
+codes_joined image set [] = set
+codes_joined image set (at ∷ rest) = codes_joined image (join 256 set (code_set image at)) rest
+
+abbrev pub list_codes : List (Option ℕ) → List ℕ → Form
+list_codes image [] = any_byte
+list_codes image (at ∷ rest) = codes_joined image (code_set image at) rest
+
+-- of more than 256 addresses nothing is read
+unfoldable pub code_values : List (Option ℕ) → Form → Form
+code_values image set = if nat_lt 256 (length (members 65536 set)) then any_byte else list_codes image (members 65536 set)
+
+-- MOVC
+
+-- A is added to the address behind the instruction, or to DPTR as JMP does it
+abbrev pub code_addresses : CodeBase → (next : ℕ) → Known → Form
+code_addresses ProgramCounter next a = add 65536 (single next) (pair_set a.a.set (single 0))
+code_addresses DataPointer next a = jump_targets a
+
+unfoldable pub code_loaded : List (Option ℕ) → CodeBase → (next : ℕ) → Known → Known
+code_loaded image base next a = accumulator_written (byte_of (code_values image (code_addresses base next a))) a
+
+abbrev pub code_items : (pc : ℕ) → CodeBase → (next : ℕ) → Known → List Item
+code_items pc base next a = Access pc Code false 1 (W (code_addresses base next a)) ∷ []

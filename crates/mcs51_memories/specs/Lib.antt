@@ -1,0 +1,5 @@
+pub mod Stacking
+pub mod Pairs
+pub mod Codes
+pub mod Externals
+pub mod Premises

@@ -1,0 +1,4 @@
+pub mod Written
+pub mod Moved
+pub mod Masked
+pub mod Exchanged

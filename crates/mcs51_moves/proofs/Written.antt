@@ -1,0 +1,84 @@
+-- Operands, what is read there, and where writes lead.
+use Rattle.std.proofs.Common.{ℕ, ◌<◌, Bool, true, false, Option}
+use Rattle.entry_value.specs.declared.byte.Byte.{Byte}
+use Rattle.value_set.specs.declared.form.Form.{Form}
+use Rattle.value_set.specs.Form.{Has, IsNormal}
+use Rattle.value_set.specs.Summing.{single}
+use Rattle.mcs51_decode.specs.declared.instr.Memory.{Memory}
+use Rattle.mcs51_decode.specs.Fitting.{IsMemory}
+use Rattle.mcs51_chip.specs.declared.place.Address.{Address}
+use Rattle.mcs51_chip.specs.declared.state.ChipState.{ChipState}
+use Rattle.mcs51_chip.specs.Leading.{MayRead}
+use Rattle.mcs51_chip.specs.Memory.{address_of, direct_address, write}
+use Rattle.mcs51_chip.specs.Registers.{with_accumulator}
+use Rattle.mcs51_state.specs.declared.addresses.Addresses.{Addresses}
+use Rattle.mcs51_state.specs.Forms.{IsByte, IsKnown}
+use Rattle.mcs51_state.specs.Known.{Known, byte_of}
+use Rattle.mcs51_state.specs.Standing.{AreAddresses, MayStandAt}
+use Rattle.mcs51_state.specs.Under.{IsUnder}
+use Rattle.mcs51_operands.specs.Operands.{addresses_of, direct_addresses}
+use Rattle.mcs51_operands.specs.Reading.{read_byte}
+use Rattle.mcs51_stores.specs.Following.{IsValue}
+use Rattle.mcs51_stores.specs.Writing.{accumulator_written, byte_written}
+use Rattle.mcs51_formats.specs.Doing.{LeadsSo}
+use Rattle.mcs51_moves.specs.Premises.{Premises}
+
+-- OPERANDS
+
+pub record IsPlaced (at : Addresses) (address : Address) : Type 0 where
+  pub stands : MayStandAt at address
+  pub are : AreAddresses at
+
+pub memory_placed : (laws : Premises) (framed : Bool) (a : Known) (s : ChipState) (first : Option ChipState) (m : Memory) → IsUnder framed a s first → IsMemory m → IsPlaced (addresses_of a m) (address_of s m)
+memory_placed laws framed a s first m under is = record { stands = laws.reads.stands framed a s first under m; are = laws.reads.stands_form framed a under.form m is }
+
+pub direct_placed : (laws : Premises) (direct : ℕ) → direct < 256 → IsPlaced (direct_addresses direct) (direct_address direct)
+direct_placed laws direct small = let both = laws.reads.direct direct small in record { stands = both.0; are = both.1 }
+
+-- VALUES
+
+pub read_value : (laws : Premises) (framed : Bool) (a : Known) (s : ChipState) (first : Option ChipState) (at : Addresses) (address : Address) (x : ℕ) → IsUnder framed a s first → IsPlaced at address → MayRead s address x
+    → IsValue framed first (read_byte framed a at) x
+read_value laws framed a s first at address x under placed may = record {
+  form = laws.reads.form framed a under.form at placed.are;
+  holds = laws.reads.byte framed a s first under at address x placed.stands placed.are may;
+}
+
+pub accumulator_value : (framed : Bool) (a : Known) (s : ChipState) (first : Option ChipState) → IsUnder framed a s first → IsValue framed first a.a s.a
+accumulator_value framed a s first under = record { form = under.form.a; holds = under.holds.parts.a }
+
+pub plain_form : (framed : Bool) (set : Form) → IsNormal 256 set → IsByte framed (byte_of set)
+plain_form true set normal = record { normal = normal; entry = tt }
+plain_form false set normal = record { normal = normal; entry = tt }
+
+pub plain_value : (framed : Bool) (first : Option ChipState) (set : Form) (x : ℕ) → IsNormal 256 set → Has 256 set x → IsValue framed first (byte_of set) x
+plain_value framed first set x normal has = record { form = plain_form framed set normal; holds = (has, tt) }
+
+pub number_value : (laws : Premises) (framed : Bool) (first : Option ChipState) (value : ℕ) → value < 256 → IsValue framed first (byte_of (single value)) value
+number_value laws framed first value small = let one = laws.sets.alone 256 value small in plain_value framed first (single value) value one.0 one.1
+
+pub value_small : (laws : Premises) (framed : Bool) (first : Option ChipState) (byte : Byte) (x : ℕ) → IsValue framed first byte x → x < 256
+value_small laws framed first byte x value = laws.sets.below 256 x byte.set value.form.normal value.holds.0
+
+-- WRITES
+
+pub written_leads : (laws : Premises) (framed : Bool) (a : Known) (s : ChipState) (first : Option ChipState) (at : Addresses) (address : Address) (byte : Byte) (x : ℕ) → IsUnder framed a s first → IsPlaced at address
+    → IsValue framed first byte x → LeadsSo framed first (byte_written framed at byte a) s (write address x s)
+written_leads laws framed a s first at address byte x under placed value = record {
+  onward = laws.formats.write_keeps address x s;
+  under = laws.writes.byte framed first at address byte x value placed.are placed.stands a s under;
+}
+
+-- and then of the accumulator
+pub both_lead : (laws : Premises) (framed : Bool) (a : Known) (s : ChipState) (first : Option ChipState) (at : Addresses) (address : Address) (byte held : Byte) (x y : ℕ) → IsUnder framed a s first → IsPlaced at address
+    → IsValue framed first byte x → IsValue framed first held y → LeadsSo framed first (accumulator_written held (byte_written framed at byte a)) s (with_accumulator y (write address x s))
+both_lead laws framed a s first at address byte held x y under placed value held_value =
+    let one = written_leads laws framed a s first at address byte x under placed value in record {
+      onward = one.onward;
+      under = laws.writes.accumulator framed first held y held_value (byte_written framed at byte a) (write address x s) one.under;
+    }
+
+pub both_form : (laws : Premises) (framed : Bool) (a : Known) (at : Addresses) (byte held : Byte) → IsKnown framed a → AreAddresses at → IsByte framed byte → IsByte framed held
+    → IsKnown framed (accumulator_written held (byte_written framed at byte a))
+both_form laws framed a at byte held form are is held_is =
+    laws.writes.accumulator_form framed held held_is (byte_written framed at byte a) (laws.writes.byte_form framed at byte are is a form)

@@ -1,0 +1,114 @@
+-- What a handler left stands where the suspended state goes on, and what is known there is in form.
+use Rattle.std.proofs.Common.{◌≡◌, ℕ, zero, suc, ◌<◌, Bool, true, Option, Some, List, [], ◌∷◌, refl, sym, subst, arith}
+use Rattle.std.specs.Prelude.{◌==◌, Contains}
+use Rattle.std.specs.List.{list_any}
+use Rattle.std.specs.Option.{option_map}
+use Rattle.std.proofs.lemmas.Bool.{or_left, or_right, eq-eqb}
+use Rattle.call_context.specs.declared.node.Frame.TheVariants.{Irq}
+use Rattle.value_set.specs.Form.{Has, members}
+use Rattle.value_set.specs.Joining.{is_in}
+use Rattle.value_set.specs.Summing.{single}
+use Rattle.entry_value.specs.declared.byte.Byte.{Byte}
+use Rattle.entry_value.specs.Words.{HoldsOfByte}
+use Rattle.mcs51_chip.specs.declared.place.Sfr.{Sfr}
+use Rattle.mcs51_chip.specs.declared.place.Sfr.TheVariants.{Ie, Ip}
+use Rattle.mcs51_chip.specs.declared.state.ChipState.{ChipState}
+use Rattle.mcs51_state.specs.Forms.{IsByte, IsKnown, IsOwnByte, IsOwnRelation, IsRelation}
+use Rattle.mcs51_state.specs.Holding.{CameAt, GoesOn, HoldsOf, HoldsOfParts, HoldsOfReads}
+use Rattle.mcs51_state.specs.Known.{Known}
+use Rattle.mcs51_state.specs.Places.{ie_place, ip_place, suspended_of}
+use Rattle.mcs51_state.specs.Under.{IsUnder}
+use Rattle.mcs51_resume.specs.Premises.{Premises}
+use Rattle.mcs51_resume.specs.Resume.{place_byte, resumed_byte, resumed_known}
+use Rattle.mcs51_resume.proofs.Masks.{byte_form, byte_holds, own_form, own_is_relation}
+use Rattle.mcs51_resume.proofs.PlaceLemmas.{at_enable, at_priority, relation_formed, relation_tells}
+use Rattle.mcs51_resume.proofs.Psw.{status_form, status_holds}
+use Rattle.mcs51_resume.proofs.FactLemmas.{IsLeft, carry_form, carry_holds, linear_form, linear_holds}
+use Rattle.mcs51_resume.proofs.CellLemmas.{cells_are, cells_from, cells_stand, cells_up_to, each_chip_cell, none_touched, touched_form, untouched_behind}
+
+-- COVER
+
+module _ (laws : Premises) (framed : Bool) (a exit : Known) (f t : ChipState) (first : Option ChipState) (under : IsUnder framed a f first) (left : IsUnder true exit t (Some f)) where
+  byte_stands : (byte : Byte) (v : ℕ) → IsRelation true byte.entry → HoldsOfByte (Some (suspended_of f)) byte v
+      → HoldsOfByte (option_map suspended_of first) (resumed_byte (place_byte framed a f.pc) byte) v
+  byte_stands byte v named holds =
+      byte_holds laws.bytes (place_byte framed a f.pc) (suspended_of f) (option_map suspended_of first) byte v (relation_tells laws framed a f first under byte.entry named) holds
+
+  own_stands : (byte : Byte) (place unheld : ℕ) (sfr : Sfr) → IsRelation true (Some (record { place = place; and = 0; or = 0 })) → IsOwnRelation true place unheld byte.entry
+      → HoldsOfReads (Some (suspended_of f)) byte t sfr → HoldsOfReads (option_map suspended_of first) (resumed_byte (place_byte framed a f.pc) byte) t sfr
+  own_stands byte place unheld sfr named form reads = λ x may. byte_stands byte x (own_is_relation true place unheld byte.entry named form) (reads x may)
+
+  parts_stand : (sp : ℕ) → t.sp ≡ sp → HoldsOfParts (resumed_known framed a f.pc sp exit) t first
+  unfolding resumed_known
+  parts_stand sp at =
+      let parts = left.holds.parts in
+      let form = left.form in
+      let both : IsLeft f t exit = record { suspended = under.holds.state; under = left } in
+      record {
+        sp = subst (λ n. Has 256 (single n) t.sp) at (laws.bytes.alone 256 t.sp left.holds.state.sp).1;
+        a = byte_stands exit.a t.a form.a.entry parts.a;
+        b = byte_stands exit.b t.b form.b.entry parts.b;
+        dpl = byte_stands exit.dpl t.dpl form.dpl.entry parts.dpl;
+        dph = byte_stands exit.dph t.dph form.dph.entry parts.dph;
+        ie = own_stands exit.ie ie_place 64 Ie (refl, omega arith, omega arith) form.ie.entry parts.ie;
+        ip = own_stands exit.ip ip_place 192 Ip (refl, omega arith, omega arith) form.ip.entry parts.ip;
+        psw = status_holds laws.bytes framed a f first exit.psw t.psw under form.psw left.holds.state.psw parts.psw;
+        levels = parts.levels;
+        linear_fact = linear_holds laws f t exit both a.linear_fact under.form.linear_fact under.holds.parts.linear_fact;
+        carry_fact = carry_holds laws f t exit both a.carry_fact under.form.carry_fact under.holds.parts.carry_fact;
+        cells = cells_stand laws framed a exit f t first under left;
+        untouched = untouched_behind laws.ranges framed a.touched exit.touched f t first under.base under.holds.parts.untouched parts.untouched;
+      }
+
+-- THE STACK POINTER
+
+any_from : (v : ℕ) (xs : List ℕ) → Contains xs v → list_any (λ x. x == v) xs ≡ true
+any_from v [] held = absurd (omega (arith, held.1))
+any_from v (x ∷ xs) (zero, lt, is) = or_left (x == v) (list_any (λ y. y == v) xs) (eq-eqb x v is)
+any_from v (x ∷ xs) (suc k, lt, is) = or_right (x == v) (list_any (λ y. y == v) xs) (any_from v xs (k, omega arith, is))
+
+pub has_pointer : (a : Known) (f : ChipState) (first : Option ChipState) (sp : ℕ) → HoldsOf a f first → CameAt (Some sp) f → is_in 256 a.sp sp ≡ true
+has_pointer a f first sp holds came = any_from sp (members 256 a.sp) (subst (Has 256 a.sp) came holds.parts.sp)
+
+-- FORM
+
+module _ (laws : Premises) (framed : Bool) (a exit : Known) (pc : ℕ) (small : pc < 65536) (form : IsKnown framed a) (exit_form : IsKnown true exit) where
+  one_form : (byte : Byte) → IsByte true byte → IsByte framed (resumed_byte (place_byte framed a pc) byte)
+  one_form byte is = byte_form laws.bytes framed (place_byte framed a pc) byte (relation_formed laws framed a pc small form byte.entry is.entry) is
+
+  pub in_form : (sp : ℕ) → sp < 256 → IsKnown framed (resumed_known framed a pc sp exit)
+  unfolding resumed_known
+  in_form sp sp_small =
+      let psw = status_form framed a.psw exit.psw form.bits exit_form.bits form.psw exit_form.psw in
+      record {
+        sp = (laws.bytes.alone 256 sp sp_small).0;
+        a = one_form exit.a exit_form.a;
+        b = one_form exit.b exit_form.b;
+        dpl = one_form exit.dpl exit_form.dpl;
+        dph = one_form exit.dph exit_form.dph;
+        ie = own_form laws.bytes framed ie_place 64 (place_byte framed a pc) exit.ie (subst (IsOwnByte framed ie_place 64) (sym (at_enable framed a pc)) form.ie) exit_form.ie;
+        ip = own_form laws.bytes framed ip_place 192 (place_byte framed a pc) exit.ip (subst (IsOwnByte framed ip_place 192) (sym (at_priority framed a pc)) form.ip) exit_form.ip;
+        bits = psw.0;
+        psw = psw.1;
+        levels = exit_form.levels;
+        linear_fact = linear_form exit a.linear_fact form.linear_fact;
+        carry_fact = carry_form exit a.carry_fact form.carry_fact;
+        from = cells_from laws framed a exit pc small form exit_form;
+        up_to = cells_up_to laws framed a exit pc small form exit_form;
+        cells = cells_are laws framed a exit pc small form exit_form;
+        each_cell = each_chip_cell laws framed a exit pc small form exit_form;
+        touched = touched_form laws.ranges framed a.touched exit.touched form.touched exit_form.touched;
+        none_touched = none_touched framed a.touched exit.touched;
+      }
+
+pub covers : (laws : Premises) (framed : Bool) (a exit : Known) (f t : ChipState) (first : Option ChipState) (vector sp level : ℕ) → IsUnder framed a f first → IsUnder true exit t (Some f)
+    → GoesOn (Irq vector (Some sp) level) t (Some f) → IsUnder framed (resumed_known framed a f.pc sp exit) t first
+covers laws framed a exit f t first vector sp level under left goes = record {
+  base = under.base;
+  form = in_form laws framed a exit f.pc under.holds.state.pc under.form left.form sp (subst (λ n. n < 256) goes.1 left.holds.state.sp);
+  holds = record {
+    state = left.holds.state;
+    suspended = under.holds.suspended;
+    parts = parts_stand laws framed a exit f t first under left sp goes.1;
+  };
+}

@@ -1,0 +1,10 @@
+mod StatusBits
+mod Masks
+mod Numbers
+mod PlaceLemmas
+mod Psw
+mod FactLemmas
+mod Walking
+mod CellLemmas
+mod Covering
+mod Lists

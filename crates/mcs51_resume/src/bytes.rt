@@ -1,0 +1,66 @@
+//! Bytes as they go on.
+
+ghost use Rattle.std.specs.Prelude.{◌≡◌, ◌/◌, ◌%◌, ◌<◌};
+ghost use Rattle.value_set.specs.Summing.{single};
+ghost use Rattle.mcs51_state.specs.Known.{byte_of};
+ghost use Rattle.mcs51_resume.specs.Resume as the_resumed;
+
+use entry_value::{Byte, Cells, Entry};
+use mcs51_operands::read_byte;
+use mcs51_state::{Addresses, State};
+use value_set::Vs8;
+
+/// A byte that is one number.
+fn one(number: u8) -> Byte
+    ensures { result ≡ byte_of (single number) }
+{
+    Byte {
+        set: Vs8::one(number),
+        entry: None,
+    }
+}
+
+/// What a place held where an interrupt came at `pc`, and `at` was known.
+#[tactic(auto, unfolding(crate::specs::Resume::place_byte))]
+pub(crate) fn place_byte<M: Cells>(framed: bool, at: &State<M>, pc: u16, place: u16) -> Byte
+    ensures { result ≡ the_resumed.place_byte framed at.now pc place }
+{
+    if place < 256 {
+        read_byte(framed, at, &Addresses::InRam(Vs8::one(place as u8)))
+    } else if place < 512 {
+        read_byte(framed, at, &Addresses::InSfr((place - 256) as u8))
+    } else if place == 512 {
+        one((pc % 256) as u8)
+    } else {
+        one((pc / 256) as u8)
+    }
+}
+
+/// Whether a relation keeps each bit of a byte.
+pub(crate) fn is_unmasked(entry: &Entry) -> bool
+    ensures { result ≡ the_resumed.is_unmasked entry.now }
+{
+    entry.and == 0xFF && entry.or == 0
+}
+
+/// What a place held, behind the masks of a relation.
+pub(crate) fn masked_by(entry: &Entry, held: &Byte) -> Byte
+    ensures { result ≡ the_resumed.masked_by entry.now held.now }
+{
+    if is_unmasked(entry) {
+        return *held;
+    }
+    let and = (entry.and % 256) as u8;
+    let or = (entry.or % 256) as u8;
+    held.mask_and(and).mask_or(or)
+}
+
+/// A byte of the exit, as it goes on.
+pub(crate) fn resume_byte<M: Cells>(framed: bool, at: &State<M>, pc: u16, exit: &Byte) -> Byte
+    ensures { result ≡ the_resumed.resumed_byte (the_resumed.place_byte framed at.now pc) exit.now }
+{
+    match &exit.entry {
+        None => *exit,
+        Some(entry) => masked_by(entry, &place_byte(framed, at, pc, entry.place)),
+    }
+}

@@ -1,0 +1,77 @@
+-- What is said of each instruction is in form.
+use Rattle.std.proofs.Common.{◌≡◌, ℕ, ◌+◌, ◌%◌, ◌<◌, Bool, true, false, Option, None, Some, List, refl, arith}
+use Rattle.std.specs.Prelude.{All, IfSome, nat_lt}
+use Rattle.std.proofs.lemmas.Bool.{cond_both}
+use Rattle.ihex_read.specs.Image.{IsByte as IsImageByte}
+use Rattle.mcs51_decode.specs.declared.instr.Instr.{Instr}
+use Rattle.mcs51_decode.specs.declared.instr.Instr.TheVariants.{Nop, AbsoluteJump, AbsoluteCall, LongJump, LongCall, Return, ReturnFromInterrupt, JumpIndirect, JumpOn, JumpOnBit, CompareJump, DecrementJump, ChangeAccumulator, Increment, Decrement, IncrementDataPointer, Accumulate, DirectLogic, Multiply, Divide, ChangeCarry, CarryBit, ChangeBit, MoveImmediate, MoveToDirect, MoveFromDirect, LoadDataPointer, Load, Store, MoveCode, ReadExternal, WriteExternal, Push, Pop, Exchange, ExchangeDigit}
+use Rattle.mcs51_decode.specs.declared.instr.Place.TheVariants.{Accumulator, Memory as InMemory}
+use Rattle.mcs51_decode.specs.Fitting.{IsInstr}
+use Rattle.mcs51_decode.specs.Targets.{absolute_target, following, relative_target}
+use Rattle.mcs51_state.specs.Forms.{IsKnown}
+use Rattle.mcs51_state.specs.Known.{Known}
+use Rattle.mcs51_jumps.specs.Jumps.{AreWays, Ways, ways_by_comparison, ways_by_counter, ways_on_bit, ways_on_condition}
+use Rattle.mcs51_running.specs.declared.ran.Way.TheVariants.{Goes}
+use Rattle.mcs51_running.specs.Doing.{IsWay}
+use Rattle.mcs51_running.specs.Premises.{Premises}
+use Rattle.mcs51_running.specs.Running.{behind_of, items_of, ran_from, ran_of, targets_of}
+
+absolute_small : (next target : ℕ) → next < 65536 → absolute_target next target < 65536
+absolute_small next target small = omega (arith, small)
+
+relative_small : (next rel : ℕ) → relative_target next rel < 65536
+relative_small next rel = cond_both (nat_lt rel 128) ((next + rel) % 65536) ((next + rel + 65280) % 65536) (λ n. n < 65536) (λ e. omega arith) (λ e. omega arith)
+
+some_form : (framed : Bool) (way : Option Known) → ((a : Known) → way ≡ Some a → IsKnown framed a) → IfSome way (IsKnown framed)
+some_form framed None each = tt
+some_form framed (Some a) each = each a refl
+
+both_ways : (framed : Bool) (next rel : ℕ) (ways : Ways) → AreWays framed ways → IsWay framed (Goes (relative_target next rel) ways.on ways.jumped)
+both_ways framed next rel ways are = (relative_small next rel, some_form framed ways.on are.on, some_form framed ways.jumped are.jumped)
+
+way_form : (laws : Premises) (framed : Bool) (a : Known) (image : List (Option ℕ)) (pc next : ℕ) (instr : Instr) → next < 65536 → IsKnown framed a → IsInstr instr → All IsImageByte image
+    → IsWay framed (ran_from image framed pc next a instr).way
+unfolding ran_from items_of targets_of behind_of
+way_form laws framed a image pc next Nop small form is bytes = ((laws.states.alone 65536 next small).0, form)
+way_form laws framed a image pc next (AbsoluteJump target) small form is bytes = ((laws.states.alone 65536 (absolute_target next target) (absolute_small next target small)).0, form)
+way_form laws framed a image pc next (AbsoluteCall target) small form is bytes = ((laws.states.alone 65536 (absolute_target next target) (absolute_small next target small)).0, laws.states.push_form framed next small a form)
+way_form laws framed a image pc next (LongJump target) small form is bytes = ((laws.states.alone 65536 target is).0, form)
+way_form laws framed a image pc next (LongCall target) small form is bytes = ((laws.states.alone 65536 target is).0, laws.states.push_form framed next small a form)
+way_form laws framed a image pc next Return small form is bytes = (laws.transfers.targets_form framed a form, laws.transfers.returned_form framed a form)
+way_form laws framed a image pc next ReturnFromInterrupt small form is bytes = (laws.transfers.targets_form framed a form, laws.transfers.interrupt_form framed a form)
+way_form laws framed a image pc next JumpIndirect small form is bytes = (laws.transfers.jump_form framed a form, form)
+way_form laws framed a image pc next (JumpOn condition rel) small form is bytes = both_ways framed next rel (ways_on_condition condition a) (laws.jumps.on_condition_form framed a condition form)
+way_form laws framed a image pc next (JumpOnBit test bit rel) small form is bytes = both_ways framed next rel (ways_on_bit framed test bit a) (laws.jumps.on_bit_form framed a test bit form is.0)
+way_form laws framed a image pc next (CompareJump comparison rel) small form is bytes = both_ways framed next rel (ways_by_comparison framed comparison a) (laws.jumps.by_comparison_form framed a comparison form is.0)
+way_form laws framed a image pc next (DecrementJump counter rel) small form is bytes = both_ways framed next rel (ways_by_counter framed counter a) (laws.jumps.by_counter_form framed a counter form is.0)
+way_form laws framed a image pc next (ChangeAccumulator operation) small form is bytes = ((laws.states.alone 65536 next small).0, laws.accumulators.change_form framed a operation form)
+way_form laws framed a image pc next (Increment Accumulator) small form is bytes = ((laws.states.alone 65536 next small).0, laws.accumulators.count_form framed a true form)
+way_form laws framed a image pc next (Increment (InMemory m)) small form is bytes = ((laws.states.alone 65536 next small).0, laws.moves.increment_form framed a m form is)
+way_form laws framed a image pc next (Decrement Accumulator) small form is bytes = ((laws.states.alone 65536 next small).0, laws.accumulators.count_form framed a false form)
+way_form laws framed a image pc next (Decrement (InMemory m)) small form is bytes = ((laws.states.alone 65536 next small).0, laws.moves.decrement_form framed a m form is)
+way_form laws framed a image pc next IncrementDataPointer small form is bytes = ((laws.states.alone 65536 next small).0, laws.memories.increment_data_pointer_form framed a form)
+way_form laws framed a image pc next (Accumulate operation origin) small form is bytes = ((laws.states.alone 65536 next small).0, laws.accumulators.accumulate_form framed a operation origin form is)
+way_form laws framed a image pc next (DirectLogic operation direct mask) small form is bytes = ((laws.states.alone 65536 next small).0, laws.moves.mask_direct_form framed a operation direct mask form is.0 is.1)
+way_form laws framed a image pc next Multiply small form is bytes = ((laws.states.alone 65536 next small).0, laws.memories.multiply_form framed a form)
+way_form laws framed a image pc next Divide small form is bytes = ((laws.states.alone 65536 next small).0, laws.memories.divide_form framed a form)
+way_form laws framed a image pc next (ChangeCarry operation) small form is bytes = ((laws.states.alone 65536 next small).0, laws.bits.change_carry_form framed a operation form)
+way_form laws framed a image pc next (CarryBit operation bit) small form is bytes = ((laws.states.alone 65536 next small).0, laws.bits.carry_bit_form framed a operation bit form)
+way_form laws framed a image pc next (ChangeBit operation bit) small form is bytes = ((laws.states.alone 65536 next small).0, laws.bits.change_bit_form framed a operation bit form is)
+way_form laws framed a image pc next (MoveImmediate Accumulator value) small form is bytes = ((laws.states.alone 65536 next small).0, laws.accumulators.immediate_form framed a value form is.1)
+way_form laws framed a image pc next (MoveImmediate (InMemory m) value) small form is bytes = ((laws.states.alone 65536 next small).0, laws.moves.immediate_form framed a m value form is.0 is.1)
+way_form laws framed a image pc next (MoveToDirect to from) small form is bytes = ((laws.states.alone 65536 next small).0, laws.moves.to_direct_form framed a to from form is.0 is.1)
+way_form laws framed a image pc next (MoveFromDirect to from) small form is bytes = ((laws.states.alone 65536 next small).0, laws.moves.from_direct_form framed a to from form is)
+way_form laws framed a image pc next (LoadDataPointer value) small form is bytes = ((laws.states.alone 65536 next small).0, laws.memories.load_data_pointer_form framed a value form is)
+way_form laws framed a image pc next (Load m) small form is bytes = ((laws.states.alone 65536 next small).0, laws.accumulators.load_form framed a m form is)
+way_form laws framed a image pc next (Store m) small form is bytes = ((laws.states.alone 65536 next small).0, laws.moves.store_form framed a m form is)
+way_form laws framed a image pc next (MoveCode base) small form is bytes = ((laws.states.alone 65536 next small).0, laws.memories.move_code_form framed a image base next form bytes)
+way_form laws framed a image pc next (ReadExternal external) small form is bytes = ((laws.states.alone 65536 next small).0, laws.memories.read_external_form framed a form)
+way_form laws framed a image pc next (WriteExternal external) small form is bytes = ((laws.states.alone 65536 next small).0, form)
+way_form laws framed a image pc next (Push direct) small form is bytes = ((laws.states.alone 65536 next small).0, laws.memories.push_form framed a direct form is)
+way_form laws framed a image pc next (Pop direct) small form is bytes = ((laws.states.alone 65536 next small).0, laws.memories.pop_form framed a direct form is)
+way_form laws framed a image pc next (Exchange m) small form is bytes = ((laws.states.alone 65536 next small).0, laws.moves.exchange_form framed a m form is)
+way_form laws framed a image pc next (ExchangeDigit i) small form is bytes = ((laws.states.alone 65536 next small).0, laws.moves.exchange_digit_form framed a i form)
+
+pub instruction_form : (laws : Premises) (framed : Bool) (a : Known) (image : List (Option ℕ)) (pc : ℕ) (instr : Instr) → IsKnown framed a → IsInstr instr → All IsImageByte image
+    → IsWay framed (ran_of image framed pc a instr).way
+instruction_form laws framed a image pc instr form is bytes = way_form laws framed a image pc (following pc instr) instr (omega arith) form is bytes
