@@ -1,0 +1,5 @@
+pub mod Nodes
+pub mod Certificate
+pub mod Reading
+pub mod Premises
+pub mod Writing

@@ -1,0 +1,4 @@
+use Rattle.state_parts.proofs.writing.+push_short.Given as goal
+
+abbrev pub decreases-push_short : goal.decreases-push_short
+decreases-push_short l = l.number
