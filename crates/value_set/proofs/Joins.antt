@@ -21,11 +21,11 @@ use Rattle.value_set.proofs.Spans.{greater_left, greater_right, reached, span_is
 
 -- ---- the test of inclusion
 
-any_in : (v : ℕ) (xs : List ℕ) → list_any (λ x. eqb x v) xs ≡ true → IsIn v xs
+pub any_in : (v : ℕ) (xs : List ℕ) → list_any (λ x. eqb x v) xs ≡ true → IsIn v xs
 any_in v [] h = cc h
 any_in v (x ∷ xs) h = elim (or_cases (eqb x v) (list_any (λ x. eqb x v) xs) h) [ inl e ↦ inl (eqb-true x v e) | inr r ↦ inr (any_in v xs r) ]
 
-in_any : (v : ℕ) (xs : List ℕ) → IsIn v xs → list_any (λ x. eqb x v) xs ≡ true
+pub in_any : (v : ℕ) (xs : List ℕ) → IsIn v xs → list_any (λ x. eqb x v) xs ≡ true
 in_any v [] h = absurd h
 in_any v (x ∷ xs) (inl e) = or_left (eqb x v) (list_any (λ x. eqb x v) xs) (eq-eqb x v e)
 in_any v (x ∷ xs) (inr h) = or_right (eqb x v) (list_any (λ x. eqb x v) xs) (in_any v xs h)

@@ -17,3 +17,5 @@ pub mod Singles
 pub mod Promises
 pub mod Remainders
 pub mod Formulas
+pub mod Bounds
+pub mod Tests

@@ -10,6 +10,7 @@ ghost use Rattle.value_set.specs.Joining.{is_within, join};
 ghost use Rattle.value_set.specs.Widening.{widen};
 ghost use Rattle.value_set.specs.Cutting.{cut};
 ghost use Rattle.value_set.specs.Summing.{add, combine, single, sub, twice};
+ghost use Rattle.value_set.specs.Laws.{SetLaws};
 
 /// The members of a set stand below its modulus.
 pub fn members_are_below()
@@ -119,3 +120,23 @@ pub fn remainders_stay()
     ensures cut { (m n r low len : ℕ) (a part : AForm) → m % n ≡ 0 → IsNormal m a → low < m → cut m a low len ≡ Some part
         → HasRemainder m n r a → HasRemainder m n r part }
 {}
+
+/// All laws of sets.
+pub fn set_laws()
+    ensures { SetLaws }
+{
+    members_are_below();
+    sets_have_members();
+    single_and_whole_sets();
+    runs_are_exact();
+    gathers_hold();
+    results_hold();
+    inclusion_is_tested();
+    sets_are_their_members();
+    joins_include_both();
+    widenings_include_both();
+    sums_hold();
+    cuts_hold();
+    made_of_one_remainder();
+    remainders_stay();
+}

@@ -27,8 +27,9 @@ pub use few::Few;
 pub use form::{Form, Progression};
 pub use laws::{
     cuts_hold, gathers_hold, inclusion_is_tested, joins_include_both, made_of_one_remainder,
-    members_are_below, remainders_stay, results_hold, runs_are_exact, sets_are_their_members,
-    sets_have_members, single_and_whole_sets, sums_hold, widenings_include_both,
+    members_are_below, remainders_stay, results_hold, runs_are_exact, set_laws,
+    sets_are_their_members, sets_have_members, single_and_whole_sets, sums_hold,
+    widenings_include_both,
 };
 pub use words::Vs16;
 

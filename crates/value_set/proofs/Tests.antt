@@ -1,0 +1,40 @@
+-- Whether a number is a member, and the numbers of lists and runs by their places.
+use Prim.Native.Nat.{zero, suc}
+use Rattle.std.proofs.Common.{◌≡◌, ℕ, ◌+◌, ◌*◌, ◌%◌, ◌<◌, ◌==◌, Bool, true, List, [], ◌∷◌, length, get_or, refl, sym, ◌∙◌, inl, inr, arith}
+use Rattle.std.specs.Prelude.{◌↔◌, IsTrue}
+use Rattle.std.specs.List.{Contains, list_any}
+use Rattle.std.proofs.lemmas.Bool.{cases_Bool}
+use Rattle.value_set.specs.declared.form.Form.{Form}
+use Rattle.value_set.specs.declared.form.Form.TheVariants.{Values}
+use Rattle.value_set.specs.Form.{Ascends, Has, IsNormal, members, steps}
+use Rattle.value_set.specs.Joining.{is_in}
+use Rattle.value_set.specs.Summing.{single}
+use Rattle.value_set.proofs.Joins.{any_in, in_any}
+use Rattle.value_set.proofs.Members.{in_from_Contains, Contains_from_in, steps_has}
+
+pub member_found : (m v : ℕ) (set : Form) → Has m set v → is_in m set v ≡ true
+member_found m v set h = in_any v (members m set) (in_from_Contains (members m set) v h)
+
+pub asked : (xs : List ℕ) (v : ℕ) (answer : Bool) → IsTrue answer ↔ Contains xs v → answer ≡ list_any (λ x. x == v) xs
+asked xs v answer (there, back) = elim (cases_Bool answer) [
+  | inl holds ↦ holds ∙ sym (in_any v xs (in_from_Contains xs v (there holds)))
+  | inr none ↦ elim (cases_Bool (list_any (λ x. x == v) xs)) [
+    | inl any ↦ back (Contains_from_in xs v (any_in v xs any)) ∙ sym any
+    | inr not_any ↦ none ∙ sym not_any
+  ]
+]
+
+at_below : (low m k d : ℕ) (xs : List ℕ) → Ascends low m xs → k < length xs → get_or xs k d < m
+at_below low m k d [] a short = absurd (omega arith)
+at_below low m zero d (x ∷ xs) a short = a.1
+at_below low m (suc k) d (x ∷ xs) a short = at_below (x + 1) m k d xs a.2 (omega arith)
+
+pub listed : (m k d : ℕ) (xs : List ℕ) → IsNormal m (Values xs) → k < length xs → get_or xs k d < m
+listed m k d xs normal = at_below 0 m k d xs normal.2
+
+pub only_number : (m n v : ℕ) → Has m (single n) v → n ≡ v
+only_number m n v (zero, short, is) = is
+only_number m n v (suc k, short, is) = absurd (omega (arith, short))
+
+pub step_there : (m base stride count i : ℕ) → i < count → Contains (steps m base stride count) ((base + i * stride) % m)
+step_there m base stride count i short = steps_has m base stride count ((base + i * stride) % m) (i, short, refl)
