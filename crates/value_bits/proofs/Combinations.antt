@@ -13,7 +13,7 @@ use Rattle.value_set.specs.Summing.{count_of}
 use Rattle.value_bits.specs.declared.tri.Tri.{Tri}
 use Rattle.value_bits.specs.declared.tri.Tri.TheVariants.{Zero, One, Either}
 use Rattle.value_bits.specs.Flags.{IsFlag, has_value, each_has, agreed_of, agreed}
-use Rattle.value_bits.specs.SetLaws.{SetLaws}
+use Rattle.value_set.specs.Laws.{SetLaws}
 use Rattle.value_bits.proofs.Within.{IsIn, in_from_Contains, Contains_from_in, list_all_in, member_below}
 
 value_had : (wanted flag : Bool) → has_value wanted flag ≡ true → flag ≡ wanted

@@ -19,7 +19,7 @@ use Rattle.value_bits.specs.declared.tri.Tri.TheVariants.{Zero, One, Either}
 use Rattle.value_bits.specs.declared.tri.Logic.TheVariants.{And}
 use Rattle.value_bits.specs.Bits.{is_fixed, known_bit, known_bits, choices, numbers, filled, least, greatest, unknown_count, lowest_unknown, from_bits, logic_of, tri_and, tri_logic}
 use Rattle.value_bits.specs.Sets.{logic_bits, logic_set}
-use Rattle.value_bits.specs.SetLaws.{SetLaws}
+use Rattle.value_set.specs.Laws.{SetLaws}
 use Rattle.value_bits.proofs.Within.{IsIn, in_from_Contains, Contains_from_in, in_mapped, in_flat, steps_has}
 use Rattle.value_bits.proofs.Fillings.{few_numbers}
 use Rattle.value_bits.proofs.Agreeing.{few_value, many_value}

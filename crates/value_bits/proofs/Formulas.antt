@@ -31,7 +31,7 @@ use Rattle.value_bits.proofs.Moves.{left_agrees, shift_agrees, exchange_agrees, 
 use Rattle.value_bits.proofs.Choosing.{combine_few, combine_many, single_has, chosen_has, lowest_choice, top_choice}
 use Rattle.value_bits.proofs.Halves.{low_few, low_many, high_few, high_many, pair_few, pair_many, words_have, words_some}
 use Rattle.value_bits.proofs.Decimals.{decimal_member}
-use Rattle.value_bits.specs.SetLaws.{SetLaws}
+use Rattle.value_set.specs.Laws.{SetLaws}
 
 -- ---- the set of some bits
 

@@ -15,7 +15,7 @@ use Rattle.value_bits.specs.Staying.{logic_stays}
 use Rattle.value_bits.proofs.Within.{member_below}
 use Rattle.value_bits.proofs.Known.{known_bit_is, agrees_by_places}
 
-and_bit : (a b : Tri) (x y : ℕ) → IsBit a x → IsBit b y → IsBit (tri_and a b) (min x y)
+pub and_bit : (a b : Tri) (x y : ℕ) → IsBit a x → IsBit b y → IsBit (tri_and a b) (min x y)
 and_bit Zero b x y h k = omega (arith, h)
 and_bit One Zero x y h k = omega (arith, h, k)
 and_bit One One x y h k = omega (arith, h, k)
@@ -24,7 +24,7 @@ and_bit Either Zero x y h k = omega (arith, h, k)
 and_bit Either One x y h k = omega (arith, h, k)
 and_bit Either Either x y h k = omega (arith, h, k)
 
-or_bit : (a b : Tri) (x y : ℕ) → y < 2 → IsBit a x → IsBit b y → IsBit (tri_or a b) (max x y)
+pub or_bit : (a b : Tri) (x y : ℕ) → y < 2 → IsBit a x → IsBit b y → IsBit (tri_or a b) (max x y)
 or_bit Zero Zero x y l h k = omega (arith, h, k)
 or_bit Zero One x y l h k = omega (arith, h, k)
 or_bit Zero Either x y l h k = omega (arith, h, k)
@@ -33,7 +33,7 @@ or_bit Either Zero x y l h k = omega (arith, h, k)
 or_bit Either One x y l h k = omega (arith, h, k)
 or_bit Either Either x y l h k = omega (arith, h, k)
 
-xor_bit : (a b : Tri) (x y : ℕ) → IsBit a x → IsBit b y → IsBit (tri_xor a b) ((x + y) % 2)
+pub xor_bit : (a b : Tri) (x y : ℕ) → IsBit a x → IsBit b y → IsBit (tri_xor a b) ((x + y) % 2)
 xor_bit Zero Zero x y h k = omega (arith, h, k)
 xor_bit Zero One x y h k = omega (arith, h, k)
 xor_bit Zero Either x y h k = omega (arith, h, k)

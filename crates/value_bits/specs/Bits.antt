@@ -1,5 +1,5 @@
 -- What is known of the bits of the numbers of a set, and the set of the numbers that have such bits.
-use Rattle.std.specs.Prelude.{◌≡◌, ℕ, ◌+◌, ◌-◌, ◌*◌, ◌/◌, ◌%◌, ◌^◌, ◌<◌, ◌==◌, ◌||◌, ◌&&◌, nat_lt, nat_le, if◌then◌else◌, Bool, true, false, List, [], ◌∷◌, map, bit_and, bit_or, bit_xor}
+use Rattle.std.specs.Prelude.{◌≡◌, ℕ, ◌+◌, ◌-◌, ◌*◌, ◌/◌, ◌%◌, ◌^◌, ◌<◌, ◌==◌, ◌||◌, ◌&&◌, nat_lt, nat_le, if◌then◌else◌, Bool, true, false, not, List, [], ◌∷◌, map, bit_and, bit_or, bit_xor}
 use Rattle.std.specs.List.{range_with_len, list_all, flat_map, count_by, position_or_len}
 use Rattle.std.specs.Int.{bit_at}
 use Rattle.value_set.specs.Form.{make, gather}
@@ -25,6 +25,16 @@ Agrees (b ∷ bs) v = IsBit b (v % 2) × Agrees bs (v / 2)
 
 abbrev pub tri : ℕ → Tri
 tri bit = if bit == 1 then One else Zero
+
+-- a flag that is known
+abbrev pub known_flag : Bool → Tri
+known_flag flag = if flag then One else Zero
+
+-- what is known of a flag doesn't forbid it
+abbrev pub may_be : Tri → Bool → Bool
+may_be Zero flag = not flag
+may_be One flag = flag
+may_be Either flag = true
 
 -- ---- the bits of a set
 

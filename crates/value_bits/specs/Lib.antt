@@ -2,6 +2,6 @@ pub mod Numbers
 pub mod Bits
 pub mod Sets
 pub mod Staying
-pub mod SetLaws
+pub mod Laws
 pub mod Flags
 pub mod Lefts

@@ -16,32 +16,16 @@ ghost use Rattle.value_bits.specs.Bits.{IsBit, Agrees, known_bits, from_bits, lo
 ghost use Rattle.value_bits.specs.Sets.{IsTop, logic_set, shift_set, exchange_set, sign_extend_set, low_set, high_set, pair_set, decimal_add_set, decimal_adjust_set};
 ghost use Rattle.value_bits.specs.Flags.{IsFlag, agreed};
 ghost use Rattle.value_bits.specs.Lefts.{IsLowest, left_set};
-ghost use Rattle.value_bits.specs.SetLaws.{SetLaws};
+ghost use Rattle.value_bits.specs.Laws.{BitLaws};
 
-use value_set::{
-    gathers_hold, made_of_one_remainder, members_are_below, results_hold, runs_are_exact,
-    sets_have_members, single_and_whole_sets,
-};
-
-/// The laws of sets that those below rest on.
-fn sets_hold()
-    ensures { SetLaws }
-{
-    members_are_below();
-    sets_have_members();
-    single_and_whole_sets();
-    runs_are_exact();
-    gathers_hold();
-    results_hold();
-    made_of_one_remainder();
-}
+use value_set::set_laws;
 
 /// The set of AND, OR or XOR is one in normal form, and has the result of each two members.
 pub fn logic_holds()
     ensures normal { (width : ℕ) (logic : ALogic) (a b : AForm) → IsNormal (2 ^ width) a → IsNormal (2 ^ width) b → IsNormal (2 ^ width) (logic_set width logic a b) }
     ensures holds { (width x y : ℕ) (logic : ALogic) (a b : AForm) → IsNormal (2 ^ width) a → IsNormal (2 ^ width) b → Has (2 ^ width) a x → Has (2 ^ width) b y → Has (2 ^ width) (logic_set width logic a b) (logic_of logic x y) }
 {
-    sets_hold();
+    set_laws();
 }
 
 /// The low and the high bytes of words, and the words of such bytes, are sets in normal form, and have those of each
@@ -54,7 +38,7 @@ pub fn halves_hold()
     ensures pair_normal { (low high : AForm) → IsNormal 256 low → IsNormal 256 high → IsNormal 65536 (pair_set low high) }
     ensures pair { (x y : ℕ) (low high : AForm) → IsNormal 256 low → IsNormal 256 high → Has 256 low x → Has 256 high y → Has 65536 (pair_set low high) (word_of x y) }
 {
-    sets_hold();
+    set_laws();
 }
 
 /// Numbers with exchanged halves, with a sign that is extended, or shifted to the right by one place: their sets are in
@@ -67,7 +51,7 @@ pub fn moves_hold()
     ensures shift_normal { (place : ℕ) (a : AForm) (top : ATop) → IsNormal (2 ^ (place + 1)) a → IsNormal (2 ^ (place + 1)) (shift_set place a top) }
     ensures shift { (place x bit : ℕ) (a : AForm) (top : ATop) → IsNormal (2 ^ (place + 1)) a → Has (2 ^ (place + 1)) a x → IsTop place top x bit → Has (2 ^ (place + 1)) (shift_set place a top) (shifted_right place x bit) }
 {
-    sets_hold();
+    set_laws();
 }
 
 /// The set of numbers shifted to the left by one place is in normal form, and has that of each member.
@@ -76,7 +60,7 @@ pub fn left_shifts_hold()
     ensures holds { (place x bit : ℕ) (a : AForm) (lowest : ALowest) → IsNormal (2 ^ (place + 1)) a → Has (2 ^ (place + 1)) a x → IsLowest place lowest x bit
         → Has (2 ^ (place + 1)) (left_set place a lowest) (shifted_left place x bit) }
 {
-    sets_hold();
+    set_laws();
 }
 
 /// The sets of decimal sums and adjustments are in normal form, and have the result of each combination of members and
@@ -88,7 +72,7 @@ pub fn decimals_hold()
     ensures adjust_normal { (a : AForm) (carry half : ATri) → IsNormal 256 a → IsNormal 256 (decimal_adjust_set a carry half) }
     ensures adjust { (x y z : ℕ) (a : AForm) (carry half : ATri) → IsNormal 256 a → Has 256 a x → IsBit carry y → IsBit half z → Has 256 (decimal_adjust_set a carry half) (decimal_adjusted x y z) }
 {
-    sets_hold();
+    set_laws();
 }
 
 /// Each member of a set has the bits that are known of it. The set of some bits is one in normal form, and has each number
@@ -98,7 +82,7 @@ pub fn bits_hold()
     ensures from_normal { (width : ℕ) (bits : List ATri) → length bits ≡ width → IsNormal (2 ^ width) (from_bits width bits) }
     ensures from { (width v : ℕ) (bits : List ATri) → length bits ≡ width → Agrees bits v → Has (2 ^ width) (from_bits width bits) v }
 {
-    sets_hold();
+    set_laws();
 }
 
 /// The lowest bit of a set of even numbers is known. The set of bits of which the lowest is known has numbers with that
@@ -110,7 +94,7 @@ pub fn evens_stay()
     ensures and { (width : ℕ) (a b : AForm) → 1 ≤ width → IsNormal (2 ^ width) a → IsNormal (2 ^ width) b
         → HasRemainder (2 ^ width) 2 0 b → HasRemainder (2 ^ width) 2 0 (logic_set width And a b) }
 {
-    sets_hold();
+    set_laws();
 }
 
 /// A flag that is known is that of each combination of members, and where all of at most 256 agree it is known.
@@ -121,5 +105,20 @@ pub fn flags_agree()
     ensures clear { (m : ℕ) (flag : ℕ → ℕ → ℕ → Bool) (a b c : AForm) → IsNormal m a → IsNormal m b → IsNormal m c → count_of m a * (count_of m b * count_of m c) ≤ 256
         → ((x y z : ℕ) → Has m a x → Has m b y → Has m c z → flag x y z ≡ false) → agreed m flag a b c ≡ Zero }
 {
-    sets_hold();
+    set_laws();
+}
+
+/// All laws of bits, and of bitwise and decimal operations.
+pub fn bit_laws()
+    ensures { BitLaws }
+{
+    set_laws();
+    logic_holds();
+    halves_hold();
+    moves_hold();
+    left_shifts_hold();
+    decimals_hold();
+    bits_hold();
+    evens_stay();
+    flags_agree();
 }

@@ -31,8 +31,8 @@ mod words;
 
 pub use flags::Flag;
 pub use laws::{
-    bits_hold, decimals_hold, evens_stay, flags_agree, halves_hold, left_shifts_hold, logic_holds,
-    moves_hold,
+    bit_laws, bits_hold, decimals_hold, evens_stay, flags_agree, halves_hold, left_shifts_hold,
+    logic_holds, moves_hold,
 };
 pub use tri::{Lowest, Top, Tri};
 

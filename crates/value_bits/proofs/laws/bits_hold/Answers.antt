@@ -6,7 +6,7 @@ pub returns-clause-known : goal.returns-clause-known
 returns-clause-known c = known_agrees
 
 pub returns-clause-from_normal : goal.returns-clause-from_normal
-returns-clause-from_normal c = bits_normal c.sets_hold.ensures
+returns-clause-from_normal c = bits_normal c.set_laws.ensures
 
 pub returns-clause-from : goal.returns-clause-from
-returns-clause-from c = λ width v bits. bits_have c.sets_hold.ensures width bits v
+returns-clause-from c = λ width v bits. bits_have c.set_laws.ensures width bits v

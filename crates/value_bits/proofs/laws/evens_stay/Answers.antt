@@ -7,10 +7,10 @@ pub returns-clause-known : goal.returns-clause-known
 returns-clause-known c = lowest_known
 
 pub returns-clause-even : goal.returns-clause-even
-returns-clause-even c = λ width bits long zero. bits_remainder c.sets_hold.ensures width bits 0 long (subst (λ (t : Tri). IsKnown t 0) (sym zero) refl)
+returns-clause-even c = λ width bits long zero. bits_remainder c.set_laws.ensures width bits 0 long (subst (λ (t : Tri). IsKnown t 0) (sym zero) refl)
 
 pub returns-clause-odd : goal.returns-clause-odd
-returns-clause-odd c = λ width bits long one. bits_remainder c.sets_hold.ensures width bits 1 long (subst (λ (t : Tri). IsKnown t 1) (sym one) refl)
+returns-clause-odd c = λ width bits long one. bits_remainder c.set_laws.ensures width bits 1 long (subst (λ (t : Tri). IsKnown t 1) (sym one) refl)
 
 pub returns-clause-and : goal.returns-clause-and
-returns-clause-and c = and_even_set c.sets_hold.ensures
+returns-clause-and c = and_even_set c.set_laws.ensures

@@ -8,4 +8,4 @@ pub returns-clause-set : goal.returns-clause-set
 returns-clause-set c = agreed_set
 
 pub returns-clause-clear : goal.returns-clause-clear
-returns-clause-clear c = agreed_clear c.sets_hold.ensures
+returns-clause-clear c = agreed_clear c.set_laws.ensures
