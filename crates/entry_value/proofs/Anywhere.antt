@@ -11,9 +11,8 @@ use Rattle.entry_value.specs.declared.word.Word.{Word}
 use Rattle.entry_value.specs.Words.{Suspended, HoldsOfWord}
 use Rattle.entry_value.specs.Cells.{CellMap, StandsUnder, AreCells, written, write_one, write_several, write_any}
 use Rattle.entry_value.proofs.Bytes.{IsSize}
-use Rattle.entry_value.proofs.Premises.{MembersAreBelow, Joins}
+use Rattle.value_set.specs.Laws.{SetLaws}
 use Rattle.entry_value.proofs.Scattering.{several_covers, several_form, several_lo, several_hi}
-use Rattle.entry_value.proofs.Values.{JoinsStayLow}
 use Rattle.entry_value.proofs.Writing.{one_covers, one_form, one_lo, one_hi}
 
 pub only_member : (xs : List ℕ) (x : ℕ) → length xs ≡ 1 → Contains xs x → slice_index xs 0 ≡ x
@@ -29,24 +28,24 @@ pub at_several : (map : CellMap) (at : Form) (size : ℕ) (word : Word) → (cou
 unfolding write_any
 at_several map at size word several = rw (ne_eqb (count_of 65536 at) 1 several) refl
 
-pub any_covers : MembersAreBelow → Joins → (first : Option Suspended) (ram : ℕ → ℕ) (from size address v : ℕ) (map : CellMap) (at : Form) (word : Word) → map.hi < 65536 → AreCells map.lo map.hi from map.cells
+pub any_covers : SetLaws → (first : Option Suspended) (ram : ℕ → ℕ) (from size address v : ℕ) (map : CellMap) (at : Form) (word : Word) → map.hi < 65536 → AreCells map.lo map.hi from map.cells
     → IsNormal 65536 at → IsSize size → IsNormal 65536 word.set → (size ≡ 1 → (n : ℕ) → Has 65536 word.set n → n < 256)
     → StandsUnder first map.cells ram → Has 65536 at address → HoldsOfWord first word v → StandsUnder first (write_any map at size word).cells (written ram address size v)
 unfolding write_any
-any_covers members_below joins first ram from size address v map at word below are addresses is normal byte stands h holds = elim (cases_Bool (count_of 65536 at == 1)) [
+any_covers sets first ram from size address v map at word below are addresses is normal byte stands h holds = elim (cases_Bool (count_of 65536 at == 1)) [
   | inl one ↦ rw one (
       subst (λ (a : ℕ). StandsUnder first (write_one map a size word).cells (written ram address size v))
       (sym (only_member (members 65536 at) address (eqb-true (count_of 65536 at) 1 one) h))
-      (one_covers members_below first ram from address size v map word below are (members_below 65536 address at addresses h) is normal byte stands holds))
-  | inr several ↦ rw several (several_covers members_below joins first ram from size address v map at word below are addresses is normal byte stands h holds)
+      (one_covers sets first ram from address size v map word below are (sets.below 65536 address at addresses h) is normal byte stands holds))
+  | inr several ↦ rw several (several_covers sets first ram from size address v map at word below are addresses is normal byte stands h holds)
 ]
 
-pub any_form : Joins → JoinsStayLow → (from size : ℕ) (map : CellMap) (at : Form) (word : Word) → map.hi < 65536 → from ≤ map.lo → AreCells map.lo map.hi from map.cells → IsSize size
+pub any_form : SetLaws → (from size : ℕ) (map : CellMap) (at : Form) (word : Word) → map.hi < 65536 → from ≤ map.lo → AreCells map.lo map.hi from map.cells → IsSize size
     → IsNormal 65536 word.set → (size ≡ 1 → (n : ℕ) → Has 65536 word.set n → n < 256) → AreCells map.lo map.hi from (write_any map at size word).cells
 unfolding write_any
-any_form joins stay from size map at word below first are is normal byte = elim (cases_Bool (count_of 65536 at == 1)) [
+any_form sets from size map at word below first are is normal byte = elim (cases_Bool (count_of 65536 at == 1)) [
   | inl one ↦ rw one (one_form from (slice_index (members 65536 at) 0) size map word below first are is normal byte)
-  | inr several ↦ rw several (several_form joins stay from size map at word are normal byte)
+  | inr several ↦ rw several (several_form sets from size map at word are normal byte)
 ]
 
 pub any_lo : (size : ℕ) (map : CellMap) (at : Form) (word : Word) → (write_any map at size word).lo ≡ map.lo

@@ -4,10 +4,8 @@ pub mod Each
 mod Examples
 pub mod Holding
 pub mod Inside
-pub mod LowSets
 pub mod Masks
 pub mod Ordering
-pub mod Premises
 pub mod ReadForms
 pub mod Reading
 pub mod Scattering

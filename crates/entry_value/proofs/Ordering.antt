@@ -13,7 +13,8 @@ use Rattle.entry_value.specs.declared.cells.Cell.{Cell}
 use Rattle.entry_value.specs.Words.{is_same_entry, common_entry, is_entry_within, word_join, word_widen, word_within, byte_join, byte_widen, byte_within}
 use Rattle.entry_value.specs.Cells.{IsCell, AreCells, is_nothing, unknown, cell_at, both_of, with_both, kept, join_cells, byte_widened, cell_widened, widen_cells, is_found_within, are_within}
 use Rattle.entry_value.proofs.Each.{Each, OfSome, each_both, each_then, each_kept, each_cell, found_at}
-use Rattle.entry_value.proofs.Premises.{MembersAreBelow, InclusionIsTested, Singles, Joins, Widens, Sets}
+use Rattle.value_bits.specs.Laws.{BitLaws}
+use Rattle.value_set.specs.Laws.{SetLaws}
 use Rattle.entry_value.proofs.Uniting.{of_telling, of_both, of_some_then, of_size}
 use Rattle.entry_value.proofs.Values.{same_entry, byte_held, byte_new}
 
@@ -49,76 +50,76 @@ common_of_second (Some a) (Some b) = elim (cases_Bool (is_same_entry a b)) [
 
 -- ---- sets with relations
 
-both_within : InclusionIsTested → (m : ℕ) (a b : Form) (e f : Option Entry) → Includes m b a → is_entry_within e f ≡ true → (is_within m a b && is_entry_within e f) ≡ true
-both_within tested m a b e f sets entries = and_from (is_within m a b) (is_entry_within e f) ((tested m a b).1 sets) entries
+both_within : SetLaws → (m : ℕ) (a b : Form) (e f : Option Entry) → Includes m b a → is_entry_within e f ≡ true → (is_within m a b && is_entry_within e f) ≡ true
+both_within sets m a b e f includes entries = and_from (is_within m a b) (is_entry_within e f) ((sets.tested m a b).1 includes) entries
 
-within_along : InclusionIsTested → (m : ℕ) (a b c : Form) (e f g : Option Entry) → (is_within m a b && is_entry_within e f) ≡ true → (is_within m b c && is_entry_within f g) ≡ true
+within_along : SetLaws → (m : ℕ) (a b c : Form) (e f g : Option Entry) → (is_within m a b && is_entry_within e f) ≡ true → (is_within m b c && is_entry_within f g) ≡ true
     → (is_within m a c && is_entry_within e g) ≡ true
-within_along tested m a b c e f g h k =
+within_along sets m a b c e f g h k =
     let one = and_parts (is_within m a b) (is_entry_within e f) h in
     let other = and_parts (is_within m b c) (is_entry_within f g) k in
-    both_within tested m a c e g (λ v has. (tested m b c).0 other.0 v ((tested m a b).0 one.0 v has)) (entry_along e f g one.1 other.1)
+    both_within sets m a c e g (λ v has. (sets.tested m b c).0 other.0 v ((sets.tested m a b).0 one.0 v has)) (entry_along e f g one.1 other.1)
 
 -- ---- words
 
-pub word_itself : InclusionIsTested → (a : Word) → word_within a a ≡ true
-word_itself tested a = both_within tested 65536 a.set a.set a.entry a.entry (λ v h. h) (entry_itself a.entry)
+pub word_itself : SetLaws → (a : Word) → word_within a a ≡ true
+word_itself sets a = both_within sets 65536 a.set a.set a.entry a.entry (λ v h. h) (entry_itself a.entry)
 
-pub word_along : InclusionIsTested → (a b c : Word) → word_within a b ≡ true → word_within b c ≡ true → word_within a c ≡ true
-word_along tested a b c h k = within_along tested 65536 a.set b.set c.set a.entry b.entry c.entry h k
+pub word_along : SetLaws → (a b c : Word) → word_within a b ≡ true → word_within b c ≡ true → word_within a c ≡ true
+word_along sets a b c h k = within_along sets 65536 a.set b.set c.set a.entry b.entry c.entry h k
 
-pub word_joined_first : InclusionIsTested → Joins → (a b : Word) → IsNormal 65536 a.set → IsNormal 65536 b.set → word_within a (word_join a b) ≡ true
-word_joined_first tested joins a b n k =
-    both_within tested 65536 a.set (join 65536 a.set b.set) a.entry (common_entry a.entry b.entry) (joins.first 65536 a.set b.set n k) (common_of_first a.entry b.entry)
+pub word_joined_first : SetLaws → (a b : Word) → IsNormal 65536 a.set → IsNormal 65536 b.set → word_within a (word_join a b) ≡ true
+word_joined_first sets a b n k =
+    both_within sets 65536 a.set (join 65536 a.set b.set) a.entry (common_entry a.entry b.entry) (sets.join_first 65536 a.set b.set n k) (common_of_first a.entry b.entry)
 
-pub word_joined_second : InclusionIsTested → Joins → (a b : Word) → IsNormal 65536 a.set → IsNormal 65536 b.set → word_within b (word_join a b) ≡ true
-word_joined_second tested joins a b n k =
-    both_within tested 65536 b.set (join 65536 a.set b.set) b.entry (common_entry a.entry b.entry) (joins.second 65536 a.set b.set n k) (common_of_second a.entry b.entry)
+pub word_joined_second : SetLaws → (a b : Word) → IsNormal 65536 a.set → IsNormal 65536 b.set → word_within b (word_join a b) ≡ true
+word_joined_second sets a b n k =
+    both_within sets 65536 b.set (join 65536 a.set b.set) b.entry (common_entry a.entry b.entry) (sets.join_second 65536 a.set b.set n k) (common_of_second a.entry b.entry)
 
-pub word_widened_held : InclusionIsTested → Widens → (held new : Word) (marks : List ℕ) → IsNormal 65536 held.set → IsNormal 65536 new.set → All (λ mark. mark < 65536) marks
+pub word_widened_held : SetLaws → (held new : Word) (marks : List ℕ) → IsNormal 65536 held.set → IsNormal 65536 new.set → All (λ mark. mark < 65536) marks
     → word_within held (word_widen held new marks) ≡ true
-word_widened_held tested widens a b marks n k below =
-    both_within tested 65536 a.set (widen 65536 a.set b.set marks) a.entry (common_entry a.entry b.entry) (widens.held 65536 a.set b.set marks n k below) (common_of_first a.entry b.entry)
+word_widened_held sets a b marks n k below =
+    both_within sets 65536 a.set (widen 65536 a.set b.set marks) a.entry (common_entry a.entry b.entry) (sets.widen_held 65536 a.set b.set marks n k below) (common_of_first a.entry b.entry)
 
-pub word_widened_new : InclusionIsTested → Widens → (held new : Word) (marks : List ℕ) → IsNormal 65536 held.set → IsNormal 65536 new.set → All (λ mark. mark < 65536) marks
+pub word_widened_new : SetLaws → (held new : Word) (marks : List ℕ) → IsNormal 65536 held.set → IsNormal 65536 new.set → All (λ mark. mark < 65536) marks
     → word_within new (word_widen held new marks) ≡ true
-word_widened_new tested widens a b marks n k below =
-    both_within tested 65536 b.set (widen 65536 a.set b.set marks) b.entry (common_entry a.entry b.entry) (widens.new 65536 a.set b.set marks n k below) (common_of_second a.entry b.entry)
+word_widened_new sets a b marks n k below =
+    both_within sets 65536 b.set (widen 65536 a.set b.set marks) b.entry (common_entry a.entry b.entry) (sets.widen_new 65536 a.set b.set marks n k below) (common_of_second a.entry b.entry)
 
-pub word_whole : InclusionIsTested → MembersAreBelow → Singles → (a : Word) → IsNormal 65536 a.set → word_within a (unknown 2) ≡ true
-word_whole tested below singles a n =
-    both_within tested 65536 a.set (make 65536 0 1 65536) a.entry None (λ v h. singles.whole 65536 v (below 65536 v a.set n h)) refl
+pub word_whole : SetLaws → (a : Word) → IsNormal 65536 a.set → word_within a (unknown 2) ≡ true
+word_whole sets a n =
+    both_within sets 65536 a.set (make 65536 0 1 65536) a.entry None (λ v h. sets.whole 65536 v (sets.below 65536 v a.set n h)) refl
 
 -- ---- bytes
 
-pub byte_itself : InclusionIsTested → (a : Byte) → byte_within a a ≡ true
-byte_itself tested a = both_within tested 256 a.set a.set a.entry a.entry (λ v h. h) (entry_itself a.entry)
+pub byte_itself : SetLaws → (a : Byte) → byte_within a a ≡ true
+byte_itself sets a = both_within sets 256 a.set a.set a.entry a.entry (λ v h. h) (entry_itself a.entry)
 
-pub byte_along : InclusionIsTested → (a b c : Byte) → byte_within a b ≡ true → byte_within b c ≡ true → byte_within a c ≡ true
-byte_along tested a b c h k = within_along tested 256 a.set b.set c.set a.entry b.entry c.entry h k
+pub byte_along : SetLaws → (a b c : Byte) → byte_within a b ≡ true → byte_within b c ≡ true → byte_within a c ≡ true
+byte_along sets a b c h k = within_along sets 256 a.set b.set c.set a.entry b.entry c.entry h k
 
-pub byte_joined_first : InclusionIsTested → Joins → (a b : Byte) → IsNormal 256 a.set → IsNormal 256 b.set → byte_within a (byte_join a b) ≡ true
-byte_joined_first tested joins a b n k =
-    both_within tested 256 a.set (join 256 a.set b.set) a.entry (common_entry a.entry b.entry) (joins.first 256 a.set b.set n k) (common_of_first a.entry b.entry)
+pub byte_joined_first : SetLaws → (a b : Byte) → IsNormal 256 a.set → IsNormal 256 b.set → byte_within a (byte_join a b) ≡ true
+byte_joined_first sets a b n k =
+    both_within sets 256 a.set (join 256 a.set b.set) a.entry (common_entry a.entry b.entry) (sets.join_first 256 a.set b.set n k) (common_of_first a.entry b.entry)
 
-pub byte_joined_second : InclusionIsTested → Joins → (a b : Byte) → IsNormal 256 a.set → IsNormal 256 b.set → byte_within b (byte_join a b) ≡ true
-byte_joined_second tested joins a b n k =
-    both_within tested 256 b.set (join 256 a.set b.set) b.entry (common_entry a.entry b.entry) (joins.second 256 a.set b.set n k) (common_of_second a.entry b.entry)
+pub byte_joined_second : SetLaws → (a b : Byte) → IsNormal 256 a.set → IsNormal 256 b.set → byte_within b (byte_join a b) ≡ true
+byte_joined_second sets a b n k =
+    both_within sets 256 b.set (join 256 a.set b.set) b.entry (common_entry a.entry b.entry) (sets.join_second 256 a.set b.set n k) (common_of_second a.entry b.entry)
 
-pub byte_widened_held : InclusionIsTested → Widens → (held new : Byte) (marks : List ℕ) → IsNormal 256 held.set → IsNormal 256 new.set → All (λ mark. mark < 256) marks
+pub byte_widened_held : SetLaws → (held new : Byte) (marks : List ℕ) → IsNormal 256 held.set → IsNormal 256 new.set → All (λ mark. mark < 256) marks
     → byte_within held (byte_widen held new marks) ≡ true
-byte_widened_held tested widens a b marks n k below =
-    both_within tested 256 a.set (widen 256 a.set b.set marks) a.entry (common_entry a.entry b.entry) (widens.held 256 a.set b.set marks n k below) (common_of_first a.entry b.entry)
+byte_widened_held sets a b marks n k below =
+    both_within sets 256 a.set (widen 256 a.set b.set marks) a.entry (common_entry a.entry b.entry) (sets.widen_held 256 a.set b.set marks n k below) (common_of_first a.entry b.entry)
 
-pub byte_widened_new : InclusionIsTested → Widens → (held new : Byte) (marks : List ℕ) → IsNormal 256 held.set → IsNormal 256 new.set → All (λ mark. mark < 256) marks
+pub byte_widened_new : SetLaws → (held new : Byte) (marks : List ℕ) → IsNormal 256 held.set → IsNormal 256 new.set → All (λ mark. mark < 256) marks
     → byte_within new (byte_widen held new marks) ≡ true
-byte_widened_new tested widens a b marks n k below =
-    both_within tested 256 b.set (widen 256 a.set b.set marks) b.entry (common_entry a.entry b.entry) (widens.new 256 a.set b.set marks n k below) (common_of_second a.entry b.entry)
+byte_widened_new sets a b marks n k below =
+    both_within sets 256 b.set (widen 256 a.set b.set marks) b.entry (common_entry a.entry b.entry) (sets.widen_new 256 a.set b.set marks n k below) (common_of_second a.entry b.entry)
 
-pub byte_whole : InclusionIsTested → MembersAreBelow → Singles → (a : Byte) → IsNormal 256 a.set
+pub byte_whole : SetLaws → (a : Byte) → IsNormal 256 a.set
     → let whole : Byte = record { set = make 256 0 1 256; entry = None } in byte_within a whole ≡ true
-byte_whole tested below singles a n =
-    both_within tested 256 a.set (make 256 0 1 256) a.entry None (λ v h. singles.whole 256 v (below 256 v a.set n h)) refl
+byte_whole sets a n =
+    both_within sets 256 a.set (make 256 0 1 256) a.entry None (λ v h. sets.whole 256 v (sets.below 256 v a.set n h)) refl
 
 -- ---- cells that are found
 
@@ -172,23 +173,23 @@ each_of_within new (cell ∷ cells) h =
 found_within : (found : Option Word) (word other : Word) → found ≡ Some word → word_within word other ≡ true → is_found_within found other ≡ true
 found_within found word other e h = rw e h
 
-pub cells_itself : InclusionIsTested → (lo hi from : ℕ) (cells : List Cell) → AreCells lo hi from cells → are_within cells cells ≡ true
-cells_itself tested lo hi from cells are = within_from cells cells
-    (each_then (IsFoundIn cells) (IsWithin cells) cells (λ cell found. found_within (cell_at cells cell.place cell.size) cell.word cell.word found (word_itself tested cell.word)) (each_found lo hi from cells are))
+pub cells_itself : SetLaws → (lo hi from : ℕ) (cells : List Cell) → AreCells lo hi from cells → are_within cells cells ≡ true
+cells_itself sets lo hi from cells are = within_from cells cells
+    (each_then (IsFoundIn cells) (IsWithin cells) cells (λ cell found. found_within (cell_at cells cell.place cell.size) cell.word cell.word found (word_itself sets cell.word)) (each_found lo hi from cells are))
 
-some_along : InclusionIsTested → (found : Option Word) (middle last : Word) → is_found_within found middle ≡ true → word_within middle last ≡ true → is_found_within found last ≡ true
-some_along tested None middle last h k = h
-some_along tested (Some word) middle last h k = word_along tested word middle last h k
+some_along : SetLaws → (found : Option Word) (middle last : Word) → is_found_within found middle ≡ true → word_within middle last ≡ true → is_found_within found last ≡ true
+some_along sets None middle last h k = h
+some_along sets (Some word) middle last h k = word_along sets word middle last h k
 
-found_along : InclusionIsTested → (first second : Option Word) (last : Word) → OfSome (λ word. is_found_within first word ≡ true) second → is_found_within second last ≡ true
+found_along : SetLaws → (first second : Option Word) (last : Word) → OfSome (λ word. is_found_within first word ≡ true) second → is_found_within second last ≡ true
     → is_found_within first last ≡ true
-found_along tested first None last h k = absurd cc
-found_along tested first (Some middle) last h k = some_along tested first middle last h k
+found_along sets first None last h k = absurd cc
+found_along sets first (Some middle) last h k = some_along sets first middle last h k
 
-pub cells_along : InclusionIsTested → (a b c : List Cell) → are_within a b ≡ true → are_within b c ≡ true → are_within a c ≡ true
-cells_along tested a b c h k = within_from a c
+pub cells_along : SetLaws → (a b c : List Cell) → are_within a b ≡ true → are_within b c ≡ true → are_within a c ≡ true
+cells_along sets a b c h k = within_from a c
     (each_then (IsWithin b) (IsWithin a) c
-    (λ cell within. found_along tested (cell_at a cell.place cell.size) (cell_at b cell.place cell.size) cell.word
+    (λ cell within. found_along sets (cell_at a cell.place cell.size) (cell_at b cell.place cell.size) cell.word
     (found_at (λ place size word. is_found_within (cell_at a place size) word ≡ true) b cell.place cell.size (each_of_within a b h)) within)
     (each_of_within b c k))
 
@@ -202,24 +203,24 @@ record Above (size : ℕ) (f : Word → Word → Word) : Type 0 where
   one : (a b : Word) → IsNormal 65536 a.set → IsNormal 65536 b.set → (size ≡ 1 → IsLow a) → word_within a (f a b) ≡ true
   other : (a b : Word) → IsNormal 65536 a.set → IsNormal 65536 b.set → (size ≡ 1 → IsLow b) → word_within b (f a b) ≡ true
 
-join_above : InclusionIsTested → Joins → (size : ℕ) → Above size word_join
-join_above tested joins size = record {
-  one = λ a b n k low. word_joined_first tested joins a b n k;
-  other = λ a b n k low. word_joined_second tested joins a b n k;
+join_above : SetLaws → (size : ℕ) → Above size word_join
+join_above sets size = record {
+  one = λ a b n k low. word_joined_first sets a b n k;
+  other = λ a b n k low. word_joined_second sets a b n k;
 }
 
-widen_above : InclusionIsTested → Widens → (size : ℕ) (marks : List ℕ) → All (λ mark. mark < 65536) marks → Above size (λ held new. word_widen held new marks)
-widen_above tested widens size marks below = record {
-  one = λ a b n k low. word_widened_held tested widens a b marks n k below;
-  other = λ a b n k low. word_widened_new tested widens a b marks n k below;
+widen_above : SetLaws → (size : ℕ) (marks : List ℕ) → All (λ mark. mark < 65536) marks → Above size (λ held new. word_widen held new marks)
+widen_above sets size marks below = record {
+  one = λ a b n k low. word_widened_held sets a b marks n k below;
+  other = λ a b n k low. word_widened_new sets a b marks n k below;
 }
 
-byte_above : Sets → (size : ℕ) (marks : List ℕ) → size ≡ 1 → Above size (λ held new. byte_widened held new marks)
-byte_above sets size marks one = record {
-  one = λ a b n k low. both_within sets.tested 65536 a.set (byte_widened a b marks).set a.entry (common_entry a.entry b.entry)
-      (λ v h. byte_held sets a b marks v n k (low one v h) h) (common_of_first a.entry b.entry);
-  other = λ a b n k low. both_within sets.tested 65536 b.set (byte_widened a b marks).set b.entry (common_entry a.entry b.entry)
-      (λ v h. byte_new sets a b marks v n k (low one v h) h) (common_of_second a.entry b.entry);
+byte_above : SetLaws → BitLaws → (size : ℕ) (marks : List ℕ) → size ≡ 1 → Above size (λ held new. byte_widened held new marks)
+byte_above sets bits size marks one = record {
+  one = λ a b n k low. both_within sets 65536 a.set (byte_widened a b marks).set a.entry (common_entry a.entry b.entry)
+      (λ v h. byte_held sets bits a b marks v n k (low one v h) h) (common_of_first a.entry b.entry);
+  other = λ a b n k low. both_within sets 65536 b.set (byte_widened a b marks).set b.entry (common_entry a.entry b.entry)
+      (λ v h. byte_new sets bits a b marks v n k (low one v h) h) (common_of_second a.entry b.entry);
 }
 
 -- what is known of a word that is found
@@ -254,38 +255,38 @@ new_within f lo hi low high start new are cell above is = new_is_within f new ce
 each_cell_found : (lo hi from : ℕ) (cells : List Cell) → AreCells lo hi from cells → Each (λ cell. IsCell lo hi cell × IsFoundIn cells cell) cells
 each_cell_found lo hi from cells are = each_both (IsCell lo hi) (IsFoundIn cells) cells (each_cell lo hi from cells are) (each_found lo hi from cells are)
 
-pub cells_joined_held : InclusionIsTested → Joins → (lo hi from low high start : ℕ) (held new : List Cell) → AreCells lo hi from held → AreCells low high start new
+pub cells_joined_held : SetLaws → (lo hi from low high start : ℕ) (held new : List Cell) → AreCells lo hi from held → AreCells low high start new
     → are_within held (join_cells held new) ≡ true
 unfolding join_cells
-cells_joined_held tested joins lo hi from low high start held new are others = within_from held (kept (with_both word_join new) held)
+cells_joined_held sets lo hi from low high start held new are others = within_from held (kept (with_both word_join new) held)
     (each_kept (λ cell. IsCell lo hi cell × IsFoundIn held cell) (IsWithin held) (with_both word_join new) held
-    (λ cell h. held_within word_join lo hi low high start held new others cell (join_above tested joins cell.size) h)
+    (λ cell h. held_within word_join lo hi low high start held new others cell (join_above sets cell.size) h)
     (each_cell_found lo hi from held are))
 
-pub cells_joined_new : InclusionIsTested → Joins → (lo hi from low high start : ℕ) (held new : List Cell) → AreCells lo hi from held → AreCells low high start new
+pub cells_joined_new : SetLaws → (lo hi from low high start : ℕ) (held new : List Cell) → AreCells lo hi from held → AreCells low high start new
     → are_within new (join_cells held new) ≡ true
 unfolding join_cells
-cells_joined_new tested joins lo hi from low high start held new are others = within_from new (kept (with_both word_join new) held)
+cells_joined_new sets lo hi from low high start held new are others = within_from new (kept (with_both word_join new) held)
     (each_kept (IsCell lo hi) (IsWithin new) (with_both word_join new) held
-    (λ cell is. new_within word_join lo hi low high start new others cell (join_above tested joins cell.size) is)
+    (λ cell is. new_within word_join lo hi low high start new others cell (join_above sets cell.size) is)
     (each_cell lo hi from held are))
 
-pub cells_widened_held : Sets → (lo hi from low high start : ℕ) (held new : List Cell) (marks : List ℕ) → AreCells lo hi from held → AreCells low high start new
+pub cells_widened_held : SetLaws → BitLaws → (lo hi from low high start : ℕ) (held new : List Cell) (marks : List ℕ) → AreCells lo hi from held → AreCells low high start new
     → All (λ mark. mark < 65536) marks → are_within held (widen_cells held new marks) ≡ true
 unfolding widen_cells
-cells_widened_held sets lo hi from low high start held new marks are others below = within_from held (kept (cell_widened marks new) held)
+cells_widened_held sets bits lo hi from low high start held new marks are others below = within_from held (kept (cell_widened marks new) held)
     (each_kept (λ cell. IsCell lo hi cell × IsFoundIn held cell) (IsWithin held) (cell_widened marks new) held
     (λ cell h. of_size (IsWithin held) marks new cell
-    (λ one. held_within (λ a b. byte_widened a b marks) lo hi low high start held new others cell (byte_above sets cell.size marks one) h)
-    (λ wide. held_within (λ a b. word_widen a b marks) lo hi low high start held new others cell (widen_above sets.tested sets.widens cell.size marks below) h))
+    (λ one. held_within (λ a b. byte_widened a b marks) lo hi low high start held new others cell (byte_above sets bits cell.size marks one) h)
+    (λ wide. held_within (λ a b. word_widen a b marks) lo hi low high start held new others cell (widen_above sets cell.size marks below) h))
     (each_cell_found lo hi from held are))
 
-pub cells_widened_new : Sets → (lo hi from low high start : ℕ) (held new : List Cell) (marks : List ℕ) → AreCells lo hi from held → AreCells low high start new
+pub cells_widened_new : SetLaws → BitLaws → (lo hi from low high start : ℕ) (held new : List Cell) (marks : List ℕ) → AreCells lo hi from held → AreCells low high start new
     → All (λ mark. mark < 65536) marks → are_within new (widen_cells held new marks) ≡ true
 unfolding widen_cells
-cells_widened_new sets lo hi from low high start held new marks are others below = within_from new (kept (cell_widened marks new) held)
+cells_widened_new sets bits lo hi from low high start held new marks are others below = within_from new (kept (cell_widened marks new) held)
     (each_kept (IsCell lo hi) (IsWithin new) (cell_widened marks new) held
     (λ cell is. of_size (IsWithin new) marks new cell
-    (λ one. new_within (λ a b. byte_widened a b marks) lo hi low high start new others cell (byte_above sets cell.size marks one) is)
-    (λ wide. new_within (λ a b. word_widen a b marks) lo hi low high start new others cell (widen_above sets.tested sets.widens cell.size marks below) is))
+    (λ one. new_within (λ a b. byte_widened a b marks) lo hi low high start new others cell (byte_above sets bits cell.size marks one) is)
+    (λ wide. new_within (λ a b. word_widen a b marks) lo hi low high start new others cell (widen_above sets cell.size marks below) is))
     (each_cell lo hi from held are))

@@ -13,9 +13,9 @@ use Rattle.entry_value.specs.Words.{Suspended, HoldsOfWord, word_join}
 use Rattle.entry_value.specs.Cells.{CellMap, StandsUnder, IsCell, AreCells, number_at, written, meets_beside, is_nothing, cell_behind, kept, write_several}
 use Rattle.entry_value.proofs.Bytes.{IsSize, AreBytes, written_bytes, written_itself}
 use Rattle.entry_value.proofs.Each.{OfSome, each_from, each_in, each_both, each_kept, each_cell}
-use Rattle.entry_value.proofs.Premises.{MembersAreBelow, Joins}
+use Rattle.value_set.specs.Laws.{SetLaws}
 use Rattle.entry_value.proofs.Uniting.{of_telling, small_number, IsAlike, kept_form}
-use Rattle.entry_value.proofs.Values.{JoinsStayLow, join_covers, join_forms}
+use Rattle.entry_value.proofs.Values.{join_covers, join_forms}
 use Rattle.entry_value.proofs.Writing.{StandsAt, whole_turn, stays}
 
 -- ---- addresses
@@ -65,12 +65,12 @@ not_beside lo hi size address at cell below is low h apart ram v other =
 
 -- ---- a write at one of them
 
-joined_stands : Joins → (first : Option Suspended) (ram : ℕ → ℕ) → AreBytes ram → (lo hi size address v : ℕ) (at : Form) (word : Word) (cell : Cell) → hi < 65536 → IsCell lo hi cell
+joined_stands : SetLaws → (first : Option Suspended) (ram : ℕ → ℕ) → AreBytes ram → (lo hi size address v : ℕ) (at : Form) (word : Word) (cell : Cell) → hi < 65536 → IsCell lo hi cell
     → address < 65536 → IsSize size → (size ≡ 1 → v < 256) → Has 65536 at address → IsNormal 65536 word.set → HoldsOfWord first word v → StandsAt first ram cell
     → meets_beside at size cell ≡ false → cell.size ≡ size
     → HoldsOfWord first (word_join cell.word word) (number_at (written ram address size v) cell.place cell.size)
-joined_stands joins first ram bytes lo hi size address v at word cell below is low its small h normal holds stands apart same =
-    let covers = join_covers joins first size in
+joined_stands sets first ram bytes lo hi size address v at word cell below is low its small h normal holds stands apart same =
+    let covers = join_covers sets first size in
     elim (cases_Bool (cell.place == address)) [
       | inl hit ↦ subst (λ (n : ℕ). HoldsOfWord first (word_join cell.word word) n)
           (sym (subst (λ (s : ℕ). number_at (written ram address size v) cell.place s ≡ v) (sym same)
@@ -97,36 +97,36 @@ of_behind P at size word cell kept_one joined = elim (cases_Bool (meets_beside a
   ])
 ]
 
-behind_stands : Joins → (first : Option Suspended) (ram : ℕ → ℕ) → AreBytes ram → (lo hi size address v : ℕ) (at : Form) (word : Word) → hi < 65536
+behind_stands : SetLaws → (first : Option Suspended) (ram : ℕ → ℕ) → AreBytes ram → (lo hi size address v : ℕ) (at : Form) (word : Word) → hi < 65536
     → address < 65536 → IsSize size → (size ≡ 1 → v < 256) → Has 65536 at address → IsNormal 65536 word.set → HoldsOfWord first word v
     → (cell : Cell) → StandsAt first ram cell × IsCell lo hi cell → OfSome (StandsAt first (written ram address size v)) (cell_behind at size word cell)
-behind_stands joins first ram bytes lo hi size address v at word below low its small h normal holds cell old = of_behind (StandsAt first (written ram address size v)) at size word cell
+behind_stands sets first ram bytes lo hi size address v at word below low its small h normal holds cell old = of_behind (StandsAt first (written ram address size v)) at size word cell
     (λ apart other. subst (λ (n : ℕ). HoldsOfWord first cell.word n)
     (sym (not_beside lo hi size address at cell below old.1 low h apart ram v (no_address at cell.place address h other))) old.0)
     (λ apart same says. subst (λ (s : ℕ). HoldsOfWord first (word_join cell.word word) (number_at (written ram address size v) cell.place s)) same
-    (joined_stands joins first ram bytes lo hi size address v at word cell below old.1 low its small h normal holds old.0 apart same))
+    (joined_stands sets first ram bytes lo hi size address v at word cell below old.1 low its small h normal holds old.0 apart same))
 
-pub several_covers : MembersAreBelow → Joins → (first : Option Suspended) (ram : ℕ → ℕ) (from size address v : ℕ) (map : CellMap) (at : Form) (word : Word) → map.hi < 65536 → AreCells map.lo map.hi from map.cells
+pub several_covers : SetLaws → (first : Option Suspended) (ram : ℕ → ℕ) (from size address v : ℕ) (map : CellMap) (at : Form) (word : Word) → map.hi < 65536 → AreCells map.lo map.hi from map.cells
     → IsNormal 65536 at → IsSize size → IsNormal 65536 word.set → (size ≡ 1 → (n : ℕ) → Has 65536 word.set n → n < 256)
     → StandsUnder first map.cells ram → Has 65536 at address → HoldsOfWord first word v → StandsUnder first (write_several map at size word).cells (written ram address size v)
 unfolding write_several
-several_covers members_below joins first ram from size address v map at word below are addresses is normal byte stands h holds =
-    let low = members_below 65536 address at addresses h in
+several_covers sets first ram from size address v map at word below are addresses is normal byte stands h holds =
+    let low = sets.below 65536 address at addresses h in
     let old = each_both (StandsAt first ram) (IsCell map.lo map.hi) map.cells (each_from (StandsAt first ram) map.cells stands.1) (each_cell map.lo map.hi from map.cells are) in (
-      written_bytes ram address size v stands.0 (members_below 65536 v word.set normal holds.0),
+      written_bytes ram address size v stands.0 (sets.below 65536 v word.set normal holds.0),
       each_in (StandsAt first (written ram address size v)) (kept (cell_behind at size word) map.cells)
           (each_kept (λ c. StandsAt first ram c × IsCell map.lo map.hi c) (StandsAt first (written ram address size v)) (cell_behind at size word) map.cells
-          (behind_stands joins first ram stands.0 map.lo map.hi size address v at word below low is (λ one. byte one v holds.0) h normal holds) old),
+          (behind_stands sets first ram stands.0 map.lo map.hi size address v at word below low is (λ one. byte one v holds.0) h normal holds) old),
     )
 
 -- ---- its form
 
-behind_form : Joins → JoinsStayLow → (lo hi size : ℕ) (at : Form) (word : Word) → IsNormal 65536 word.set → (size ≡ 1 → (n : ℕ) → Has 65536 word.set n → n < 256)
+behind_form : SetLaws → (lo hi size : ℕ) (at : Form) (word : Word) → IsNormal 65536 word.set → (size ≡ 1 → (n : ℕ) → Has 65536 word.set n → n < 256)
     → (cell : Cell) → IsCell lo hi cell → OfSome (IsAlike lo hi cell) (cell_behind at size word cell)
-behind_form joins stay lo hi size at word normal byte cell is = of_behind (IsAlike lo hi cell) at size word cell
+behind_form sets lo hi size at word normal byte cell is = of_behind (IsAlike lo hi cell) at size word cell
     (λ apart other. (is, refl, refl))
     (λ apart same says.
-    let forms = join_forms joins stay size in (
+    let forms = join_forms sets size in (
       record {
         size = subst IsSize same is.size;
         low = is.low;
@@ -139,10 +139,10 @@ behind_form joins stay lo hi size at word normal byte cell is = of_behind (IsAli
       sym same,
     ))
 
-pub several_form : Joins → JoinsStayLow → (from size : ℕ) (map : CellMap) (at : Form) (word : Word) → AreCells map.lo map.hi from map.cells → IsNormal 65536 word.set
+pub several_form : SetLaws → (from size : ℕ) (map : CellMap) (at : Form) (word : Word) → AreCells map.lo map.hi from map.cells → IsNormal 65536 word.set
     → (size ≡ 1 → (n : ℕ) → Has 65536 word.set n → n < 256) → AreCells map.lo map.hi from (write_several map at size word).cells
 unfolding write_several
-several_form joins stay from size map at word are normal byte = kept_form map.lo map.hi from (cell_behind at size word) map.cells (behind_form joins stay map.lo map.hi size at word normal byte) are
+several_form sets from size map at word are normal byte = kept_form map.lo map.hi from (cell_behind at size word) map.cells (behind_form sets map.lo map.hi size at word normal byte) are
 
 pub several_lo : (size : ℕ) (map : CellMap) (at : Form) (word : Word) → (write_several map at size word).lo ≡ map.lo
 unfolding write_several

@@ -9,9 +9,10 @@ use Rattle.entry_value.specs.Words.{Suspended, HoldsOfWord, word_join, word_wide
 use Rattle.entry_value.specs.Cells.{StandsUnder, IsCell, AreCells, number_at, is_nothing, cell_at, telling, with_some, kept, both_of, with_both, join_cells, byte_widened, cell_widened, widen_cells, is_found_within, are_within}
 use Rattle.entry_value.proofs.Bytes.{AreBytes}
 use Rattle.entry_value.proofs.Each.{Each, OfSome, each_from, each_in, each_then, each_kept, each_cell, found_at}
-use Rattle.entry_value.proofs.Premises.{InclusionIsTested, Joins, Sets}
+use Rattle.value_bits.specs.Laws.{BitLaws}
+use Rattle.value_set.specs.Laws.{SetLaws}
 use Rattle.entry_value.proofs.Reading.{Holds, each_holds}
-use Rattle.entry_value.proofs.Values.{Covers, Forms, JoinsStayLow, PairsStayLow, join_covers, widen_covers, byte_covers, within_holds, join_forms, widen_forms, byte_forms}
+use Rattle.entry_value.proofs.Values.{Covers, Forms, join_covers, widen_covers, byte_covers, within_holds, join_forms, widen_forms, byte_forms}
 use Rattle.entry_value.proofs.Writing.{StandsAt, lowered}
 
 -- ---- cells that say something
@@ -101,32 +102,32 @@ kept_form lo hi from f (cell ∷ cells) step are = alike_form lo hi from cell (f
 
 -- ---- joined cells
 
-pub join_covers_held : Joins → (first : Option Suspended) (ram : ℕ → ℕ) (lo hi from low high start : ℕ) (held new : List Cell) → AreCells lo hi from held → AreCells low high start new
+pub join_covers_held : SetLaws → (first : Option Suspended) (ram : ℕ → ℕ) (lo hi from low high start : ℕ) (held new : List Cell) → AreCells lo hi from held → AreCells low high start new
     → StandsUnder first held ram → StandsUnder first (join_cells held new) ram
 unfolding join_cells
-join_covers_held joins first ram lo hi from low high start held new are others h = (
+join_covers_held sets first ram lo hi from low high start held new are others h = (
   h.0,
   each_in (StandsAt first ram) (kept (with_both word_join new) held)
       (each_kept (Holds first ram) (StandsAt first ram) (with_both word_join new) held
-      (λ cell holds. held_stands first ram h.0 word_join low high start new others cell (join_covers joins first cell.size) holds)
+      (λ cell holds. held_stands first ram h.0 word_join low high start new others cell (join_covers sets first cell.size) holds)
       (each_holds first ram lo hi from held are h)),
 )
 
-pub join_covers_new : Joins → (first : Option Suspended) (ram : ℕ → ℕ) (lo hi from low high start : ℕ) (held new : List Cell) → AreCells lo hi from held → AreCells low high start new
+pub join_covers_new : SetLaws → (first : Option Suspended) (ram : ℕ → ℕ) (lo hi from low high start : ℕ) (held new : List Cell) → AreCells lo hi from held → AreCells low high start new
     → StandsUnder first new ram → StandsUnder first (join_cells held new) ram
 unfolding join_cells
-join_covers_new joins first ram lo hi from low high start held new are others h = (
+join_covers_new sets first ram lo hi from low high start held new are others h = (
   h.0,
   each_in (StandsAt first ram) (kept (with_both word_join new) held)
       (each_kept (IsCell lo hi) (StandsAt first ram) (with_both word_join new) held
-      (λ cell is. new_stands first ram h.0 word_join lo hi new (each_holds first ram low high start new others h) cell (join_covers joins first cell.size) is)
+      (λ cell is. new_stands first ram h.0 word_join lo hi new (each_holds first ram low high start new others h) cell (join_covers sets first cell.size) is)
       (each_cell lo hi from held are)),
 )
 
-pub join_form : Joins → JoinsStayLow → (lo hi from low high start : ℕ) (held new : List Cell) → AreCells lo hi from held → AreCells low high start new → AreCells lo hi from (join_cells held new)
+pub join_form : SetLaws → (lo hi from low high start : ℕ) (held new : List Cell) → AreCells lo hi from held → AreCells low high start new → AreCells lo hi from (join_cells held new)
 unfolding join_cells
-join_form joins stays lo hi from low high start held new are others = kept_form lo hi from (with_both word_join new) held
-    (λ cell is. form_stays word_join lo hi low high start new others cell (join_forms joins stays cell.size) is) are
+join_form sets lo hi from low high start held new are others = kept_form lo hi from (with_both word_join new) held
+    (λ cell is. form_stays word_join lo hi low high start new others cell (join_forms sets cell.size) is) are
 
 -- ---- widened cells
 
@@ -139,58 +140,58 @@ of_size P marks new cell byte word = elim (cases_Bool (cell.size == 1)) [
   | inr wide ↦ rw wide (word (eqb-false cell.size 1 wide))
 ]
 
-pub widen_covers_held : Sets → (first : Option Suspended) (ram : ℕ → ℕ) (lo hi from low high start : ℕ) (held new : List Cell) (marks : List ℕ) → AreCells lo hi from held → AreCells low high start new
+pub widen_covers_held : SetLaws → BitLaws → (first : Option Suspended) (ram : ℕ → ℕ) (lo hi from low high start : ℕ) (held new : List Cell) (marks : List ℕ) → AreCells lo hi from held → AreCells low high start new
     → All (λ mark. mark < 65536) marks → StandsUnder first held ram → StandsUnder first (widen_cells held new marks) ram
 unfolding widen_cells
-widen_covers_held sets first ram lo hi from low high start held new marks are others below h = (
+widen_covers_held sets bits first ram lo hi from low high start held new marks are others below h = (
   h.0,
   each_in (StandsAt first ram) (kept (cell_widened marks new) held)
       (each_kept (Holds first ram) (StandsAt first ram) (cell_widened marks new) held
       (λ cell holds. of_size (StandsAt first ram) marks new cell
-      (λ one. held_stands first ram h.0 (λ a b. byte_widened a b marks) low high start new others cell (byte_covers sets first cell.size marks one) holds)
-      (λ wide. held_stands first ram h.0 (λ a b. word_widen a b marks) low high start new others cell (widen_covers sets.widens first cell.size marks below) holds))
+      (λ one. held_stands first ram h.0 (λ a b. byte_widened a b marks) low high start new others cell (byte_covers sets bits first cell.size marks one) holds)
+      (λ wide. held_stands first ram h.0 (λ a b. word_widen a b marks) low high start new others cell (widen_covers sets first cell.size marks below) holds))
       (each_holds first ram lo hi from held are h)),
 )
 
-pub widen_covers_new : Sets → (first : Option Suspended) (ram : ℕ → ℕ) (lo hi from low high start : ℕ) (held new : List Cell) (marks : List ℕ) → AreCells lo hi from held → AreCells low high start new
+pub widen_covers_new : SetLaws → BitLaws → (first : Option Suspended) (ram : ℕ → ℕ) (lo hi from low high start : ℕ) (held new : List Cell) (marks : List ℕ) → AreCells lo hi from held → AreCells low high start new
     → All (λ mark. mark < 65536) marks → StandsUnder first new ram → StandsUnder first (widen_cells held new marks) ram
 unfolding widen_cells
-widen_covers_new sets first ram lo hi from low high start held new marks are others below h =
+widen_covers_new sets bits first ram lo hi from low high start held new marks are others below h =
     let all = each_holds first ram low high start new others h in (
       h.0,
       each_in (StandsAt first ram) (kept (cell_widened marks new) held)
           (each_kept (IsCell lo hi) (StandsAt first ram) (cell_widened marks new) held
           (λ cell is. of_size (StandsAt first ram) marks new cell
-          (λ one. new_stands first ram h.0 (λ a b. byte_widened a b marks) lo hi new all cell (byte_covers sets first cell.size marks one) is)
-          (λ wide. new_stands first ram h.0 (λ a b. word_widen a b marks) lo hi new all cell (widen_covers sets.widens first cell.size marks below) is))
+          (λ one. new_stands first ram h.0 (λ a b. byte_widened a b marks) lo hi new all cell (byte_covers sets bits first cell.size marks one) is)
+          (λ wide. new_stands first ram h.0 (λ a b. word_widen a b marks) lo hi new all cell (widen_covers sets first cell.size marks below) is))
           (each_cell lo hi from held are)),
     )
 
-pub widen_form : Sets → PairsStayLow → (lo hi from low high start : ℕ) (held new : List Cell) (marks : List ℕ) → AreCells lo hi from held → AreCells low high start new
+pub widen_form : SetLaws → BitLaws → (lo hi from low high start : ℕ) (held new : List Cell) (marks : List ℕ) → AreCells lo hi from held → AreCells low high start new
     → All (λ mark. mark < 65536) marks → AreCells lo hi from (widen_cells held new marks)
 unfolding widen_cells
-widen_form sets stays lo hi from low high start held new marks are others below = kept_form lo hi from (cell_widened marks new) held
+widen_form sets bits lo hi from low high start held new marks are others below = kept_form lo hi from (cell_widened marks new) held
     (λ cell is. of_size (IsAlike lo hi cell) marks new cell
-    (λ one. form_stays (λ a b. byte_widened a b marks) lo hi low high start new others cell (byte_forms sets stays cell.size marks) is)
-    (λ wide. form_stays (λ a b. word_widen a b marks) lo hi low high start new others cell (widen_forms sets.widens cell.size marks wide below) is))
+    (λ one. form_stays (λ a b. byte_widened a b marks) lo hi low high start new others cell (byte_forms sets bits cell.size marks) is)
+    (λ wide. form_stays (λ a b. word_widen a b marks) lo hi low high start new others cell (widen_forms sets cell.size marks wide below) is))
     are
 
 -- ---- cells within others
 
-found_within : InclusionIsTested → (first : Option Suspended) (v : ℕ) (found : Option Word) (held : Word) → is_found_within found held ≡ true
+found_within : SetLaws → (first : Option Suspended) (v : ℕ) (found : Option Word) (held : Word) → is_found_within found held ≡ true
     → OfSome (λ word. HoldsOfWord first word v) found → HoldsOfWord first held v
-found_within tested first v None held within h = absurd (cc)
-found_within tested first v (Some new) held within h = within_holds tested first new held v within h
+found_within sets first v None held within h = absurd (cc)
+found_within sets first v (Some new) held within h = within_holds sets first new held v within h
 
-each_within : InclusionIsTested → (first : Option Suspended) (ram : ℕ → ℕ) (new held : List Cell) → are_within new held ≡ true → Each (StandsAt first ram) new → Each (StandsAt first ram) held
-each_within tested first ram new [] within h = tt
-each_within tested first ram new (cell ∷ cells) within h =
+each_within : SetLaws → (first : Option Suspended) (ram : ℕ → ℕ) (new held : List Cell) → are_within new held ≡ true → Each (StandsAt first ram) new → Each (StandsAt first ram) held
+each_within sets first ram new [] within h = tt
+each_within sets first ram new (cell ∷ cells) within h =
     let parts = and_parts (is_found_within (cell_at new cell.place cell.size) cell.word) (are_within new cells) within in (
-      found_within tested first (number_at ram cell.place cell.size) (cell_at new cell.place cell.size) cell.word parts.0
+      found_within sets first (number_at ram cell.place cell.size) (cell_at new cell.place cell.size) cell.word parts.0
           (found_at (λ place size word. HoldsOfWord first word (number_at ram place size)) new cell.place cell.size h),
-      each_within tested first ram new cells parts.1 h,
+      each_within sets first ram new cells parts.1 h,
     )
 
-pub within_covers : InclusionIsTested → (first : Option Suspended) (ram : ℕ → ℕ) (new held : List Cell) → are_within new held ≡ true → StandsUnder first new ram → StandsUnder first held ram
-within_covers tested first ram new held within h =
-    (h.0, each_in (StandsAt first ram) held (each_within tested first ram new held within (each_from (StandsAt first ram) new h.1)))
+pub within_covers : SetLaws → (first : Option Suspended) (ram : ℕ → ℕ) (new held : List Cell) → are_within new held ≡ true → StandsUnder first new ram → StandsUnder first held ram
+within_covers sets first ram new held within h =
+    (h.0, each_in (StandsAt first ram) held (each_within sets first ram new held within (each_from (StandsAt first ram) new h.1)))

@@ -6,7 +6,7 @@ use Rattle.std.proofs.lemmas.Bool.{cases_Bool, and_parts, eqb-true, ltb-true}
 use Rattle.std.proofs.lemmas.List.Elements.{All-nil, All-cons}
 use Rattle.value_set.specs.declared.form.Form.{Form}
 use Rattle.value_set.specs.Form.{Has, IsNormal}
-use Rattle.value_set.specs.Joining.{is_within, join}
+use Rattle.value_set.specs.Joining.{is_within}
 use Rattle.value_set.specs.Summing.{single}
 use Rattle.value_set.specs.Widening.{widen}
 use Rattle.value_bits.specs.Sets.{low_set, pair_set}
@@ -14,7 +14,8 @@ use Rattle.entry_value.specs.declared.word.Entry.{Entry}
 use Rattle.entry_value.specs.declared.word.Word.{Word}
 use Rattle.entry_value.specs.Words.{Suspended, IsFromEntry, HoldsOfWord, is_same_entry, common_entry, is_entry_within, word_join, word_widen, word_within}
 use Rattle.entry_value.specs.Cells.{byte_widened}
-use Rattle.entry_value.proofs.Premises.{InclusionIsTested, Joins, Widens, Sets}
+use Rattle.value_bits.specs.Laws.{BitLaws}
+use Rattle.value_set.specs.Laws.{SetLaws}
 
 -- ---- relations
 
@@ -51,22 +52,22 @@ pub record Covers (first : Option Suspended) (size : ℕ) (f : Word → Word →
   pub one : (a b : Word) (v : ℕ) → IsNormal 65536 a.set → IsNormal 65536 b.set → (size ≡ 1 → v < 256) → HoldsOfWord first a v → HoldsOfWord first (f a b) v
   pub other : (a b : Word) (v : ℕ) → IsNormal 65536 a.set → IsNormal 65536 b.set → (size ≡ 1 → v < 256) → HoldsOfWord first b v → HoldsOfWord first (f a b) v
 
-pub join_covers : Joins → (first : Option Suspended) (size : ℕ) → Covers first size word_join
-join_covers joins first size = record {
-  one = λ a b v n k small h. (joins.first 65536 a.set b.set n k v h.0, common_first first a.entry b.entry v h.1);
-  other = λ a b v n k small h. (joins.second 65536 a.set b.set n k v h.0, common_second first a.entry b.entry v h.1);
+pub join_covers : SetLaws → (first : Option Suspended) (size : ℕ) → Covers first size word_join
+join_covers sets first size = record {
+  one = λ a b v n k small h. (sets.join_first 65536 a.set b.set n k v h.0, common_first first a.entry b.entry v h.1);
+  other = λ a b v n k small h. (sets.join_second 65536 a.set b.set n k v h.0, common_second first a.entry b.entry v h.1);
 }
 
-pub widen_covers : Widens → (first : Option Suspended) (size : ℕ) (marks : List ℕ) → All (λ mark. mark < 65536) marks → Covers first size (λ held new. word_widen held new marks)
-widen_covers widens first size marks below = record {
-  one = λ a b v n k small h. (widens.held 65536 a.set b.set marks n k below v h.0, common_first first a.entry b.entry v h.1);
-  other = λ a b v n k small h. (widens.new 65536 a.set b.set marks n k below v h.0, common_second first a.entry b.entry v h.1);
+pub widen_covers : SetLaws → (first : Option Suspended) (size : ℕ) (marks : List ℕ) → All (λ mark. mark < 65536) marks → Covers first size (λ held new. word_widen held new marks)
+widen_covers sets first size marks below = record {
+  one = λ a b v n k small h. (sets.widen_held 65536 a.set b.set marks n k below v h.0, common_first first a.entry b.entry v h.1);
+  other = λ a b v n k small h. (sets.widen_new 65536 a.set b.set marks n k below v h.0, common_second first a.entry b.entry v h.1);
 }
 
-pub within_holds : InclusionIsTested → (first : Option Suspended) (a b : Word) (v : ℕ) → word_within a b ≡ true → HoldsOfWord first a v → HoldsOfWord first b v
-within_holds tested first a b v within h =
+pub within_holds : SetLaws → (first : Option Suspended) (a b : Word) (v : ℕ) → word_within a b ≡ true → HoldsOfWord first a v → HoldsOfWord first b v
+within_holds sets first a b v within h =
     let parts = and_parts (is_within 65536 a.set b.set) (is_entry_within a.entry b.entry) within in
-    ((tested 65536 a.set b.set).0 parts.0 v h.0, entry_within first a.entry b.entry v parts.1 h.1)
+    ((sets.tested 65536 a.set b.set).0 parts.0 v h.0, entry_within first a.entry b.entry v parts.1 h.1)
 
 -- ---- words of one byte
 
@@ -86,40 +87,40 @@ low_itself v h = omega arith
 word_alone : (v : ℕ) → v + 0 * 256 ≡ v
 word_alone v = omega arith
 
-put_back : Sets → (low : Form) (v : ℕ) → IsNormal 256 low → Has 256 low v → Has 65536 (pair_set low (single 0)) v
-put_back sets low v normal h =
-    let zero_set = sets.singles.single 256 0 (omega arith) in
-    subst (λ (n : ℕ). Has 65536 (pair_set low (single 0)) n) (word_alone v) (sets.halves.pair v 0 low (single 0) normal zero_set.0 h zero_set.1)
+put_back : SetLaws → BitLaws → (low : Form) (v : ℕ) → IsNormal 256 low → Has 256 low v → Has 65536 (pair_set low (single 0)) v
+put_back sets bits low v normal h =
+    let zero_set = sets.single 256 0 (omega arith) in
+    subst (λ (n : ℕ). Has 65536 (pair_set low (single 0)) n) (word_alone v) (bits.pair v 0 low (single 0) normal zero_set.0 h zero_set.1)
 
-low_has : Sets → (set : Form) (v : ℕ) → IsNormal 65536 set → v < 256 → Has 65536 set v → Has 256 (low_set set) v
-low_has sets set v normal small h = subst (λ (n : ℕ). Has 256 (low_set set) n) (low_itself v small) (sets.halves.low v set normal h)
+low_has : SetLaws → BitLaws → (set : Form) (v : ℕ) → IsNormal 65536 set → v < 256 → Has 65536 set v → Has 256 (low_set set) v
+low_has sets bits set v normal small h = subst (λ (n : ℕ). Has 256 (low_set set) n) (low_itself v small) (bits.low v set normal h)
 
-widened_normal : Sets → (held new : Form) (marks : List ℕ) → IsNormal 65536 held → IsNormal 65536 new → IsNormal 256 (widened_low held new marks)
-widened_normal sets held new marks n k =
-    sets.widens.normal 256 (low_set held) (low_set new) (filter (λ mark. nat_lt mark 256) marks) (sets.halves.low_normal held n) (sets.halves.low_normal new k) (all_low marks)
+widened_normal : SetLaws → BitLaws → (held new : Form) (marks : List ℕ) → IsNormal 65536 held → IsNormal 65536 new → IsNormal 256 (widened_low held new marks)
+widened_normal sets bits held new marks n k =
+    sets.widen_normal 256 (low_set held) (low_set new) (filter (λ mark. nat_lt mark 256) marks) (bits.low_normal held n) (bits.low_normal new k) (all_low marks)
 
-pub byte_held : Sets → (held new : Word) (marks : List ℕ) (v : ℕ) → IsNormal 65536 held.set → IsNormal 65536 new.set → v < 256 → Has 65536 held.set v
+pub byte_held : SetLaws → BitLaws → (held new : Word) (marks : List ℕ) (v : ℕ) → IsNormal 65536 held.set → IsNormal 65536 new.set → v < 256 → Has 65536 held.set v
     → Has 65536 (byte_widened held new marks).set v
-byte_held sets held new marks v n k small h = elim (cases_Bool (is_within 65536 new.set held.set)) [
+byte_held sets bits held new marks v n k small h = elim (cases_Bool (is_within 65536 new.set held.set)) [
   | inl within ↦ rw within h
-  | inr beyond ↦ rw beyond (put_back sets (widened_low held.set new.set marks) v (widened_normal sets held.set new.set marks n k)
-      (sets.widens.held 256 (low_set held.set) (low_set new.set) (filter (λ mark. nat_lt mark 256) marks) (sets.halves.low_normal held.set n) (sets.halves.low_normal new.set k) (all_low marks)
-      v (low_has sets held.set v n small h)))
+  | inr beyond ↦ rw beyond (put_back sets bits (widened_low held.set new.set marks) v (widened_normal sets bits held.set new.set marks n k)
+      (sets.widen_held 256 (low_set held.set) (low_set new.set) (filter (λ mark. nat_lt mark 256) marks) (bits.low_normal held.set n) (bits.low_normal new.set k) (all_low marks)
+      v (low_has sets bits held.set v n small h)))
 ]
 
-pub byte_new : Sets → (held new : Word) (marks : List ℕ) (v : ℕ) → IsNormal 65536 held.set → IsNormal 65536 new.set → v < 256 → Has 65536 new.set v
+pub byte_new : SetLaws → BitLaws → (held new : Word) (marks : List ℕ) (v : ℕ) → IsNormal 65536 held.set → IsNormal 65536 new.set → v < 256 → Has 65536 new.set v
     → Has 65536 (byte_widened held new marks).set v
-byte_new sets held new marks v n k small h = elim (cases_Bool (is_within 65536 new.set held.set)) [
+byte_new sets bits held new marks v n k small h = elim (cases_Bool (is_within 65536 new.set held.set)) [
   | inl within ↦ rw within ((sets.tested 65536 new.set held.set).0 within v h)
-  | inr beyond ↦ rw beyond (put_back sets (widened_low held.set new.set marks) v (widened_normal sets held.set new.set marks n k)
-      (sets.widens.new 256 (low_set held.set) (low_set new.set) (filter (λ mark. nat_lt mark 256) marks) (sets.halves.low_normal held.set n) (sets.halves.low_normal new.set k) (all_low marks)
-      v (low_has sets new.set v k small h)))
+  | inr beyond ↦ rw beyond (put_back sets bits (widened_low held.set new.set marks) v (widened_normal sets bits held.set new.set marks n k)
+      (sets.widen_new 256 (low_set held.set) (low_set new.set) (filter (λ mark. nat_lt mark 256) marks) (bits.low_normal held.set n) (bits.low_normal new.set k) (all_low marks)
+      v (low_has sets bits new.set v k small h)))
 ]
 
-pub byte_covers : Sets → (first : Option Suspended) (size : ℕ) (marks : List ℕ) → size ≡ 1 → Covers first size (λ held new. byte_widened held new marks)
-byte_covers sets first size marks one = record {
-  one = λ a b v n k small h. (byte_held sets a b marks v n k (small one) h.0, common_first first a.entry b.entry v h.1);
-  other = λ a b v n k small h. (byte_new sets a b marks v n k (small one) h.0, common_second first a.entry b.entry v h.1);
+pub byte_covers : SetLaws → BitLaws → (first : Option Suspended) (size : ℕ) (marks : List ℕ) → size ≡ 1 → Covers first size (λ held new. byte_widened held new marks)
+byte_covers sets bits first size marks one = record {
+  one = λ a b v n k small h. (byte_held sets bits a b marks v n k (small one) h.0, common_first first a.entry b.entry v h.1);
+  other = λ a b v n k small h. (byte_new sets bits a b marks v n k (small one) h.0, common_second first a.entry b.entry v h.1);
 }
 
 -- ---- their form
@@ -130,44 +131,36 @@ pub record Forms (size : ℕ) (f : Word → Word → Word) : Type 0 where
   pub byte : (a b : Word) → IsNormal 65536 a.set → IsNormal 65536 b.set → size ≡ 1 → ((n : ℕ) → Has 65536 a.set n → n < 256) → ((n : ℕ) → Has 65536 b.set n → n < 256)
       → (n : ℕ) → Has 65536 (f a b).set n → n < 256
 
--- joins of numbers below 100h stay there, and so do words of a byte with the high byte 0
-abbrev pub JoinsStayLow : Type 0
-JoinsStayLow = (a b : Form) → IsNormal 65536 a → IsNormal 65536 b → ((n : ℕ) → Has 65536 a n → n < 256) → ((n : ℕ) → Has 65536 b n → n < 256)
-    → (n : ℕ) → Has 65536 (join 65536 a b) n → n < 256
-
-abbrev pub PairsStayLow : Type 0
-PairsStayLow = (low : Form) → IsNormal 256 low → (n : ℕ) → Has 65536 (pair_set low (single 0)) n → n < 256
-
-pub join_forms : Joins → JoinsStayLow → (size : ℕ) → Forms size word_join
-join_forms joins stays size = record {
-  normal = λ a b n k. joins.normal 65536 a.set b.set n k;
-  byte = λ a b n k one low other v h. stays a.set b.set n k low other v h;
+pub join_forms : SetLaws → (size : ℕ) → Forms size word_join
+join_forms sets size = record {
+  normal = λ a b n k. sets.join_normal 65536 a.set b.set n k;
+  byte = λ a b n k one low other v h. sets.join_below 256 65536 a.set b.set (omega arith) n k low other v h;
 }
 
 different : (size : ℕ) → (size ≡ 1 → ⊥) → {A : Type 0} → size ≡ 1 → A
 different size h e = absurd (h e)
 
-pub widen_forms : Widens → (size : ℕ) (marks : List ℕ) → (size ≡ 1 → ⊥) → All (λ mark. mark < 65536) marks → Forms size (λ held new. word_widen held new marks)
-widen_forms widens size marks wide below = record {
-  normal = λ a b n k. widens.normal 65536 a.set b.set marks n k below;
+pub widen_forms : SetLaws → (size : ℕ) (marks : List ℕ) → (size ≡ 1 → ⊥) → All (λ mark. mark < 65536) marks → Forms size (λ held new. word_widen held new marks)
+widen_forms sets size marks wide below = record {
+  normal = λ a b n k. sets.widen_normal 65536 a.set b.set marks n k below;
   byte = λ a b n k one low other v h. absurd (wide one);
 }
 
-pub byte_widened_normal : Sets → (held new : Word) (marks : List ℕ) → IsNormal 65536 held.set → IsNormal 65536 new.set → IsNormal 65536 (byte_widened held new marks).set
-byte_widened_normal sets held new marks n k = elim (cases_Bool (is_within 65536 new.set held.set)) [
+pub byte_widened_normal : SetLaws → BitLaws → (held new : Word) (marks : List ℕ) → IsNormal 65536 held.set → IsNormal 65536 new.set → IsNormal 65536 (byte_widened held new marks).set
+byte_widened_normal sets bits held new marks n k = elim (cases_Bool (is_within 65536 new.set held.set)) [
   | inl within ↦ rw within n
-  | inr beyond ↦ rw beyond (sets.halves.pair_normal (widened_low held.set new.set marks) (single 0) (widened_normal sets held.set new.set marks n k) (sets.singles.single 256 0 (omega arith)).0)
+  | inr beyond ↦ rw beyond (bits.pair_normal (widened_low held.set new.set marks) (single 0) (widened_normal sets bits held.set new.set marks n k) (sets.single 256 0 (omega arith)).0)
 ]
 
-pub byte_widened_low : Sets → PairsStayLow → (held new : Word) (marks : List ℕ) → IsNormal 65536 held.set → IsNormal 65536 new.set → ((n : ℕ) → Has 65536 held.set n → n < 256)
+pub byte_widened_low : SetLaws → BitLaws → (held new : Word) (marks : List ℕ) → IsNormal 65536 held.set → IsNormal 65536 new.set → ((n : ℕ) → Has 65536 held.set n → n < 256)
     → (n : ℕ) → Has 65536 (byte_widened held new marks).set n → n < 256
-byte_widened_low sets stays held new marks n k low v = elim (cases_Bool (is_within 65536 new.set held.set)) [
+byte_widened_low sets bits held new marks n k low v = elim (cases_Bool (is_within 65536 new.set held.set)) [
   | inl within ↦ rw within (low v)
-  | inr beyond ↦ rw beyond (stays (widened_low held.set new.set marks) (widened_normal sets held.set new.set marks n k) v)
+  | inr beyond ↦ rw beyond (bits.pair_byte (widened_low held.set new.set marks) v (widened_normal sets bits held.set new.set marks n k))
 ]
 
-pub byte_forms : Sets → PairsStayLow → (size : ℕ) (marks : List ℕ) → Forms size (λ held new. byte_widened held new marks)
-byte_forms sets stays size marks = record {
-  normal = λ a b n k. byte_widened_normal sets a b marks n k;
-  byte = λ a b n k one low other v h. byte_widened_low sets stays a b marks n k low v h;
+pub byte_forms : SetLaws → BitLaws → (size : ℕ) (marks : List ℕ) → Forms size (λ held new. byte_widened held new marks)
+byte_forms sets bits size marks = record {
+  normal = λ a b n k. byte_widened_normal sets bits a b marks n k;
+  byte = λ a b n k one low other v h. byte_widened_low sets bits a b marks n k low v h;
 }

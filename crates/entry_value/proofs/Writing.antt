@@ -10,7 +10,7 @@ use Rattle.entry_value.specs.Words.{Suspended, HoldsOfWord}
 use Rattle.entry_value.specs.Cells.{CellMap, StandsUnder, IsCell, AreCells, number_at, written, has_byte, meets, is_nothing, insert, with_cell, write_one}
 use Rattle.entry_value.proofs.Bytes.{IsSize, within_turn, same_number, written-beyond, written_bytes, written_itself}
 use Rattle.entry_value.proofs.Each.{Each, each_from, each_in, each_both, each_then, each_insert, each_filter, each_cell}
-use Rattle.entry_value.proofs.Premises.{MembersAreBelow}
+use Rattle.value_set.specs.Laws.{SetLaws}
 
 -- ---- accesses that have no byte of a cell
 
@@ -83,11 +83,11 @@ still_stands first ram lo hi at size v below cell h =
     (sym (stays ram at size v cell.place cell.size is.size (unmet lo hi at cell below is apart.0) (λ two. unmet lo hi ((at + 1) % 65536) cell below is (apart.1 two))))
     h.0.0
 
-pub one_covers : MembersAreBelow → (first : Option Suspended) (ram : ℕ → ℕ) (from at size v : ℕ) (map : CellMap) (word : Word) → map.hi < 65536 → AreCells map.lo map.hi from map.cells
+pub one_covers : SetLaws → (first : Option Suspended) (ram : ℕ → ℕ) (from at size v : ℕ) (map : CellMap) (word : Word) → map.hi < 65536 → AreCells map.lo map.hi from map.cells
     → at < 65536 → IsSize size → IsNormal 65536 word.set → (size ≡ 1 → (n : ℕ) → Has 65536 word.set n → n < 256)
     → StandsUnder first map.cells ram → HoldsOfWord first word v → StandsUnder first (write_one map at size word).cells (written ram at size v)
 unfolding write_one
-one_covers members_below first ram from at size v map word below are low is normal byte stands holds =
+one_covers sets first ram from at size v map word below are low is normal byte stands holds =
     let cell : Cell = record { place = at; size = size; word = word } in
     let rest = filter (λ c. not (meets at size c)) map.cells in
     let old = each_both (StandsAt first ram) (IsCell map.lo map.hi) map.cells (each_from (StandsAt first ram) map.cells stands.1) (each_cell map.lo map.hi from map.cells are) in
@@ -95,7 +95,7 @@ one_covers members_below first ram from at size v map word below are low is norm
     (still_stands first ram map.lo map.hi at size v below)
     (each_filter (λ c. StandsAt first ram c × IsCell map.lo map.hi c) (λ c. not (meets at size c)) map.cells old) in
     let own : StandsAt first (written ram at size v) cell = subst (λ (n : ℕ). HoldsOfWord first word n) (sym (written_itself ram at size v low is (λ one. byte one v holds.0))) holds in (
-      written_bytes ram at size v stands.0 (members_below 65536 v word.set normal holds.0),
+      written_bytes ram at size v stands.0 (sets.below 65536 v word.set normal holds.0),
       each_in (StandsAt first (written ram at size v)) (with_cell map.lo map.hi cell rest) (with_each (StandsAt first (written ram at size v)) map.lo map.hi cell rest own kept_ones),
     )
 

@@ -12,22 +12,20 @@ ghost use Rattle.entry_value.specs.declared.word.Entry.{Entry as AEntry};
 ghost use Rattle.entry_value.specs.declared.word.Word.{Word as AWord};
 ghost use Rattle.entry_value.specs.declared.byte.Byte.{Byte as AByte};
 ghost use Rattle.entry_value.specs.Words.{Suspended, IsFromEntry, HoldsOfWord, HoldsOfByte, common_entry, is_entry_within, entry_and, entry_or, word_join, word_widen, word_within, word_and, word_or, byte_join, byte_widen, byte_within, byte_and, byte_or};
+ghost use Rattle.entry_value.specs.Laws.{CellLaws, ValueLaws};
 ghost use Rattle.entry_value.specs.Cells as the_cells;
 ghost use Rattle.entry_value.specs.Cells.{CellMap, AreCells, StandsUnder, number_at, written, are_within};
 
-use value_bits::{halves_hold, logic_holds};
-use value_set::{
-    inclusion_is_tested, joins_include_both, members_are_below, single_and_whole_sets,
-    widenings_include_both,
-};
+use value_bits::bit_laws;
+use value_set::set_laws;
 
 /// What is read at an address holds of what stands there.
 pub fn reads_hold()
     ensures { (first : Option Suspended) (ram : ℕ → ℕ) (lo hi from at size : ℕ) (cells : List ACell) → AreCells lo hi from cells → at < 65536 → (size ≡ 1) ⊎ (size ≡ 2)
         → StandsUnder first cells ram → HoldsOfWord first (the_cells.read cells at size) (number_at ram at size) }
 {
-    halves_hold();
-    single_and_whole_sets();
+    set_laws();
+    bit_laws();
 }
 
 /// What is read has a set in normal form, and one byte that is read is below 100h.
@@ -35,9 +33,8 @@ pub fn reads_keep_form()
     ensures normal { (lo hi from at size : ℕ) (cells : List ACell) → AreCells lo hi from cells → IsNormal 65536 (the_cells.read cells at size).set }
     ensures byte { (lo hi from at size : ℕ) (cells : List ACell) → AreCells lo hi from cells → size ≡ 1 → (v : ℕ) → Has 65536 (the_cells.read cells at size).set v → v < 256 }
 {
-    members_are_below();
-    halves_hold();
-    single_and_whole_sets();
+    set_laws();
+    bit_laws();
 }
 
 /// Sets of words of which each is a byte, as a write of one byte takes them: that of one byte, that of all bytes, words of
@@ -52,11 +49,8 @@ pub fn bytes_stay_bytes()
     ensures widen { (held new : AWord) (marks : List ℕ) → IsNormal 65536 held.set → IsNormal 65536 new.set → ((n : ℕ) → Has 65536 held.set n → n < 256)
         → (v : ℕ) → Has 65536 (the_cells.byte_widened held new marks).set v → v < 256 }
 {
-    members_are_below();
-    halves_hold();
-    single_and_whole_sets();
-    inclusion_is_tested();
-    widenings_include_both();
+    set_laws();
+    bit_laws();
 }
 
 /// A write at the addresses of a set is one at its only address, or one at several.
@@ -77,8 +71,7 @@ pub fn writes_cover()
         → IsNormal 65536 word.set → (size ≡ 1 → (n : ℕ) → Has 65536 word.set n → n < 256)
         → StandsUnder first map.cells ram → Has 65536 at address → HoldsOfWord first word v → StandsUnder first (the_cells.write_any map at size word).cells (written ram address size v) }
 {
-    members_are_below();
-    joins_include_both();
+    set_laws();
 }
 
 /// The cells behind a write are cells of the same range.
@@ -92,7 +85,7 @@ pub fn writes_keep_form()
     ensures any_lo { (size : ℕ) (map : CellMap) (at : AForm) (word : AWord) → (the_cells.write_any map at size word).lo ≡ map.lo }
     ensures any_hi { (size : ℕ) (map : CellMap) (at : AForm) (word : AWord) → (the_cells.write_any map at size word).hi ≡ map.hi }
 {
-    joins_include_both();
+    set_laws();
 }
 
 /// The cells of two lists joined, and those widened, are cells of the range of the first one.
@@ -101,19 +94,15 @@ pub fn unions_keep_form()
     ensures widen { (lo hi from low high start : ℕ) (held new : List ACell) (marks : List ℕ) → AreCells lo hi from held → AreCells low high start new
         → All (λ mark. mark < 65536) marks → AreCells lo hi from (the_cells.widen_cells held new marks) }
 {
-    members_are_below();
-    halves_hold();
-    single_and_whole_sets();
-    inclusion_is_tested();
-    joins_include_both();
-    widenings_include_both();
+    set_laws();
+    bit_laws();
 }
 
 /// Cells within others: what stands under these stands under those.
 pub fn inclusion_covers()
     ensures { (first : Option Suspended) (ram : ℕ → ℕ) (new held : List ACell) → the_cells.are_within new held ≡ true → StandsUnder first new ram → StandsUnder first held ram }
 {
-    inclusion_is_tested();
+    set_laws();
 }
 
 /// What stands under one of two lists of cells stands under their join, and what stands under either stands under the
@@ -128,11 +117,8 @@ pub fn unions_cover()
     ensures added { (first : Option Suspended) (ram : ℕ → ℕ) (lo hi from low high start : ℕ) (held new : List ACell) (marks : List ℕ) → AreCells lo hi from held → AreCells low high start new
         → All (λ mark. mark < 65536) marks → StandsUnder first new ram → StandsUnder first (the_cells.widen_cells held new marks) ram }
 {
-    halves_hold();
-    single_and_whole_sets();
-    inclusion_is_tested();
-    joins_include_both();
-    widenings_include_both();
+    set_laws();
+    bit_laws();
 }
 
 /// Cells speak of the bytes of their RAM alone: where two RAMs agree from the first address to the last, both stand under the
@@ -174,11 +160,8 @@ pub fn words_hold()
     ensures or_normal { (m : ℕ) (word : AWord) → m < 65536 → IsNormal 65536 word.set → IsNormal 65536 (word_or m word).set }
     ensures or { (first : Option Suspended) (m v : ℕ) (word : AWord) → m < 65536 → IsNormal 65536 word.set → HoldsOfWord first word v → HoldsOfWord first (word_or m word) (bit_or v m) }
 {
-    single_and_whole_sets();
-    inclusion_is_tested();
-    joins_include_both();
-    widenings_include_both();
-    logic_holds();
+    set_laws();
+    bit_laws();
 }
 
 /// What holds of a number under a suspended state: bytes hold of it behind joins, widenings and greater sets, and of the
@@ -198,11 +181,8 @@ pub fn bytes_hold()
     ensures or_normal { (m : ℕ) (byte : AByte) → m < 256 → IsNormal 256 byte.set → IsNormal 256 (byte_or m byte).set }
     ensures or { (first : Option Suspended) (m v : ℕ) (byte : AByte) → m < 256 → IsNormal 256 byte.set → HoldsOfByte first byte v → HoldsOfByte first (byte_or m byte) (bit_or v m) }
 {
-    single_and_whole_sets();
-    inclusion_is_tested();
-    joins_include_both();
-    widenings_include_both();
-    logic_holds();
+    set_laws();
+    bit_laws();
 }
 
 /// A byte becomes a word with the high byte 0, and a word of a byte its low byte. What it says stays, and so does its relation.
@@ -212,8 +192,8 @@ pub fn bytes_are_words()
     ensures to_byte { (first : Option Suspended) (v : ℕ) (word : AWord) → IsNormal 65536 word.set → v < 256 → HoldsOfWord first word v
         → HoldsOfByte first (record { set = low_set word.set; entry = word.entry }) v }
 {
-    halves_hold();
-    single_and_whole_sets();
+    set_laws();
+    bit_laws();
 }
 
 /// The order of words. Each is within itself, a word within another is within all that this is within, and words are
@@ -229,11 +209,7 @@ pub fn words_are_ordered()
         → word_within new (word_widen held new marks) ≡ true }
     ensures whole { (a : AWord) → IsNormal 65536 a.set → word_within a (the_cells.unknown 2) ≡ true }
 {
-    members_are_below();
-    single_and_whole_sets();
-    inclusion_is_tested();
-    joins_include_both();
-    widenings_include_both();
+    set_laws();
 }
 
 /// The order of bytes, as that of words.
@@ -248,11 +224,7 @@ pub fn bytes_are_ordered()
         → byte_within new (byte_widen held new marks) ≡ true }
     ensures whole { (a : AByte) → IsNormal 256 a.set → byte_within a (record { set = make 256 0 1 256; entry = None }) ≡ true }
 {
-    members_are_below();
-    single_and_whole_sets();
-    inclusion_is_tested();
-    joins_include_both();
-    widenings_include_both();
+    set_laws();
 }
 
 /// The order of cells. Each list is within itself, a list within another is within all that this is within, and two lists
@@ -269,9 +241,35 @@ pub fn cells_are_ordered()
     ensures widen_new { (lo hi from low high start : ℕ) (held new : List ACell) (marks : List ℕ) → AreCells lo hi from held → AreCells low high start new
         → All (λ mark. mark < 65536) marks → are_within new (the_cells.widen_cells held new marks) ≡ true }
 {
-    halves_hold();
-    single_and_whole_sets();
-    inclusion_is_tested();
-    joins_include_both();
-    widenings_include_both();
+    set_laws();
+    bit_laws();
+}
+
+/// All laws of words, bytes and relations.
+pub fn value_laws()
+    ensures { ValueLaws }
+{
+    relations_hold();
+    words_hold();
+    words_are_ordered();
+    bytes_hold();
+    bytes_are_ordered();
+    bytes_are_words();
+}
+
+/// All laws of cells.
+pub fn cell_laws()
+    ensures { CellLaws }
+{
+    reads_hold();
+    reads_keep_form();
+    bytes_stay_bytes();
+    writes_are_at_one_or_several();
+    writes_cover();
+    writes_keep_form();
+    inclusion_covers();
+    cells_speak_of_ram();
+    unions_cover();
+    unions_keep_form();
+    cells_are_ordered();
 }

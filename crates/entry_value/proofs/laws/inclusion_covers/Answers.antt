@@ -2,4 +2,4 @@ use Rattle.entry_value.proofs.Uniting.{within_covers}
 use Rattle.entry_value.proofs.laws.inclusion_covers.Goals as goal
 
 pub returns : goal.returns
-returns c = within_covers c.inclusion_is_tested.ensures
+returns c = within_covers c.set_laws.ensures

@@ -1,67 +1,36 @@
 use Rattle.entry_value.proofs.Holding.{word_join_first, word_join_second, word_widen_held, word_widen_new, word_and_normal, word_and_holds, word_or_normal, word_or_holds}
-use Rattle.entry_value.proofs.Premises.{Singles, Joins, Widens, Logics}
 use Rattle.entry_value.proofs.Values.{within_holds}
 use Rattle.entry_value.proofs.laws.words_hold.Goals as goal
 
 pub returns-clause-join_normal : goal.returns-clause-join_normal
-returns-clause-join_normal c =
-    let unions = c.joins_include_both.ensures in
-    let joins : Joins = record { normal = unions.normal; first = unions.first; second = unions.second } in
-    λ a b n k. joins.normal 65536 a.set b.set n k
+returns-clause-join_normal c = λ a b n k. c.set_laws.ensures.join_normal 65536 a.set b.set n k
 
 pub returns-clause-join_first : goal.returns-clause-join_first
-returns-clause-join_first c =
-    let unions = c.joins_include_both.ensures in
-    let joins : Joins = record { normal = unions.normal; first = unions.first; second = unions.second } in
-    word_join_first joins
+returns-clause-join_first c = word_join_first c.set_laws.ensures
 
 pub returns-clause-join_second : goal.returns-clause-join_second
-returns-clause-join_second c =
-    let unions = c.joins_include_both.ensures in
-    let joins : Joins = record { normal = unions.normal; first = unions.first; second = unions.second } in
-    word_join_second joins
+returns-clause-join_second c = word_join_second c.set_laws.ensures
 
 pub returns-clause-widen_normal : goal.returns-clause-widen_normal
-returns-clause-widen_normal c =
-    let grown = c.widenings_include_both.ensures in
-    let widens : Widens = record { normal = grown.normal; held = grown.held; new = grown.new } in
-    λ a b marks n k below. widens.normal 65536 a.set b.set marks n k below
+returns-clause-widen_normal c = λ a b marks n k below. c.set_laws.ensures.widen_normal 65536 a.set b.set marks n k below
 
 pub returns-clause-widen_held : goal.returns-clause-widen_held
-returns-clause-widen_held c =
-    let grown = c.widenings_include_both.ensures in
-    let widens : Widens = record { normal = grown.normal; held = grown.held; new = grown.new } in
-    word_widen_held widens
+returns-clause-widen_held c = word_widen_held c.set_laws.ensures
 
 pub returns-clause-widen_new : goal.returns-clause-widen_new
-returns-clause-widen_new c =
-    let grown = c.widenings_include_both.ensures in
-    let widens : Widens = record { normal = grown.normal; held = grown.held; new = grown.new } in
-    word_widen_new widens
+returns-clause-widen_new c = word_widen_new c.set_laws.ensures
 
 pub returns-clause-within : goal.returns-clause-within
-returns-clause-within c = λ first v a b within h. within_holds c.inclusion_is_tested.ensures first a b v within h
+returns-clause-within c = λ first v a b within h. within_holds c.set_laws.ensures first a b v within h
 
 pub returns-clause-and_normal : goal.returns-clause-and_normal
-returns-clause-and_normal c =
-    let logics : Logics = record { normal = c.logic_holds.ensures.normal; holds = c.logic_holds.ensures.holds } in
-    let singles : Singles = record { single = c.single_and_whole_sets.ensures.single; whole = c.single_and_whole_sets.ensures.whole } in
-    word_and_normal logics singles
+returns-clause-and_normal c = word_and_normal c.set_laws.ensures c.bit_laws.ensures
 
 pub returns-clause-and : goal.returns-clause-and
-returns-clause-and c =
-    let logics : Logics = record { normal = c.logic_holds.ensures.normal; holds = c.logic_holds.ensures.holds } in
-    let singles : Singles = record { single = c.single_and_whole_sets.ensures.single; whole = c.single_and_whole_sets.ensures.whole } in
-    word_and_holds logics singles
+returns-clause-and c = word_and_holds c.set_laws.ensures c.bit_laws.ensures
 
 pub returns-clause-or_normal : goal.returns-clause-or_normal
-returns-clause-or_normal c =
-    let logics : Logics = record { normal = c.logic_holds.ensures.normal; holds = c.logic_holds.ensures.holds } in
-    let singles : Singles = record { single = c.single_and_whole_sets.ensures.single; whole = c.single_and_whole_sets.ensures.whole } in
-    word_or_normal logics singles
+returns-clause-or_normal c = word_or_normal c.set_laws.ensures c.bit_laws.ensures
 
 pub returns-clause-or : goal.returns-clause-or
-returns-clause-or c =
-    let logics : Logics = record { normal = c.logic_holds.ensures.normal; holds = c.logic_holds.ensures.holds } in
-    let singles : Singles = record { single = c.single_and_whole_sets.ensures.single; whole = c.single_and_whole_sets.ensures.whole } in
-    word_or_holds logics singles
+returns-clause-or c = word_or_holds c.set_laws.ensures c.bit_laws.ensures

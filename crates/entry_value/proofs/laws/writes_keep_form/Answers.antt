@@ -1,6 +1,4 @@
 use Rattle.entry_value.proofs.Anywhere.{any_form, any_lo, any_hi}
-use Rattle.entry_value.proofs.LowSets.{joins_stay_low}
-use Rattle.entry_value.proofs.Premises.{Joins}
 use Rattle.entry_value.proofs.Writing.{one_form, one_lo, one_hi}
 use Rattle.entry_value.proofs.laws.writes_keep_form.Goals as goal
 
@@ -20,7 +18,4 @@ pub returns-clause-any_hi : goal.returns-clause-any_hi
 returns-clause-any_hi c = any_hi
 
 pub returns-clause-any : goal.returns-clause-any
-returns-clause-any c =
-    let unions = c.joins_include_both.ensures in
-    let joins : Joins = record { normal = unions.normal; first = unions.first; second = unions.second } in
-    any_form joins joins_stay_low
+returns-clause-any c = any_form c.set_laws.ensures
