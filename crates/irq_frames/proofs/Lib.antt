@@ -1,4 +1,5 @@
 pub mod RangeLemmas
 pub mod Walking
-pub mod Premises
 pub mod Resumption
+pub mod CellsLeft
+pub mod Kept

@@ -14,7 +14,7 @@ use Rattle.entry_value.specs.Words.{Suspended, IsFromEntry, HoldsOfWord, word_an
 use Rattle.entry_value.specs.Cells.{CellMap, IsCell, AreCells, StandsUnder, number_at, written, insert, with_cell, is_nothing, meets, write_one}
 use Rattle.irq_frames.specs.Ranges.{has_address}
 use Rattle.irq_frames.specs.Resuming.{is_unmasked, masked_by, resumed_by, resumed_sized, resumed_word, resumed_cell, is_all_touched, is_untouched, untouched_cells, touched_cells, with_written, resumed_cells, HasMasks, IsBehind, Tells, AreNormal, EachTells, IsCellMap, CanResume, AgreeOutside, IsFromEither}
-use Rattle.irq_frames.proofs.Premises.{Masks, Writes}
+use Rattle.entry_value.specs.Laws.{CellLaws, WordLaws}
 use Rattle.irq_frames.proofs.Walking.{Each, each_then}
 
 -- WORDS
@@ -38,38 +38,38 @@ unmasked_is entry word below unmasked =
     let all : bit_and word entry.and ≡ word = ap (bit_and word) (eqb-true entry.and 65535 parts.0) ∙ and_mask word 16 ∙ within_word word below in
     ap (bit_or (bit_and word entry.and)) (eqb-true entry.or 0 parts.1) ∙ nothing_set (bit_and word entry.and) ∙ all
 
-masked_holds : (laws : Masks) (first : Option Suspended) (entry : Entry) (held : Word) (word : ℕ) → HasMasks (Some entry) → IsNormal 65536 held.set → word < 65536
+masked_holds : (words : WordLaws) (first : Option Suspended) (entry : Entry) (held : Word) (word : ℕ) → HasMasks (Some entry) → IsNormal 65536 held.set → word < 65536
     → HoldsOfWord first held word → HoldsOfWord first (masked_by entry held) (bit_or (bit_and word entry.and) entry.or)
-masked_holds laws first entry held word masks normal below holds = elim (cases_Bool (is_unmasked entry)) [
+masked_holds words first entry held word masks normal below holds = elim (cases_Bool (is_unmasked entry)) [
   | inl whole ↦ rw whole (subst (λ (v : ℕ). HoldsOfWord first held v) (sym (unmasked_is entry word below whole)) holds)
-  | inr some ↦ rw some (laws.or first entry.or (bit_and word entry.and) (word_and entry.and held) masks.1 (laws.and_normal entry.and held masks.0 normal)
-      (laws.and first entry.and word held masks.0 normal holds))
+  | inr some ↦ rw some (words.or first entry.or (bit_and word entry.and) (word_and entry.and held) masks.1 (words.and_normal entry.and held masks.0 normal)
+      (words.and first entry.and word held masks.0 normal holds))
 ]
 
-by_holds : (laws : Masks) (places : ℕ → Word) (f : Suspended) (first : Option Suspended) (exit : Word) (entry : Option Entry) (v : ℕ) → exit.entry ≡ entry → AreNormal places
+by_holds : (words : WordLaws) (places : ℕ → Word) (f : Suspended) (first : Option Suspended) (exit : Word) (entry : Option Entry) (v : ℕ) → exit.entry ≡ entry → AreNormal places
     → HasMasks entry → Tells places f first entry → HoldsOfWord (Some f) exit v → HoldsOfWord first (resumed_by places exit entry) v
-by_holds laws places f first exit None v is normal masks tells holds = (holds.0, subst (λ (entry : Option Entry). IsFromEntry first entry v) (sym is) tt)
-by_holds laws places f first exit (Some entry) v is normal masks tells holds =
+by_holds words places f first exit None v is normal masks tells holds = (holds.0, subst (λ (entry : Option Entry). IsFromEntry first entry v) (sym is) tt)
+by_holds words places f first exit (Some entry) v is normal masks tells holds =
     let from : IsFromEntry (Some f) (Some entry) v = subst (λ (one : Option Entry). IsFromEntry (Some f) one v) is holds.1 in
     subst (λ (n : ℕ). HoldsOfWord first (masked_by entry (places entry.place)) n) (sym from.2)
-    (masked_holds laws first entry (places entry.place) from.0 masks (normal entry.place) from.1.0 (tells from.0 from.1))
+    (masked_holds words first entry (places entry.place) from.0 masks (normal entry.place) from.1.0 (tells from.0 from.1))
 
-pub word_holds : (laws : Masks) (places : ℕ → Word) (f : Suspended) (first : Option Suspended) (exit : Word) (v : ℕ) → AreNormal places
+pub word_holds : (words : WordLaws) (places : ℕ → Word) (f : Suspended) (first : Option Suspended) (exit : Word) (v : ℕ) → AreNormal places
     → HasMasks exit.entry → Tells places f first exit.entry → HoldsOfWord (Some f) exit v → HoldsOfWord first (resumed_word places exit) v
-word_holds laws places f first exit v normal masks tells holds = by_holds laws places f first exit exit.entry v refl normal masks tells holds
+word_holds words places f first exit v normal masks tells holds = by_holds words places f first exit exit.entry v refl normal masks tells holds
 
-masked_normal : (laws : Masks) (entry : Entry) (held : Word) → HasMasks (Some entry) → IsNormal 65536 held.set → IsNormal 65536 (masked_by entry held).set
-masked_normal laws entry held masks normal = elim (cases_Bool (is_unmasked entry)) [
+masked_normal : (words : WordLaws) (entry : Entry) (held : Word) → HasMasks (Some entry) → IsNormal 65536 held.set → IsNormal 65536 (masked_by entry held).set
+masked_normal words entry held masks normal = elim (cases_Bool (is_unmasked entry)) [
   | inl whole ↦ rw whole normal
-  | inr some ↦ rw some (laws.or_normal entry.or (word_and entry.and held) masks.1 (laws.and_normal entry.and held masks.0 normal))
+  | inr some ↦ rw some (words.or_normal entry.or (word_and entry.and held) masks.1 (words.and_normal entry.and held masks.0 normal))
 ]
 
-by_normal : (laws : Masks) (places : ℕ → Word) (exit : Word) (entry : Option Entry) → AreNormal places → HasMasks entry → IsNormal 65536 exit.set → IsNormal 65536 (resumed_by places exit entry).set
-by_normal laws places exit None normal masks own = own
-by_normal laws places exit (Some entry) normal masks own = masked_normal laws entry (places entry.place) masks (normal entry.place)
+by_normal : (words : WordLaws) (places : ℕ → Word) (exit : Word) (entry : Option Entry) → AreNormal places → HasMasks entry → IsNormal 65536 exit.set → IsNormal 65536 (resumed_by places exit entry).set
+by_normal words places exit None normal masks own = own
+by_normal words places exit (Some entry) normal masks own = masked_normal words entry (places entry.place) masks (normal entry.place)
 
-pub word_normal : (laws : Masks) (places : ℕ → Word) (exit : Word) → AreNormal places → HasMasks exit.entry → IsNormal 65536 exit.set → IsNormal 65536 (resumed_word places exit).set
-word_normal laws places exit = by_normal laws places exit exit.entry
+pub word_normal : (words : WordLaws) (places : ℕ → Word) (exit : Word) → AreNormal places → HasMasks exit.entry → IsNormal 65536 exit.set → IsNormal 65536 (resumed_word places exit).set
+word_normal words places exit = by_normal words places exit exit.entry
 
 -- its relation
 by_none : (places : ℕ → Word) (exit : Word) (entry : Option Entry) → exit.entry ≡ None → entry ≡ None → (resumed_by places exit entry).entry ≡ None
@@ -190,29 +190,29 @@ rewritten : (ram : ℕ → ℕ) (at size address : ℕ) → ((b : ℕ) → ram b
 rewritten ram at size address bytes (inl one) = subst (λ (s : ℕ). written ram at s (number_at ram at s) address ≡ ram address) (sym one) (rewritten_byte ram at address bytes)
 rewritten ram at size address bytes (inr two) = subst (λ (s : ℕ). written ram at s (number_at ram at s) address ≡ ram address) (sym two) (rewritten_word ram at address bytes)
 
-one_formed : (laws : Writes) (held : CellMap) (cell : Cell) → IsCellMap held → IsWritten cell → IsCellMap (write_one held cell.place cell.size cell.word)
+one_formed : (laws : CellLaws) (held : CellMap) (cell : Cell) → IsCellMap held → IsWritten cell → IsCellMap (write_one held cell.place cell.size cell.word)
 unfolding write_one
 one_formed laws held cell form is = record {
   high = form.high;
-  are = laws.form held.lo cell.place cell.size held cell.word form.high (omega arith) form.are is.size is.normal is.byte;
+  are = laws.write_form held.lo cell.place cell.size held cell.word form.high (omega arith) form.are is.size is.normal is.byte;
 }
 
-one_stands : (laws : Writes) (first : Option Suspended) (ram : ℕ → ℕ) (held : CellMap) (cell : Cell) → IsCellMap held → IsWritten cell → StandsAt first ram cell
+one_stands : (laws : CellLaws) (first : Option Suspended) (ram : ℕ → ℕ) (held : CellMap) (cell : Cell) → IsCellMap held → IsWritten cell → StandsAt first ram cell
     → StandsUnder first held.cells ram → StandsUnder first (write_one held cell.place cell.size cell.word).cells ram
 one_stands laws first ram held cell form is stands under =
     let at = cell.place in
     let size = cell.size in
     let v = number_at ram at size in
     laws.agree first (written ram at size v) ram held.lo held.hi held.lo (write_one held at size cell.word).cells form.high
-    (laws.form held.lo at size held cell.word form.high (omega arith) form.are is.size is.normal is.byte)
+    (laws.write_form held.lo at size held cell.word form.high (omega arith) form.are is.size is.normal is.byte)
     under.0 (λ b low high. rewritten ram at size b under.0 is.size)
-    (laws.covers first ram held.lo at size v held cell.word form.high form.are is.high is.size is.normal is.byte under stands)
+    (laws.write first ram held.lo at size v held cell.word form.high form.are is.high is.size is.normal is.byte under stands)
 
-all_formed : (laws : Writes) (cells : List Cell) (held : CellMap) → IsCellMap held → Each IsWritten cells → IsCellMap (with_written cells held)
+all_formed : (laws : CellLaws) (cells : List Cell) (held : CellMap) → IsCellMap held → Each IsWritten cells → IsCellMap (with_written cells held)
 all_formed laws [] held form each = form
 all_formed laws (cell ∷ cells) held form each = all_formed laws cells (write_one held cell.place cell.size cell.word) (one_formed laws held cell form each.0) each.1
 
-all_stand : (laws : Writes) (first : Option Suspended) (ram : ℕ → ℕ) (cells : List Cell) (held : CellMap) → IsCellMap held → Each (λ cell. IsWritten cell × StandsAt first ram cell) cells
+all_stand : (laws : CellLaws) (first : Option Suspended) (ram : ℕ → ℕ) (cells : List Cell) (held : CellMap) → IsCellMap held → Each (λ cell. IsWritten cell × StandsAt first ram cell) cells
     → StandsUnder first held.cells ram → StandsUnder first (with_written cells held).cells ram
 all_stand laws first ram [] held form each under = under
 all_stand laws first ram (cell ∷ cells) held form each under = all_stand laws first ram cells (write_one held cell.place cell.size cell.word)
@@ -285,26 +285,26 @@ sized_is_byte places size exit one = cond-true (size == 1) (record { set = exit.
 pub byte_of : (places : ℕ → Word) (size : ℕ) (exit : Word) → size ≡ 1 → ((v : ℕ) → Has 65536 exit.set v → v < 256) → (v : ℕ) → Has 65536 (resumed_sized places size exit).set v → v < 256
 byte_of places size exit one below v has = below v (subst (λ (word : Word). Has 65536 word.set v) (sized_is_byte places size exit one) has)
 
-sized_normal : (laws : Masks) (places : ℕ → Word) (size : ℕ) (exit : Word) → AreNormal places → HasMasks exit.entry → IsNormal 65536 exit.set → IsNormal 65536 (resumed_sized places size exit).set
-sized_normal laws places size exit normal masks own = elim (cases_Bool (size == 1)) [
+sized_normal : (words : WordLaws) (places : ℕ → Word) (size : ℕ) (exit : Word) → AreNormal places → HasMasks exit.entry → IsNormal 65536 exit.set → IsNormal 65536 (resumed_sized places size exit).set
+sized_normal words places size exit normal masks own = elim (cases_Bool (size == 1)) [
   | inl one ↦ rw one own
-  | inr two ↦ rw two (word_normal laws places exit normal masks own)
+  | inr two ↦ rw two (word_normal words places exit normal masks own)
 ]
 
-sized_holds : (laws : Masks) (places : ℕ → Word) (f : Suspended) (first : Option Suspended) (size : ℕ) (exit : Word) (v : ℕ) → AreNormal places → HasMasks exit.entry
+sized_holds : (words : WordLaws) (places : ℕ → Word) (f : Suspended) (first : Option Suspended) (size : ℕ) (exit : Word) (v : ℕ) → AreNormal places → HasMasks exit.entry
     → Tells places f first exit.entry → HoldsOfWord (Some f) exit v → HoldsOfWord first (resumed_sized places size exit) v
-sized_holds laws places f first size exit v normal masks tells holds = elim (cases_Bool (size == 1)) [
+sized_holds words places f first size exit v normal masks tells holds = elim (cases_Bool (size == 1)) [
   | inl one ↦ rw one (holds.0, tt)
-  | inr two ↦ rw two (word_holds laws places f first exit v normal masks tells holds)
+  | inr two ↦ rw two (word_holds words places f first exit v normal masks tells holds)
 ]
 
-resumed_written : (laws : Masks) (places : ℕ → Word) (exit : CellMap) → CanResume places exit → (cell : Cell) → Contains exit.cells cell → IsWritten (resumed_cell places cell)
-resumed_written laws places exit can cell held =
+resumed_written : (words : WordLaws) (places : ℕ → Word) (exit : CellMap) → CanResume places exit → (cell : Cell) → Contains exit.cells cell → IsWritten (resumed_cell places cell)
+resumed_written words places exit can cell held =
     let is : IsCell exit.lo exit.hi cell = each_in (IsCell exit.lo exit.hi) exit.cells (each_cell exit.lo exit.hi exit.lo exit.cells can.form.are) cell held in
     record {
       size = is.size;
       high = omega (arith, is.high, can.form.high, some_size cell.size is.size);
-      normal = sized_normal laws places cell.size cell.word can.normal (can.masks cell held) is.normal;
+      normal = sized_normal words places cell.size cell.word can.normal (can.masks cell held) is.normal;
       byte = λ one. byte_of places cell.size cell.word one (is.byte one);
     }
 
@@ -317,24 +317,24 @@ exit_each places P touched cells each =
 
 -- ALL OF THEM
 
-pub cells_stand : (masks : Masks) (writes : Writes) (places : ℕ → Word) (f : Suspended) (first : Option Suspended) (then_ now : ℕ → ℕ) (at exit : CellMap) (touched : List (ℕ × ℕ))
+pub cells_stand : (words : WordLaws) (cells : CellLaws) (places : ℕ → Word) (f : Suspended) (first : Option Suspended) (then_ now : ℕ → ℕ) (at exit : CellMap) (touched : List (ℕ × ℕ))
     → IsCellMap at → CanResume places exit → EachTells places f first exit.cells → AgreeOutside touched now then_
     → StandsUnder first at.cells then_ → StandsUnder (Some f) exit.cells now → StandsUnder first (resumed_cells places at exit touched).cells now
 unfolding resumed_cells
-cells_stand masks writes places f first then_ now at exit touched form can tells agree under left =
-    all_stand writes first now (map (resumed_cell places) (touched_cells touched exit.cells)) (record at { cells = untouched_cells touched at.cells }) (untouched_form touched at form)
+cells_stand words cells places f first then_ now at exit touched form can tells agree under left =
+    all_stand cells first now (map (resumed_cell places) (touched_cells touched exit.cells)) (record at { cells = untouched_cells touched at.cells }) (untouched_form touched at form)
     (exit_each places (λ cell. IsWritten cell × StandsAt first now cell) touched exit.cells (λ cell held. (
-      resumed_written masks places exit can cell held,
-      sized_holds masks places f first cell.size cell.word (number_at now cell.place cell.size) can.normal (can.masks cell held) (tells cell held) (left.1 cell held),
+      resumed_written words places exit can cell held,
+      sized_holds words places f first cell.size cell.word (number_at now cell.place cell.size) can.normal (can.masks cell held) (tells cell held) (left.1 cell held),
     )))
     (untouched_stand first touched now then_ at form left.0 agree under)
 
-pub cells_formed : (masks : Masks) (writes : Writes) (places : ℕ → Word) (at exit : CellMap) (touched : List (ℕ × ℕ)) → IsCellMap at → CanResume places exit
+pub cells_formed : (words : WordLaws) (cells : CellLaws) (places : ℕ → Word) (at exit : CellMap) (touched : List (ℕ × ℕ)) → IsCellMap at → CanResume places exit
     → IsCellMap (resumed_cells places at exit touched)
 unfolding resumed_cells
-cells_formed masks writes places at exit touched form can =
-    all_formed writes (map (resumed_cell places) (touched_cells touched exit.cells)) (record at { cells = untouched_cells touched at.cells }) (untouched_form touched at form)
-    (exit_each places IsWritten touched exit.cells (resumed_written masks places exit can))
+cells_formed words cells places at exit touched form can =
+    all_formed cells (map (resumed_cell places) (touched_cells touched exit.cells)) (record at { cells = untouched_cells touched at.cells }) (untouched_form touched at form)
+    (exit_each places IsWritten touched exit.cells (resumed_written words places exit can))
 
 pub ends_stay : (places : ℕ → Word) (at exit : CellMap) (touched : List (ℕ × ℕ)) → ((resumed_cells places at exit touched).lo ≡ at.lo) × ((resumed_cells places at exit touched).hi ≡ at.hi)
 unfolding resumed_cells

@@ -1,2 +1,5 @@
 pub mod Ranges
 pub mod Resuming
+pub mod Unrelated
+pub mod Laws
+pub mod KnownLaws

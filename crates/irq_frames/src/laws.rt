@@ -1,4 +1,4 @@
-//! What holds of touched ranges, and of what goes on behind a handler. The chips' laws call these.
+//! What holds of touched ranges, of cells where a handler begins, and of what goes on behind it. The chips' laws call these.
 
 ghost use Rattle.std.specs.Prelude.{◌≡◌, ◌≤◌, ◌<◌, ◌||◌, ◌∷◌, ℕ, true, Option, Some, None, [], List, Contains};
 ghost use Rattle.value_set.specs.Form.{IsNormal};
@@ -6,11 +6,17 @@ ghost use Rattle.entry_value.specs.declared.cells.Cell.{Cell as ACell};
 ghost use Rattle.entry_value.specs.declared.word.Entry.{Entry as AEntry};
 ghost use Rattle.entry_value.specs.declared.word.Word.{Word as AWord};
 ghost use Rattle.entry_value.specs.Words.{Suspended, HoldsOfWord};
-ghost use Rattle.entry_value.specs.Cells.{CellMap, StandsUnder};
+ghost use Rattle.entry_value.specs.Cells.{AreCells, CellMap, StandsUnder, kept};
 ghost use Rattle.irq_frames.specs.Ranges.{AreRanges, has_address, lies_in, ranges_within, united, with_range};
+ghost use Rattle.irq_frames.specs.KnownLaws.{KnownLaws};
+ghost use Rattle.irq_frames.specs.Laws.{FrameLaws, RangeLaws};
+ghost use Rattle.irq_frames.specs.Unrelated as cells_of;
 ghost use Rattle.irq_frames.specs.Resuming.{AgreeOutside, AreNormal, CanResume, EachTells, HasMasks, IsBehind, IsCellMap, IsFromEither, Tells, resumed_cells, resumed_word};
 
-use entry_value::{cells_speak_of_ram, words_hold, writes_cover, writes_keep_form};
+use entry_value::{cell_laws, value_laws};
+use value_bits::bit_laws;
+use value_set::set_laws;
+
 /// A range that is added, and two lists of ranges that are united, give ascending ranges with the addresses of both. Being
 /// within others is an order, and ranges within others have no address that these lack.
 pub fn ranges_hold()
@@ -46,8 +52,41 @@ pub fn resumptions_hold()
     ensures origin { (places : ℕ → AWord) (at exit : CellMap) (touched : List (ℕ × ℕ)) (cell : ACell) → Contains (resumed_cells places at exit touched).cells cell
         → IsFromEither places at.cells exit.cells cell }
 {
-    words_hold();
-    writes_cover();
-    writes_keep_form();
-    cells_speak_of_ram();
+    value_laws();
+    cell_laws();
+}
+
+/// What stands under cells stands under them without relations, whatever state is suspended. They are cells of the same RAM,
+/// and each is one of those that there were, without its relation.
+pub fn relations_go()
+    ensures stands { (first other : Option Suspended) (ram : ℕ → ℕ) (cells : List ACell) → StandsUnder first cells ram → StandsUnder other (kept cells_of.unrelated cells) ram }
+    ensures form { (lo hi from : ℕ) (cells : List ACell) → AreCells lo hi from cells → AreCells lo hi from (kept cells_of.unrelated cells) }
+    ensures each { (cells : List ACell) (cell : ACell) → Contains (kept cells_of.unrelated cells) cell → (held : ACell) × Contains cells held × (cells_of.plain_cell held ≡ cell) }
+{}
+
+/// All laws of touched ranges.
+pub fn range_laws()
+    ensures { RangeLaws }
+{
+    ranges_hold();
+}
+
+/// All laws of cells where a handler begins, and of words and cells that go on behind it.
+pub fn frame_laws()
+    ensures { FrameLaws }
+{
+    relations_go();
+    resumptions_hold();
+}
+
+/// All laws that a proof over what is known of a state takes, for both chips.
+pub fn known_laws()
+    ensures { KnownLaws }
+{
+    set_laws();
+    bit_laws();
+    value_laws();
+    cell_laws();
+    range_laws();
+    frame_laws();
 }

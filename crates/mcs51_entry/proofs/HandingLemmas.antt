@@ -3,7 +3,7 @@ use Rattle.std.proofs.Common.{◌≡◌, ℕ, ◌<◌, Bool, true, Option, Some,
 use Rattle.std.specs.Prelude.{bit_and, slice_index}
 use Rattle.std.specs.Option.{option_map}
 use Rattle.std.proofs.lemmas.List.Elements.{All-contains, Contains-get_or}
-use Rattle.entry_cells.specs.Unrelated.{plain_cell, unrelated}
+use Rattle.irq_frames.specs.Unrelated.{plain_cell, unrelated}
 use Rattle.entry_value.specs.declared.cells.Cell.{Cell}
 use Rattle.entry_value.specs.Cells.{kept}
 use Rattle.value_set.specs.declared.form.Form.{Form}

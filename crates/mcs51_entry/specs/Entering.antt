@@ -3,7 +3,7 @@
 use Rattle.std.specs.Prelude.{ℕ, ◌==◌, if◌then◌else◌, ◌/◌, ◌%◌, true, false, Some, List, [], ◌∷◌}
 use Rattle.call_context.specs.declared.shown.Item.{Item}
 use Rattle.call_context.specs.declared.shown.Item.TheVariants.{Edge}
-use Rattle.entry_cells.specs.Unrelated.{without_relations}
+use Rattle.irq_frames.specs.Unrelated.{without_relations}
 use Rattle.entry_value.specs.declared.byte.Byte.{Byte}
 use Rattle.entry_value.specs.declared.word.Entry.{Entry}
 use Rattle.value_set.specs.declared.form.Form.{Form}

@@ -4,7 +4,7 @@ use Rattle.entry_value.specs.declared.byte.Byte.{Byte}
 use Rattle.entry_value.specs.declared.cells.Cell.{Cell}
 use Rattle.entry_value.specs.Cells.{AreCells, StandsUnder, kept}
 use Rattle.entry_value.specs.Words.{Suspended}
-use Rattle.entry_cells.specs.Unrelated.{plain_cell, unrelated}
+use Rattle.irq_frames.specs.Unrelated.{plain_cell, unrelated}
 use Rattle.std.specs.Int.{bit_at}
 use Rattle.value_bits.specs.Bits.{IsBit}
 use Rattle.value_set.specs.declared.form.Form.{Form}

@@ -5,9 +5,8 @@ ghost use Rattle.mcs51_entry.specs.Entering as entry;
 
 use crate::coming::{Coming, handler_of};
 use call_context::{Item, Sequence};
-use entry_cells::unrelated;
 use entry_value::{Byte, Cells, Entry};
-use irq_frames::Ranges;
+use irq_frames::{Ranges, unrelated};
 use mcs51_operands::access;
 use mcs51_state::{Addresses, Levels, State, Status};
 use mcs51_stores::push_pair;

@@ -2,7 +2,7 @@
 use Rattle.std.proofs.Common.{◌≡◌, ℕ, ◌+◌, ◌*◌, ◌%◌, ◌<◌, Bool, false, Option, None, List, length, Contains}
 use Rattle.std.specs.Option.{option_map}
 use Rattle.entry_value.specs.declared.word.Word.{Word}
-use Rattle.entry_cells.specs.Unrelated.{plain_cell, unrelated}
+use Rattle.irq_frames.specs.Unrelated.{plain_cell, unrelated}
 use Rattle.entry_value.specs.declared.cells.Cell.{Cell}
 use Rattle.entry_value.specs.Cells.{AreCells, StandsUnder, kept}
 use Rattle.entry_value.specs.Words.{HoldsOfWord, Suspended}

@@ -19,7 +19,7 @@ use Rattle.msp430_state.specs.Forms.{is_place, IsChipCell, IsKnown, IsWord}
 use Rattle.msp430_state.specs.Holding.{suspended_of, ram_byte, HoldsOfParts}
 use Rattle.msp430_state.specs.Known.{Known, word_of}
 use Rattle.msp430_alu.specs.Formats.{IsUnder}
-use Rattle.entry_cells.specs.Unrelated.{plain_cell, unrelated}
+use Rattle.irq_frames.specs.Unrelated.{plain_cell, unrelated}
 use Rattle.msp430_entry.specs.Entry.{all_related, handed, itself}
 use Rattle.msp430_entry.proofs.EntryLaws.{EntryLaws}
 

@@ -3,9 +3,8 @@
 ghost use Rattle.std.specs.Prelude.{◌≡◌, None, Some, IfOk};
 ghost use Rattle.msp430_entry.specs.Entry as entry;
 
-use entry_cells::unrelated;
 use entry_value::{Cells, Entry, Word};
-use irq_frames::Ranges;
+use irq_frames::{Ranges, unrelated};
 use msp430_state::{State, Status};
 use std::alloc::Global;
 use value_bits::Tri;

@@ -18,7 +18,7 @@ ghost use Rattle.msp430_alu.specs.Memory.{IsDevice};
 ghost use Rattle.msp430_entry.specs.declared.coming.Coming.{Coming as AComing};
 ghost use Rattle.msp430_entry.specs.Entry.{ComesSo, comings_of, counter_slot, entered_known, entry_items, entry_shows, frame_of_coming, status_slot};
 
-use entry_cells::relations_go;
+use irq_frames::relations_go;
 use msp430_alu::words_in_memory;
 use value_set::{members_are_below, remainders_stay, single_and_whole_sets, sums_hold};
 

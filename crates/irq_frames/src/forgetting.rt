@@ -4,7 +4,7 @@ ghost use Rattle.std.specs.Prelude.{◌≡◌, ◌<◌, ◌⊎◌, ℕ, if◌the
 ghost use Rattle.std.specs.Option.{is_none};
 ghost use Rattle.value_set.specs.Form.{Has};
 ghost use Rattle.entry_value.specs.Cells.{write_one};
-ghost use Rattle.entry_cells.specs.Unrelated as cells_of;
+ghost use Rattle.irq_frames.specs.Unrelated as cells_of;
 
 use entry_value::{Cells, Word};
 use std::alloc::Global;

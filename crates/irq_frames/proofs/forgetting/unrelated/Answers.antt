@@ -1,6 +1,6 @@
 use Rattle.std.proofs.Common.{arith}
-use Rattle.entry_cells.proofs.CellsLeft.{cell_of, some_bytes, walk_begins, walk_ends, walk_found, walk_goes_on}
-use Rattle.entry_cells.proofs.walking.unrelated.Goals as goal
+use Rattle.irq_frames.proofs.CellsLeft.{cell_of, some_bytes, walk_begins, walk_ends, walk_found, walk_goes_on}
+use Rattle.irq_frames.proofs.forgetting.unrelated.Goals as goal
 
 pub loop-place-init : goal.loop-place-init
 loop-place-init g c = walk_begins (g.M.Cells.map c.args.cells.now) (g.M.Cells.map c.in_ok-all.all) c.keep_form.ensures.are c.in_ok-all.ensures

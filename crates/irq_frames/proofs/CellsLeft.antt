@@ -11,7 +11,7 @@ use Rattle.std.proofs.lemmas.Option.{same_Some}
 use Rattle.entry_value.specs.declared.cells.Cell.{Cell}
 use Rattle.entry_value.specs.declared.word.Word.{Word}
 use Rattle.entry_value.specs.Cells.{AreCells, CellMap, IsCell, insert, is_nothing, kept, meets, next, telling, with_cell, with_some, write_one}
-use Rattle.entry_cells.specs.Unrelated.{unrelated}
+use Rattle.irq_frames.specs.Unrelated.{unrelated}
 
 -- THE CELLS THAT ARE LEFT
 

@@ -7,7 +7,7 @@ use Rattle.std.proofs.lemmas.Option.{same_Some}
 use Rattle.entry_value.specs.declared.cells.Cell.{Cell}
 use Rattle.entry_value.specs.Cells.{AreCells, IsCell, StandsUnder, is_nothing, kept, number_at, with_some}
 use Rattle.entry_value.specs.Words.{Suspended, HoldsOfWord}
-use Rattle.entry_cells.specs.Unrelated.{plain_cell, unrelated}
+use Rattle.irq_frames.specs.Unrelated.{plain_cell, unrelated}
 
 -- MEMBERS
 

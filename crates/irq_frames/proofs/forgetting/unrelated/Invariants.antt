@@ -1,6 +1,6 @@
 use Rattle.std.proofs.Common.{◌+◌, ◌-◌}
-use Rattle.entry_cells.proofs.CellsLeft.{IsWalked}
-use Rattle.entry_cells.proofs.walking.unrelated.Given as goal
+use Rattle.irq_frames.proofs.CellsLeft.{IsWalked}
+use Rattle.irq_frames.proofs.forgetting.unrelated.Given as goal
 
 abbrev pub invariant-loop-place : goal.invariant-loop-place
 invariant-loop-place g l = IsWalked l.from (g.M.Cells.map l.cells) (g.M.Cells.map l.all)

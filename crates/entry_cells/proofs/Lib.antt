@@ -1,2 +1,0 @@
-pub mod CellsLeft
-pub mod Kept

@@ -1,9 +1,0 @@
-use Rattle.entry_cells.proofs.Kept.{are_kept, each_plain, stands_without}
-use Rattle.entry_cells.proofs.laws.relations_go.Goals as goal
-
-pub returns : goal.returns
-returns c = record {
-  stands = stands_without;
-  form = are_kept;
-  each = each_plain;
-}
