@@ -1,13 +1,19 @@
 -- One bit, one flag, and the bits of a number by their places.
 use Prim.Native.Nat.{zero, suc, max}
-use Rattle.std.proofs.Common.{◌≡◌, ℕ, ◌+◌, ◌-◌, ◌/◌, ◌%◌, ◌^◌, ◌<◌, ◌==◌, ◌∙◌, if◌then◌else◌, Bool, true, false, List, [], ◌∷◌, length, set, refl, sym, ap, subst, arith}
+use Rattle.std.proofs.Common.{◌≡◌, ℕ, ◌*◌, ◌≤◌, ◌+◌, ◌-◌, ◌/◌, ◌%◌, ◌^◌, ◌<◌, ◌==◌, ◌∙◌, if◌then◌else◌, Bool, true, false, List, [], ◌∷◌, ◌++◌, drop, length, replicate, set, take, refl, sym, ap, subst, arith}
 use Rattle.std.specs.Prelude.{not, slice_index_or}
 use Rattle.std.specs.Int.{bit_at}
 use Rattle.std.proofs.lemmas.Bool.{eq-eqb, ne_eqb}
+use Rattle.std.proofs.Math.Nat.{pow-suc}
 use Rattle.std.proofs.lemmas.Nat.{shr-shr}
+use Rattle.std.proofs.lemmas.Nat.Bits.{bit_at-lt}
+use Rattle.std.proofs.lemmas.List.FromFn.{length-map-range_with_len}
+use Rattle.value_set.specs.declared.form.Form.{Form}
+use Rattle.value_set.specs.Form.{IsNormal}
+use Rattle.value_bits.specs.Sets.{chosen}
 use Rattle.value_bits.specs.declared.tri.Tri.{Tri}
 use Rattle.value_bits.specs.declared.tri.Tri.TheVariants.{Zero, One, Either}
-use Rattle.value_bits.specs.Bits.{IsBit, Agrees, known_flag, may_be, tri_not, tri_or}
+use Rattle.value_bits.specs.Bits.{IsBit, Agrees, known_bit, known_bits, known_flag, may_be, tri_not, tri_or}
 use Rattle.value_bits.specs.Flags.{IsFlag}
 use Rattle.value_bits.proofs.Logics.{or_bit}
 
@@ -29,6 +35,11 @@ flag_may Either flag is = refl
 pub flag_known : (flag : Bool) → IsFlag (known_flag flag) flag
 flag_known true = refl
 flag_known false = refl
+
+pub flag_not : (t : Tri) (flag : Bool) → IsFlag t flag → IsFlag (tri_not t) (not flag)
+flag_not Zero flag is = ap not is
+flag_not One flag is = ap not is
+flag_not Either flag is = is
 
 -- ---- one bit
 
@@ -65,16 +76,66 @@ bit_or a b x y one other = or_bit a b x y (bit_below b y other) one other
 lowest : (v : ℕ) → bit_at v 0 ≡ v % 2
 lowest v = omega arith
 
-next : (v place : ℕ) → bit_at (v / 2) place ≡ bit_at v (suc place)
-next v place = let turn : 1 + place ≡ suc place = omega arith in ap (λ (n : ℕ). n % 2) (shr-shr v 1 place ∙ ap (λ (k : ℕ). v / 2 ^ k) turn)
+halved : (v width : ℕ) → v / 2 / 2 ^ width ≡ v / 2 ^ suc width
+halved v width = let turn : 1 + width ≡ suc width = omega arith in shr-shr v 1 width ∙ ap (λ (k : ℕ). v / 2 ^ k) turn
 
-pub bits_at : (bits : List Tri) (place v : ℕ) → place < length bits → Agrees bits v → IsBit (slice_index_or bits place Either) (bit_at v place)
-bits_at [] place v inside agrees = absurd (omega (arith, inside))
-bits_at (t ∷ bits) zero v inside agrees = subst (IsBit t) (sym (lowest v)) agrees.0
-bits_at (t ∷ bits) (suc place) v inside agrees = subst (IsBit (slice_index_or bits place Either)) (next v place) (bits_at bits place (v / 2) (omega (arith, inside)) agrees.1)
+next : (v place : ℕ) → bit_at (v / 2) place ≡ bit_at v (suc place)
+next v place = ap (λ (n : ℕ). n % 2) (halved v place)
+
+pub bits_at : (bits : List Tri) (place v : ℕ) → Agrees bits v → IsBit (slice_index_or bits place Either) (bit_at v place)
+bits_at [] place v agrees = bit_at-lt v place
+bits_at (t ∷ bits) zero v agrees = subst (IsBit t) (sym (lowest v)) agrees.0
+bits_at (t ∷ bits) (suc place) v agrees = subst (IsBit (slice_index_or bits place Either)) (next v place) (bits_at bits place (v / 2) agrees.1)
 
 pub bits_put : (bits : List Tri) (place v : ℕ) (t : Tri) → place < length bits → Agrees bits v → IsBit t (bit_at v place) → Agrees (set bits place t) v
 bits_put [] place v t inside agrees is = absurd (omega (arith, inside))
 bits_put (held ∷ bits) zero v t inside agrees is = (subst (IsBit t) (lowest v) is, agrees.1)
 bits_put (held ∷ bits) (suc place) v t inside agrees is =
     (agrees.0, bits_put bits place (v / 2) t (omega (arith, inside)) agrees.1 (subst (IsBit t) (sym (next v place)) is))
+
+pub bits_any : (width v : ℕ) → v < 2 ^ width → Agrees (replicate width Either) v
+bits_any zero v small = omega (arith, small)
+bits_any (suc width) v small =
+    let power : 2 ^ suc width ≡ 2 ^ width * 2 = pow-suc 2 width in
+    (omega arith, bits_any width (v / 2) (omega (arith, small, power)))
+
+pub bits_zero : (width : ℕ) → Agrees (replicate width Zero) 0
+bits_zero zero = refl
+bits_zero (suc width) = (refl, bits_zero width)
+
+pub bits_append : (bits more : List Tri) (v w : ℕ) → Agrees bits v → Agrees more w → Agrees (bits ++ more) (v + 2 ^ length bits * w)
+bits_append [] more v w h k = let same : w ≡ v + 2 ^ 0 * w = omega (arith, h) in subst (Agrees more) same k
+bits_append (t ∷ bits) more v w h k =
+    let power : 2 ^ suc (length bits) ≡ 2 ^ length bits * 2 = pow-suc 2 (length bits) in
+    let double : 2 ^ suc (length bits) * w ≡ 2 * (2 ^ length bits * w) = omega (arith, ap (λ (n : ℕ). n * w) power) in
+    let low : v % 2 ≡ (v + 2 ^ suc (length bits) * w) % 2 = omega (arith, double) in
+    let high : v / 2 + 2 ^ length bits * w ≡ (v + 2 ^ suc (length bits) * w) / 2 = omega (arith, double) in
+    (subst (IsBit t) low h.0, subst (Agrees (bits ++ more)) high (bits_append bits more (v / 2) w h.1 k))
+
+pub bits_take : (width : ℕ) (bits : List Tri) (v low high : ℕ) → v ≡ low + 2 ^ width * high → low < 2 ^ width → Agrees bits v → Agrees (take width bits) low
+bits_take zero bits v low high is small h = omega (arith, small)
+bits_take (suc width) [] v low high is small h = omega (arith, is, h)
+bits_take (suc width) (t ∷ bits) v low high is small h =
+    let power : 2 ^ suc width ≡ 2 ^ width * 2 = pow-suc 2 width in
+    let double : 2 ^ suc width * high ≡ 2 ^ width * high * 2 = omega (arith, ap (λ (n : ℕ). n * high) power) in
+    let first : v % 2 ≡ low % 2 = omega (arith, is, double) in
+    (subst (IsBit t) first h.0, bits_take width bits (v / 2) (low / 2) high (omega (arith, is, double)) (omega (arith, small, power)) h.1)
+
+none_halved : (width : ℕ) → 0 / 2 ^ width ≡ 0
+none_halved zero = refl
+none_halved (suc width) = sym (halved 0 width) ∙ none_halved width
+
+pub bits_drop : (width : ℕ) (bits : List Tri) (v : ℕ) → Agrees bits v → Agrees (drop width bits) (v / 2 ^ width)
+bits_drop zero bits v h = let whole : v ≡ v / 2 ^ 0 = omega arith in subst (Agrees bits) whole h
+bits_drop (suc width) [] v h = ap (λ (n : ℕ). n / 2 ^ suc width) h ∙ none_halved (suc width)
+bits_drop (suc width) (t ∷ bits) v h = subst (Agrees (drop width bits)) (halved v width) (bits_drop width bits (v / 2) h.1)
+
+-- ---- the bits of a set, and the set of a bit
+
+pub known_long : (width : ℕ) (set_so : Form) → length (known_bits width set_so) ≡ width
+known_long width set_so = length-map-range_with_len (λ place. known_bit width place set_so) 0 width
+
+pub chosen_normal : (m : ℕ) (t : Tri) → 2 ≤ m → IsNormal m (chosen t)
+chosen_normal m Zero wide = (omega arith, omega arith, (omega arith, omega (arith, wide), tt))
+chosen_normal m One wide = (omega arith, omega arith, (omega arith, omega (arith, wide), tt))
+chosen_normal m Either wide = (omega arith, omega arith, (omega arith, omega (arith, wide), (omega arith, omega (arith, wide), tt)))

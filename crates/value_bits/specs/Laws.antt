@@ -1,5 +1,6 @@
 -- What bits of sets and the sets of bitwise and decimal operations hold. A proof over them takes these laws from one record.
-use Rattle.std.specs.Prelude.{◌≡◌, ℕ, ◌+◌, ◌-◌, ◌*◌, ◌%◌, ◌^◌, ◌<◌, ◌≤◌, ◌==◌, ◌&&◌, if◌then◌else◌, Bool, true, false, IsFalse, List, length, slice_index_or, set}
+use Rattle.std.specs.Prelude.{◌≡◌, ℕ, ◌+◌, ◌-◌, ◌*◌, ◌/◌, ◌%◌, ◌^◌, ◌<◌, ◌≤◌, ◌==◌, ◌&&◌, ◌++◌, if◌then◌else◌, not, Bool, true, false, IsFalse, List, drop, length, map, replicate, slice_index_or, set, take}
+use Rattle.std.specs.List.{range_with_len}
 use Prim.Native.Nat.{min, max}
 use Rattle.std.specs.Int.{bit_at}
 use Rattle.value_set.specs.declared.form.Form.{Form}
@@ -55,6 +56,8 @@ pub record BitLaws : Type 0 where
   pub known : (width v : ℕ) (a : Form) → IsNormal (2 ^ width) a → Has (2 ^ width) a v → Agrees (known_bits width a) v
   pub from_normal : (width : ℕ) (bits : List Tri) → length bits ≡ width → IsNormal (2 ^ width) (from_bits width bits)
   pub from : (width v : ℕ) (bits : List Tri) → length bits ≡ width → Agrees bits v → Has (2 ^ width) (from_bits width bits) v
+  pub known_long : (width : ℕ) (a : Form) → length (known_bits width a) ≡ width
+  pub chosen_normal : (m : ℕ) (t : Tri) → 2 ≤ m → IsNormal m (chosen t)
   pub chosen_has : (m bit : ℕ) (t : Tri) → IsBit t bit → Has m (chosen t) bit
   -- even numbers
   pub even_known : (width : ℕ) (a : Form) → 1 ≤ width → IsNormal (2 ^ width) a → HasRemainder (2 ^ width) 2 0 a → slice_index_or (known_bits width a) 0 Either ≡ Zero
@@ -71,6 +74,7 @@ pub record BitLaws : Type 0 where
       → ((x y z : ℕ) → Has m a x → Has m b y → Has m c z → flag x y z ≡ false) → agreed m flag a b c ≡ Zero
   pub flag_bit : (t : Tri) (flag : Bool) → IsFlag t flag → IsBit t (if flag then 1 else 0)
   pub flag_may : (t : Tri) (flag : Bool) → IsFlag t flag → may_be t flag ≡ true
+  pub flag_not : (t : Tri) (flag : Bool) → IsFlag t flag → IsFlag (tri_not t) (not flag)
   pub flag_known : (flag : Bool) → IsFlag (known_flag flag) flag
   -- one bit
   pub bit_below : (t : Tri) (bit : ℕ) → IsBit t bit → bit < 2
@@ -82,6 +86,12 @@ pub record BitLaws : Type 0 where
   pub bit_or : (a b : Tri) (x y : ℕ) → IsBit a x → IsBit b y → IsBit (tri_or a b) (max x y)
   pub bit_xor : (a b : Tri) (x y : ℕ) → IsBit a x → IsBit b y → IsBit (tri_xor a b) ((x + y) % 2)
   -- the bits of a number
-  pub bits_at : (bits : List Tri) (place v : ℕ) → place < length bits → Agrees bits v → IsBit (slice_index_or bits place Either) (bit_at v place)
+  pub bits_at : (bits : List Tri) (place v : ℕ) → Agrees bits v → IsBit (slice_index_or bits place Either) (bit_at v place)
   pub bits_put : (bits : List Tri) (place v : ℕ) (t : Tri) → place < length bits → Agrees bits v → IsBit t (bit_at v place) → Agrees (set bits place t) v
+  pub bits_from : (at : ℕ → Tri) (v width : ℕ) → ((place : ℕ) → place < width → IsBit (at place) (bit_at v place)) → v < 2 ^ width → Agrees (map at (range_with_len 0 width)) v
+  pub bits_any : (width v : ℕ) → v < 2 ^ width → Agrees (replicate width Either) v
+  pub bits_zero : (width : ℕ) → Agrees (replicate width Zero) 0
+  pub bits_append : (bits more : List Tri) (v w : ℕ) → Agrees bits v → Agrees more w → Agrees (bits ++ more) (v + 2 ^ length bits * w)
+  pub bits_take : (width : ℕ) (bits : List Tri) (v low high : ℕ) → v ≡ low + 2 ^ width * high → low < 2 ^ width → Agrees bits v → Agrees (take width bits) low
+  pub bits_drop : (width : ℕ) (bits : List Tri) (v : ℕ) → Agrees bits v → Agrees (drop width bits) (v / 2 ^ width)
   pub bits_below : (bits : List Tri) (v : ℕ) → Agrees bits v → v < 2 ^ length bits

@@ -1,5 +1,5 @@
 -- What sets hold, for every modulus. A proof over sets takes these laws from one record.
-use Rattle.std.specs.Prelude.{◌≡◌, true, ℕ, ◌+◌, ◌-◌, ◌*◌, ◌/◌, ◌%◌, ◌<◌, ◌≤◌, ◌==◌, ◌↔◌, Bool, IsTrue, All, List, length, get_or, Some, None}
+use Rattle.std.specs.Prelude.{◌≡◌, true, ℕ, ◌+◌, ◌-◌, ◌*◌, ◌/◌, ◌%◌, ◌<◌, ◌≤◌, ◌==◌, ◌↔◌, Bool, IsTrue, All, List, [], ◌∷◌, length, get_or, Some, None}
 use Rattle.std.specs.List.{Contains, list_any}
 use Rattle.value_set.specs.declared.form.Form.{Form}
 use Rattle.value_set.specs.declared.form.Form.TheVariants.{Values}
@@ -34,6 +34,7 @@ pub record SetLaws : Type 0 where
   -- one number, and all numbers
   pub single : (m v : ℕ) → v < m → IsNormal m (sums.single v) × Has m (sums.single v) v
   pub only : (m n v : ℕ) → Has m (sums.single n) v → n ≡ v
+  pub single_rest : (m n r v : ℕ) → v % n ≡ r → HasRemainder m n r (sums.single v)
   pub whole : (m v : ℕ) → v < m → Has m (make m 0 1 m) v
   pub whole_normal : (m : ℕ) → 0 < m → IsNormal m (make m 0 1 m)
   -- runs
@@ -52,6 +53,8 @@ pub record SetLaws : Type 0 where
   pub gather_remainder : (m n r : ℕ) (xs : List ℕ) → m % n ≡ 0 → 1 ≤ length xs
       → AreBelow m xs → ((v : ℕ) → Contains xs v → v % n ≡ r) → HasRemainder m n r (gather m xs)
   pub gather_below : (n m : ℕ) (xs : List ℕ) → n + n ≤ m → AreBelow n xs → IsBelow m n (gather m xs)
+  pub gather_same : (m : ℕ) (xs : List ℕ) → IsNormal m (Values xs) → gather m xs ≡ Values xs
+  pub gather_two : (m low high : ℕ) → low < high → gather m (low ∷ high ∷ []) ≡ Values (low ∷ high ∷ [])
   pub put_below : (n v : ℕ) (xs : List ℕ) → v < n → AreBelow n xs → AreBelow n (put v xs)
   -- all results of an operation
   pub results_normal : (m : ℕ) (answer : ℕ → ℕ → ℕ → ℕ) (a b c : Form)

@@ -1,8 +1,9 @@
 use Rattle.value_bits.proofs.Agreeing.{agreeing_below}
 use Rattle.value_bits.proofs.Choosing.{chosen_has}
+use Rattle.value_bits.proofs.Known.{agrees_by_places}
 use Rattle.value_bits.proofs.Logics.{and_bit, xor_bit}
 use Rattle.value_bits.proofs.LowPairs.{pair_byte}
-use Rattle.value_bits.proofs.Singly.{bit_below, bit_known, bit_may, bit_not, bit_or, bit_some, bits_at, bits_put, flag_bit, flag_known, flag_may}
+use Rattle.value_bits.proofs.Singly.{bit_below, bit_known, bit_may, bit_not, bit_or, bit_some, bits_any, bits_append, bits_at, bits_drop, bits_put, bits_take, bits_zero, chosen_normal, flag_bit, flag_known, flag_may, flag_not, known_long}
 use Rattle.value_bits.proofs.laws.bit_laws.Goals as goal
 
 pub returns : goal.returns
@@ -41,6 +42,8 @@ returns c =
       known = bits.known;
       from_normal = bits.from_normal;
       from = bits.from;
+      known_long = known_long;
+      chosen_normal = chosen_normal;
       chosen_has = chosen_has;
       even_known = evens.known;
       even_from = evens.even;
@@ -51,6 +54,7 @@ returns c =
       flags_clear = flags.clear;
       flag_bit = flag_bit;
       flag_may = flag_may;
+      flag_not = flag_not;
       flag_known = flag_known;
       bit_below = bit_below;
       bit_some = bit_some;
@@ -62,5 +66,11 @@ returns c =
       bit_xor = xor_bit;
       bits_at = bits_at;
       bits_put = bits_put;
+      bits_from = agrees_by_places;
+      bits_any = bits_any;
+      bits_zero = bits_zero;
+      bits_append = bits_append;
+      bits_take = bits_take;
+      bits_drop = bits_drop;
       bits_below = agreeing_below;
     }

@@ -1,6 +1,6 @@
 use Rattle.value_set.proofs.Bounds.{gather_below, join_below, make_below, put_below}
 use Rattle.value_set.proofs.Members.{length-steps, in_steps}
-use Rattle.value_set.proofs.Tests.{asked, listed, member_found, only_number, step_there}
+use Rattle.value_set.proofs.Tests.{asked, gather_same, gather_two, listed, member_found, only_number, single_rest, step_there}
 use Rattle.value_set.proofs.laws.set_laws.Goals as goal
 
 pub returns : goal.returns
@@ -25,6 +25,7 @@ returns c =
       listed = listed;
       single = one.single;
       only = only_number;
+      single_rest = single_rest;
       whole = one.whole;
       whole_normal = one.whole_normal;
       run_normal = runs.normal;
@@ -39,6 +40,8 @@ returns c =
       gather_holds = gathered.holds;
       gather_remainder = made.gather;
       gather_below = gather_below;
+      gather_same = gather_same;
+      gather_two = gather_two;
       put_below = put_below;
       results_normal = results.normal;
       results_hold = results.holds;
