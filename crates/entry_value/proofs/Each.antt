@@ -1,12 +1,12 @@
 -- Facts of each cell of a list.
-use Rattle.std.proofs.Common.{◌≡◌, ℕ, ◌+◌, Bool, true, Option, None, Some, List, [], ◌∷◌, refl, subst, inl, inr, arith, nat_lt}
+use Rattle.std.proofs.Common.{◌≡◌, ℕ, ◌+◌, ◌-◌, Bool, true, Option, None, Some, List, [], ◌∷◌, refl, subst, inl, inr, arith, nat_lt}
 use Prim.Native.Nat.{zero, suc}
-use Rattle.std.specs.Prelude.{◌==◌, ◌&&◌}
+use Rattle.std.specs.Prelude.{◌==◌, ◌&&◌, ◌||◌, ◌⊎◌, not}
 use Rattle.std.specs.List.{Contains, filter}
 use Rattle.std.proofs.lemmas.Bool.{cases_Bool, and_parts, eqb-true}
 use Rattle.entry_value.specs.declared.word.Word.{Word}
 use Rattle.entry_value.specs.declared.cells.Cell.{Cell}
-use Rattle.entry_value.specs.Cells.{IsCell, AreCells, cell_at, insert, with_some, kept}
+use Rattle.entry_value.specs.Cells.{CellMap, IsCell, AreCells, cell_at, insert, is_nothing, meets, with_cell, with_some, write_one, kept}
 
 abbrev pub Each : (Cell → Type 0) → List Cell → Type 0
 Each P [] = Unit {0}
@@ -68,3 +68,37 @@ found_at P (cell ∷ cells) place size h = elim (cases_Bool ((cell.place == plac
       (subst (λ (at : ℕ). P at size cell.word) (eqb-true cell.place place parts.0) (subst (λ (s : ℕ). P cell.place s cell.word) (eqb-true cell.size size parts.1) h.0))
   | inr other ↦ rw other (found_at P cells place size h.1)
 ]
+
+pub cell_of : (lo hi from : ℕ) (cells : List Cell) (cell : Cell) → AreCells lo hi from cells → Contains cells cell → IsCell lo hi cell
+cell_of lo hi from cells cell are there = each_in (IsCell lo hi) cells (each_cell lo hi from cells are) cell there
+
+-- each cell that is kept was made of one of them
+abbrev MadeOf : (Cell → Option Cell) → List Cell → Cell → Type 0
+MadeOf f cells cell = (held : Cell) × Contains cells held × (f held ≡ Some cell)
+
+made_of : (f : Cell → Option Cell) (cells : List Cell) (held : Cell) (made : Option Cell) → Contains cells held → f held ≡ made → OfSome (MadeOf f cells) made
+made_of f cells held None there is = tt
+made_of f cells held (Some cell) there is = (held, there, is)
+
+pub kept_from : (f : Cell → Option Cell) (cells : List Cell) (cell : Cell) → Contains (kept f cells) cell → MadeOf f cells cell
+kept_from f cells cell = each_in (MadeOf f cells) (kept f cells)
+    (each_kept (λ held. Contains cells held) (MadeOf f cells) f cells (λ held there. made_of f cells held (f held) there refl) (each_from (λ held. Contains cells held) cells (λ held there. there))) cell
+
+-- each cell behind a write is the one that was written, or was there
+abbrev WrittenOr : (at size : ℕ) → Word → List Cell → Cell → Type 0
+WrittenOr at size word cells cell = (cell ≡ record { place = at; size = size; word = word }) ⊎ Contains cells cell
+
+each_with_cell : (P : Cell → Type 0) (lo hi : ℕ) (cell : Cell) (cells : List Cell) → P cell → Each P cells → Each P (with_cell lo hi cell cells)
+each_with_cell P lo hi cell cells h k = elim (cases_Bool (nat_lt cell.place lo || nat_lt hi (cell.place + cell.size - 1) || is_nothing cell.size cell.word)) [
+  | inl drops ↦ rw drops k
+  | inr stays ↦ rw stays (each_insert P cell cells h k)
+]
+
+pub write_from : (at size : ℕ) (map : CellMap) (word : Word) (cell : Cell) → Contains (write_one map at size word).cells cell → WrittenOr at size word map.cells cell
+unfolding write_one
+write_from at size map word cell there =
+    let P = WrittenOr at size word map.cells in
+    let test = λ (c : Cell). not (meets at size c) in
+    let made : Cell = record { place = at; size = size; word = word } in
+    let old : Each P (filter test map.cells) = each_then (λ c. P c × (test c ≡ true)) P (filter test map.cells) (λ c h. h.0) (each_filter P test map.cells (each_from P map.cells (λ c held. inr held))) in
+    each_in P (with_cell map.lo map.hi made (filter test map.cells)) (each_with_cell P map.lo map.hi made (filter test map.cells) (inl refl) old) cell there

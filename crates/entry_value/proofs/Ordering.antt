@@ -1,6 +1,6 @@
 -- The order of words, bytes and cells: within itself, along two steps, and within joins and widenings.
 use Rattle.std.proofs.Common.{◌≡◌, ℕ, ◌+◌, ◌<◌, ◌≤◌, true, false, Option, None, Some, List, [], ◌∷◌, All, refl, sym, subst, inl, inr, arith}
-use Rattle.std.specs.Prelude.{◌==◌, ◌&&◌}
+use Rattle.std.specs.Prelude.{◌==◌, ◌&&◌, ◌⊎◌}
 use Rattle.std.proofs.lemmas.Bool.{cases_Bool, and_from, and_parts, eq-eqb, ne_eqb}
 use Rattle.value_set.specs.declared.form.Form.{Form}
 use Rattle.value_set.specs.Form.{Has, Includes, IsNormal, make}
@@ -47,6 +47,14 @@ common_of_second (Some a) (Some b) = elim (cases_Bool (is_same_entry a b)) [
   | inl same ↦ rw same (subst (λ (e : Entry). is_same_entry b e ≡ true) (sym (same_entry a b same)) (same_itself b))
   | inr other ↦ rw other refl
 ]
+
+pub within_none : (a : Option Entry) → is_entry_within a None ≡ true
+within_none a = refl
+
+pub common_is : (a b : Option Entry) → (common_entry a b ≡ None) ⊎ (common_entry a b ≡ a)
+common_is None b = inl refl
+common_is (Some a) None = inl refl
+common_is (Some a) (Some b) = elim (cases_Bool (is_same_entry a b)) [ inl same ↦ inr (rw same refl) | inr other ↦ inl (rw other refl) ]
 
 -- ---- sets with relations
 

@@ -1,5 +1,5 @@
 -- What words, bytes, relations and cells hold. A proof over them takes these laws from one record.
-use Rattle.std.specs.Prelude.{◌≡◌, ◌≢◌, ◌≤◌, ◌<◌, ℕ, ◌⊎◌, true, Option, None, List, [], slice_index, option_map, bit_and, bit_or}
+use Rattle.std.specs.Prelude.{◌≡◌, ◌≢◌, ◌≤◌, ◌<◌, ℕ, ◌⊎◌, true, Contains, Option, None, Some, List, [], slice_index, option_map, bit_and, bit_or}
 use Rattle.value_set.specs.declared.form.Form.{Form}
 use Rattle.value_set.specs.Form.{Has, IsNormal, make, members}
 use Rattle.value_set.specs.Laws.{AreMarks, IsBelow}
@@ -10,7 +10,7 @@ use Rattle.entry_value.specs.declared.cells.Cell.{Cell}
 use Rattle.entry_value.specs.declared.word.Entry.{Entry}
 use Rattle.entry_value.specs.declared.word.Word.{Word}
 use Rattle.entry_value.specs.Cells as cells
-use Rattle.entry_value.specs.Cells.{AreCells, CellMap, StandsUnder, are_within, join_cells, number_at, unknown, widen_cells, write_any, write_one, written}
+use Rattle.entry_value.specs.Cells.{AreCells, CellMap, IsCell, StandsUnder, are_within, join_cells, kept, number_at, unknown, widen_cells, write_any, write_one, written}
 use Rattle.entry_value.specs.Words.{Suspended, IsFromEntry, HoldsOfWord, HoldsOfByte, common_entry, is_entry_within, entry_and, entry_or, word_join, word_widen, word_within, word_and, word_or, byte_join, byte_widen, byte_within, byte_and, byte_or}
 
 -- relations of numbers to places of the suspended state
@@ -20,11 +20,13 @@ pub record EntryLaws : Type 0 where
   pub or : (first : Option Suspended) (entry : Option Entry) (v m : ℕ) → IsFromEntry first entry v → IsFromEntry first (option_map (entry_or m) entry) (bit_or v m)
   pub common_first : (first : Option Suspended) (a b : Option Entry) (v : ℕ) → IsFromEntry first a v → IsFromEntry first (common_entry a b) v
   pub common_second : (first : Option Suspended) (a b : Option Entry) (v : ℕ) → IsFromEntry first b v → IsFromEntry first (common_entry a b) v
+  pub common_is : (a b : Option Entry) → (common_entry a b ≡ None) ⊎ (common_entry a b ≡ a)
   -- their order
   pub itself : (a : Option Entry) → is_entry_within a a ≡ true
   pub along : (a b c : Option Entry) → is_entry_within a b ≡ true → is_entry_within b c ≡ true → is_entry_within a c ≡ true
   pub join_first : (a b : Option Entry) → is_entry_within a (common_entry a b) ≡ true
   pub join_second : (a b : Option Entry) → is_entry_within b (common_entry a b) ≡ true
+  pub whole : (a : Option Entry) → is_entry_within a None ≡ true
 
 pub record WordLaws : Type 0 where
   pub holds : (first : Option Suspended) (v : ℕ) (a b : Word) → word_within a b ≡ true → HoldsOfWord first a v → HoldsOfWord first b v
@@ -85,6 +87,11 @@ pub record ValueLaws : Type 0 where
   pub bytes : ByteLaws
 
 pub record CellLaws : Type 0 where
+  -- members
+  pub each : (lo hi from : ℕ) (list : List Cell) (cell : Cell) → AreCells lo hi from list → Contains list cell → IsCell lo hi cell
+  pub kept_from : (f : Cell → Option Cell) (list : List Cell) (cell : Cell) → Contains (kept f list) cell → (held : Cell) × Contains list held × (f held ≡ Some cell)
+  pub write_from : (at size : ℕ) (map : CellMap) (word : Word) (cell : Cell) → Contains (write_one map at size word).cells cell
+      → (cell ≡ record { place = at; size = size; word = word }) ⊎ Contains map.cells cell
   -- reads
   pub reads : (first : Option Suspended) (ram : ℕ → ℕ) (lo hi from at size : ℕ) (list : List Cell) → AreCells lo hi from list → at < 65536 → (size ≡ 1) ⊎ (size ≡ 2)
       → StandsUnder first list ram → HoldsOfWord first (cells.read list at size) (number_at ram at size)

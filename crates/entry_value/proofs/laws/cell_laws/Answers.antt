@@ -1,3 +1,4 @@
+use Rattle.entry_value.proofs.Each.{cell_of, kept_from, write_from}
 use Rattle.entry_value.proofs.laws.cell_laws.Goals as goal
 
 pub returns : goal.returns
@@ -12,6 +13,9 @@ returns c =
     let ram = c.cells_speak_of_ram.ensures in
     let order = c.cells_are_ordered.ensures in
     record {
+      each = cell_of;
+      kept_from = kept_from;
+      write_from = write_from;
       reads = c.reads_hold.ensures;
       read_normal = reads.normal;
       read_byte = reads.byte;

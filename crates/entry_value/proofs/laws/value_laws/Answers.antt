@@ -1,4 +1,5 @@
 use Rattle.entry_value.specs.Laws.{ByteLaws, EntryLaws, WordLaws}
+use Rattle.entry_value.proofs.Ordering.{common_is, within_none}
 use Rattle.entry_value.proofs.laws.value_laws.Goals as goal
 
 pub returns : goal.returns
@@ -15,10 +16,12 @@ returns c =
       or = relations.or;
       common_first = relations.common_first;
       common_second = relations.common_second;
+      common_is = common_is;
       itself = relations.itself;
       along = relations.along;
       join_first = relations.within_first;
       join_second = relations.within_second;
+      whole = within_none;
     } in
     let word_laws : WordLaws = record {
       holds = words.within;
