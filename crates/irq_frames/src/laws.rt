@@ -62,7 +62,9 @@ pub fn relations_go()
     ensures stands { (first other : Option Suspended) (ram : ℕ → ℕ) (cells : List ACell) → StandsUnder first cells ram → StandsUnder other (kept cells_of.unrelated cells) ram }
     ensures form { (lo hi from : ℕ) (cells : List ACell) → AreCells lo hi from cells → AreCells lo hi from (kept cells_of.unrelated cells) }
     ensures each { (cells : List ACell) (cell : ACell) → Contains (kept cells_of.unrelated cells) cell → (held : ACell) × Contains cells held × (cells_of.plain_cell held ≡ cell) }
-{}
+{
+    cell_laws();
+}
 
 /// All laws of touched ranges.
 pub fn range_laws()

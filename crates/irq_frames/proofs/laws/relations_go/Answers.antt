@@ -3,7 +3,7 @@ use Rattle.irq_frames.proofs.laws.relations_go.Goals as goal
 
 pub returns : goal.returns
 returns c = record {
-  stands = stands_without;
+  stands = stands_without c.cell_laws.ensures;
   form = are_kept;
-  each = each_plain;
+  each = each_plain c.cell_laws.ensures;
 }
