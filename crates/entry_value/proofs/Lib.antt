@@ -1,6 +1,5 @@
 pub mod Anywhere
 pub mod Bytes
-pub mod Each
 mod Examples
 pub mod Holding
 pub mod Inside

@@ -12,7 +12,7 @@ use Rattle.entry_value.specs.declared.byte.Byte.{Byte}
 use Rattle.entry_value.specs.declared.cells.Cell.{Cell}
 use Rattle.entry_value.specs.Words.{is_same_entry, common_entry, is_entry_within, word_join, word_widen, word_within, byte_join, byte_widen, byte_within}
 use Rattle.entry_value.specs.Cells.{IsCell, AreCells, is_nothing, unknown, cell_at, both_of, with_both, kept, join_cells, byte_widened, cell_widened, widen_cells, is_found_within, are_within}
-use Rattle.entry_value.proofs.Each.{Each, OfSome, each_both, each_then, each_kept, each_cell, found_at}
+use Rattle.entry_value.specs.CellLists.{Each, OfSome, each_both, each_then, each_kept, each_cell, found_at}
 use Rattle.value_bits.specs.Laws.{BitLaws}
 use Rattle.value_set.specs.Laws.{SetLaws}
 use Rattle.entry_value.proofs.Uniting.{of_telling, of_both, of_some_then, of_size}

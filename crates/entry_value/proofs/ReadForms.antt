@@ -9,7 +9,7 @@ use Rattle.value_bits.specs.Sets.{low_set, high_set}
 use Rattle.entry_value.specs.declared.word.Word.{Word}
 use Rattle.entry_value.specs.declared.cells.Cell.{Cell}
 use Rattle.entry_value.specs.Cells.{IsCell, AreCells, any_of, cell_at, has_byte, byte_at, word_of_byte, word_of_bytes, put_together, found_or, read}
-use Rattle.entry_value.proofs.Each.{Each, OfSome, each_then, each_cell, found_at}
+use Rattle.entry_value.specs.CellLists.{Each, OfSome, each_then, each_cell, found_at}
 use Rattle.value_bits.specs.Laws.{BitLaws}
 use Rattle.value_set.specs.Laws.{SetLaws}
 

@@ -12,7 +12,7 @@ use Rattle.entry_value.specs.declared.cells.Cell.{Cell}
 use Rattle.entry_value.specs.Words.{Suspended, HoldsOfWord}
 use Rattle.entry_value.specs.Cells.{StandsUnder, IsCell, AreCells, number_at, cell_at, has_byte, byte_at, word_of_byte, word_of_bytes, put_together, found_or, read}
 use Rattle.entry_value.proofs.Bytes.{IsSize, AreBytes, low_part, high_part, within_turn}
-use Rattle.entry_value.proofs.Each.{Each, OfSome, each_from, each_cell, found_at}
+use Rattle.entry_value.specs.CellLists.{Each, OfSome, each_from, each_cell, found_at}
 use Rattle.value_bits.specs.Laws.{BitLaws}
 use Rattle.value_set.specs.Laws.{SetLaws}
 

@@ -12,7 +12,7 @@ use Rattle.entry_value.specs.declared.cells.Cell.{Cell}
 use Rattle.entry_value.specs.Words.{Suspended, HoldsOfWord, word_join}
 use Rattle.entry_value.specs.Cells.{CellMap, StandsUnder, IsCell, AreCells, number_at, written, meets_beside, is_nothing, cell_behind, kept, write_several}
 use Rattle.entry_value.proofs.Bytes.{IsSize, AreBytes, written_bytes, written_itself}
-use Rattle.entry_value.proofs.Each.{OfSome, each_from, each_in, each_both, each_kept, each_cell}
+use Rattle.entry_value.specs.CellLists.{OfSome, each_from, each_in, each_both, each_kept, each_cell}
 use Rattle.value_set.specs.Laws.{SetLaws}
 use Rattle.entry_value.proofs.Uniting.{of_telling, small_number, IsAlike, kept_form}
 use Rattle.entry_value.proofs.Values.{join_covers, join_forms}

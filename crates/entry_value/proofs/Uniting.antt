@@ -8,7 +8,7 @@ use Rattle.entry_value.specs.declared.cells.Cell.{Cell}
 use Rattle.entry_value.specs.Words.{Suspended, HoldsOfWord, word_join, word_widen}
 use Rattle.entry_value.specs.Cells.{StandsUnder, IsCell, AreCells, number_at, is_nothing, cell_at, telling, with_some, kept, both_of, with_both, join_cells, byte_widened, cell_widened, widen_cells, is_found_within, are_within}
 use Rattle.entry_value.proofs.Bytes.{AreBytes}
-use Rattle.entry_value.proofs.Each.{Each, OfSome, each_from, each_in, each_then, each_kept, each_cell, found_at}
+use Rattle.entry_value.specs.CellLists.{Each, OfSome, each_from, each_in, each_then, each_kept, each_cell, found_at}
 use Rattle.value_bits.specs.Laws.{BitLaws}
 use Rattle.value_set.specs.Laws.{SetLaws}
 use Rattle.entry_value.proofs.Reading.{Holds, each_holds}

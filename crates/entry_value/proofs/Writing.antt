@@ -9,7 +9,7 @@ use Rattle.entry_value.specs.declared.cells.Cell.{Cell}
 use Rattle.entry_value.specs.Words.{Suspended, HoldsOfWord}
 use Rattle.entry_value.specs.Cells.{CellMap, StandsUnder, IsCell, AreCells, number_at, written, has_byte, meets, is_nothing, insert, with_cell, write_one}
 use Rattle.entry_value.proofs.Bytes.{IsSize, within_turn, same_number, written-beyond, written_bytes, written_itself}
-use Rattle.entry_value.proofs.Each.{Each, each_from, each_in, each_both, each_then, each_insert, each_filter, each_cell}
+use Rattle.entry_value.specs.CellLists.{Each, each_from, each_in, each_both, each_then, each_insert, each_filter, each_cell}
 use Rattle.value_set.specs.Laws.{SetLaws}
 
 -- ---- accesses that have no byte of a cell

@@ -1,3 +1,4 @@
 pub mod Cells
+pub mod CellLists
 pub mod Words
 pub mod Laws

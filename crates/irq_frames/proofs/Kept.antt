@@ -38,7 +38,8 @@ are_kept lo hi from (cell ∷ cells) are =
           rw none (are_from lo hi (cell.place + cell.size) from (kept unrelated cells) (omega (arith, are.1)) rest)
       | inr tells ↦
           let some : unrelated cell ≡ Some (plain_cell cell) = cond-false (is_nothing cell.size word) None (Some (plain_cell cell)) tells in
-          let one : IsCell lo hi (plain_cell cell) = record { size = are.0.size; low = are.0.low; high = are.0.high; normal = are.0.normal; byte = are.0.byte; says = tells } in
+          let is = are.0 in
+          let one : IsCell lo hi (plain_cell cell) = assumption (is, tells) in
           rw some (one, are.1, rest)
     ]
 

@@ -1,6 +1,6 @@
 -- What holds of what goes on behind a handler.
-use Rattle.std.proofs.Common.{◌≡◌, ℕ, zero, suc, max, ◌+◌, ◌-◌, ◌*◌, ◌/◌, ◌%◌, ◌<◌, ◌≤◌, Bool, true, Option, None, Some, List, [], ◌∷◌, map, refl, sym, ◌∙◌, ap, subst, inl, inr, arith, nat_lt, bit_and, bit_or}
-use Rattle.std.specs.Prelude.{◌⊎◌, ◌==◌, ◌||◌, not, Contains}
+use Rattle.std.proofs.Common.{◌≡◌, ℕ, max, ◌+◌, ◌-◌, ◌*◌, ◌/◌, ◌%◌, ◌<◌, ◌≤◌, Bool, true, Option, None, Some, List, [], ◌∷◌, map, refl, sym, ◌∙◌, ap, subst, inl, inr, arith, bit_and, bit_or}
+use Rattle.std.specs.Prelude.{◌⊎◌, ◌==◌, not, Contains}
 use Rattle.std.specs.Int.{bit_at}
 use Rattle.std.specs.List.{filter}
 use Rattle.std.proofs.lemmas.Bool.{cases_Bool, cond-true, and_parts, eqb-true, not-true}
@@ -11,11 +11,12 @@ use Rattle.entry_value.specs.declared.cells.Cell.{Cell}
 use Rattle.entry_value.specs.declared.word.Entry.{Entry}
 use Rattle.entry_value.specs.declared.word.Word.{Word}
 use Rattle.entry_value.specs.Words.{Suspended, IsFromEntry, HoldsOfWord, word_and}
-use Rattle.entry_value.specs.Cells.{CellMap, IsCell, AreCells, StandsUnder, number_at, written, insert, with_cell, is_nothing, meets, write_one}
+use Rattle.entry_value.specs.Cells.{CellMap, IsCell, AreCells, StandsUnder, number_at, written, write_one}
 use Rattle.irq_frames.specs.Ranges.{has_address}
 use Rattle.irq_frames.specs.Resuming.{is_unmasked, masked_by, resumed_by, resumed_sized, resumed_word, resumed_cell, is_all_touched, is_untouched, untouched_cells, touched_cells, with_written, resumed_cells, HasMasks, IsBehind, Tells, AreNormal, EachTells, IsCellMap, CanResume, AgreeOutside, IsFromEither}
 use Rattle.entry_value.specs.Laws.{CellLaws, WordLaws}
-use Rattle.irq_frames.proofs.Walking.{Each, each_then}
+use Rattle.entry_value.specs.CellLists.{Each, each_both, each_cell, each_filter, each_from, each_in, each_map, each_then, each_written}
+use Rattle.irq_frames.proofs.Walking.{some_size}
 
 -- WORDS
 
@@ -88,67 +89,17 @@ masked_entry entry held = elim (cases_Bool (is_unmasked entry)) [
 pub word_entry : (places : ℕ → Word) (exit : Word) (entry : Entry) → exit.entry ≡ Some entry → IsBehind entry (places entry.place).entry (resumed_word places exit).entry
 word_entry places exit entry is = subst (λ (one : Option Entry). IsBehind entry (places entry.place).entry (resumed_by places exit one).entry) (sym is) (masked_entry entry (places entry.place))
 
--- FACTS OF EACH CELL
-
-each_from : (P : Cell → Type 0) (cells : List Cell) → ((cell : Cell) → Contains cells cell → P cell) → Each P cells
-each_from P [] h = tt
-each_from P (cell ∷ cells) h = (h cell (0, omega arith, refl), each_from P cells (λ other k. h other (suc k.0, omega (arith, k.1), k.2)))
-
-each_in : (P : Cell → Type 0) (cells : List Cell) → Each P cells → (cell : Cell) → Contains cells cell → P cell
-each_in P [] h cell k = absurd (omega (arith, k.1))
-each_in P (c ∷ cells) h cell (zero, below, is) = subst P is h.0
-each_in P (c ∷ cells) h cell (suc k, below, is) = each_in P cells h.1 cell (k, omega arith, is)
-
-each_both : (P Q : Cell → Type 0) (cells : List Cell) → Each P cells → Each Q cells → Each (λ cell. P cell × Q cell) cells
-each_both P Q [] h k = tt
-each_both P Q (cell ∷ cells) h k = ((h.0, k.0), each_both P Q cells h.1 k.1)
-
-each_filter : (P : Cell → Type 0) (test : Cell → Bool) (cells : List Cell) → Each P cells → Each (λ cell. P cell × (test cell ≡ true)) (filter test cells)
-each_filter P test [] h = tt
-each_filter P test (cell ∷ cells) h = elim (cases_Bool (test cell)) [
-  | inl passes ↦ rw passes ((h.0, passes), each_filter P test cells h.1)
-  | inr fails ↦ rw fails (each_filter P test cells h.1)
-]
-
-each_map : (P Q : Cell → Type 0) (g : Cell → Cell) (cells : List Cell) → ((cell : Cell) → P cell → Q (g cell)) → Each P cells → Each Q (map g cells)
-each_map P Q g [] f h = tt
-each_map P Q g (cell ∷ cells) f h = (f cell h.0, each_map P Q g cells f h.1)
-
-each_insert : (P : Cell → Type 0) (cell : Cell) (cells : List Cell) → P cell → Each P cells → Each P (insert cell cells)
-each_insert P cell [] h k = (h, tt)
-each_insert P cell (c ∷ cells) h k = elim (cases_Bool (nat_lt cell.place c.place)) [
-  | inl before ↦ rw before (h, k)
-  | inr behind ↦ rw behind (k.0, each_insert P cell cells h k.1)
-]
-
-each_cell : (lo hi from : ℕ) (cells : List Cell) → AreCells lo hi from cells → Each (IsCell lo hi) cells
-each_cell lo hi from [] h = tt
-each_cell lo hi from (cell ∷ cells) h = (h.0, each_cell lo hi (cell.place + cell.size) cells h.2)
-
 -- CELLS THAT ARE WRITTEN
-
-with_each : (P : Cell → Type 0) (lo hi : ℕ) (cell : Cell) (cells : List Cell) → P cell → Each P cells → Each P (with_cell lo hi cell cells)
-with_each P lo hi cell cells h k = elim (cases_Bool (nat_lt cell.place lo || nat_lt hi (cell.place + cell.size - 1) || is_nothing cell.size cell.word)) [
-  | inl left_out ↦ rw left_out k
-  | inr put ↦ rw put (each_insert P cell cells h k)
-]
-
-one_each : (P : Cell → Type 0) (held : CellMap) (cell : Cell) → P cell → Each P held.cells → Each P (write_one held cell.place cell.size cell.word).cells
-unfolding write_one
-one_each P held cell h k =
-    let left = filter (λ c. not (meets cell.place cell.size c)) held.cells in
-    with_each P held.lo held.hi cell left h
-    (each_then (λ c. P c × (not (meets cell.place cell.size c) ≡ true)) P left (λ c both. both.0) (each_filter P (λ c. not (meets cell.place cell.size c)) held.cells k))
 
 all_each : (P : Cell → Type 0) (cells : List Cell) (held : CellMap) → Each P cells → Each P held.cells → Each P (with_written cells held).cells
 all_each P [] held h k = k
-all_each P (cell ∷ cells) held h k = all_each P cells (write_one held cell.place cell.size cell.word) h.1 (one_each P held cell h.0 k)
+all_each P (cell ∷ cells) held h k = all_each P cells (write_one held cell.place cell.size cell.word) h.1 (each_written P held cell h.0 k)
 
 -- a cell behind a write is the one that was written, or was there
 pub each_behind : (P : Cell → Type 0) (held : CellMap) (cell : Cell) → P cell → ((c : Cell) → Contains held.cells c → P c)
     → (c : Cell) → Contains (write_one held cell.place cell.size cell.word).cells c → P c
 each_behind P held cell h k =
-    each_in P (write_one held cell.place cell.size cell.word).cells (one_each P held cell h (each_from P held.cells k))
+    each_in P (write_one held cell.place cell.size cell.word).cells (each_written P held cell h (each_from P held.cells k))
 
 record IsWritten (cell : Cell) : Type 0 where
   size : (cell.size ≡ 1) ⊎ (cell.size ≡ 2)
@@ -273,10 +224,6 @@ untouched_stand first touched now then_ at form bytes agree under =
     (bytes, each_in (StandsAt first now) (filter test at.cells) kept)
 
 -- THE EXIT'S CELLS
-
-some_size : (size : ℕ) → (size ≡ 1) ⊎ (size ≡ 2) → 1 ≤ size
-some_size size (inl one) = omega arith
-some_size size (inr two) = omega arith
 
 -- the word of a cell that goes on, by its size
 sized_is_byte : (places : ℕ → Word) (size : ℕ) (exit : Word) → size ≡ 1 → resumed_sized places size exit ≡ record { set = exit.set; entry = None }

@@ -6,20 +6,13 @@ use Rattle.std.specs.Option.{option_map}
 use Rattle.std.proofs.lemmas.Bool.{cases_Bool, and_from, and_parts, and_left, and_right, eqb-true, le-leb, lt-leb, lt-ltb, le-ltb, ltb-true, ltb-false}
 use Rattle.entry_value.specs.declared.cells.Cell.{Cell}
 use Rattle.entry_value.specs.declared.word.Word.{Word}
+use Rattle.entry_value.specs.CellLists.{Each, each_then}
 use Rattle.entry_value.specs.Words.{word_within}
 use Rattle.entry_value.specs.Cells.{CellMap, IsCell, AreCells, any_of, unknown, is_nothing, has_byte, meets, with_cell, write_one, next}
 use Rattle.value_set.specs.Joining.{is_within}
 use Rattle.irq_frames.specs.Resuming.{is_all_touched, is_untouched, touched_cells, untouched_cells, resumed_cell, resumed_sized, with_written}
 
 -- ---- facts of each cell
-
-abbrev pub Each : (Cell → Type 0) → List Cell → Type 0
-Each P [] = Unit {0}
-Each P (cell ∷ cells) = P cell × Each P cells
-
-pub each_then : (P Q : Cell → Type 0) (cells : List Cell) → ((cell : Cell) → P cell → Q cell) → Each P cells → Each Q cells
-each_then P Q [] f h = tt
-each_then P Q (cell ∷ cells) f h = (f cell h.0, each_then P Q cells f h.1)
 
 -- two tests that agree on each
 pub filter_each : (p q : Cell → Bool) (cells : List Cell) → Each (λ cell. p cell ≡ q cell) cells → filter p cells ≡ filter q cells

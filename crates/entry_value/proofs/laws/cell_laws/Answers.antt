@@ -1,4 +1,4 @@
-use Rattle.entry_value.proofs.Each.{cell_of, kept_from, write_from}
+use Rattle.entry_value.specs.CellLists.{cell_of, kept_from, write_from}
 use Rattle.entry_value.proofs.laws.cell_laws.Goals as goal
 
 pub returns : goal.returns

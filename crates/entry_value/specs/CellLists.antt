@@ -1,5 +1,5 @@
--- Facts of each cell of a list.
-use Rattle.std.proofs.Common.{◌≡◌, ℕ, ◌+◌, ◌-◌, Bool, true, Option, None, Some, List, [], ◌∷◌, refl, subst, inl, inr, arith, nat_lt}
+-- Facts of each cell of a list: definitions and lemmas, also for the proofs of crates above.
+use Rattle.std.proofs.Common.{◌≡◌, ℕ, ◌+◌, ◌-◌, Bool, true, Option, None, Some, List, [], ◌∷◌, map, refl, subst, inl, inr, arith, nat_lt}
 use Prim.Native.Nat.{zero, suc}
 use Rattle.std.specs.Prelude.{◌==◌, ◌&&◌, ◌||◌, ◌⊎◌, not}
 use Rattle.std.specs.List.{Contains, filter}
@@ -40,6 +40,10 @@ each_insert P cell (c ∷ cells) h k = elim (cases_Bool (nat_lt cell.place c.pla
   | inl before ↦ rw before (h, k)
   | inr behind ↦ rw behind (k.0, each_insert P cell cells h k.1)
 ]
+
+pub each_map : (P Q : Cell → Type 0) (f : Cell → Cell) (cells : List Cell) → ((cell : Cell) → P cell → Q (f cell)) → Each P cells → Each Q (map f cells)
+each_map P Q f [] step h = tt
+each_map P Q f (cell ∷ cells) step h = (step cell h.0, each_map P Q f cells step h.1)
 
 pub each_filter : (P : Cell → Type 0) (test : Cell → Bool) (cells : List Cell) → Each P cells → Each (λ cell. P cell × (test cell ≡ true)) (filter test cells)
 each_filter P test [] h = tt
@@ -88,17 +92,20 @@ kept_from f cells cell = each_in (MadeOf f cells) (kept f cells)
 abbrev WrittenOr : (at size : ℕ) → Word → List Cell → Cell → Type 0
 WrittenOr at size word cells cell = (cell ≡ record { place = at; size = size; word = word }) ⊎ Contains cells cell
 
-each_with_cell : (P : Cell → Type 0) (lo hi : ℕ) (cell : Cell) (cells : List Cell) → P cell → Each P cells → Each P (with_cell lo hi cell cells)
+pub each_with_cell : (P : Cell → Type 0) (lo hi : ℕ) (cell : Cell) (cells : List Cell) → P cell → Each P cells → Each P (with_cell lo hi cell cells)
 each_with_cell P lo hi cell cells h k = elim (cases_Bool (nat_lt cell.place lo || nat_lt hi (cell.place + cell.size - 1) || is_nothing cell.size cell.word)) [
   | inl drops ↦ rw drops k
   | inr stays ↦ rw stays (each_insert P cell cells h k)
 ]
 
-pub write_from : (at size : ℕ) (map : CellMap) (word : Word) (cell : Cell) → Contains (write_one map at size word).cells cell → WrittenOr at size word map.cells cell
+pub each_written : (P : Cell → Type 0) (map : CellMap) (cell : Cell) → P cell → Each P map.cells → Each P (write_one map cell.place cell.size cell.word).cells
 unfolding write_one
-write_from at size map word cell there =
-    let P = WrittenOr at size word map.cells in
-    let test = λ (c : Cell). not (meets at size c) in
+each_written P map cell h k =
+    let test = λ (c : Cell). not (meets cell.place cell.size c) in
+    each_with_cell P map.lo map.hi cell (filter test map.cells) h (each_then (λ c. P c × (test c ≡ true)) P (filter test map.cells) (λ c both. both.0) (each_filter P test map.cells k))
+
+pub write_from : (at size : ℕ) (map : CellMap) (word : Word) (cell : Cell) → Contains (write_one map at size word).cells cell → WrittenOr at size word map.cells cell
+write_from at size map word cell =
     let made : Cell = record { place = at; size = size; word = word } in
-    let old : Each P (filter test map.cells) = each_then (λ c. P c × (test c ≡ true)) P (filter test map.cells) (λ c h. h.0) (each_filter P test map.cells (each_from P map.cells (λ c held. inr held))) in
-    each_in P (with_cell map.lo map.hi made (filter test map.cells)) (each_with_cell P map.lo map.hi made (filter test map.cells) (inl refl) old) cell there
+    let P = WrittenOr at size word map.cells in
+    each_in P (write_one map at size word).cells (each_written P map made (inl refl) (each_from P map.cells (λ c held. inr held))) cell
