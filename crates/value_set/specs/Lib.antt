@@ -4,6 +4,7 @@ pub mod Form
 pub mod Gaps
 pub mod Gcd
 pub mod Joining
+pub mod Merging
 pub mod Operations
 pub mod Remainders
 pub mod Widening
