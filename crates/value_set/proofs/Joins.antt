@@ -192,7 +192,7 @@ in_one_of v [] ys h = inr h
 in_one_of v (x ∷ xs) ys (inl e) = inl (inl e)
 in_one_of v (x ∷ xs) ys (inr h) = elim (in_one_of v xs ys h) [ inl a ↦ inl (inr a) | inr b ↦ inr b ]
 
-few_cases : (xs ys : List ℕ) → ((length (ascending (xs ++ ys)) ≤ 16) × (few_together xs ys ≡ Some (ascending (xs ++ ys)))) ⊎ (few_together xs ys ≡ None)
+pub few_cases : (xs ys : List ℕ) → ((length (ascending (xs ++ ys)) ≤ 16) × (few_together xs ys ≡ Some (ascending (xs ++ ys)))) ⊎ (few_together xs ys ≡ None)
 few_cases xs ys = elim (cases_lt 16 (length (ascending (xs ++ ys)))) [
   | inr few ↦ inl (few, rw (le-leb (length (ascending (xs ++ ys))) 16 few) refl)
   | inl many ↦ inr (rw (lt-leb (length (ascending (xs ++ ys))) 16 many) refl)

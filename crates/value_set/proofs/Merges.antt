@@ -1,15 +1,19 @@
 -- What the walks along two ascending lists find.
-use Rattle.std.proofs.Common.{◌≡◌, ℕ, ◌+◌, ◌<◌, ◌≤◌, ◌++◌, Bool, true, false, List, [], ◌∷◌, length, drop, get_or, refl, sym, ◌∙◌, ap, subst, inl, inr, arith, append_assoc, append-nil, length-append, None, IsTrue, eqb}
+use Rattle.std.proofs.Common.{◌≡◌, ℕ, ◌+◌, ◌<◌, ◌≤◌, ◌++◌, Bool, true, false, List, [], ◌∷◌, length, drop, get_or, refl, sym, ◌∙◌, ap, subst, inl, inr, arith, append_assoc, length-append, Some, None, IsTrue, eqb}
 use Rattle.std.specs.Prelude.{◌⊎◌, ◌↔◌}
 use Rattle.std.specs.List.{Contains}
-use Rattle.std.proofs.lemmas.Bool.{cases_order, cases_eq, lt-ltb, le-ltb, lt-leb, eq-eqb, ne_eqb}
+use Rattle.std.proofs.lemmas.Bool.{cases_order, cases_eq, cases_Bool, lt-ltb, le-ltb, lt-leb, le-leb, eq-eqb, ne_eqb}
 use Rattle.std.proofs.lemmas.List.{drop_all}
-use Rattle.value_set.specs.Form.{ascending, Ascends}
-use Rattle.value_set.specs.Joining.{few_together}
-use Rattle.value_set.specs.Merging.{merge, is_sublist, if_few}
-use Rattle.value_set.proofs.Members.{IsIn, in_from_Contains, Contains_from_in, in_put_all, in_ascending, put_all_has, Ascends-put_all, Ascends-in, Ascends-lower, same_ascending}
-use Rattle.value_set.proofs.Gathers.{drop_at}
-use Rattle.value_set.proofs.Joins.{in_left, in_right, in_one_of, lists_below}
+use Rattle.value_set.specs.declared.form.Progression.{Progression}
+use Rattle.value_set.specs.declared.form.Form.{Form}
+use Rattle.value_set.specs.declared.form.Form.TheVariants.{Values, Run}
+use Rattle.value_set.specs.Form.{Has, Includes, IsNormal, IsNormalRun, ascending, Ascends, hull, span}
+use Rattle.value_set.specs.Joining.{few_together, is_within, join_spans, join_apart, join}
+use Rattle.value_set.specs.Merging.{merge, is_sublist, if_few, HasRun}
+use Rattle.value_set.proofs.Members.{IsIn, in_from_Contains, Contains_from_in, in_ascending, put_all_has, Ascends-put_all, Ascends-in, Ascends-lower, same_ascending}
+use Rattle.value_set.proofs.Gathers.{drop_at, Ascends-wider}
+use Rattle.value_set.proofs.Equal.{run_over_list}
+use Rattle.value_set.proofs.Joins.{in_left, in_right, in_one_of, lists_below, few_cases, values_found, values_missing, apart-list_run, apart-run, test_from_includes, join-first, join_cases, join_includes_second, join_normal}
 
 -- ---- two lists together
 
@@ -226,3 +230,81 @@ ended xs ys i j h k = elim (cases_eq i (length xs)) [
   | inl same ↦ eq-eqb i (length xs) same ∙ sym (sub_done xs (drop j ys) i (omega arith))
   | inr other ↦ ne_eqb i (length xs) other ∙ sym (sub_over xs ys i j (omega (arith, other)) k)
 ]
+
+-- ---- joins of lists
+
+pub second_within : (m : ℕ) (xs ys : List ℕ) → Ascends 0 m xs → Ascends 0 m ys → Includes m (Values xs) (Values ys) → ascending (xs ++ ys) ≡ xs
+second_within m xs ys a b inside = same_ascending 0 m (ascending (xs ++ ys)) xs (Ascends-put_all m [] (xs ++ ys) (lists_below m xs ys a b) tt) a
+    (λ v h. elim (in_one_of v xs ys (in_ascending v (xs ++ ys) h)) [ inl i ↦ i | inr i ↦ in_from_Contains xs v (inside v (Contains_from_in ys v i)) ])
+    (λ v h. put_all_has v [] (xs ++ ys) (in_left v xs ys h))
+
+pub first_within : (m : ℕ) (xs ys : List ℕ) → Ascends 0 m xs → Ascends 0 m ys → Includes m (Values ys) (Values xs) → ascending (xs ++ ys) ≡ ys
+first_within m xs ys a b inside = same_ascending 0 m (ascending (xs ++ ys)) ys (Ascends-put_all m [] (xs ++ ys) (lists_below m xs ys a b) tt) b
+    (λ v h. elim (in_one_of v xs ys (in_ascending v (xs ++ ys) h)) [ inl i ↦ in_from_Contains ys v (inside v (Contains_from_in xs v i)) | inr i ↦ i ])
+    (λ v h. put_all_has v [] (xs ++ ys) (in_right v xs ys h))
+
+few_values : (xs ys values : List ℕ) → Some values ≡ few_together xs ys → values ≡ ascending (xs ++ ys)
+few_values xs ys values is = elim (few_cases xs ys) [
+  | inl short ↦ let e = is ∙ short.1 in cc e
+  | inr long ↦ absurd (let e = is ∙ long in cc e)
+]
+
+few_short : (xs ys : List ℕ) → length (ascending (xs ++ ys)) ≤ 16 → few_together xs ys ≡ Some (ascending (xs ++ ys))
+few_short xs ys short = rw (le-leb (length (ascending (xs ++ ys))) 16 short) refl
+
+many_values : (xs ys : List ℕ) → None ≡ few_together xs ys → length (ascending (xs ++ ys)) ≤ 16 → ⊥
+many_values xs ys is short = let e = is ∙ few_short xs ys short in cc e
+
+pub lists_found : (m : ℕ) (xs ys values : List ℕ) → IsNormal m (Values xs) → IsNormal m (Values ys) → Some values ≡ few_together xs ys
+    → Values values ≡ join m (Values xs) (Values ys)
+lists_found m xs ys values n k is =
+    let whole = few_values xs ys values is in
+    join_cases m (Values xs) (Values ys) (λ set. Values values ≡ set)
+    (λ inside. ap Values (whole ∙ second_within m xs ys n.2 k.2 inside))
+    (λ inside. ap Values (whole ∙ first_within m xs ys n.2 k.2 inside))
+    (values_found m xs ys values is)
+
+pub lists_missed : (m : ℕ) (xs ys : List ℕ) → IsNormal m (Values xs) → IsNormal m (Values ys) → None ≡ few_together xs ys
+    → join_spans m (hull m xs) (hull m ys) ≡ join m (Values xs) (Values ys)
+lists_missed m xs ys n k is =
+    join_cases m (Values xs) (Values ys) (λ set. join_spans m (hull m xs) (hull m ys) ≡ set)
+    (λ inside. absurd (many_values xs ys is (omega (arith, n.1, ap length (second_within m xs ys n.2 k.2 inside)))))
+    (λ inside. absurd (many_values xs ys is (omega (arith, k.1, ap length (first_within m xs ys n.2 k.2 inside)))))
+    (values_missing m xs ys is)
+
+-- ---- other joins
+
+pub apart_spans : (m : ℕ) (first second : Form) → HasRun first second → join_apart m first second ≡ join_spans m (span m first) (span m second)
+apart_spans m (Values xs) (Values ys) run = absurd run
+apart_spans m (Values xs) (Run q) run = apart-list_run m xs q
+apart_spans m (Run p) second run = apart-run m p second
+
+pub joined_normal : (m : ℕ) (first second made : Form) → IsNormal m first → IsNormal m second → made ≡ join m first second → IsNormal m made
+joined_normal m first second made n k is = subst (λ (set : Form). IsNormal m set) (sym is) (join_normal m first second n k)
+
+pub join_itself : (m : ℕ) (first second : Form) → first ≡ second → first ≡ join m first second
+join_itself m first second same = sym (join-first m first second (test_from_includes m second first (λ v h. subst (λ (set : Form). Has m set v) (sym same) h)))
+
+-- a join that is the first set has the second within
+pub join_held : (m : ℕ) (first second : Form) → IsNormal m first → IsNormal m second → join m first second ≡ first → is_within m second first ≡ true
+join_held m first second n k same = test_from_includes m second first (λ v h. subst (λ (set : Form). Has m set v) same (join_includes_second m first second n k v h))
+
+pub join_grown : (m : ℕ) (first second : Form) → (join m first second ≡ first → ⊥) → is_within m second first ≡ false
+join_grown m first second apart = elim (cases_Bool (is_within m second first)) [ inl agreed ↦ absurd (apart (join-first m first second agreed)) | inr refused ↦ refused ]
+
+-- ---- the test of inclusion
+
+pub includes_itself : (m : ℕ) (smaller larger : Form) → smaller ≡ larger → Includes m larger smaller
+includes_itself m smaller larger same v h = subst (λ (set : Form). Has m set v) same h
+
+pub list_ascends : (m : ℕ) (xs : List ℕ) (set : Form) → m ≤ 65536 → set ≡ Values xs → IsNormal m set → Ascends 0 65536 xs
+list_ascends m xs set small is n = let n' : IsNormal m (Values xs) = subst (λ (set : Form). IsNormal m set) is n in Ascends-wider 0 m 65536 xs small n'.2
+
+pub run_outside : (m : ℕ) (p : Progression) (xs : List ℕ) (smaller larger : Form) → smaller ≡ Run p → larger ≡ Values xs → IsNormal m smaller → IsNormal m larger
+    → Includes m larger smaller → ⊥
+run_outside m p xs smaller larger is is_too n k inside =
+    let n' : IsNormalRun m p.base p.stride p.count = subst (λ (set : Form). IsNormal m set) is n in
+    let k' : IsNormal m (Values xs) = subst (λ (set : Form). IsNormal m set) is_too k in
+    let inside' : Includes m (Values xs) (Run p) = (λ v h. subst (λ (set : Form). Has m set v) is_too (inside v (subst (λ (set : Form). Has m set v) (sym is) h))) in
+    let more = run_over_list m p xs n' inside' in
+    omega (arith, more, n'.long, k'.1)

@@ -1,5 +1,7 @@
 -- Two ascending lists, walked along side by side.
 use Rattle.std.specs.Prelude.{ℕ, nat_lt, nat_le, if◌then◌else◌, Bool, true, false, List, [], ◌∷◌, length, Option, Some, None}
+use Rattle.value_set.specs.declared.form.Form.{Form}
+use Rattle.value_set.specs.declared.form.Form.TheVariants.{Values, Run}
 
 -- the numbers of both in order, each once
 unfoldable pub merge : List ℕ → List ℕ → List ℕ
@@ -22,3 +24,9 @@ is_sublist (x ∷ xs) (y ∷ ys) =
 -- a list of at most 16
 abbrev pub if_few : List ℕ → Option (List ℕ)
 if_few xs = if nat_le (length xs) 16 then Some xs else None
+
+-- one of two sets is a run
+abbrev pub HasRun : Form → Form → Type 0
+HasRun (Values xs) (Values ys) = ⊥
+HasRun (Values xs) (Run q) = Unit {0}
+HasRun (Run p) second = Unit {0}

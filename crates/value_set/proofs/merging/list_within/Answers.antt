@@ -1,5 +1,4 @@
-use Rattle.std.proofs.Common.{arith, ap, ◌∙◌, sym, length, drop, List, ℕ}
-use Rattle.value_set.specs.Merging.{is_sublist}
+use Rattle.std.proofs.Common.{arith, ◌∙◌, sym, drop}
 use Rattle.value_set.proofs.Merges.{sub_tells, sub_refused, sub_found, sub_passed, sub_done, ended}
 use Rattle.value_set.proofs.merging.list_within.Goals as goal
 use Rattle.value_set.proofs.merging.list_within.Goals.{then-smaller-found-2, else-smaller-found-2}
