@@ -51,7 +51,7 @@ run_apart m p i j n h k e =
     let pos = n.strides in
     omega (arith, same, step, pos)
 
-run_over_list : (m : ℕ) (p : Progression) (xs : List ℕ) → IsNormalRun m p.base p.stride p.count → Includes m (Values xs) (Run p) → p.count ≤ length xs
+pub run_over_list : (m : ℕ) (p : Progression) (xs : List ℕ) → IsNormalRun m p.base p.stride p.count → Includes m (Values xs) (Run p) → p.count ≤ length xs
 run_over_list m p xs n inside = room_for p.count (λ i. (p.base + i * p.stride) % m) xs
     (λ i h. in_from_Contains xs _ (inside _ (steps_has m p.base p.stride p.count _ (i, h, refl))))
     (λ i j h k. run_apart m p i j n h k)

@@ -178,12 +178,12 @@ join_spans_normal m p q pos = choose_cases m (candidate m p q) (candidate m q p)
 
 -- ---- the join
 
-in_left : (v : ℕ) (xs ys : List ℕ) → IsIn v xs → IsIn v (xs ++ ys)
+pub in_left : (v : ℕ) (xs ys : List ℕ) → IsIn v xs → IsIn v (xs ++ ys)
 in_left v [] ys h = absurd h
 in_left v (x ∷ xs) ys (inl e) = inl e
 in_left v (x ∷ xs) ys (inr h) = inr (in_left v xs ys h)
 
-in_right : (v : ℕ) (xs ys : List ℕ) → IsIn v ys → IsIn v (xs ++ ys)
+pub in_right : (v : ℕ) (xs ys : List ℕ) → IsIn v ys → IsIn v (xs ++ ys)
 in_right v [] ys h = h
 in_right v (x ∷ xs) ys h = inr (in_right v xs ys h)
 
@@ -192,7 +192,7 @@ in_one_of v [] ys h = inr h
 in_one_of v (x ∷ xs) ys (inl e) = inl (inl e)
 in_one_of v (x ∷ xs) ys (inr h) = elim (in_one_of v xs ys h) [ inl a ↦ inl (inr a) | inr b ↦ inr b ]
 
-few_cases : (xs ys : List ℕ) → ((length (ascending (xs ++ ys)) ≤ 16) × (few_together xs ys ≡ Some (ascending (xs ++ ys)))) ⊎ (few_together xs ys ≡ None)
+pub few_cases : (xs ys : List ℕ) → ((length (ascending (xs ++ ys)) ≤ 16) × (few_together xs ys ≡ Some (ascending (xs ++ ys)))) ⊎ (few_together xs ys ≡ None)
 few_cases xs ys = elim (cases_lt 16 (length (ascending (xs ++ ys)))) [
   | inr few ↦ inl (few, rw (le-leb (length (ascending (xs ++ ys))) 16 few) refl)
   | inl many ↦ inr (rw (lt-leb (length (ascending (xs ++ ys))) 16 many) refl)
@@ -232,7 +232,7 @@ apart_second m first second n k v h = apart_cases m first second (λ set. Has m 
     (λ xs ys a b short. Contains_from_in (ascending (xs ++ ys)) v (put_all_has v [] (xs ++ ys) (in_right v xs ys (in_from_Contains ys v (subst (λ (set : Form). Has m set v) b h)))))
     (join_spans_second m (span m first) (span m second) v (span_is m first n) (span_is m second k) (span_has m v second k h))
 
-lists_below : (m : ℕ) (xs ys : List ℕ) → Ascends 0 m xs → Ascends 0 m ys → (v : ℕ) → IsIn v (xs ++ ys) → v < m
+pub lists_below : (m : ℕ) (xs ys : List ℕ) → Ascends 0 m xs → Ascends 0 m ys → (v : ℕ) → IsIn v (xs ++ ys) → v < m
 lists_below m xs ys a b v h = elim (in_one_of v xs ys h) [ inl i ↦ (Ascends-in 0 m v xs a i).1 | inr i ↦ (Ascends-in 0 m v ys b i).1 ]
 
 apart_normal : (m : ℕ) (first second : Form) → IsNormal m first → IsNormal m second → IsNormal m (join_apart m first second)

@@ -7,6 +7,7 @@ pub mod Inclusion
 pub mod Answering
 pub mod Gathers
 pub mod Joins
+pub mod Merges
 pub mod Widens
 pub mod Cuts
 pub mod Sums

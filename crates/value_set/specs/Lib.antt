@@ -5,6 +5,7 @@ pub mod Gaps
 pub mod Gcd
 pub mod Joining
 pub mod Laws
+pub mod Merging
 pub mod Operations
 pub mod Remainders
 pub mod Widening

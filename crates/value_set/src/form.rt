@@ -1,5 +1,7 @@
 //! The two forms of a set.
 
+ghost use Rattle.std.specs.Prelude.{◌≡◌, ◌↔◌, IsTrue};
+
 use crate::few::Few;
 
 /// The numbers `base + i * stride`, taken modulo the modulus of the width, for each `i` below `count`.
@@ -28,4 +30,38 @@ pub struct Stretch {
     pub base: u32,
     pub stride: u32,
     pub end: u32,
+}
+
+/// Whether two lists are the same.
+fn same_numbers(one: &[u16], other: &[u16]) -> bool
+    ensures { IsTrue result ↔ (one.now ≡ other.now) }
+{
+    one == other
+}
+
+/// Whether two runs are written the same.
+fn same_run(one: &Progression, other: &Progression) -> bool
+    ensures { IsTrue result ↔ (one.now ≡ other.now) }
+{
+    if one.base != other.base {
+        return false;
+    }
+    if one.stride != other.stride {
+        return false;
+    }
+    one.count == other.count
+}
+
+/// Whether two sets are written the same.
+pub fn same(one: &Form, other: &Form) -> bool
+    ensures { IsTrue result ↔ (one.now ≡ other.now) }
+{
+    match (one, other) {
+        (Form::Values(few), Form::Values(others)) => {
+            same_numbers(few.as_slice(), others.as_slice())
+        }
+        (Form::Values(_), Form::Run(_)) => false,
+        (Form::Run(_), Form::Values(_)) => false,
+        (Form::Run(first), Form::Run(second)) => same_run(first, second),
+    }
 }

@@ -1,17 +1,18 @@
 //! The join of two sets.
 
-ghost use Rattle.std.specs.Prelude.{◌≡◌, ℕ, ◌+◌, ◌-◌, ◌*◌, ◌<◌, ◌≤◌, length};
+ghost use Rattle.std.specs.Prelude.{◌≡◌, ◌<◌, ◌≤◌};
 ghost use Rattle.value_set.specs.Form as forms;
-ghost use Rattle.value_set.specs.Form.{Ascends, IsNormal, IsSpan};
+ghost use Rattle.value_set.specs.Form.{IsNormal, IsSpan};
 ghost use Rattle.value_set.specs.Joining as joins;
+ghost use Rattle.value_set.specs.Merging.{HasRun};
 
 use crate::circle::{above, reach};
 use crate::divisor::greatest_common_divisor;
-use crate::few::{Few, LONGEST};
-use crate::form::{Form, Progression, Stretch};
-use crate::gathering::{ROOM, hull, make, put, steps_to};
+use crate::few::Few;
+use crate::form::{Form, Progression, Stretch, same};
+use crate::gathering::{hull, make, steps_to};
 use crate::member::within;
-use arrayvec::ArrayVec;
+use crate::merging::few_together;
 
 /// The run that a set is drawn from.
 pub fn span(modulus: u32, set: &Form) -> Progression
@@ -104,59 +105,14 @@ pub fn join_spans(modulus: u32, first: &Progression, second: &Progression) -> Fo
     class(modulus, one.base, one.stride)
 }
 
-/// Puts some numbers in their places among ascending ones.
-pub fn put_slice(values: &mut ArrayVec<u16, ROOM>, numbers: &[u16])
-    requires room { length values.old.items + length numbers.now ≤ 256 }
-    requires ascending { Ascends 0 65536 values.old.items }
-    ensures items { values.new.items ≡ forms.put_all values.old.items numbers.now }
-    ensures still { Ascends 0 65536 values.new.items }
-    ensures longer { length values.new.items ≤ length values.old.items + length numbers.now }
-{
-    for number in numbers {
-        put(values, *number);
-    }
-}
-
-/// Two lists together, where they are few.
-fn few_together(first: &Few, second: &Few) -> Option<Few>
-    requires first_few { length first.now ≤ 16 }
-    requires second_few { length second.now ≤ 16 }
-    ensures { result ≡ joins.few_together first.now second.now }
-{
-    let mut values = ArrayVec::new();
-    put_slice(&mut values, first.as_slice());
-    put_slice(&mut values, second.as_slice());
-    if values.len() <= LONGEST {
-        return Some(Few::from_slice(values.as_slice()));
-    }
-    None
-}
-
-/// The join of sets neither of which is within the other.
-fn join_apart(modulus: u32, first: &Form, second: &Form) -> Form
-    requires small { modulus ≤ 65536 }
-    requires first_normal { IsNormal modulus first.now }
-    requires second_normal { IsNormal modulus second.now }
-    ensures { result ≡ joins.join_apart modulus first.now second.now }
-{
-    match (first, second) {
-        (Form::Values(one), Form::Values(other)) => join_lists(modulus, one, other),
-        (Form::Values(one), Form::Run(run)) => join_spans(
-            modulus,
-            &hull(modulus, one.as_slice()),
-            run,
-        ),
-        (Form::Run(run), _) => join_spans(modulus, run, &span(modulus, second)),
-    }
-}
-
+/// The join of two lists: all members where they are few together, which where one is within the other are that list.
 fn join_lists(modulus: u32, first: &Few, second: &Few) -> Form
     requires small { modulus ≤ 65536 }
     requires first_normal { IsNormal modulus (Form.Values first.now) }
     requires second_normal { IsNormal modulus (Form.Values second.now) }
-    ensures { result ≡ joins.join_apart modulus (Form.Values first.now) (Form.Values second.now) }
+    ensures { result ≡ joins.join modulus (Form.Values first.now) (Form.Values second.now) }
 {
-    match few_together(first, second) {
+    match few_together(first.as_slice(), second.as_slice()) {
         Some(values) => Form::Values(values),
         None => join_spans(
             modulus,
@@ -164,6 +120,23 @@ fn join_lists(modulus: u32, first: &Few, second: &Few) -> Form
             &hull(modulus, second.as_slice()),
         ),
     }
+}
+
+/// The join of two sets one of which is a run.
+fn join_with_run(modulus: u32, first: &Form, second: &Form) -> Form
+    requires small { modulus ≤ 65536 }
+    requires first_normal { IsNormal modulus first.now }
+    requires second_normal { IsNormal modulus second.now }
+    requires one_run { HasRun first.now second.now }
+    ensures { result ≡ joins.join modulus first.now second.now }
+{
+    if within(modulus, second, first) {
+        return *first;
+    }
+    if within(modulus, first, second) {
+        return *second;
+    }
+    join_spans(modulus, &span(modulus, first), &span(modulus, second))
 }
 
 /// The join of two sets: a set that includes both.
@@ -174,11 +147,12 @@ pub fn join(modulus: u32, first: &Form, second: &Form) -> Form
     ensures value { result ≡ joins.join modulus first.now second.now }
     ensures normal { IsNormal modulus result }
 {
-    if within(modulus, second, first) {
+    if same(first, second) {
         return *first;
     }
-    if within(modulus, first, second) {
-        return *second;
+    match (first, second) {
+        (Form::Values(one), Form::Values(other)) => join_lists(modulus, one, other),
+        (Form::Values(_), Form::Run(_)) => join_with_run(modulus, first, second),
+        (Form::Run(_), _) => join_with_run(modulus, first, second),
     }
-    join_apart(modulus, first, second)
 }

@@ -15,6 +15,7 @@ mod joining;
 mod laws;
 mod long;
 mod member;
+mod merging;
 mod number;
 mod sets;
 mod summing;

@@ -4,7 +4,8 @@ ghost use Rattle.std.specs.Prelude.{◌≡◌, ◌+◌, ◌-◌, ◌*◌, ◌/�
 ghost use Rattle.value_set.specs.Form.{Has, Includes, IsNormal, IsNormalRun, members};
 
 use crate::circle::{above, divides, reach};
-use crate::form::{Form, Progression};
+use crate::form::{Form, Progression, same};
+use crate::merging::list_within;
 
 /// How many members a set has.
 pub fn count(modulus: u32, set: &Form) -> u32
@@ -73,13 +74,20 @@ pub fn within(modulus: u32, smaller: &Form, larger: &Form) -> bool
     requires normal_too { IsNormal modulus larger.now }
     ensures { IsTrue result ↔ Includes modulus larger.now smaller.now }
 {
+    if same(smaller, larger) {
+        return true;
+    }
     match (smaller, larger) {
+        (Form::Values(few), Form::Values(others)) => {
+            list_within(few.as_slice(), others.as_slice())
+        }
+        (Form::Values(_), Form::Run(_)) => each_is_in(modulus, smaller, larger),
+        (Form::Run(_), Form::Values(_)) => false,
         (Form::Run(first), Form::Run(second)) => run_within(modulus, first, second),
-        _ => each_is_in(modulus, smaller, larger),
     }
 }
 
-/// Looks at one member after another. A list has at most 16, and a run has a member outside of any list among its first 17.
+/// Looks at one member after another.
 fn each_is_in(modulus: u32, smaller: &Form, larger: &Form) -> bool
     requires small { modulus ≤ 65536 }
     requires normal { IsNormal modulus smaller.now }

@@ -5,10 +5,9 @@ ghost use Rattle.value_set.specs.Form.{IsNormal, IsSpan};
 ghost use Rattle.value_set.specs.Widening as widens;
 
 use crate::circle::reach;
-use crate::form::{Form, Progression};
+use crate::form::{Form, Progression, same};
 use crate::gathering::{make, steps_to};
 use crate::joining::{class, join, span};
-use crate::member::within;
 use crate::number::Number;
 
 /// The best mark so far with one more seen: the greatest of those at most a bound.
@@ -166,9 +165,9 @@ pub fn widen<N: Number>(modulus: u32, held: &Form, new: &Form, marks: &[N]) -> F
     requires marks_below { All (λ n. N.number n < modulus) marks.now }
     ensures { result ≡ widens.widen modulus held.now new.now (map N.number marks.now) }
 {
-    if within(modulus, new, held) {
-        return *held;
+    let both = join(modulus, held, new);
+    if same(&both, held) {
+        return both;
     }
-    let run = span(modulus, &join(modulus, held, new));
-    widen_span(modulus, &run, &span(modulus, held), marks)
+    widen_span(modulus, &span(modulus, &both), &span(modulus, held), marks)
 }
