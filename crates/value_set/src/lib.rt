@@ -31,12 +31,3 @@ pub use laws::{
     sets_have_members, single_and_whole_sets, sums_hold, widenings_include_both,
 };
 pub use words::Vs16;
-
-#[cfg(test)]
-mod brute;
-#[cfg(test)]
-mod plain;
-#[cfg(test)]
-mod samples;
-#[cfg(test)]
-mod tests;

@@ -1,6 +1,6 @@
 //! Some hundred sets to try the calls on, each with what it is in plain numbers.
 
-use crate::Vs8;
+use value_set::Vs8;
 use crate::plain::{Marks, Plain, Steps, gathered, made};
 use std::alloc::Global;
 use std::test::Fail;

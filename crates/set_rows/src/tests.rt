@@ -1,8 +1,8 @@
 //! Rows that reports print, and the calls of sets of words.
 
-use crate::combining::Operation;
-use crate::form::Form;
-use crate::{Vs8, Vs16};
+use value_set::Operation;
+use value_set::Form;
+use value_set::{Vs8, Vs16};
 use std::test::Fail;
 
 fn run8(base: u8, stride: u8, count: u32) -> Result<Vs8, Fail> {

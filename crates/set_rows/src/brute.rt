@@ -3,8 +3,8 @@
 ghost use Rattle.std.specs.Prelude.{◌≡◌, ◌+◌, ◌*◌, ◌%◌, ◌<◌, ◌≤◌, length, IsTrue, bit_xor};
 ghost use Rattle.value_set.specs.Form.{members};
 
-use crate::Vs8;
-use crate::combining::Operation;
+use value_set::Vs8;
+use value_set::Operation;
 use crate::plain::{
     self, Marks, Steps, agrees, count_of, gathered, includes, made, together, window,
 };

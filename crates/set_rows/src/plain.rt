@@ -1,7 +1,7 @@
 //! What the calls of a set answer, in plain loops over the 256 numbers.
 
-use crate::Vs8;
-use crate::form::{Form, Progression};
+use value_set::Vs8;
+use value_set::{Form, Progression};
 
 /// Which of the 256 numbers are members.
 pub type Marks = [bool; 256];
