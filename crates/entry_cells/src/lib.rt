@@ -10,6 +10,3 @@ mod walking;
 
 pub use laws::relations_go;
 pub use walking::unrelated;
-
-#[cfg(test)]
-mod tests;

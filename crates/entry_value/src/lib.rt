@@ -24,6 +24,3 @@ pub use laws::{
     writes_cover, writes_keep_form,
 };
 pub use word::{Entry, Word, common};
-
-#[cfg(test)]
-mod tests;

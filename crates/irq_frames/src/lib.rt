@@ -17,6 +17,3 @@ mod resume;
 pub use laws::{ranges_hold, resumptions_hold};
 pub use ranges::Ranges;
 pub use resume::{Places, resume_by, resume_cells, resume_word};
-
-#[cfg(test)]
-mod tests;

@@ -12,7 +12,7 @@
 //!   the choices end before a question. Machine and choices are then as before.
 //! - A machine keeps the form of states: bytes and words, and 0 in the bits that PSW, IE and IP don't hold.
 //!
-//! A step takes no memory, and touches no more of RAM than it reads and writes. The rows of `mcs51_run_rows` are tests, a line each.
+//! A step takes no memory, and touches no more of RAM than it reads and writes. `mcs51_run_rows` tests it, a line each.
 #![tactic(auto)]
 
 mod advance;

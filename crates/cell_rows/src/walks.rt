@@ -1,7 +1,7 @@
 //! A long row of calls beside a plain RAM: what is read holds of what stands there.
 
-use crate::CellList;
-use crate::tests::{byte, numbers};
+use crate::memory::{byte, numbers};
+use abs_memory::CellList;
 use entry_value::Cells;
 use std::alloc::Global;
 use std::process::Abort;

@@ -4,9 +4,9 @@ ghost use Rattle.std.specs.Prelude.{◌≡◌, ◌==◌, ◌<◌, ℕ, Contains,
 ghost use Rattle.value_set.specs.Form.{Has};
 ghost use Rattle.entry_value.specs.declared.cells.Cell.{Cell as ACell};
 
-use crate::{Places, Ranges, resume_cells, resume_word};
 use abs_memory::CellList;
 use entry_value::{Cells, Entry, Word};
+use irq_frames::{Places, Ranges, resume_cells, resume_word};
 use std::alloc::Global;
 use std::process::Abort;
 use std::test::Fail;

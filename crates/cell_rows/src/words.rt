@@ -1,6 +1,6 @@
 //! Words and bytes with and without a relation.
 
-use crate::{Byte, Entry, Word};
+use entry_value::{Byte, Entry, Word};
 use std::test::Fail;
 use value_set::{Vs8, Vs16};
 

@@ -3,8 +3,8 @@
 ghost use Rattle.std.specs.Prelude.{ℕ, ◌<◌};
 ghost use Rattle.value_set.specs.Form.{Has};
 
-use crate::unrelated;
 use abs_memory::CellList;
+use entry_cells::unrelated;
 use entry_value::{Cells, Entry, Word};
 use std::test::Fail;
 use value_set::Vs16;

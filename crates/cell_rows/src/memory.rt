@@ -3,7 +3,7 @@
 ghost use Rattle.std.specs.Prelude.{ℕ, ◌<◌};
 ghost use Rattle.value_set.specs.Form.{Has};
 
-use crate::CellList;
+use abs_memory::CellList;
 use entry_value::{Cells, Entry, Word};
 use std::alloc::Global;
 use std::process::Abort;
