@@ -1,10 +1,10 @@
 ghost use Rattle.std.specs.Prelude.{◌≡◌, ◌≤◌, ◌%◌, IfOk, length};
 
-use super::{
+use ihex_read::Image;
+use msp430_decode::{
     Condition, Constant, Destination, Instr, NoInstr, Operation, Register, SingleOperation, Source,
     Width, decode, encode, from_bytes,
 };
-use ihex_read::Image;
 use std::alloc::{AllocError, Global};
 use std::process::Abort;
 use std::test::Fail;

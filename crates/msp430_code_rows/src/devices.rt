@@ -2,8 +2,8 @@
 
 ghost use Rattle.std.specs.Prelude.{◌≡◌, ◌<◌, IfOk, length};
 
-use crate::{Device, Ram};
 use ihex_read::Image;
+use msp430_chip::{Device, Ram};
 use std::alloc::{AllocError, Global};
 use std::test::Fail;
 
