@@ -1,11 +1,11 @@
 //! RETI over rows worked by hand from SLAU049, chapters 2 and 3.
 
-use crate::{goes_back, return_from_interrupt};
 use abs_memory::CellList;
 use call_context::{Frame, Item, Set, Space};
 use entry_value::{Cells, Entry, Word};
 use ihex_read::Image;
 use msp430_chip::Device;
+use msp430_return::{goes_back, return_from_interrupt};
 use msp430_state::State;
 use std::alloc::Global;
 use std::process::Abort;

@@ -1,7 +1,7 @@
 //! Facts and cuts against rows worked by hand.
 
-use crate::{cut, fact_behind, taken_by};
 use abs_memory::CellList;
+use msp430_branch::{cut, fact_behind, taken_by};
 use msp430_decode::{Condition, Constant, Destination, Operation, Register, Source, Width};
 use msp430_state::{FlagFact, State, Status};
 use std::alloc::Global;

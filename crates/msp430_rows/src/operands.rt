@@ -1,12 +1,12 @@
 //! Operands against rows worked by hand.
 
-use crate::{
-    Reach, counter_set, located, put_register, read_known, register_word, set_flag_bits,
-    source_reach,
-};
 use abs_memory::CellList;
 use entry_value::{Cells, Word};
 use ihex_read::Image;
+use msp430_alu::{
+    Reach, counter_set, located, put_register, read_known, register_word, set_flag_bits,
+    source_reach,
+};
 use msp430_chip::Device;
 use msp430_decode::{Destination, Register, Source, Width};
 use msp430_results::FlagBits;

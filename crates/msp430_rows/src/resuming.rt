@@ -1,9 +1,9 @@
 //! Resumed states against rows worked by hand.
 
-use crate::resume;
 use abs_memory::CellList;
 use entry_value::{Entry, Word};
 use msp430_decode::Width;
+use msp430_resume::resume;
 use msp430_state::{FlagFact, State};
 use std::alloc::Global;
 use std::process::Abort;

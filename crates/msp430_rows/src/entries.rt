@@ -2,13 +2,13 @@
 
 ghost use Rattle.std.specs.Prelude.{◌≡◌, ◌≤◌, IfOk};
 
-use crate::{Coming, add_entry_items, comings, entered, frame_of, handler_of};
 use abs_memory::CellList;
 use call_context::{Frame, Item, Sequence, Set, Space};
 use entry_value::{Cells, Entry, Word};
 use ihex_read::Image;
 use msp430_chip::Device;
 use msp430_decode::Width;
+use msp430_entry::{Coming, add_entry_items, comings, entered, frame_of, handler_of};
 use msp430_state::{FlagFact, State};
 use std::alloc::Global;
 use std::test::Fail;

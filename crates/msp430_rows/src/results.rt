@@ -2,9 +2,9 @@
 
 ghost use Rattle.msp430_results.specs.Results.{HasWidth};
 
-use crate::{FlagBits, double_made, kept_word, single_made, twice_made};
 use entry_value::{Entry, Word};
 use msp430_decode::{Operation, SingleOperation, Width};
+use msp430_results::{FlagBits, double_made, kept_word, single_made, twice_made};
 use std::process::Abort;
 use std::test::Fail;
 use value_bits::Tri;

@@ -1,6 +1,5 @@
 //! SR as a destination against rows worked by hand from SLAU049, chapter 3.
 
-use crate::{single_status, status};
 use abs_memory::CellList;
 use call_context::{Item, Set, Space};
 use entry_value::{Cells, Entry, Word};
@@ -9,6 +8,7 @@ use msp430_alu::{Worked, register_word};
 use msp430_chip::Device;
 use msp430_decode::{Constant, Operation, Register, SingleOperation, Source, Width};
 use msp430_state::{FlagFact, State, Status};
+use msp430_status::{single_status, status};
 use std::alloc::Global;
 use std::process::Abort;
 use std::test::Fail;

@@ -3,12 +3,11 @@
 ghost use Rattle.std.specs.Prelude.{◌≤◌, IfOk};
 ghost use Rattle.msp430_results.specs.Results.{HasWidth};
 
-use crate::reading::size_of;
-use crate::{Worked, double, push, put_register, register_word, single};
 use abs_memory::CellList;
 use call_context::{Item, Set, Space};
 use entry_value::{Cells, Word};
 use ihex_read::Image;
+use msp430_alu::{Worked, double, push, put_register, register_word, single};
 use msp430_chip::Device;
 use msp430_decode::{Destination, Operation, Register, SingleOperation, Source, Width};
 use msp430_state::State;
@@ -124,7 +123,10 @@ fn has_access(worked: &Worked<CellList>, write: bool, width: Width, at: Vs16) ->
         pc: 0xF000,
         space: Space::Mem,
         write,
-        size: size_of(width),
+        size: match width {
+            Width::Word => 2,
+            Width::Byte => 1,
+        },
         at: Set::W(at),
     };
     worked.accesses.as_slice().contains(&access)
