@@ -1,7 +1,7 @@
 ghost use Rattle.std.specs.Prelude.{◌≡◌, ◌<◌, IfOk, length};
 
-use super::{NoInstr, decode, encode, from_bytes};
 use ihex_read::Image;
+use mcs51_decode::{NoInstr, decode, encode, from_bytes};
 use std::alloc::{AllocError, Global};
 use std::process::Abort;
 use std::test::Fail;
