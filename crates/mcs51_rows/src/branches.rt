@@ -1,8 +1,8 @@
 //! Cuts against rows worked by hand.
 
-use crate::{Operand, cut_by_comparison, cut_by_condition, lowered};
 use abs_memory::CellList;
 use entry_value::Cells;
+use mcs51_branch::{Operand, cut_by_comparison, cut_by_condition, lowered};
 use mcs51_decode::Condition;
 use mcs51_state::{CarryFact, Compared, State};
 use std::alloc::Global;

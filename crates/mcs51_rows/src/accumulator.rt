@@ -3,9 +3,9 @@
 ghost use Rattle.std.specs.Prelude.{ℕ, ◌<◌};
 ghost use Rattle.value_set.specs.Form.{Has};
 
-use crate::{accumulate, change, count, load};
 use abs_memory::CellList;
 use entry_value::{Cells, Word};
+use mcs51_alu::{accumulate, change, count, load};
 use mcs51_decode::{AccumulatorOperation, Memory, Operation, Source};
 use mcs51_state::{LinearFact, State};
 use std::test::Fail;

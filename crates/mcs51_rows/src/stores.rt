@@ -1,12 +1,12 @@
 //! Writes against rows worked by hand.
 
-use crate::{
-    pop_byte, push_address, set_accumulator, set_carry, set_data_pointer, set_flags, stack_top,
-    write_byte,
-};
 use abs_memory::CellList;
 use entry_value::{Byte, Cells};
 use mcs51_state::{Addresses, State};
+use mcs51_stores::{
+    pop_byte, push_address, set_accumulator, set_carry, set_data_pointer, set_flags, stack_top,
+    write_byte,
+};
 use std::alloc::Global;
 use std::test::Fail;
 use value_bits::Tri;

@@ -1,8 +1,8 @@
 //! Results and flags against the worked examples of Intel's MCS-51 Programmer's Guide and Instruction Set.
 
-use crate::{Made, Operand, accumulated_made, changed_made, multiplied_made};
 use entry_value::Byte;
 use mcs51_decode::{AccumulatorOperation, Operation};
+use mcs51_results::{Made, Operand, accumulated_made, changed_made, multiplied_made};
 use mcs51_state::Status;
 use std::test::Fail;
 use value_bits::Tri;

@@ -1,7 +1,7 @@
 //! A call and its return, and a jump.
 
-use crate::{jump_targets, return_from, return_targets};
 use abs_memory::CellList;
+use mcs51_control::{jump_targets, return_from, return_targets};
 use mcs51_state::State;
 use mcs51_stores::push_address;
 use std::test::Fail;

@@ -3,10 +3,10 @@
 ghost use Rattle.std.specs.Prelude.{ℕ, ◌<◌};
 ghost use Rattle.value_set.specs.Form.{Has};
 
-use crate::{CarryFact, Compared, State};
 use abs_memory::CellList;
 use call_context::Frame;
 use entry_value::{Cells, Word};
+use mcs51_state::{CarryFact, Compared, State};
 use std::alloc::Global;
 use std::test::Fail;
 use value_bits::Tri;

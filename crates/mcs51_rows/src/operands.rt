@@ -3,10 +3,10 @@
 ghost use Rattle.std.specs.Prelude.{ℕ, ◌<◌};
 ghost use Rattle.value_set.specs.Form.{Has};
 
-use crate::{addresses_of, direct_addresses, read_bit, read_byte};
 use abs_memory::CellList;
 use entry_value::{Byte, Cells, Entry, Word};
 use mcs51_decode::{Memory, Pointer, Register, Working};
+use mcs51_operands::{addresses_of, direct_addresses, read_bit, read_byte};
 use mcs51_state::{Addresses, State};
 use std::alloc::Global;
 use std::test::Fail;

@@ -1,8 +1,8 @@
 //! Interrupts behind a reset.
 
-use crate::{Coming, comings, entered};
 use abs_memory::CellList;
 use entry_value::Cells;
+use mcs51_entry::{Coming, comings, entered};
 use mcs51_state::{Levels, State};
 use std::alloc::Global;
 use std::test::Fail;
