@@ -1,4 +1,4 @@
--- Four chips of the tests: one that counts at its only node, one that counts and never comes to rest, one with a chain
+-- Four chips of the rows: one that counts at its only node, one that counts and never comes to rest, one with a chain
 -- of nodes, and one with an interrupt.
 use Rattle.std.specs.Prelude.{ℕ, ◌+◌, ◌≤◌, ◌==◌, false, Some, nat_le, nat_lt, if◌then◌else◌, List, [], ◌∷◌, max, min}
 use Rattle.call_context.specs.declared.node.Frame.{Frame}

@@ -2,13 +2,13 @@
 ghost use Rattle.std.specs.Prelude.{◌≡◌, ◌<◌, ◌++◌, false, List, All, IfOk};
 ghost use Rattle.turn_table.specs.Events.{AllBelow};
 ghost use Rattle.turn_table.specs.Named.{name_of};
-ghost use Rattle.turn_table.specs.declared.tests.Line.{Line};
+ghost use Rattle.turn_table.specs.declared.turns.Line.{Line};
 
-use crate::{Journaled, Seat, TurnTable};
 use std::alloc::Global;
 use std::sync::Wait;
 use std::test::Fail;
 use std::thread::{Threads, join};
+use turn_table::{Journaled, Seat, TurnTable};
 use vsa_io::Memory;
 
 #[derive(Clone, Copy, Debug, PartialEq)]

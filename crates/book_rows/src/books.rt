@@ -1,13 +1,11 @@
 //! A chip that counts, one that never comes to rest, one with a chain of nodes, and one with an interrupt.
 
 ghost use Rattle.std.specs.Prelude.{◌≡◌, IfOk, option_to_list};
-ghost use Rattle.round_core.specs.Counting.{entering, node_at, posting};
+ghost use Rattle.book_rows.specs.Counting.{entering, node_at, posting};
 
-use crate::book::Book;
-use crate::event::Event;
-use crate::ticket::{Claimed, Done};
 use call_context::{Calls, Frame, Node, Sequence, Unit};
 use chip_law::{Chip, Work};
+use round_core::{Book, Claimed, Done, Event};
 use std::alloc::Global;
 use std::cell::Cell;
 use std::test::Fail;
@@ -53,7 +51,7 @@ impl Chip for Counter {
 
     type Abs = u32;
 
-    ghost use Rattle.round_core.specs.Counting.{counts_by, next_count};
+    ghost use Rattle.book_rows.specs.Counting.{counts_by, next_count};
 
     ghost base = { λ _. tt };
 
@@ -110,7 +108,7 @@ impl Chip for Restless {
 
     type Abs = u32;
 
-    ghost use Rattle.round_core.specs.Counting.{next_count, without_order};
+    ghost use Rattle.book_rows.specs.Counting.{next_count, without_order};
 
     ghost base = { λ _. tt };
 
@@ -162,7 +160,7 @@ impl Chip for Chain {
 
     type Abs = u32;
 
-    ghost use Rattle.round_core.specs.Counting.{counts_by, next_node};
+    ghost use Rattle.book_rows.specs.Counting.{counts_by, next_node};
 
     ghost base = { λ chain. chain.last };
 
@@ -239,7 +237,7 @@ impl Chip for Interrupted {
 
     type Abs = u32;
 
-    ghost use Rattle.round_core.specs.Counting.{counts_by, interrupted};
+    ghost use Rattle.book_rows.specs.Counting.{counts_by, interrupted};
 
     ghost base = { λ _. tt };
 

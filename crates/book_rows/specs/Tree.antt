@@ -1,4 +1,4 @@
--- A chip of the tests: a tree of locations, each of which leads to two more.
+-- A chip of the rows: a tree of locations, each of which leads to two more.
 use Rattle.std.specs.Prelude.{ℕ, ◌+◌, ◌*◌, ◌≤◌, nat_le, if◌then◌else◌, List, [], ◌∷◌, max}
 use Rattle.call_context.specs.declared.node.Frame.TheVariants.{Base}
 use Rattle.call_context.specs.declared.node.Node.{Node}

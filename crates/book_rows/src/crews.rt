@@ -1,9 +1,8 @@
 //! A chip with a tree of locations, and its analysis by several workers.
 
 ghost use Rattle.std.specs.Prelude.{◌≡◌, [], IfOk};
-ghost use Rattle.worker_crew.specs.Tree.{leading, node_at, posting};
+ghost use Rattle.book_rows.specs.Tree.{leading, node_at, posting};
 
-use crate::fixpoint;
 use call_context::{Calls, Frame, Node, Sequence, Unit};
 use chip_law::{Chip, Work};
 use round_core::Event;
@@ -13,6 +12,7 @@ use std::sync::atomic::Ordering::SeqCst;
 use std::test::Fail;
 use std::thread;
 use vsa_io::Memory;
+use worker_crew::fixpoint;
 use worker_rounds::{Gate, NoGate};
 
 /// Locations from 0 to an even last one, each of which leads to two more. Its first works run out of memory.
@@ -64,7 +64,7 @@ impl Chip for Tree {
 
     type Abs = u32;
 
-    ghost use Rattle.worker_crew.specs.Tree.{tree};
+    ghost use Rattle.book_rows.specs.Tree.{tree};
 
     ghost base = { λ chip. chip.last };
 

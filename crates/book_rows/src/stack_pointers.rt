@@ -1,6 +1,6 @@
 //! The least and the greatest stack pointer of a set.
 
-use crate::deepest::{greatest_number, least_number};
+use report_text::{greatest_number, least_number};
 use value_set::{Vs8, Vs16};
 
 #[test]

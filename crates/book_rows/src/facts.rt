@@ -5,9 +5,9 @@ ghost use Rattle.call_context.specs.declared.node.Frame.TheVariants.{Base};
 ghost use Rattle.call_context.specs.declared.node.Node.TheVariants.{At};
 ghost use Rattle.fact_table.specs.Named.{table_of};
 
-use crate::{FactTable, Seat};
 use call_context::{Calls, Frame, Node, Sequence, Unit};
 use chip_law::{Chip, Work};
+use fact_table::{FactTable, Seat};
 use round_core::{Book, Claimed, Done};
 use std::alloc::Global;
 use std::sync::Wait;
