@@ -1,6 +1,6 @@
 //! Questions to a list of choices.
 
-use crate::Choices;
+use choosing::Choices;
 use std::process::Abort;
 use std::test::Fail;
 

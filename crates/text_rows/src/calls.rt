@@ -2,11 +2,7 @@
 
 ghost use Rattle.std.specs.Prelude.{◌≤◌, length};
 
-use crate::calls::{pop_call, push_call};
-use crate::few::Few;
-use crate::node::Calls;
-use crate::sequence::Sequence;
-use crate::shown::{InstrBytes, Item, Set};
+use call_context::{Calls, Few, InstrBytes, Item, Sequence, Set, pop_call, push_call};
 use std::test::Fail;
 use value_set::Vs16;
 

@@ -1,6 +1,6 @@
 //! Image texts, worked out from SLAU049 and from Intel's MCS-51 Programmer's Guide and Instruction Set.
 
-use crate::{ChipName, MOST, make};
+use image_gen::{ChipName, MOST, make};
 use std::alloc::{AllocError, Global};
 use std::test::Fail;
 

@@ -1,17 +1,35 @@
-//! The texts of sets.
+//! The texts of sets and of opens.
 
-use crate::line::{push_set, put_open};
-use call_context::{Cause, Set};
-use std::alloc::AllocGlobal;
+ghost use Rattle.std.specs.Prelude.{[]};
+
+use arrayvec::ArrayString;
+use call_context::{Cause, Item, Set};
+use chip_law::{InstrText, item_line, put_open};
+use std::alloc::Global;
 use std::process::Abort;
 use std::test::Fail;
 use value_set::{Vs8, Vs16};
 
-/// The text of a set.
-fn has_text<R: Abort + AllocGlobal>(rt: &R, set: Set, text: &str) -> Result<(), Fail> {
-    let mut line = Vec::new(rt.alloc());
-    push_set(&mut line, &set)?;
-    assert_eq!(rt; line.as_slice(), text.as_bytes());
+/// A chip whose instructions have no text.
+struct Silent;
+
+impl InstrText for Silent {
+    ghost text_of = { λ _ pc bytes. [] };
+
+    fn instr_text(&self, _pc: u16, _bytes: &[u8]) -> ArrayString<40> {
+        ArrayString::new()
+    }
+}
+
+/// Asserts the text of a set, as it stands in the line of a stack pointer.
+fn has_text(rt: &impl Abort, alloc: Global, set: Set, text: &str) -> Result<(), Fail> {
+    let item = Item::Stack {
+        pc: 0xF000,
+        at: set,
+    };
+    let line = item_line(alloc, &Silent, &item)?;
+    let expected = format!(in alloc; "S F000 {text}")?;
+    assert_eq!(rt; line.as_slice(), expected.as_bytes());
     Ok(())
 }
 
@@ -28,7 +46,7 @@ fn rows_of_runs_of_words(rt: HostRuntime) -> Result<(), Fail> {
         (0xFFFE, 1, 4, "0000,0001,FFFE,FFFF"),
     ] {
         if let Some(set) = Vs16::run(base, stride, count) {
-            has_text(&rt, Set::W(set), text)?;
+            has_text(&rt, rt.alloc(), Set::W(set), text)?;
         } else {
             assert!(rt; false, "{text}");
         }
@@ -45,7 +63,7 @@ fn rows_of_runs_of_bytes(rt: HostRuntime) -> Result<(), Fail> {
         (0x33, 2, 2, "33,35"),
     ] {
         if let Some(set) = Vs8::run(base, stride, count) {
-            has_text(&rt, Set::B(set), text)?;
+            has_text(&rt, rt.alloc(), Set::B(set), text)?;
         } else {
             assert!(rt; false, "{text}");
         }

@@ -1,7 +1,7 @@
 ghost use Rattle.std.specs.Prelude.{◌≤◌, length};
 ghost use Rattle.ihex_read.specs.ImageText.{IsRamRange};
 
-use super::{HexError, HexFault, Image, MOST_BYTES, Reader, Rules, Tail};
+use ihex_read::{HexError, HexFault, Image, MOST_BYTES, Reader, Rules, Tail};
 use std::alloc::Global;
 use std::test::Fail;
 

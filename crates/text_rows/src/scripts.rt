@@ -1,6 +1,6 @@
 ghost use Rattle.std.specs.Prelude.{◌≤◌, length};
 
-use super::{MOST_BYTES, Reader, ScriptError};
+use script_text::{MOST_BYTES, Reader, ScriptError};
 use std::alloc::Global;
 use std::process::Abort;
 use std::test::Fail;

@@ -1,7 +1,7 @@
 //! Numbers there and back.
 
-use crate::{byte, hex_byte, hex_word, push_byte, push_word, word};
 use arrayvec::ArrayString;
+use hex_digits::{byte, hex_byte, hex_word, push_byte, push_word, word};
 
 #[test]
 fn there_and_back(rt: HostRuntime) {

@@ -1,11 +1,11 @@
 //! Streams run on their happy paths, and where they fail.
-use crate::{
-    CleanSink, CleanSource, Failed, MemSink, MemSource, Memory, Sink, Source, StdinSource,
-    StdoutSink, write_all,
-};
 use std::alloc::{AllocError, Global};
 use std::process::Abort;
 use std::test::Fail;
+use vsa_io::{
+    CleanSink, CleanSource, Failed, MemSink, MemSource, Memory, Sink, Source, StdinSource,
+    StdoutSink, write_all,
+};
 
 /// Reads once into a buffer of five bytes, and looks at what came.
 fn expect_piece<S: Source>(rt: &impl Abort, source: &mut S, want: &[u8]) {
