@@ -1,7 +1,15 @@
 //! What the calls on bytes answer, in plain loops over the 256 numbers.
 
-use crate::tri::{Logic, Lowest, Top, Tri};
+use value_bits::{Lowest, Top, Tri};
 use value_set::{Form, Progression, Vs8};
+
+/// An operation on two numbers, bit by bit.
+#[derive(Clone, Copy)]
+pub enum Logic {
+    And,
+    Or,
+    Xor,
+}
 
 /// Which of the 256 numbers are members.
 pub type Marks = [bool; 256];

@@ -1,7 +1,7 @@
 //! Rows of the manuals and rows worked by hand from their rules.
 
-use crate::{Lowest, Top, Tri, w8, w16};
 use std::test::Fail;
+use value_bits::{Lowest, Top, Tri, w8, w16};
 use value_set::{Vs8, Vs16};
 
 fn run8(base: u8, stride: u8, count: u32) -> Result<Vs8, Fail> {

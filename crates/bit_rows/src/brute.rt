@@ -1,16 +1,14 @@
 //! Every call on bytes against plain loops, over all pairs of some hundred sets.
 
-use crate::flags::Flag;
 use crate::plain::{
-    Known, Marks, adjusted, bit_of, count_of, decimal_sum, has_all, has_bits, is_decimal,
+    Known, Logic, Marks, adjusted, bit_of, count_of, decimal_sum, has_all, has_bits, is_decimal,
     is_gathered, is_list_of, is_made_of, known_of_results, result_of, shifted, shifted_left,
 };
 use crate::samples::{Sample, some_samples};
-use crate::tri::{Logic, Lowest, Top, Tri};
-use crate::{w8, w16};
 use std::alloc::Global;
 use std::process::Abort;
 use std::test::Fail;
+use value_bits::{Flag, Lowest, Top, Tri, w8, w16};
 use value_set::Vs8;
 
 /// Whether there are at most 256 combinations.
