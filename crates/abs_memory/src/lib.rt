@@ -11,8 +11,3 @@ mod reading;
 mod writing;
 
 pub use list::CellList;
-
-#[cfg(test)]
-mod tests;
-#[cfg(test)]
-mod walks;

@@ -7,8 +7,6 @@ mod laws;
 mod node;
 mod sequence;
 mod shown;
-#[cfg(test)]
-mod tests;
 
 pub use calls::{pop_call, push_call};
 pub use few::Few;

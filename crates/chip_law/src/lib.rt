@@ -8,6 +8,3 @@ mod line;
 pub use chip::{Chip, ChipText, InstrText, LawfulChip, Work};
 pub use digits::{hex_byte, hex_word};
 pub use line::{item_line, open_line, put_item, put_open};
-
-#[cfg(test)]
-mod tests;

@@ -15,7 +15,5 @@
 #![tactic(auto)]
 
 mod choices;
-#[cfg(test)]
-mod tests;
 
 pub use choices::{Choices, Unused};

@@ -25,6 +25,3 @@ pub use laws::{
     writes_are_at_one_or_several, writes_cover, writes_keep_form,
 };
 pub use word::{Entry, Word, common};
-
-#[cfg(test)]
-mod tests;

@@ -19,8 +19,6 @@ mod calls;
 mod facts;
 mod next;
 mod table;
-#[cfg(test)]
-mod tests;
 
 pub use calls::{claim_at, give_back_at, post_and_claim_at, post_at};
 pub use facts::{Facts, Seat, Turns};

@@ -9,6 +9,3 @@ mod writing;
 
 pub use reading::{byte, bytes, digit_value, word};
 pub use writing::{hex_byte, hex_word, push_byte, push_word};
-
-#[cfg(test)]
-mod tests;

@@ -36,6 +36,3 @@ pub use law::{
 };
 pub use lines::without_return;
 pub use rule_set::{Rules, Tail};
-
-#[cfg(test)]
-mod tests;

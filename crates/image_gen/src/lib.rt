@@ -14,6 +14,3 @@ mod records;
 pub use chip_name::ChipName;
 pub use image_text::{MOST, make};
 pub use laws::calls_reach_functions;
-
-#[cfg(test)]
-mod tests;

@@ -25,8 +25,3 @@ pub use forgetting::unrelated;
 pub use laws::{frame_laws, known_laws, range_laws, ranges_hold, relations_go, resumptions_hold};
 pub use ranges::Ranges;
 pub use resume::{Places, resume_by, resume_cells, resume_word};
-
-#[cfg(test)]
-mod forgetting_tests;
-#[cfg(test)]
-mod tests;

@@ -18,6 +18,3 @@ mod linear;
 
 pub use accumulator::{accumulate, change, count, load, load_immediate, show_source};
 pub use laws::{accumulators_do, accumulators_hold};
-
-#[cfg(test)]
-mod tests;

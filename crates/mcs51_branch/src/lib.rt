@@ -26,6 +26,3 @@ pub use jumps::{compare_with, cut_by_comparison, cut_by_condition, lowered};
 pub use laws::{bits_hold, jumps_hold};
 pub use operand::Operand;
 pub use testing::cut_by_bit;
-
-#[cfg(test)]
-mod tests;

@@ -17,6 +17,3 @@ pub use returning::{
     goes_back, jump_targets, return_from, return_from_interrupt, return_targets, show_call,
     show_return,
 };
-
-#[cfg(test)]
-mod tests;

@@ -46,6 +46,3 @@ pub use law::{
     one_row_an_opcode,
 };
 pub use refusal::NoInstr;
-
-#[cfg(test)]
-mod tests;

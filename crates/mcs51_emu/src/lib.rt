@@ -12,7 +12,7 @@
 //!   the choices end before a question. Machine and choices are then as before.
 //! - A machine keeps the form of states: bytes and words, and 0 in the bits that PSW, IE and IP don't hold.
 //!
-//! A step takes no memory, and touches no more of RAM than it reads and writes. The tests are `src/rows.rt`, a step a line.
+//! A step takes no memory, and touches no more of RAM than it reads and writes. `mcs51_run_rows` tests it, a line each.
 #![tactic(auto)]
 
 mod advance;
@@ -35,8 +35,3 @@ pub use choosing::Choices;
 pub use machine::Machine;
 pub use mcs51_decode::NoInstr;
 pub use stepped::Stepped;
-
-#[cfg(test)]
-mod rows;
-#[cfg(test)]
-mod tests;

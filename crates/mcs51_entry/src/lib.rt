@@ -19,6 +19,3 @@ mod laws;
 pub use coming::{Coming, comings, frame_of, handler_of};
 pub use entering::{add_entry_items, entered};
 pub use laws::entries_hold;
-
-#[cfg(test)]
-mod tests;

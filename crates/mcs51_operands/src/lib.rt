@@ -25,6 +25,3 @@ pub use operands::{
 };
 pub use reading::{carry, ram_values, read_bit, read_byte};
 pub use showing::{access, show_address, show_pointer};
-
-#[cfg(test)]
-mod tests;

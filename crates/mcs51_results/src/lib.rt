@@ -36,6 +36,3 @@ pub use results::{
 pub use status::{
     carry_bit_made, carry_made, masked_status, parity_in, status_byte, written_status,
 };
-
-#[cfg(test)]
-mod tests;

@@ -35,6 +35,3 @@ pub use laws::{states_are_ordered, states_cover, states_keep_form};
 pub use levels::Levels;
 pub use state::State;
 pub use status::Status;
-
-#[cfg(test)]
-mod tests;

@@ -9,8 +9,3 @@ mod parts;
 mod whole;
 
 pub use whole::text;
-
-#[cfg(test)]
-mod rows;
-#[cfg(test)]
-mod tests;

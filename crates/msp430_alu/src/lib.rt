@@ -40,8 +40,3 @@ pub use registers::register_word;
 pub use stores::store;
 pub use worked::{Worked, double, known_operand, push, single};
 pub use writing::{grow, put_register, set_flag_bits};
-
-#[cfg(test)]
-mod tests;
-#[cfg(test)]
-mod worked_rows;

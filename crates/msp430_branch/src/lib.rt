@@ -24,6 +24,3 @@ pub use conditions::taken_by;
 pub use cutting::cut;
 pub use facts::fact_behind;
 pub use laws::{cuts_hold, facts_hold};
-
-#[cfg(test)]
-mod tests;

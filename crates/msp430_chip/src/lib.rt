@@ -29,6 +29,3 @@ pub use law::{
 pub use place::{Flags, Place};
 pub use ram::Ram;
 pub use state::{ChipState, Wild};
-
-#[cfg(test)]
-mod tests;

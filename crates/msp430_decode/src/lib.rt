@@ -42,6 +42,3 @@ pub use law::{
     bytes_of_one_instruction, decoded_is_the_answer, excluded_words, one_instruction, one_of_three,
 };
 pub use refusal::NoInstr;
-
-#[cfg(test)]
-mod tests;

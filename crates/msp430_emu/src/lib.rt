@@ -40,10 +40,3 @@ pub use msp430_chip::Wild;
 pub use msp430_decode::NoInstr;
 pub use state::Machine;
 pub use stepped::Stepped;
-
-#[cfg(test)]
-mod result_rows;
-#[cfg(test)]
-mod rows;
-#[cfg(test)]
-mod tests;

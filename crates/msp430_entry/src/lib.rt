@@ -21,6 +21,3 @@ pub use coming::{Coming, comings, frame_of, handler_of};
 pub use entering::{counter_slot, entered, status_slot};
 pub use laws::entries_hold;
 pub use showing::add_entry_items;
-
-#[cfg(test)]
-mod tests;

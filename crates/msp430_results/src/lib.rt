@@ -20,6 +20,3 @@ mod sets;
 pub use flag_bits::FlagBits;
 pub use laws::operations_hold;
 pub use results::{double_made, kept_word, single_made, twice_made};
-
-#[cfg(test)]
-mod result_rows;

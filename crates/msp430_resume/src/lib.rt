@@ -12,6 +12,3 @@ mod status;
 
 pub use laws::resumptions_cover;
 pub use resumed::resume;
-
-#[cfg(test)]
-mod tests;

@@ -14,6 +14,3 @@ mod returning;
 
 pub use laws::returns_hold;
 pub use returning::{goes_back, return_from_interrupt};
-
-#[cfg(test)]
-mod tests;

@@ -13,6 +13,3 @@ mod worked;
 pub use bits::status_bits;
 pub use laws::{single_statuses_hold, statuses_hold};
 pub use worked::{single_status, status};
-
-#[cfg(test)]
-mod tests;

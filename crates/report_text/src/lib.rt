@@ -17,6 +17,3 @@ pub use deepest::{Deepest, greatest_number, least_number};
 pub use laws::{closed_reports_cover_runs, open_reports_show_sites};
 pub use print::{PrintError, print_book};
 pub use report::{Report, report_of};
-
-#[cfg(test)]
-mod tests;

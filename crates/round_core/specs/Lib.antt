@@ -1,7 +1,6 @@
 pub mod Agenda
 pub mod Answers
 pub mod Claims
-pub mod Counting
 pub mod Counts
 pub mod Expected
 pub mod Former

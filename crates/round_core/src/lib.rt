@@ -32,6 +32,3 @@ pub use laws::{
 };
 pub use ticket::{Claimed, Done, Ticket};
 pub use versions::Versions;
-
-#[cfg(test)]
-mod tests;

@@ -21,6 +21,3 @@ mod line;
 pub use fault::ScriptError;
 pub use feeding::{MOST_BYTES, Reader};
 pub use law::refusals_stay;
-
-#[cfg(test)]
-mod tests;

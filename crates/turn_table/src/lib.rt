@@ -27,8 +27,6 @@ mod journaled;
 mod seat;
 mod steps;
 mod table;
-#[cfg(test)]
-mod tests;
 mod view;
 
 pub use journaled::Journaled;

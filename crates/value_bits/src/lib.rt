@@ -35,12 +35,3 @@ pub use laws::{
     logic_holds, moves_hold,
 };
 pub use tri::{Lowest, Top, Tri};
-
-#[cfg(test)]
-mod brute;
-#[cfg(test)]
-mod plain;
-#[cfg(test)]
-mod samples;
-#[cfg(test)]
-mod tests;

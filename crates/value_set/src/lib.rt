@@ -33,12 +33,3 @@ pub use laws::{
     widenings_include_both,
 };
 pub use words::Vs16;
-
-#[cfg(test)]
-mod brute;
-#[cfg(test)]
-mod plain;
-#[cfg(test)]
-mod samples;
-#[cfg(test)]
-mod tests;

@@ -34,6 +34,3 @@ pub use memory_sources::{CleanSource, MemSource};
 pub use refusal::{Failed, Memory};
 pub use standard::{StdinSource, StdoutSink};
 pub use stream::{Sink, Source, write_all};
-
-#[cfg(test)]
-mod tests;

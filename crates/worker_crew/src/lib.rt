@@ -21,8 +21,6 @@
 #![tactic(auto)]
 
 mod crew;
-#[cfg(test)]
-mod tests;
 mod worker;
 
 pub use crew::fixpoint;

@@ -1,0 +1,19 @@
+//! Rows of the MCS-51's instructions over what is known, worked out by hand from Intel's manuals.
+#![tactic(auto)]
+
+#[cfg(test)]
+mod accumulator;
+#[cfg(test)]
+mod branches;
+#[cfg(test)]
+mod control;
+#[cfg(test)]
+mod entries;
+#[cfg(test)]
+mod joins;
+#[cfg(test)]
+mod operands;
+#[cfg(test)]
+mod results;
+#[cfg(test)]
+mod stores;
