@@ -111,6 +111,9 @@ pub fn common_stride<N: Number>(modulus: u32, from: u16, list: &[N]) -> u16
 {
     let mut stride = 0;
     for number in list {
+        if stride == 1 {
+            return 1;
+        }
         stride = greatest_common_divisor(
             stride,
             above(modulus, from as u32, number.number() as u32),
