@@ -7,13 +7,15 @@ use Rattle.std.proofs.Math.ListN.{set, replicate}
 use Rattle.std.proofs.lemmas.List.Elements.{Contains-append_left, Contains-push, Contains-push_cases}
 use Rattle.std.proofs.lemmas.Bool.{cases_lt, cases_eq, cases_order, lt-ltb, le-ltb, false≢true}
 use Rattle.std.proofs.lemmas.List.{map-append, take-append-drop, take_more}
+use Rattle.std.proofs.lemmas.List.Sums.{fold-append}
+use Rattle.std.proofs.Math.Nat.{le_of_dvd}
 use Rattle.value_set.specs.Form.{Ascends, put, put_all, ascending, behind_widest, hull_base, greater, above, common_stride, farthest, hull, make, gather, Fits, IsSpan}
 use Rattle.value_set.specs.Gaps.{decided, onward, lesser, HasMarks}
 use Rattle.value_set.specs.declared.gap.Gap.{Gap}
 use Rattle.value_set.proofs.Members.{IsIn, in_from_Contains, Contains_from_in, Ascends-in, put_all_has, in_ascending, put-same, put-below, put-above, put_all-append, put_all-push}
-use Rattle.value_set.proofs.Spans.{widest-wider, widest-narrow, widest-nil, greater_left, greater_right, stride_divides, farthest_has, hull_is, span_fits, set_of-many}
+use Rattle.value_set.proofs.Spans.{widest-wider, widest-narrow, widest-nil, greater_left, greater_right, stride_divides, farthest_has, hull_is, span_fits, set_of-many, divisor_positive}
 use Rattle.value_set.proofs.Gathers.{hull_base-from, hull_made}
-use Rattle.value_set.proofs.Divisors.{gcd_is}
+use Rattle.value_set.proofs.Divisors.{gcd_is, gcd_left, gcd-zero}
 use Rattle.std.proofs.lemmas.Nat.Gcd.{dvd-zero, dvd_antisymm}
 use Rattle.value_set.specs.Gcd.{gcd}
 use Rattle.value_set.specs.declared.form.Progression.{Progression}
@@ -243,6 +245,29 @@ many_so_far {X} f i list =
 pub one_more : {X : Type 0} (f : X → ℕ) (list : List X) (i v : ℕ) (item : X) → i < length list → item ≡ get_or list i item → v ≡ f item
     → ascending (map f (take (i + 1) list)) ≡ put v (ascending (map f (take i list)))
 one_more {X} f list i v item h is value = ap (λ (xs : List ℕ). ascending xs) (pushed f list i v item h is value) ∙ put_all-push [] (map f (take i list)) v
+
+-- once a stride is 1 it stays so
+gcd_one : (n : ℕ) → gcd 1 n ≡ 1
+gcd_one n = elim (cases_eq n 0) [
+  | inl none ↦ gcd-zero 1 n none
+  | inr some ↦
+      let least = divisor_positive n 1 (omega (arith, some)) in
+      let most = le_of_dvd {m = gcd 1 n} {n = 1} (omega arith) (gcd_left 1 n) in
+      omega (arith, least, most)
+]
+
+stays_one : (m from : ℕ) (xs : List ℕ) → fold (λ g v. gcd g (above m from v)) 1 xs ≡ 1
+stays_one m from [] = refl
+stays_one m from (x ∷ xs) = ap (λ (g : ℕ). fold (λ g v. gcd g (above m from v)) g xs) (gcd_one (above m from x)) ∙ stays_one m from xs
+
+pub one_already : {X : Type 0} (f : X → ℕ) (m from i stride : ℕ) (list : List X) → stride ≡ common_stride m from (map f (take i list)) → stride ≡ 1
+    → 1 ≡ common_stride m from (map f list)
+one_already {X} f m from i stride list so_far is =
+    let split : map f list ≡ map f (take i list) ++ map f (drop i list) = ap (λ (xs : List X). map f xs) (sym (take-append-drop i list)) ∙ map-append f (take i list) (drop i list) in
+    sym (ap (λ (xs : List ℕ). common_stride m from xs) split
+    ∙ fold-append (λ g v. gcd g (above m from v)) 0 (map f (take i list)) (map f (drop i list))
+    ∙ ap (λ (g : ℕ). fold (λ g v. gcd g (above m from v)) g (map f (drop i list))) (sym so_far ∙ is)
+    ∙ stays_one m from (map f (drop i list)))
 
 pub All_below : (low m : ℕ) (xs : List ℕ) → Ascends low m xs → All (λ x. x < m) xs
 All_below low m [] a i d h = absurd (omega arith)

@@ -1,5 +1,5 @@
 -- What the loops that gather numbers keep.
-use Rattle.std.proofs.Common.{◌≡◌, ℕ, ◌+◌, ◌-◌, ◌*◌, ◌%◌, ◌/◌, ◌<◌, ◌≤◌, List, [], ◌∷◌, length, drop, get_or, refl, sym, ◌∙◌, ap, subst, inl, inr, arith}
+use Rattle.std.proofs.Common.{◌≡◌, ℕ, ◌+◌, ◌-◌, ◌*◌, ◌%◌, ◌/◌, ◌<◌, ◌≤◌, ◌++◌, List, [], ◌∷◌, length, drop, get_or, refl, sym, ◌∙◌, ap, subst, inl, inr, arith}
 use Prim.Native.Nat.{suc}
 use Rattle.std.specs.Prelude.{Ok, Err}
 use Rattle.std.specs.List.{fold, insert}
@@ -9,16 +9,21 @@ use Rattle.std.proofs.Common.{drop-cons}
 use Rattle.std.proofs.lemmas.List.{drop_all}
 use Rattle.std.proofs.lemmas.List.Sorted.{searched}
 use Rattle.std.proofs.lemmas.Bool.{cases_eq}
+use Rattle.std.proofs.lemmas.Grind.{get_or_default_zero}
 use Rattle.std.proofs.Math.Nat.{le_of_dvd}
 use Rattle.value_set.specs.Gcd.{gcd}
 use Rattle.value_set.specs.Form.{put, ascending, steps, Ascends, IsSpan, above, behind_widest, hull_base, common_stride, farthest, hull, make}
 use Rattle.value_set.specs.declared.form.Progression.{Progression}
 use Rattle.value_set.specs.declared.form.Form.TheVariants.{Run}
 use Rattle.value_set.proofs.Making.{make-whole, make-open}
-use Rattle.value_set.proofs.Divisors.{gcd_right, gcd-zero}
-use Rattle.value_set.proofs.Members.{Contains_from_in, Ascends-in, Ascends-order, Ascends-lower, Ascends-put, length-put, Ascends-put_all, length-put_all, length-steps, in_steps, put_found, put_insert, put_all-push, steps_more}
-use Rattle.value_set.proofs.Rounds.{above_below, run_below}
+use Rattle.value_set.proofs.Divisors.{gcd_right, gcd-zero, gcd-step}
+use Rattle.value_set.proofs.Members.{Contains_from_in, Ascends-in, Ascends-order, Ascends-lower, Ascends-put, length-put, Ascends-put_all, length-put_all, length-steps, in_steps, put_found, put_insert, put_above_all, put_all-push, steps_more}
+use Rattle.value_set.proofs.Rounds.{above_below, run_below, mod_low}
 use Rattle.value_set.proofs.Spans.{hull_base_in, hull_is, widest-wider, widest-narrow, widest-nil}
+
+-- the lesser number first
+pub gcd_turned : (a b : ℕ) → a < b → gcd b a ≡ gcd a b
+gcd_turned a b h = sym (gcd-step a b (omega arith) ∙ ap (λ (n : ℕ). gcd b n) (mod_low a b h))
 
 pub gcd_below : (a b m : ℕ) → a < m → b < m → gcd a b < m
 gcd_below a b m h k = elim (cases_eq b 0) [
@@ -49,6 +54,16 @@ there m v place xs ys same a h =
     let h' : IsBinarySearchResult (λ y. nat_cmp y v) ys (Ok place) = subst (λ (zs : List ℕ). IsBinarySearchResult (λ y. nat_cmp y v) zs (Ok place)) same h in
     let found = searched ys v (Ok place) h' (λ i j l k. Ascends-order 0 m i j ys a l k) in
     sym (put_found 0 m v place ys a found.0 found.1)
+
+-- a number above the last one goes behind it
+put_behind : (m v : ℕ) (xs : List ℕ) → Ascends 0 m xs → (1 ≤ length xs → get_or xs (length xs - 1) 0 < v) → xs ++ v ∷ [] ≡ put v xs
+put_behind m v xs a last = sym (put_above_all v xs (λ w i.
+    let at = Contains_from_in xs w i in
+    let high = Ascends-order 0 m at.0 (length xs - 1) xs a (omega (arith, at.1)) (omega (arith, at.1)) in
+    omega (arith, high, last (omega (arith, at.1)), get_or_default_zero xs at.0 w at.1, at.2)))
+
+pub behind : (m v : ℕ) (xs ys : List ℕ) → Ascends 0 m xs → ys ≡ xs → (1 ≤ length ys → get_or ys (length ys - 1) 0 < v) → xs ++ v ∷ [] ≡ put v xs
+behind m v xs ys a same last = put_behind m v xs a (subst (λ (zs : List ℕ). 1 ≤ length zs → get_or zs (length zs - 1) 0 < v) same last)
 
 pub put_ascends : (m v : ℕ) (xs ys : List ℕ) → ys ≡ put v xs → v < m → Ascends 0 m xs → Ascends 0 m ys
 put_ascends m v xs ys is h a = subst (λ (zs : List ℕ). Ascends 0 m zs) (sym is) (Ascends-put 0 m v xs (omega arith) h a)

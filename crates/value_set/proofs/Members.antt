@@ -159,7 +159,7 @@ Ascends-in low m v (x ∷ xs) a (inl e) = (omega arith, omega arith)
 Ascends-in low m v (x ∷ xs) a (inr h) = let rest = Ascends-in (x + 1) m v xs a.2 h in (omega arith, rest.1)
 
 -- a number above all others is put at their end
-put_above_all : (w : ℕ) (xs : List ℕ) → ((v : ℕ) → IsIn v xs → v < w) → put w xs ≡ xs ++ w ∷ []
+pub put_above_all : (w : ℕ) (xs : List ℕ) → ((v : ℕ) → IsIn v xs → v < w) → put w xs ≡ xs ++ w ∷ []
 put_above_all w [] below = put-nil w
 put_above_all w (x ∷ xs) below = put-above w x xs (below x (inl refl)) ∙ ap (λ (rest : List ℕ). x ∷ rest) (put_above_all w xs (λ v i. below v (inr i)))
 

@@ -7,6 +7,9 @@ ghost use Rattle.value_set.specs.Gcd.{gcd};
 pub fn greatest_common_divisor(mut a: u32, mut b: u32) -> u32
     ensures { result ≡ gcd a b }
 {
+    if a < b {
+        (a, b) = (b, a);
+    }
     while b != 0 {
         (a, b) = (b, a % b);
     }

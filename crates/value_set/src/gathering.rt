@@ -1,7 +1,7 @@
 //! Sets from numbers: lists where they are few, else runs that they are drawn from.
 
 ghost use Rattle.std.specs.Prelude.{◌≡◌, ℕ, ◌+◌, ◌-◌, ◌*◌, ◌/◌, ◌%◌, ◌<◌, ◌≤◌, [], ◌∷◌, length, take};
-ghost use Rattle.std.specs.Prelude.{List, All, map};
+ghost use Rattle.std.specs.Prelude.{List, All, IsTrue, map, slice_index};
 ghost use Rattle.value_set.specs.Form as forms;
 ghost use Rattle.value_set.specs.Form.{Ascends, Fits, IsNormal, IsSpan};
 
@@ -16,6 +16,16 @@ use arrayvec::ArrayVec;
 /// How many numbers are gathered at once.
 pub const ROOM: usize = 256;
 
+/// Whether a number is above the last one of a list, where there is one.
+fn is_behind(values: &[u16], value: u16) -> bool
+    ensures { IsTrue result → 1 ≤ length values.now → slice_index values.now (length values.now - 1) < value }
+{
+    match values.len() {
+        0 => true,
+        len => values[len - 1] < value,
+    }
+}
+
 /// Puts a number in its place among ascending ones, unless it is there.
 pub fn put(values: &mut ArrayVec<u16, ROOM>, value: u16)
     requires room { length values.old.items < 256 }
@@ -24,6 +34,10 @@ pub fn put(values: &mut ArrayVec<u16, ROOM>, value: u16)
     ensures still { Ascends 0 65536 values.new.items }
     ensures longer { length values.new.items ≤ length values.old.items + 1 }
 {
+    if is_behind(values.as_slice(), value) {
+        values.push(value);
+        return;
+    }
     match values.as_slice().binary_search(&value) {
         Ok(_) => {}
         Err(place) => values.insert(place, value),
@@ -97,6 +111,9 @@ pub fn common_stride<N: Number>(modulus: u32, from: u16, list: &[N]) -> u16
 {
     let mut stride = 0;
     for number in list {
+        if stride == 1 {
+            return 1;
+        }
         stride = greatest_common_divisor(
             stride,
             above(modulus, from as u32, number.number() as u32),

@@ -11,7 +11,7 @@ use crate::divisor::greatest_common_divisor;
 use crate::few::Few;
 use crate::form::{Form, Progression, Stretch, same};
 use crate::gathering::{hull, make, steps_to};
-use crate::member::within;
+use crate::member::inside;
 use crate::merging::few_together;
 
 /// The run that a set is drawn from.
@@ -122,7 +122,7 @@ fn join_lists(modulus: u32, first: &Few, second: &Few) -> Form
     }
 }
 
-/// The join of two sets one of which is a run.
+/// The join of two sets that aren't equal, one of which is a run.
 fn join_with_run(modulus: u32, first: &Form, second: &Form) -> Form
     requires small { modulus ≤ 65536 }
     requires first_normal { IsNormal modulus first.now }
@@ -130,10 +130,10 @@ fn join_with_run(modulus: u32, first: &Form, second: &Form) -> Form
     requires one_run { HasRun first.now second.now }
     ensures { result ≡ joins.join modulus first.now second.now }
 {
-    if within(modulus, second, first) {
+    if inside(modulus, second, first) {
         return *first;
     }
-    if within(modulus, first, second) {
+    if inside(modulus, first, second) {
         return *second;
     }
     join_spans(modulus, &span(modulus, first), &span(modulus, second))

@@ -77,6 +77,16 @@ pub fn within(modulus: u32, smaller: &Form, larger: &Form) -> bool
     if same(smaller, larger) {
         return true;
     }
+    inside(modulus, smaller, larger)
+}
+
+/// As `within`, with no look for equal sets before.
+pub fn inside(modulus: u32, smaller: &Form, larger: &Form) -> bool
+    requires small { modulus ≤ 65536 }
+    requires normal { IsNormal modulus smaller.now }
+    requires normal_too { IsNormal modulus larger.now }
+    ensures { IsTrue result ↔ Includes modulus larger.now smaller.now }
+{
     match (smaller, larger) {
         (Form::Values(few), Form::Values(others)) => {
             list_within(few.as_slice(), others.as_slice())
