@@ -138,11 +138,10 @@ pub fn agreed<F: Flag>(flag: &F, a: &Vs8, b: &Vs8, carry: Tri) -> Tri
     ensures value { result ≡ flag_sets.agreed 256 (F.value flag.now) a.now b.now (sets.chosen carry) }
     ensures holds { (x y bit : ℕ) → Has 256 a.now x → Has 256 b.now y → IsBit carry bit → IsFlag result (F.value flag.now x y bit) }
 {
-    let carries = chosen(carry);
-    if !is_few(a, b, &carries) {
+    if !flags::are_few(a.count(), b.count(), carry) {
         return Tri::Either;
     }
-    flags::agreed_few(256, flag, &a.form(), &b.form(), &carries.form())
+    flags::agreed_few(256, flag, &a.form(), &b.form(), carry)
 }
 
 /// The decimal sum of each member of a set with each of another and a carry. An unknown carry counts as two. Where a
