@@ -44,6 +44,25 @@ in_each_has wanted flag xs ys zs each =
     (λ x i. all_in (λ y. list_all (λ z. has_value wanted (flag x y z)) zs) ys
     (λ y j. all_in (λ z. has_value wanted (flag x y z)) zs (λ z k. had_value wanted (flag x y z) (each x y z i j k))))
 
+same_truth : (a b : Bool) → (a ≡ true → b ≡ true) → (b ≡ true → a ≡ true) → a ≡ b
+same_truth true b forth back = sym (forth refl)
+same_truth false true forth back = back refl
+same_truth false false forth back = refl
+
+-- the combinations in another order
+pub carries_first : (wanted : Bool) (flag : ℕ → ℕ → ℕ → Bool) (xs ys zs : List ℕ)
+    → list_all (λ z. list_all (λ x. list_all (λ y. has_value wanted (flag x y z)) ys) xs) zs ≡ each_has wanted flag xs ys zs
+carries_first wanted flag xs ys zs =
+    same_truth (list_all (λ z. list_all (λ x. list_all (λ y. has_value wanted (flag x y z)) ys) xs) zs) (each_has wanted flag xs ys zs)
+    (λ all. in_each_has wanted flag xs ys zs (λ x y z i j k.
+    let rows = list_all_in (λ z. list_all (λ x. list_all (λ y. has_value wanted (flag x y z)) ys) xs) z zs all k in
+    let row = list_all_in (λ x. list_all (λ y. has_value wanted (flag x y z)) ys) x xs rows i in
+    value_had wanted (flag x y z) (list_all_in (λ y. has_value wanted (flag x y z)) y ys row j)))
+    (λ all. all_in (λ z. list_all (λ x. list_all (λ y. has_value wanted (flag x y z)) ys) xs) zs
+    (λ z k. all_in (λ x. list_all (λ y. has_value wanted (flag x y z)) ys) xs
+    (λ x i. all_in (λ y. has_value wanted (flag x y z)) ys
+    (λ y j. had_value wanted (flag x y z) (each_has_in wanted flag xs ys zs x y z all i j k)))))
+
 pub agreed-few : (m : ℕ) (flag : ℕ → ℕ → ℕ → Bool) (a b c : Form) → count_of m a * (count_of m b * count_of m c) ≤ 256
     → agreed m flag a b c ≡ agreed_of flag (members m a) (members m b) (members m c)
 unfolding agreed

@@ -161,7 +161,7 @@ fn known(flag: bool) -> Tri
     if flag { Tri::One } else { Tri::Zero }
 }
 
-/// Whether the flag has a value for each combination.
+/// Whether the flag has a value for each combination. The carries come first, since there are fewest of them.
 fn each_has<F: Flag>(
     modulus: u32,
     wanted: bool,
@@ -176,45 +176,62 @@ fn each_has<F: Flag>(
     requires carries_below { All (λ n. n < modulus) carries.now }
     ensures { result ≡ flags.each_has wanted (F.value flag.now) xs.now ys.now carries.now }
 {
-    for x in xs {
-        if !row_has(modulus, wanted, flag, *x, ys, carries) {
-            return false;
-        }
-    }
-    true
+    carries_have(modulus, wanted, flag, xs, ys, carries)
 }
 
-fn row_has<F: Flag>(
+fn carries_have<F: Flag>(
     modulus: u32,
     wanted: bool,
     flag: &F,
-    x: u16,
+    xs: &[u16],
     ys: &[u16],
     carries: &[u16],
 ) -> bool
     requires width { F.modulus flag.now ≡ modulus }
-    requires x_below { x < modulus }
+    requires xs_below { All (λ n. n < modulus) xs.now }
     requires ys_below { All (λ n. n < modulus) ys.now }
     requires carries_below { All (λ n. n < modulus) carries.now }
-    ensures { result ≡ list_all (λ y. list_all (λ z. flags.has_value wanted (F.value flag.now x y z)) carries.now) ys.now }
+    ensures { result ≡ list_all (λ z. list_all (λ x. list_all (λ y. flags.has_value wanted (F.value flag.now x y z)) ys.now) xs.now) carries.now }
 {
-    for y in ys {
-        if !pair_has(modulus, wanted, flag, x, *y, carries) {
+    for carry in carries {
+        if !rows_have(modulus, wanted, flag, xs, ys, *carry) {
             return false;
         }
     }
     true
 }
 
-fn pair_has<F: Flag>(modulus: u32, wanted: bool, flag: &F, x: u16, y: u16, carries: &[u16]) -> bool
+fn rows_have<F: Flag>(
+    modulus: u32,
+    wanted: bool,
+    flag: &F,
+    xs: &[u16],
+    ys: &[u16],
+    carry: u16,
+) -> bool
+    requires width { F.modulus flag.now ≡ modulus }
+    requires xs_below { All (λ n. n < modulus) xs.now }
+    requires ys_below { All (λ n. n < modulus) ys.now }
+    requires carry_below { carry < modulus }
+    ensures { result ≡ list_all (λ x. list_all (λ y. flags.has_value wanted (F.value flag.now x y carry)) ys.now) xs.now }
+{
+    for x in xs {
+        if !row_has(modulus, wanted, flag, *x, ys, carry) {
+            return false;
+        }
+    }
+    true
+}
+
+fn row_has<F: Flag>(modulus: u32, wanted: bool, flag: &F, x: u16, ys: &[u16], carry: u16) -> bool
     requires width { F.modulus flag.now ≡ modulus }
     requires x_below { x < modulus }
-    requires y_below { y < modulus }
-    requires carries_below { All (λ n. n < modulus) carries.now }
-    ensures { result ≡ list_all (λ z. flags.has_value wanted (F.value flag.now x y z)) carries.now }
+    requires ys_below { All (λ n. n < modulus) ys.now }
+    requires carry_below { carry < modulus }
+    ensures { result ≡ list_all (λ y. flags.has_value wanted (F.value flag.now x y carry)) ys.now }
 {
-    for carry in carries {
-        if !has_value(wanted, flag.is_set(x, y, *carry)) {
+    for y in ys {
+        if !has_value(wanted, flag.is_set(x, *y, carry)) {
             return false;
         }
     }
@@ -224,5 +241,5 @@ fn pair_has<F: Flag>(modulus: u32, wanted: bool, flag: &F, x: u16, y: u16, carri
 fn has_value(wanted: bool, flag: bool) -> bool
     ensures { result ≡ flags.has_value wanted flag }
 {
-    if wanted { flag } else { !flag }
+    wanted == flag
 }

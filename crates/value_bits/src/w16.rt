@@ -16,7 +16,7 @@ use crate::knowing::{exchanged_bits, extended_bits, joined, known_bits, logic_bi
 use crate::operations::{Bitwise, DecimalSum, Exchange, Shift, SignExtension};
 use crate::tri::{Logic, Top, Tri};
 use crate::words::{chosen, gathered, is_few, top_carry, with_bits};
-use crate::{bytes, decimal, flags};
+use crate::{bytes, decimal, flags, words};
 use arrayvec::ArrayVec;
 use value_set::{Vs8, Vs16};
 
@@ -136,6 +136,19 @@ pub fn low(a: &Vs16) -> Vs8
     ensures holds { (x : ℕ) → Has 65536 a.now x → Has 256 result (low_byte x) }
     ensures alone { (x : ℕ) → a.now ≡ single x → result ≡ single (low_byte x) }
 {
+    match words::alone(a) {
+        Some(word) => Vs8::one((word % 256) as u8),
+        None => low_of_several(a),
+    }
+}
+
+/// The low byte of each member, of a set that may have several.
+fn low_of_several(a: &Vs16) -> Vs8
+    ensures value { result ≡ sets.low_set a.now }
+    ensures normal { IsNormal 256 result }
+    ensures holds { (x : ℕ) → Has 65536 a.now x → Has 256 result (low_byte x) }
+    ensures alone { (x : ℕ) → a.now ≡ single x → result ≡ single (low_byte x) }
+{
     if a.count() <= 256 {
         return bytes::gathered(low_bytes(a).as_slice());
     }
@@ -156,6 +169,19 @@ fn low_bytes(a: &Vs16) -> ArrayVec<u8, 256>
 
 /// The high byte of each member.
 pub fn high(a: &Vs16) -> Vs8
+    ensures value { result ≡ sets.high_set a.now }
+    ensures normal { IsNormal 256 result }
+    ensures holds { (x : ℕ) → Has 65536 a.now x → Has 256 result (high_byte x) }
+    ensures alone { (x : ℕ) → a.now ≡ single x → result ≡ single (high_byte x) }
+{
+    match words::alone(a) {
+        Some(word) => Vs8::one((word / 256) as u8),
+        None => high_of_several(a),
+    }
+}
+
+/// The high byte of each member, of a set that may have several.
+fn high_of_several(a: &Vs16) -> Vs8
     ensures value { result ≡ sets.high_set a.now }
     ensures normal { IsNormal 256 result }
     ensures holds { (x : ℕ) → Has 65536 a.now x → Has 256 result (high_byte x) }
@@ -186,15 +212,28 @@ pub fn pair(low: &Vs8, high: &Vs8) -> Vs16
     ensures holds { (x y : ℕ) → Has 256 low.now x → Has 256 high.now y → Has 65536 result (word_of x y) }
     ensures alone { (x y : ℕ) → low.now ≡ single x → high.now ≡ single y → result ≡ single (word_of x y) }
 {
+    match (bytes::alone(low), bytes::alone(high)) {
+        (Some(x), Some(y)) => Vs16::one(x as u16 + y as u16 * 256),
+        _ => pair_of_several(low, high),
+    }
+}
+
+/// The words of each low byte with each high byte, of sets that may have several.
+fn pair_of_several(low: &Vs8, high: &Vs8) -> Vs16
+    ensures value { result ≡ sets.pair_set low.now high.now }
+    ensures normal { IsNormal 65536 result }
+    ensures holds { (x y : ℕ) → Has 256 low.now x → Has 256 high.now y → Has 65536 result (word_of x y) }
+    ensures alone { (x y : ℕ) → low.now ≡ single x → high.now ≡ single y → result ≡ single (word_of x y) }
+{
     if low.count() * high.count() <= 256 {
-        return gathered(words(low, high).as_slice());
+        return gathered(words_of(low, high).as_slice());
     }
     let lows = known_bits(8, &low.form());
     with_bits(joined(lows.as_slice(), known_bits(8, &high.form()).as_slice()).as_slice())
 }
 
 /// The words of the members, one after another.
-fn words(low: &Vs8, high: &Vs8) -> ArrayVec<u16, 256>
+fn words_of(low: &Vs8, high: &Vs8) -> ArrayVec<u16, 256>
     requires { length (members 256 low.now) * length (members 256 high.now) ≤ 256 }
     ensures { result.items ≡ sets.words (members 256 low.now) (members 256 high.now) }
 {
