@@ -32,13 +32,13 @@ all_in : (p : ℕ → Bool) (xs : List ℕ) → ((v : ℕ) → IsIn v xs → p v
 all_in p [] each = refl
 all_in p (x ∷ xs) each = let here = each x (inl refl) in rw here (all_in p xs (λ v i. each v (inr i)))
 
-each_has_in : (wanted : Bool) (flag : ℕ → ℕ → ℕ → Bool) (xs ys zs : List ℕ) (x y z : ℕ) → each_has wanted flag xs ys zs ≡ true → IsIn x xs → IsIn y ys → IsIn z zs → flag x y z ≡ wanted
+pub each_has_in : (wanted : Bool) (flag : ℕ → ℕ → ℕ → Bool) (xs ys zs : List ℕ) (x y z : ℕ) → each_has wanted flag xs ys zs ≡ true → IsIn x xs → IsIn y ys → IsIn z zs → flag x y z ≡ wanted
 each_has_in wanted flag xs ys zs x y z h i j k =
     let row = list_all_in (λ x. list_all (λ y. list_all (λ z. has_value wanted (flag x y z)) zs) ys) x xs h i in
     let line = list_all_in (λ y. list_all (λ z. has_value wanted (flag x y z)) zs) y ys row j in
     value_had wanted (flag x y z) (list_all_in (λ z. has_value wanted (flag x y z)) z zs line k)
 
-in_each_has : (wanted : Bool) (flag : ℕ → ℕ → ℕ → Bool) (xs ys zs : List ℕ) → ((x y z : ℕ) → IsIn x xs → IsIn y ys → IsIn z zs → flag x y z ≡ wanted) → each_has wanted flag xs ys zs ≡ true
+pub in_each_has : (wanted : Bool) (flag : ℕ → ℕ → ℕ → Bool) (xs ys zs : List ℕ) → ((x y z : ℕ) → IsIn x xs → IsIn y ys → IsIn z zs → flag x y z ≡ wanted) → each_has wanted flag xs ys zs ≡ true
 in_each_has wanted flag xs ys zs each =
     all_in (λ x. list_all (λ y. list_all (λ z. has_value wanted (flag x y z)) zs) ys) xs
     (λ x i. all_in (λ y. list_all (λ z. has_value wanted (flag x y z)) zs) ys
@@ -95,7 +95,7 @@ agreed_set m flag a b c few each =
     let all = in_each_has true flag xs ys zs (λ x y z i j k. each x y z (Contains_from_in xs x i) (Contains_from_in ys y j) (Contains_from_in zs z k)) in
     agreed-few m flag a b c few ∙ (rw all refl)
 
-first_in : (xs : List ℕ) → 1 ≤ length xs → (v : ℕ) × IsIn v xs
+pub first_in : (xs : List ℕ) → 1 ≤ length xs → (v : ℕ) × IsIn v xs
 first_in [] h = absurd (omega arith)
 first_in (x ∷ xs) h = (x, inl refl)
 
@@ -136,7 +136,7 @@ pub run_count : (m : ℕ) (set : Form) (p : Progression) → set ≡ Run p → c
 unfolding steps
 run_count m set p is = rw is (length-map-range_with_len (λ (i : ℕ). (p.base + i * p.stride) % m) 0 p.count)
 
-positive : (m : ℕ) (set : Form) → IsNormal m set → 0 < m
+pub positive : (m : ℕ) (set : Form) → IsNormal m set → 0 < m
 positive m (Values []) n = absurd (let some = n.0 in omega (arith, some))
 positive m (Values (x ∷ xs)) n = let low = n.2.1 in omega (arith, low)
 positive m (Run p) n = let low = n.below in omega (arith, low)

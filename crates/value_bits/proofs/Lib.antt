@@ -12,3 +12,5 @@ mod Examples
 pub mod Formulas
 pub mod Evens
 pub mod Combinations
+pub mod EndsOfSets
+pub mod Sharing

@@ -5,3 +5,4 @@ pub mod Staying
 pub mod SetLaws
 pub mod Flags
 pub mod Lefts
+pub mod Order

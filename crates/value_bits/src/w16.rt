@@ -1,6 +1,6 @@
 //! Known bits of sets of 16-bit numbers, and bitwise and decimal operations on them.
 
-ghost use Rattle.std.specs.Prelude.{◌≡◌, ℕ, ◌+◌, ◌*◌, ◌<◌, ◌≤◌, ◌++◌, ◌&&◌, IsTrue, IsFalse, length, map, bit_and, bit_or, bit_xor};
+ghost use Rattle.std.specs.Prelude.{◌≡◌, ℕ, ◌+◌, ◌*◌, ◌<◌, ◌≤◌, ◌++◌, ◌&&◌, ◌==◌, nat_le, IsTrue, IsFalse, length, map, bit_and, bit_or, bit_xor};
 ghost use Rattle.value_set.specs.Form.{Has, IsNormal, members};
 ghost use Rattle.value_set.specs.Summing.{single};
 ghost use Rattle.value_bits.specs.Bits as known;
@@ -16,7 +16,7 @@ use crate::knowing::{exchanged_bits, extended_bits, joined, known_bits, logic_bi
 use crate::operations::{Bitwise, DecimalSum, Exchange, Shift, SignExtension};
 use crate::tri::{Logic, Top, Tri};
 use crate::words::{chosen, gathered, is_few, top_carry, with_bits};
-use crate::{bytes, decimal, flags, words};
+use crate::{bytes, decimal, flags, order, words};
 use arrayvec::ArrayVec;
 use value_set::{Vs8, Vs16};
 
@@ -265,6 +265,30 @@ pub fn agreed<F: Flag>(flag: &F, a: &Vs16, b: &Vs16, carry: Tri) -> Tri
         return Tri::Either;
     }
     flags::agreed_few(65536, flag, &a.form(), &b.form(), carry)
+}
+
+/// What is known of whether a number of a set is at least one of another, as the carry of a comparison tells. It is known
+/// where at most 256 combinations agree.
+pub fn at_least(a: &Vs16, b: &Vs16) -> Tri
+    ensures value { result ≡ flag_sets.agreed 65536 (λ x y carry. nat_le y x) a.now b.now (single 0) }
+    ensures holds { (x y : ℕ) → Has 65536 a.now x → Has 65536 b.now y → IsFlag result (nat_le y x) }
+{
+    if !flags::are_few(a.count(), b.count(), Tri::Zero) {
+        return Tri::Either;
+    }
+    order::at_least(65536, &a.form(), &b.form())
+}
+
+/// What is known of whether a number of a set is one of another, as the zero flag of a comparison tells. It is known where
+/// at most 256 combinations agree.
+pub fn equal(a: &Vs16, b: &Vs16) -> Tri
+    ensures value { result ≡ flag_sets.agreed 65536 (λ x y carry. x == y) a.now b.now (single 0) }
+    ensures holds { (x y : ℕ) → Has 65536 a.now x → Has 65536 b.now y → IsFlag result (x == y) }
+{
+    if !flags::are_few(a.count(), b.count(), Tri::Zero) {
+        return Tri::Either;
+    }
+    order::equal(65536, &a.form(), &b.form())
 }
 
 /// The decimal sum of each member of a set with each of another and a carry. An unknown carry counts as two. Where a
