@@ -1,5 +1,5 @@
 -- What is known of a flag over all combinations of members.
-use Rattle.std.proofs.Common.{◌≡◌, ℕ, ◌+◌, ◌*◌, ◌%◌, ◌<◌, ◌≤◌, ◌++◌, get_or, Bool, true, false, cond, List, [], ◌∷◌, length, refl, sym, ◌∙◌, subst, inl, inr, arith}
+use Rattle.std.proofs.Common.{◌≡◌, ℕ, ◌+◌, ◌*◌, ◌%◌, ◌<◌, ◌≤◌, ◌++◌, get_or, Bool, true, false, cond, List, [], ◌∷◌, length, refl, sym, ◌∙◌, ap, subst, inl, inr, arith}
 use Rattle.std.specs.List.{All, list_all}
 use Rattle.std.proofs.lemmas.Nat.{mul-le}
 use Rattle.std.proofs.lemmas.List.Elements.{Contains-get_or}
@@ -12,6 +12,8 @@ use Rattle.value_set.specs.Form.{members, steps, Has, IsNormal}
 use Rattle.value_set.specs.Summing.{count_of}
 use Rattle.value_bits.specs.declared.tri.Tri.{Tri}
 use Rattle.value_bits.specs.declared.tri.Tri.TheVariants.{Zero, One, Either}
+use Rattle.value_bits.specs.Bits.{choices}
+use Rattle.value_bits.specs.Sets.{chosen}
 use Rattle.value_bits.specs.Flags.{IsFlag, has_value, each_has, agreed_of, agreed}
 use Rattle.value_set.specs.Laws.{SetLaws}
 use Rattle.value_bits.proofs.Within.{IsIn, in_from_Contains, Contains_from_in, list_all_in, member_below}
@@ -30,17 +32,36 @@ all_in : (p : ℕ → Bool) (xs : List ℕ) → ((v : ℕ) → IsIn v xs → p v
 all_in p [] each = refl
 all_in p (x ∷ xs) each = let here = each x (inl refl) in rw here (all_in p xs (λ v i. each v (inr i)))
 
-each_has_in : (wanted : Bool) (flag : ℕ → ℕ → ℕ → Bool) (xs ys zs : List ℕ) (x y z : ℕ) → each_has wanted flag xs ys zs ≡ true → IsIn x xs → IsIn y ys → IsIn z zs → flag x y z ≡ wanted
+pub each_has_in : (wanted : Bool) (flag : ℕ → ℕ → ℕ → Bool) (xs ys zs : List ℕ) (x y z : ℕ) → each_has wanted flag xs ys zs ≡ true → IsIn x xs → IsIn y ys → IsIn z zs → flag x y z ≡ wanted
 each_has_in wanted flag xs ys zs x y z h i j k =
     let row = list_all_in (λ x. list_all (λ y. list_all (λ z. has_value wanted (flag x y z)) zs) ys) x xs h i in
     let line = list_all_in (λ y. list_all (λ z. has_value wanted (flag x y z)) zs) y ys row j in
     value_had wanted (flag x y z) (list_all_in (λ z. has_value wanted (flag x y z)) z zs line k)
 
-in_each_has : (wanted : Bool) (flag : ℕ → ℕ → ℕ → Bool) (xs ys zs : List ℕ) → ((x y z : ℕ) → IsIn x xs → IsIn y ys → IsIn z zs → flag x y z ≡ wanted) → each_has wanted flag xs ys zs ≡ true
+pub in_each_has : (wanted : Bool) (flag : ℕ → ℕ → ℕ → Bool) (xs ys zs : List ℕ) → ((x y z : ℕ) → IsIn x xs → IsIn y ys → IsIn z zs → flag x y z ≡ wanted) → each_has wanted flag xs ys zs ≡ true
 in_each_has wanted flag xs ys zs each =
     all_in (λ x. list_all (λ y. list_all (λ z. has_value wanted (flag x y z)) zs) ys) xs
     (λ x i. all_in (λ y. list_all (λ z. has_value wanted (flag x y z)) zs) ys
     (λ y j. all_in (λ z. has_value wanted (flag x y z)) zs (λ z k. had_value wanted (flag x y z) (each x y z i j k))))
+
+same_truth : (a b : Bool) → (a ≡ true → b ≡ true) → (b ≡ true → a ≡ true) → a ≡ b
+same_truth true b forth back = sym (forth refl)
+same_truth false true forth back = back refl
+same_truth false false forth back = refl
+
+-- the combinations in another order
+pub carries_first : (wanted : Bool) (flag : ℕ → ℕ → ℕ → Bool) (xs ys zs : List ℕ)
+    → list_all (λ z. list_all (λ x. list_all (λ y. has_value wanted (flag x y z)) ys) xs) zs ≡ each_has wanted flag xs ys zs
+carries_first wanted flag xs ys zs =
+    same_truth (list_all (λ z. list_all (λ x. list_all (λ y. has_value wanted (flag x y z)) ys) xs) zs) (each_has wanted flag xs ys zs)
+    (λ all. in_each_has wanted flag xs ys zs (λ x y z i j k.
+    let rows = list_all_in (λ z. list_all (λ x. list_all (λ y. has_value wanted (flag x y z)) ys) xs) z zs all k in
+    let row = list_all_in (λ x. list_all (λ y. has_value wanted (flag x y z)) ys) x xs rows i in
+    value_had wanted (flag x y z) (list_all_in (λ y. has_value wanted (flag x y z)) y ys row j)))
+    (λ all. all_in (λ z. list_all (λ x. list_all (λ y. has_value wanted (flag x y z)) ys) xs) zs
+    (λ z k. all_in (λ x. list_all (λ y. has_value wanted (flag x y z)) ys) xs
+    (λ x i. all_in (λ y. has_value wanted (flag x y z)) ys
+    (λ y j. had_value wanted (flag x y z) (each_has_in wanted flag xs ys zs x y z all i j k)))))
 
 pub agreed-few : (m : ℕ) (flag : ℕ → ℕ → ℕ → Bool) (a b c : Form) → count_of m a * (count_of m b * count_of m c) ≤ 256
     → agreed m flag a b c ≡ agreed_of flag (members m a) (members m b) (members m c)
@@ -74,7 +95,7 @@ agreed_set m flag a b c few each =
     let all = in_each_has true flag xs ys zs (λ x y z i j k. each x y z (Contains_from_in xs x i) (Contains_from_in ys y j) (Contains_from_in zs z k)) in
     agreed-few m flag a b c few ∙ (rw all refl)
 
-first_in : (xs : List ℕ) → 1 ≤ length xs → (v : ℕ) × IsIn v xs
+pub first_in : (xs : List ℕ) → 1 ≤ length xs → (v : ℕ) × IsIn v xs
 first_in [] h = absurd (omega arith)
 first_in (x ∷ xs) h = (x, inl refl)
 
@@ -115,24 +136,26 @@ pub run_count : (m : ℕ) (set : Form) (p : Progression) → set ≡ Run p → c
 unfolding steps
 run_count m set p is = rw is (length-map-range_with_len (λ (i : ℕ). (p.base + i * p.stride) % m) 0 p.count)
 
-pub listed_values : (m : ℕ) (set : Form) (xs items : List ℕ) → set ≡ Values xs → items ≡ xs → items ≡ members m set
-listed_values m set xs items is same = rw is same
-
-pub listed_run : (m : ℕ) (set : Form) (p : Progression) (items : List ℕ) → set ≡ Run p → items ≡ steps m p.base p.stride p.count → items ≡ members m set
-listed_run m set p items is same = rw is same
-
-positive : (m : ℕ) (set : Form) → IsNormal m set → 0 < m
+pub positive : (m : ℕ) (set : Form) → IsNormal m set → 0 < m
 positive m (Values []) n = absurd (let some = n.0 in omega (arith, some))
 positive m (Values (x ∷ xs)) n = let low = n.2.1 in omega (arith, low)
 positive m (Run p) n = let low = n.below in omega (arith, low)
 
-pub listed_below : (m : ℕ) (set : Form) (items : List ℕ) → IsNormal m set → items ≡ members m set → All (λ n. n < m) items
-listed_below m set items n same = subst (λ (xs : List ℕ). All (λ n. n < m) xs) (sym same)
-    (λ k d short. member_below m (get_or (members m set) k d) set (positive m set n) n (Contains-get_or (members m set) k d short))
+pub members_below : (m : ℕ) (set : Form) → IsNormal m set → All (λ n. n < m) (members m set)
+members_below m set n = λ k d short. member_below m (get_or (members m set) k d) set (positive m set n) n (Contains-get_or (members m set) k d short)
 
-pub agreed_found : (m : ℕ) (flag : ℕ → ℕ → ℕ → Bool) (a b c : Form) (xs ys zs : List ℕ) → count_of m a * (count_of m b * count_of m c) ≤ 256
-    → xs ≡ members m a → ys ≡ members m b → zs ≡ members m c → agreed_of flag xs ys zs ≡ agreed m flag a b c
-agreed_found m flag a b c xs ys zs few h i j = rw (h, i, j) (sym (agreed-few m flag a b c few))
+pub listed_values : (m : ℕ) (set : Form) (xs items : List ℕ) → IsNormal m set → set ≡ Values xs → items ≡ xs → (1 ≤ length items) × All (λ n. n < m) items
+listed_values m set xs items n is same =
+    subst (λ (ys : List ℕ). (1 ≤ length ys) × All (λ n. n < m) ys) (sym (same ∙ ap (members m) (sym is))) (some_of m set n, members_below m set n)
+
+pub listed_run : (m : ℕ) (set : Form) (p : Progression) (items : List ℕ) → IsNormal m set → set ≡ Run p → items ≡ steps m p.base p.stride p.count
+    → (1 ≤ length items) × All (λ n. n < m) items
+listed_run m set p items n is same =
+    subst (λ (ys : List ℕ). (1 ≤ length ys) × All (λ n. n < m) ys) (sym (same ∙ ap (members m) (sym is))) (some_of m set n, members_below m set n)
+
+pub agreed_chosen : (m : ℕ) (flag : ℕ → ℕ → ℕ → Bool) (a b : Form) (carry bit : Tri) (zs : List ℕ) → count_of m a * (count_of m b * length (choices carry)) ≤ 256
+    → carry ≡ bit → zs ≡ choices bit → agreed_of flag (members m a) (members m b) zs ≡ agreed m flag a b (chosen carry)
+agreed_chosen m flag a b carry bit zs few is same = rw (same ∙ ap choices (sym is)) (sym (agreed-few m flag a b (chosen carry) few))
 
 pub steps_more : (m base stride count : ℕ) → steps m base stride (count + 1) ≡ steps m base stride count ++ (base + count * stride) % m ∷ []
 unfolding steps

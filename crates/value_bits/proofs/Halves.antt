@@ -20,6 +20,19 @@ pub gathered_one : (m v : ℕ) → gather m (v ∷ []) ≡ single v
 unfolding set_of put
 gathered_one m v = refl
 
+-- of one number
+pub low_one : (v : ℕ) → low_set (single v) ≡ single (low_byte v)
+unfolding low_set set_of put
+low_one v = refl
+
+pub high_one : (v : ℕ) → high_set (single v) ≡ single (high_byte v)
+unfolding high_set set_of put
+high_one v = refl
+
+pub pair_one : (x y : ℕ) → pair_set (single x) (single y) ≡ single (word_of x y)
+unfolding pair_set set_of put
+pair_one x y = refl
+
 pub low_few : (set result : Form) → result ≡ gather 256 (map low_byte (members 65536 set)) → length (members 65536 set) ≤ 256 → result ≡ low_set set
 unfolding low_set
 low_few set result is few = rw (le-leb (length (members 65536 set)) 256 few) is

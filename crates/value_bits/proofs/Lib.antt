@@ -14,3 +14,5 @@ pub mod Evens
 pub mod Combinations
 pub mod Singly
 pub mod LowPairs
+pub mod EndsOfSets
+pub mod Sharing

@@ -21,6 +21,10 @@ has_value false flag = if flag then false else true
 abbrev pub each_has : Bool → (ℕ → ℕ → ℕ → Bool) → (xs ys zs : List ℕ) → Bool
 each_has wanted flag xs ys zs = list_all (λ x. list_all (λ y. list_all (λ z. has_value wanted (flag x y z)) zs) ys) xs
 
+-- a flag that is known
+abbrev pub known : Bool → Tri
+known flag = if flag then One else Zero
+
 -- known where all agree
 abbrev pub agreed_of : (ℕ → ℕ → ℕ → Bool) → (xs ys zs : List ℕ) → Tri
 agreed_of flag xs ys zs = if each_has true flag xs ys zs then One else if each_has false flag xs ys zs then Zero else Either

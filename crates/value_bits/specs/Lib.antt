@@ -5,3 +5,4 @@ pub mod Staying
 pub mod Laws
 pub mod Flags
 pub mod Lefts
+pub mod Order

@@ -1,9 +1,10 @@
 //! Sets of 8-bit numbers, made of bits and of lists.
 
-ghost use Rattle.std.specs.Prelude.{◌≡◌, ℕ, ◌-◌, ◌*◌, ◌<◌, ◌≤◌, ◌↔◌, IsTrue, All, length};
+ghost use Rattle.std.specs.Prelude.{◌≡◌, ℕ, ◌-◌, ◌*◌, ◌<◌, ◌≤◌, ◌↔◌, IsTrue, IfSome, All, length};
 ghost use Rattle.std.specs.List.{Contains};
 ghost use Rattle.value_set.specs.Form as forms;
 ghost use Rattle.value_set.specs.Form.{Has, IsNormal, members};
+ghost use Rattle.value_set.specs.Summing.{single};
 ghost use Rattle.value_bits.specs.Bits as known;
 ghost use Rattle.value_bits.specs.Bits.{Agrees};
 ghost use Rattle.value_bits.specs.Sets as sets;
@@ -12,7 +13,7 @@ ghost use Rattle.value_bits.specs.Lefts as lefts;
 use crate::making::{FEW, FEW_UNKNOWN, filled, lowest_unknown, numbers, unknown_count};
 use crate::tri::{Lowest, Top, Tri};
 use arrayvec::ArrayVec;
-use value_set::Vs8;
+use value_set::{Form, Vs8};
 
 /// The set of the numbers with some bits.
 pub fn with_bits(all: &[Tri]) -> Vs8
@@ -56,6 +57,19 @@ fn run(base: u32, stride: u32, count: u32) -> Vs8
     match Vs8::run(base as u8, stride as u8, count) {
         Some(set) => set,
         None => Vs8::any(),
+    }
+}
+
+/// The number of a set of one.
+pub fn alone(set: &Vs8) -> Option<u8>
+    ensures { IfSome result (λ v. set.now ≡ single v) }
+{
+    match set.form() {
+        Form::Values(values) => match values.as_slice() {
+            [value] => Some(*value as u8),
+            _ => None,
+        },
+        Form::Run(_) => None,
     }
 }
 

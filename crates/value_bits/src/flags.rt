@@ -1,9 +1,11 @@
 //! Flags that operations set, over all combinations of members.
 
-ghost use Rattle.std.specs.Prelude.{◌≡◌, ℕ, ◌+◌, ◌-◌, ◌*◌, ◌<◌, ◌≤◌, Bool, All, length};
+ghost use Rattle.std.specs.Prelude.{◌≡◌, ℕ, ◌+◌, ◌-◌, ◌*◌, ◌<◌, ◌≤◌, ◌↔◌, IsTrue, Bool, All, length};
 ghost use Rattle.std.specs.List.{list_all};
 ghost use Rattle.value_set.specs.Form.{IsNormal, IsNormalRun, members, steps};
 ghost use Rattle.value_set.specs.Summing.{count_of};
+ghost use Rattle.value_bits.specs.Bits.{choices};
+ghost use Rattle.value_bits.specs.Sets.{chosen};
 ghost use Rattle.value_bits.specs.Flags as flags;
 
 use crate::tri::Tri;
@@ -27,50 +29,91 @@ pub trait Flag {
         ensures { result ≡ value self.now x y carry };
 }
 
+/// Whether there are at most 256 combinations of so many members with a carry.
+pub fn are_few(first: u32, second: u32, carry: Tri) -> bool
+    requires first_most { first ≤ 65536 }
+    requires second_most { second ≤ 65536 }
+    ensures { IsTrue result ↔ (first * (second * length (choices carry)) ≤ 256) }
+{
+    first as u64 * (second as u64 * choice_count(carry)) <= 256
+}
+
+/// How many bits it may be.
+fn choice_count(bit: Tri) -> u64
+    ensures value { result ≡ length (choices bit) }
+    ensures most { result ≤ 2 }
+{
+    match bit {
+        Tri::Zero | Tri::One => 1,
+        Tri::Either => 2,
+    }
+}
+
 /// What is known of a flag over at most 256 combinations of members: known where all agree.
-pub fn agreed_few<F: Flag>(modulus: u32, flag: &F, first: &Form, second: &Form, carry: &Form) -> Tri
+pub fn agreed_few<F: Flag>(modulus: u32, flag: &F, first: &Form, second: &Form, carry: Tri) -> Tri
+    requires small { modulus ≤ 65536 }
+    requires wide { 2 ≤ modulus }
+    requires first_normal { IsNormal modulus first.now }
+    requires second_normal { IsNormal modulus second.now }
+    requires width { F.modulus flag.now ≡ modulus }
+    requires few { count_of modulus first.now * (count_of modulus second.now * length (choices carry)) ≤ 256 }
+    ensures { result ≡ flags.agreed modulus (F.value flag.now) first.now second.now (chosen carry) }
+{
+    match carry {
+        Tri::Zero => agreed_first(modulus, flag, first, second, [0].as_slice()),
+        Tri::One => agreed_first(modulus, flag, first, second, [1].as_slice()),
+        Tri::Either => agreed_first(modulus, flag, first, second, [0, 1].as_slice()),
+    }
+}
+
+/// Lists the members of the first set.
+fn agreed_first<F: Flag>(
+    modulus: u32,
+    flag: &F,
+    first: &Form,
+    second: &Form,
+    carries: &[u16],
+) -> Tri
     requires small { modulus ≤ 65536 }
     requires first_normal { IsNormal modulus first.now }
     requires second_normal { IsNormal modulus second.now }
-    requires carry_normal { IsNormal modulus carry.now }
     requires width { F.modulus flag.now ≡ modulus }
-    requires few { count_of modulus first.now * (count_of modulus second.now * count_of modulus carry.now) ≤ 256 }
-    ensures { result ≡ flags.agreed modulus (F.value flag.now) first.now second.now carry.now }
+    requires carries_below { All (λ n. n < modulus) carries.now }
+    requires carries_some { 1 ≤ length carries.now }
+    requires few { count_of modulus first.now * (count_of modulus second.now * length carries.now) ≤ 256 }
+    ensures { result ≡ flags.agreed_of (F.value flag.now) (members modulus first.now) (members modulus second.now) carries.now }
 {
-    agreed_of(
-        modulus,
-        flag,
-        listed(modulus, first).as_slice(),
-        listed(modulus, second).as_slice(),
-        listed(modulus, carry).as_slice(),
-    )
+    match first {
+        Form::Values(values) => agreed_second(modulus, flag, values.as_slice(), second, carries),
+        Form::Run(run) => {
+            let values = stepped(modulus, run);
+            agreed_second(modulus, flag, values.as_slice(), second, carries)
+        }
+    }
 }
 
-/// The members of a set, one after another.
-fn listed(modulus: u32, set: &Form) -> ArrayVec<u16, MOST>
+/// Lists the members of the second set.
+fn agreed_second<F: Flag>(modulus: u32, flag: &F, xs: &[u16], second: &Form, carries: &[u16]) -> Tri
     requires small { modulus ≤ 65536 }
-    requires normal { IsNormal modulus set.now }
-    requires few { count_of modulus set.now ≤ 256 }
-    ensures items { result.items ≡ members modulus set.now }
-    ensures below { All (λ n. n < modulus) result.items }
+    requires second_normal { IsNormal modulus second.now }
+    requires second_few { count_of modulus second.now ≤ 256 }
+    requires width { F.modulus flag.now ≡ modulus }
+    requires xs_below { All (λ n. n < modulus) xs.now }
+    requires xs_some { 1 ≤ length xs.now }
+    requires carries_below { All (λ n. n < modulus) carries.now }
+    requires carries_some { 1 ≤ length carries.now }
+    ensures { result ≡ flags.agreed_of (F.value flag.now) xs.now (members modulus second.now) carries.now }
 {
-    match set {
-        Form::Values(values) => copied(values.as_slice()),
-        Form::Run(run) => stepped(modulus, run),
+    match second {
+        Form::Values(values) => agreed_of(modulus, flag, xs, values.as_slice(), carries),
+        Form::Run(run) => {
+            let values = stepped(modulus, run);
+            agreed_of(modulus, flag, xs, values.as_slice(), carries)
+        }
     }
 }
 
-fn copied(values: &[u16]) -> ArrayVec<u16, MOST>
-    requires { length values.now ≤ 256 }
-    ensures { result.items ≡ values.now }
-{
-    let mut all = ArrayVec::new();
-    for value in values {
-        all.push(*value);
-    }
-    all
-}
-
+/// The members of a run, one after another.
 fn stepped(modulus: u32, run: &Progression) -> ArrayVec<u16, MOST>
     requires small { modulus ≤ 65536 }
     requires normal { IsNormalRun modulus run.now.base run.now.stride run.now.count }
@@ -84,24 +127,41 @@ fn stepped(modulus: u32, run: &Progression) -> ArrayVec<u16, MOST>
     all
 }
 
-/// Known where all agree.
+/// Known where all agree. One combination is looked at once.
 fn agreed_of<F: Flag>(modulus: u32, flag: &F, xs: &[u16], ys: &[u16], carries: &[u16]) -> Tri
     requires width { F.modulus flag.now ≡ modulus }
     requires xs_below { All (λ n. n < modulus) xs.now }
+    requires xs_some { 1 ≤ length xs.now }
     requires ys_below { All (λ n. n < modulus) ys.now }
+    requires ys_some { 1 ≤ length ys.now }
     requires carries_below { All (λ n. n < modulus) carries.now }
+    requires carries_some { 1 ≤ length carries.now }
     ensures { result ≡ flags.agreed_of (F.value flag.now) xs.now ys.now carries.now }
 {
-    if each_has(modulus, true, flag, xs, ys, carries) {
-        Tri::One
-    } else if each_has(modulus, false, flag, xs, ys, carries) {
-        Tri::Zero
-    } else {
-        Tri::Either
+    let wanted = flag.is_set(xs[0], ys[0], carries[0]);
+    if is_alone(xs, ys, carries) {
+        return known(wanted);
     }
+    if each_has(modulus, wanted, flag, xs, ys, carries) {
+        return known(wanted);
+    }
+    Tri::Either
 }
 
-/// Whether the flag has a value for each combination.
+/// Whether there is one combination.
+fn is_alone(xs: &[u16], ys: &[u16], carries: &[u16]) -> bool
+    ensures { IsTrue result ↔ (length xs.now ≡ 1) × (length ys.now ≡ 1) × (length carries.now ≡ 1) }
+{
+    xs.len() == 1 && ys.len() == 1 && carries.len() == 1
+}
+
+fn known(flag: bool) -> Tri
+    ensures { result ≡ flags.known flag }
+{
+    if flag { Tri::One } else { Tri::Zero }
+}
+
+/// Whether the flag has a value for each combination. The carries come first, since there are fewest of them.
 fn each_has<F: Flag>(
     modulus: u32,
     wanted: bool,
@@ -116,45 +176,62 @@ fn each_has<F: Flag>(
     requires carries_below { All (λ n. n < modulus) carries.now }
     ensures { result ≡ flags.each_has wanted (F.value flag.now) xs.now ys.now carries.now }
 {
-    for x in xs {
-        if !row_has(modulus, wanted, flag, *x, ys, carries) {
-            return false;
-        }
-    }
-    true
+    carries_have(modulus, wanted, flag, xs, ys, carries)
 }
 
-fn row_has<F: Flag>(
+fn carries_have<F: Flag>(
     modulus: u32,
     wanted: bool,
     flag: &F,
-    x: u16,
+    xs: &[u16],
     ys: &[u16],
     carries: &[u16],
 ) -> bool
     requires width { F.modulus flag.now ≡ modulus }
-    requires x_below { x < modulus }
+    requires xs_below { All (λ n. n < modulus) xs.now }
     requires ys_below { All (λ n. n < modulus) ys.now }
     requires carries_below { All (λ n. n < modulus) carries.now }
-    ensures { result ≡ list_all (λ y. list_all (λ z. flags.has_value wanted (F.value flag.now x y z)) carries.now) ys.now }
+    ensures { result ≡ list_all (λ z. list_all (λ x. list_all (λ y. flags.has_value wanted (F.value flag.now x y z)) ys.now) xs.now) carries.now }
 {
-    for y in ys {
-        if !pair_has(modulus, wanted, flag, x, *y, carries) {
+    for carry in carries {
+        if !rows_have(modulus, wanted, flag, xs, ys, *carry) {
             return false;
         }
     }
     true
 }
 
-fn pair_has<F: Flag>(modulus: u32, wanted: bool, flag: &F, x: u16, y: u16, carries: &[u16]) -> bool
+fn rows_have<F: Flag>(
+    modulus: u32,
+    wanted: bool,
+    flag: &F,
+    xs: &[u16],
+    ys: &[u16],
+    carry: u16,
+) -> bool
+    requires width { F.modulus flag.now ≡ modulus }
+    requires xs_below { All (λ n. n < modulus) xs.now }
+    requires ys_below { All (λ n. n < modulus) ys.now }
+    requires carry_below { carry < modulus }
+    ensures { result ≡ list_all (λ x. list_all (λ y. flags.has_value wanted (F.value flag.now x y carry)) ys.now) xs.now }
+{
+    for x in xs {
+        if !row_has(modulus, wanted, flag, *x, ys, carry) {
+            return false;
+        }
+    }
+    true
+}
+
+fn row_has<F: Flag>(modulus: u32, wanted: bool, flag: &F, x: u16, ys: &[u16], carry: u16) -> bool
     requires width { F.modulus flag.now ≡ modulus }
     requires x_below { x < modulus }
-    requires y_below { y < modulus }
-    requires carries_below { All (λ n. n < modulus) carries.now }
-    ensures { result ≡ list_all (λ z. flags.has_value wanted (F.value flag.now x y z)) carries.now }
+    requires ys_below { All (λ n. n < modulus) ys.now }
+    requires carry_below { carry < modulus }
+    ensures { result ≡ list_all (λ y. flags.has_value wanted (F.value flag.now x y carry)) ys.now }
 {
-    for carry in carries {
-        if !has_value(wanted, flag.is_set(x, y, *carry)) {
+    for y in ys {
+        if !has_value(wanted, flag.is_set(x, *y, carry)) {
             return false;
         }
     }
@@ -164,5 +241,5 @@ fn pair_has<F: Flag>(modulus: u32, wanted: bool, flag: &F, x: u16, y: u16, carri
 fn has_value(wanted: bool, flag: bool) -> bool
     ensures { result ≡ flags.has_value wanted flag }
 {
-    if wanted { flag } else { !flag }
+    wanted == flag
 }

@@ -24,6 +24,7 @@ mod knowing;
 mod laws;
 mod making;
 mod operations;
+mod order;
 mod tri;
 pub mod w16;
 pub mod w8;

@@ -1,6 +1,6 @@
 //! Known bits of sets of 16-bit numbers, and bitwise and decimal operations on them.
 
-ghost use Rattle.std.specs.Prelude.{◌≡◌, ℕ, ◌+◌, ◌*◌, ◌<◌, ◌≤◌, ◌++◌, ◌&&◌, IsTrue, IsFalse, length, map, bit_and, bit_or, bit_xor};
+ghost use Rattle.std.specs.Prelude.{◌≡◌, ℕ, ◌+◌, ◌*◌, ◌<◌, ◌≤◌, ◌++◌, ◌&&◌, ◌==◌, nat_le, IsTrue, IsFalse, length, map, bit_and, bit_or, bit_xor};
 ghost use Rattle.value_set.specs.Form.{Has, IsNormal, members};
 ghost use Rattle.value_set.specs.Summing.{single};
 ghost use Rattle.value_bits.specs.Bits as known;
@@ -16,7 +16,7 @@ use crate::knowing::{exchanged_bits, extended_bits, joined, known_bits, logic_bi
 use crate::operations::{Bitwise, DecimalSum, Exchange, Shift, SignExtension};
 use crate::tri::{Logic, Top, Tri};
 use crate::words::{chosen, gathered, is_few, top_carry, with_bits};
-use crate::{bytes, decimal, flags};
+use crate::{bytes, decimal, flags, order, words};
 use arrayvec::ArrayVec;
 use value_set::{Vs8, Vs16};
 
@@ -136,6 +136,19 @@ pub fn low(a: &Vs16) -> Vs8
     ensures holds { (x : ℕ) → Has 65536 a.now x → Has 256 result (low_byte x) }
     ensures alone { (x : ℕ) → a.now ≡ single x → result ≡ single (low_byte x) }
 {
+    match words::alone(a) {
+        Some(word) => Vs8::one((word % 256) as u8),
+        None => low_of_several(a),
+    }
+}
+
+/// The low byte of each member, of a set that may have several.
+fn low_of_several(a: &Vs16) -> Vs8
+    ensures value { result ≡ sets.low_set a.now }
+    ensures normal { IsNormal 256 result }
+    ensures holds { (x : ℕ) → Has 65536 a.now x → Has 256 result (low_byte x) }
+    ensures alone { (x : ℕ) → a.now ≡ single x → result ≡ single (low_byte x) }
+{
     if a.count() <= 256 {
         return bytes::gathered(low_bytes(a).as_slice());
     }
@@ -156,6 +169,19 @@ fn low_bytes(a: &Vs16) -> ArrayVec<u8, 256>
 
 /// The high byte of each member.
 pub fn high(a: &Vs16) -> Vs8
+    ensures value { result ≡ sets.high_set a.now }
+    ensures normal { IsNormal 256 result }
+    ensures holds { (x : ℕ) → Has 65536 a.now x → Has 256 result (high_byte x) }
+    ensures alone { (x : ℕ) → a.now ≡ single x → result ≡ single (high_byte x) }
+{
+    match words::alone(a) {
+        Some(word) => Vs8::one((word / 256) as u8),
+        None => high_of_several(a),
+    }
+}
+
+/// The high byte of each member, of a set that may have several.
+fn high_of_several(a: &Vs16) -> Vs8
     ensures value { result ≡ sets.high_set a.now }
     ensures normal { IsNormal 256 result }
     ensures holds { (x : ℕ) → Has 65536 a.now x → Has 256 result (high_byte x) }
@@ -186,15 +212,28 @@ pub fn pair(low: &Vs8, high: &Vs8) -> Vs16
     ensures holds { (x y : ℕ) → Has 256 low.now x → Has 256 high.now y → Has 65536 result (word_of x y) }
     ensures alone { (x y : ℕ) → low.now ≡ single x → high.now ≡ single y → result ≡ single (word_of x y) }
 {
+    match (bytes::alone(low), bytes::alone(high)) {
+        (Some(x), Some(y)) => Vs16::one(x as u16 + y as u16 * 256),
+        _ => pair_of_several(low, high),
+    }
+}
+
+/// The words of each low byte with each high byte, of sets that may have several.
+fn pair_of_several(low: &Vs8, high: &Vs8) -> Vs16
+    ensures value { result ≡ sets.pair_set low.now high.now }
+    ensures normal { IsNormal 65536 result }
+    ensures holds { (x y : ℕ) → Has 256 low.now x → Has 256 high.now y → Has 65536 result (word_of x y) }
+    ensures alone { (x y : ℕ) → low.now ≡ single x → high.now ≡ single y → result ≡ single (word_of x y) }
+{
     if low.count() * high.count() <= 256 {
-        return gathered(words(low, high).as_slice());
+        return gathered(words_of(low, high).as_slice());
     }
     let lows = known_bits(8, &low.form());
     with_bits(joined(lows.as_slice(), known_bits(8, &high.form()).as_slice()).as_slice())
 }
 
 /// The words of the members, one after another.
-fn words(low: &Vs8, high: &Vs8) -> ArrayVec<u16, 256>
+fn words_of(low: &Vs8, high: &Vs8) -> ArrayVec<u16, 256>
     requires { length (members 256 low.now) * length (members 256 high.now) ≤ 256 }
     ensures { result.items ≡ sets.words (members 256 low.now) (members 256 high.now) }
 {
@@ -222,11 +261,34 @@ pub fn agreed<F: Flag>(flag: &F, a: &Vs16, b: &Vs16, carry: Tri) -> Tri
     ensures value { result ≡ flag_sets.agreed 65536 (F.value flag.now) a.now b.now (sets.chosen carry) }
     ensures holds { (x y bit : ℕ) → Has 65536 a.now x → Has 65536 b.now y → IsBit carry bit → IsFlag result (F.value flag.now x y bit) }
 {
-    let carries = chosen(carry);
-    if !is_few(a, b, &carries) {
+    if !flags::are_few(a.count(), b.count(), carry) {
         return Tri::Either;
     }
-    flags::agreed_few(65536, flag, &a.form(), &b.form(), &carries.form())
+    flags::agreed_few(65536, flag, &a.form(), &b.form(), carry)
+}
+
+/// What is known of whether a number of a set is at least one of another, as the carry of a comparison tells. It is known
+/// where at most 256 combinations agree.
+pub fn at_least(a: &Vs16, b: &Vs16) -> Tri
+    ensures value { result ≡ flag_sets.agreed 65536 (λ x y carry. nat_le y x) a.now b.now (single 0) }
+    ensures holds { (x y : ℕ) → Has 65536 a.now x → Has 65536 b.now y → IsFlag result (nat_le y x) }
+{
+    if !flags::are_few(a.count(), b.count(), Tri::Zero) {
+        return Tri::Either;
+    }
+    order::at_least(65536, &a.form(), &b.form())
+}
+
+/// What is known of whether a number of a set is one of another, as the zero flag of a comparison tells. It is known where
+/// at most 256 combinations agree.
+pub fn equal(a: &Vs16, b: &Vs16) -> Tri
+    ensures value { result ≡ flag_sets.agreed 65536 (λ x y carry. x == y) a.now b.now (single 0) }
+    ensures holds { (x y : ℕ) → Has 65536 a.now x → Has 65536 b.now y → IsFlag result (x == y) }
+{
+    if !flags::are_few(a.count(), b.count(), Tri::Zero) {
+        return Tri::Either;
+    }
+    order::equal(65536, &a.form(), &b.form())
 }
 
 /// The decimal sum of each member of a set with each of another and a carry. An unknown carry counts as two. Where a

@@ -1,6 +1,6 @@
 //! Known bits of sets of 8-bit numbers, and bitwise and decimal operations on them.
 
-ghost use Rattle.std.specs.Prelude.{◌≡◌, ℕ, ◌<◌, ◌&&◌, IsTrue, IsFalse, bit_and, bit_or, bit_xor};
+ghost use Rattle.std.specs.Prelude.{◌≡◌, ℕ, ◌<◌, ◌&&◌, ◌==◌, nat_le, IsTrue, IsFalse, bit_and, bit_or, bit_xor};
 ghost use Rattle.value_set.specs.Form.{Has, IsNormal};
 ghost use Rattle.value_set.specs.Summing.{single};
 ghost use Rattle.value_bits.specs.Bits as known;
@@ -18,7 +18,7 @@ use crate::flags::Flag;
 use crate::knowing::{exchanged_bits, known_bits, left_bits, logic_bits, shift_bits};
 use crate::operations::{Bitwise, DecimalAdjustment, DecimalSum, Exchange, LeftShift, Shift};
 use crate::tri::{Logic, Lowest, Top, Tri};
-use crate::{decimal, flags};
+use crate::{decimal, flags, order};
 use value_set::Vs8;
 
 /// How many bits a number has.
@@ -138,11 +138,34 @@ pub fn agreed<F: Flag>(flag: &F, a: &Vs8, b: &Vs8, carry: Tri) -> Tri
     ensures value { result ≡ flag_sets.agreed 256 (F.value flag.now) a.now b.now (sets.chosen carry) }
     ensures holds { (x y bit : ℕ) → Has 256 a.now x → Has 256 b.now y → IsBit carry bit → IsFlag result (F.value flag.now x y bit) }
 {
-    let carries = chosen(carry);
-    if !is_few(a, b, &carries) {
+    if !flags::are_few(a.count(), b.count(), carry) {
         return Tri::Either;
     }
-    flags::agreed_few(256, flag, &a.form(), &b.form(), &carries.form())
+    flags::agreed_few(256, flag, &a.form(), &b.form(), carry)
+}
+
+/// What is known of whether a number of a set is at least one of another, as the carry of a comparison tells. It is known
+/// where at most 256 combinations agree.
+pub fn at_least(a: &Vs8, b: &Vs8) -> Tri
+    ensures value { result ≡ flag_sets.agreed 256 (λ x y carry. nat_le y x) a.now b.now (single 0) }
+    ensures holds { (x y : ℕ) → Has 256 a.now x → Has 256 b.now y → IsFlag result (nat_le y x) }
+{
+    if !flags::are_few(a.count(), b.count(), Tri::Zero) {
+        return Tri::Either;
+    }
+    order::at_least(256, &a.form(), &b.form())
+}
+
+/// What is known of whether a number of a set is one of another, as the zero flag of a comparison tells. It is known where
+/// at most 256 combinations agree.
+pub fn equal(a: &Vs8, b: &Vs8) -> Tri
+    ensures value { result ≡ flag_sets.agreed 256 (λ x y carry. x == y) a.now b.now (single 0) }
+    ensures holds { (x y : ℕ) → Has 256 a.now x → Has 256 b.now y → IsFlag result (x == y) }
+{
+    if !flags::are_few(a.count(), b.count(), Tri::Zero) {
+        return Tri::Either;
+    }
+    order::equal(256, &a.form(), &b.form())
 }
 
 /// The decimal sum of each member of a set with each of another and a carry. An unknown carry counts as two. Where a

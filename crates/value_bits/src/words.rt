@@ -1,16 +1,17 @@
 //! Sets of 16-bit numbers, made of bits and of lists.
 
-ghost use Rattle.std.specs.Prelude.{◌≡◌, ℕ, ◌-◌, ◌*◌, ◌<◌, ◌≤◌, ◌↔◌, IsTrue, length};
+ghost use Rattle.std.specs.Prelude.{◌≡◌, ℕ, ◌-◌, ◌*◌, ◌<◌, ◌≤◌, ◌↔◌, IsTrue, IfSome, length};
 ghost use Rattle.std.specs.List.{Contains};
 ghost use Rattle.value_set.specs.Form as forms;
 ghost use Rattle.value_set.specs.Form.{Has, IsNormal, members};
+ghost use Rattle.value_set.specs.Summing.{single};
 ghost use Rattle.value_bits.specs.Bits as known;
 ghost use Rattle.value_bits.specs.Bits.{Agrees};
 ghost use Rattle.value_bits.specs.Sets as sets;
 
 use crate::making::{FEW_UNKNOWN, filled, lowest_unknown, numbers, unknown_count};
 use crate::tri::{Top, Tri};
-use value_set::Vs16;
+use value_set::{Form, Vs16};
 
 /// The set of the numbers with some bits.
 pub fn with_bits(all: &[Tri]) -> Vs16
@@ -54,6 +55,19 @@ fn run(base: u32, stride: u32, count: u32) -> Vs16
     match Vs16::run(base as u16, stride as u16, count) {
         Some(set) => set,
         None => Vs16::any(),
+    }
+}
+
+/// The number of a set of one.
+pub fn alone(set: &Vs16) -> Option<u16>
+    ensures { IfSome result (λ v. set.now ≡ single v) }
+{
+    match set.form() {
+        Form::Values(values) => match values.as_slice() {
+            [value] => Some(*value),
+            _ => None,
+        },
+        Form::Run(_) => None,
     }
 }
 

@@ -1,27 +1,16 @@
 use Rattle.std.proofs.Common.{◌∙◌}
-use Rattle.value_set.specs.Summing.{count_of}
-use Rattle.value_bits.proofs.Combinations.{few_each, some_of, agreed_found}
+use Rattle.value_bits.specs.declared.tri.Tri.TheVariants.{Zero, One, Either}
+use Rattle.value_bits.proofs.Combinations.{agreed_chosen}
 use Rattle.value_bits.proofs.flags.agreed_few.Goals as goal
 
-pub listed-requires-clause-few : goal.listed-requires-clause-few
-listed-requires-clause-few g c =
-    let m = c.args.modulus in
-    (few_each (count_of m c.args.first.now) (count_of m c.args.second.now) (count_of m c.args.carry.now) c.requires.few
-    (some_of m c.args.first.now c.requires.first_normal) (some_of m c.args.second.now c.requires.second_normal) (some_of m c.args.carry.now c.requires.carry_normal)).0
+pub returns-in-Zero : goal.returns-in-Zero
+returns-in-Zero g c = c.agreed_first.ensures ∙ agreed_chosen c.args.modulus (g.F.Flag.value c.args.flag.now) c.args.first.now c.args.second.now c.args.carry Zero
+    c.as_slice.result.now c.requires.few c.in-Zero.is c.as_slice.ensures
 
-pub listed-requires-2-clause-few : goal.listed-requires-2-clause-few
-listed-requires-2-clause-few g c =
-    let m = c.args.modulus in
-    (few_each (count_of m c.args.first.now) (count_of m c.args.second.now) (count_of m c.args.carry.now) c.requires.few
-    (some_of m c.args.first.now c.requires.first_normal) (some_of m c.args.second.now c.requires.second_normal) (some_of m c.args.carry.now c.requires.carry_normal)).1
+pub returns-in-One : goal.returns-in-One
+returns-in-One g c = c.agreed_first-in-One.ensures ∙ agreed_chosen c.args.modulus (g.F.Flag.value c.args.flag.now) c.args.first.now c.args.second.now c.args.carry One
+    c.as_slice-in-One.result.now c.requires.few c.in-One.is c.as_slice-in-One.ensures
 
-pub listed-requires-3-clause-few : goal.listed-requires-3-clause-few
-listed-requires-3-clause-few g c =
-    let m = c.args.modulus in
-    (few_each (count_of m c.args.first.now) (count_of m c.args.second.now) (count_of m c.args.carry.now) c.requires.few
-    (some_of m c.args.first.now c.requires.first_normal) (some_of m c.args.second.now c.requires.second_normal) (some_of m c.args.carry.now c.requires.carry_normal)).2
-
-pub returns : goal.returns
-returns g c = c.agreed_of.ensures ∙ agreed_found c.args.modulus (g.F.Flag.value c.args.flag.now) c.args.first.now c.args.second.now c.args.carry.now
-    c.as_slice.result.now c.as_slice-2.result.now c.as_slice-3.result.now c.requires.few
-    (c.as_slice.ensures.value ∙ c.listed.ensures.items) (c.as_slice-2.ensures.value ∙ c.listed-2.ensures.items) (c.as_slice-3.ensures.value ∙ c.listed-3.ensures.items)
+pub returns-in-Either : goal.returns-in-Either
+returns-in-Either g c = c.agreed_first-in-Either.ensures ∙ agreed_chosen c.args.modulus (g.F.Flag.value c.args.flag.now) c.args.first.now c.args.second.now c.args.carry Either
+    c.as_slice-in-Either.result.now c.requires.few c.in-Either.is c.as_slice-in-Either.ensures

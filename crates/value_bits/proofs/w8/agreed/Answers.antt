@@ -1,18 +1,18 @@
-use Rattle.std.proofs.Common.{◌≡◌, ◌*◌, ◌<◌, subst, sym}
-use Rattle.value_set.specs.declared.form.Form.{Form}
+use Rattle.std.proofs.Common.{◌≡◌, ◌*◌, ◌<◌, length, subst, sym}
 use Rattle.value_set.specs.Summing.{count_of}
 use Rattle.value_bits.specs.declared.tri.Tri.{Tri}
+use Rattle.value_bits.specs.Bits.{choices}
 use Rattle.value_bits.specs.Sets.{chosen}
 use Rattle.value_bits.specs.Flags.{IsFlag, agreed}
 use Rattle.value_bits.proofs.Choosing.{chosen_has, not_few}
 use Rattle.value_bits.proofs.Combinations.{agreed-many, agreed_is}
 use Rattle.value_bits.proofs.w8.agreed.Goals as goal
 
-pub returns-then-not-is_few-clause-value : goal.returns-then-not-is_few-clause-value
-returns-then-not-is_few-clause-value g c =
-    let many : 256 < count_of 256 c.args.a.now * (count_of 256 c.args.b.now * count_of 256 (chosen c.args.carry)) =
-    subst (λ (s : Form). 256 < count_of 256 c.args.a.now * (count_of 256 c.args.b.now * count_of 256 s)) c.chosen-carries.ensures
-    (not_few c.is_few.result (count_of 256 c.args.a.now * (count_of 256 c.args.b.now * count_of 256 c.chosen-carries.result)) c.is_few.ensures c.if-not-is_few.true) in
+pub returns-then-not-are_few-clause-value : goal.returns-then-not-are_few-clause-value
+returns-then-not-are_few-clause-value g c =
+    let more : 256 < c.count.result * (c.count-2.result * length (choices c.args.carry)) =
+    not_few c.are_few.result (c.count.result * (c.count-2.result * length (choices c.args.carry))) c.are_few.ensures c.if-not-are_few.true in
+    let many : 256 < count_of 256 c.args.a.now * (count_of 256 c.args.b.now * count_of 256 (chosen c.args.carry)) = rw (c.count.ensures.value, c.count-2.ensures.value) at more in
     sym (agreed-many 256 (g.F.Flag.value c.args.flag.now) c.args.a.now c.args.b.now (chosen c.args.carry) many)
 
 pub returns-clause-holds : goal.returns-clause-holds

@@ -3,7 +3,7 @@ use Rattle.value_set.specs.Form.{members}
 use Rattle.value_bits.specs.Numbers.{word_of}
 use Rattle.value_bits.specs.Sets.{words}
 use Rattle.value_bits.proofs.Halves.{words_more, words_room}
-use Rattle.value_bits.proofs.w16.words.Goals as goal
+use Rattle.value_bits.proofs.w16.words_of.Goals as goal
 
 pub push_words-requires : goal.push_words-requires
 push_words-requires c =

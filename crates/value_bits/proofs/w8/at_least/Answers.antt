@@ -1,0 +1,19 @@
+use Rattle.std.proofs.Common.{◌≡◌, ◌*◌, ◌<◌, nat_le, subst, sym}
+use Rattle.value_set.specs.Summing.{count_of, single}
+use Rattle.value_bits.specs.declared.tri.Tri.{Tri}
+use Rattle.value_bits.specs.Flags.{IsFlag, agreed}
+use Rattle.value_bits.proofs.Choosing.{not_few, single_has}
+use Rattle.value_bits.proofs.Combinations.{agreed-many, agreed_is}
+use Rattle.value_bits.proofs.EndsOfSets.{is_at_least}
+use Rattle.value_bits.proofs.w8.at_least.Goals as goal
+
+pub returns-then-not-are_few-clause-value : goal.returns-then-not-are_few-clause-value
+returns-then-not-are_few-clause-value c =
+    let more : 256 < c.count.result * (c.count-2.result * 1) = not_few c.are_few.result (c.count.result * (c.count-2.result * 1)) c.are_few.ensures c.if-not-are_few.true in
+    let many : 256 < count_of 256 c.args.a.now * (count_of 256 c.args.b.now * count_of 256 (single 0)) = rw (c.count.ensures.value, c.count-2.ensures.value) at more in
+    sym (agreed-many 256 is_at_least c.args.a.now c.args.b.now (single 0) many)
+
+pub returns-clause-holds : goal.returns-clause-holds
+returns-clause-holds c = λ x y h k.
+    let same : c.at_least.result ≡ agreed 256 is_at_least c.args.a.now c.args.b.now (single 0) = cc in
+    subst (λ (t : Tri). IsFlag t (nat_le y x)) (sym same) (agreed_is 256 is_at_least c.args.a.now c.args.b.now (single 0) x y 0 h k (single_has 256 0))
