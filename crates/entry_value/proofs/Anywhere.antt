@@ -20,17 +20,21 @@ only_member [] x one h = absurd (omega (arith, h.1))
 only_member (y ∷ xs) x one (zero, below, is) = is
 only_member (y ∷ xs) x one (suc k, below, is) = absurd (omega (arith, below))
 
-pub at_one : (map : CellMap) (at : Form) (size : ℕ) (word : Word) → count_of 65536 at ≡ 1 → write_any map at size word ≡ write_one map (slice_index (members 65536 at) 0) size word
+pub at_one : (map : CellMap) (at : Form) (size : ℕ) (word : Word) → count_of 65536 at ≡ 1
+    → write_any map at size word ≡ write_one map (slice_index (members 65536 at) 0) size word
 unfolding write_any
 at_one map at size word one = rw (eq-eqb (count_of 65536 at) 1 one) refl
 
-pub at_several : (map : CellMap) (at : Form) (size : ℕ) (word : Word) → (count_of 65536 at ≡ 1 → ⊥) → write_any map at size word ≡ write_several map at size word
+pub at_several : (map : CellMap) (at : Form) (size : ℕ) (word : Word) → (count_of 65536 at ≡ 1 → ⊥)
+    → write_any map at size word ≡ write_several map at size word
 unfolding write_any
 at_several map at size word several = rw (ne_eqb (count_of 65536 at) 1 several) refl
 
-pub any_covers : SetLaws → (first : Option Suspended) (ram : ℕ → ℕ) (from size address v : ℕ) (map : CellMap) (at : Form) (word : Word) → map.hi < 65536 → AreCells map.lo map.hi from map.cells
+pub any_covers : SetLaws → (first : Option Suspended) (ram : ℕ → ℕ) (from size address v : ℕ) (map : CellMap) (at : Form) (word : Word)
+    → map.hi < 65536 → AreCells map.lo map.hi from map.cells
     → IsNormal 65536 at → IsSize size → IsNormal 65536 word.set → (size ≡ 1 → (n : ℕ) → Has 65536 word.set n → n < 256)
-    → StandsUnder first map.cells ram → Has 65536 at address → HoldsOfWord first word v → StandsUnder first (write_any map at size word).cells (written ram address size v)
+    → StandsUnder first map.cells ram → Has 65536 at address → HoldsOfWord first word v
+    → StandsUnder first (write_any map at size word).cells (written ram address size v)
 unfolding write_any
 any_covers sets first ram from size address v map at word below are addresses is normal byte stands h holds = elim (cases_Bool (count_of 65536 at == 1)) [
   | inl one ↦ rw one (
@@ -40,7 +44,8 @@ any_covers sets first ram from size address v map at word below are addresses is
   | inr several ↦ rw several (several_covers sets first ram from size address v map at word below are addresses is normal byte stands h holds)
 ]
 
-pub any_form : SetLaws → (from size : ℕ) (map : CellMap) (at : Form) (word : Word) → map.hi < 65536 → from ≤ map.lo → AreCells map.lo map.hi from map.cells → IsSize size
+pub any_form : SetLaws → (from size : ℕ) (map : CellMap) (at : Form) (word : Word) → map.hi < 65536 → from ≤ map.lo
+    → AreCells map.lo map.hi from map.cells → IsSize size
     → IsNormal 65536 word.set → (size ≡ 1 → (n : ℕ) → Has 65536 word.set n → n < 256) → AreCells map.lo map.hi from (write_any map at size word).cells
 unfolding write_any
 any_form sets from size map at word below first are is normal byte = elim (cases_Bool (count_of 65536 at == 1)) [

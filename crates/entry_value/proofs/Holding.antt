@@ -19,33 +19,41 @@ use Rattle.entry_value.proofs.Values.{common_first, common_second, entry_within}
 
 -- ---- words
 
-pub word_join_first : SetLaws → (first : Option Suspended) (v : ℕ) (a b : Word) → IsNormal 65536 a.set → IsNormal 65536 b.set → HoldsOfWord first a v → HoldsOfWord first (word_join a b) v
+pub word_join_first : SetLaws → (first : Option Suspended) (v : ℕ) (a b : Word) → IsNormal 65536 a.set → IsNormal 65536 b.set → HoldsOfWord first a v
+    → HoldsOfWord first (word_join a b) v
 word_join_first sets first v a b n k h = (sets.join_first 65536 a.set b.set n k v h.0, common_first first a.entry b.entry v h.1)
 
-pub word_join_second : SetLaws → (first : Option Suspended) (v : ℕ) (a b : Word) → IsNormal 65536 a.set → IsNormal 65536 b.set → HoldsOfWord first b v → HoldsOfWord first (word_join a b) v
+pub word_join_second : SetLaws → (first : Option Suspended) (v : ℕ) (a b : Word) → IsNormal 65536 a.set → IsNormal 65536 b.set → HoldsOfWord first b v
+    → HoldsOfWord first (word_join a b) v
 word_join_second sets first v a b n k h = (sets.join_second 65536 a.set b.set n k v h.0, common_second first a.entry b.entry v h.1)
 
-pub word_widen_held : SetLaws → (first : Option Suspended) (v : ℕ) (held new : Word) (marks : List ℕ) → IsNormal 65536 held.set → IsNormal 65536 new.set → All (λ mark. mark < 65536) marks
+pub word_widen_held : SetLaws → (first : Option Suspended) (v : ℕ) (held new : Word) (marks : List ℕ) → IsNormal 65536 held.set
+    → IsNormal 65536 new.set → All (λ mark. mark < 65536) marks
     → HoldsOfWord first held v → HoldsOfWord first (word_widen held new marks) v
 word_widen_held sets first v a b marks n k below h = (sets.widen_held 65536 a.set b.set marks n k below v h.0, common_first first a.entry b.entry v h.1)
 
-pub word_widen_new : SetLaws → (first : Option Suspended) (v : ℕ) (held new : Word) (marks : List ℕ) → IsNormal 65536 held.set → IsNormal 65536 new.set → All (λ mark. mark < 65536) marks
+pub word_widen_new : SetLaws → (first : Option Suspended) (v : ℕ) (held new : Word) (marks : List ℕ) → IsNormal 65536 held.set
+    → IsNormal 65536 new.set → All (λ mark. mark < 65536) marks
     → HoldsOfWord first new v → HoldsOfWord first (word_widen held new marks) v
 word_widen_new sets first v a b marks n k below h = (sets.widen_new 65536 a.set b.set marks n k below v h.0, common_second first a.entry b.entry v h.1)
 
 -- ---- bytes
 
-pub byte_join_first : SetLaws → (first : Option Suspended) (v : ℕ) (a b : Byte) → IsNormal 256 a.set → IsNormal 256 b.set → HoldsOfByte first a v → HoldsOfByte first (byte_join a b) v
+pub byte_join_first : SetLaws → (first : Option Suspended) (v : ℕ) (a b : Byte) → IsNormal 256 a.set → IsNormal 256 b.set → HoldsOfByte first a v
+    → HoldsOfByte first (byte_join a b) v
 byte_join_first sets first v a b n k h = (sets.join_first 256 a.set b.set n k v h.0, common_first first a.entry b.entry v h.1)
 
-pub byte_join_second : SetLaws → (first : Option Suspended) (v : ℕ) (a b : Byte) → IsNormal 256 a.set → IsNormal 256 b.set → HoldsOfByte first b v → HoldsOfByte first (byte_join a b) v
+pub byte_join_second : SetLaws → (first : Option Suspended) (v : ℕ) (a b : Byte) → IsNormal 256 a.set → IsNormal 256 b.set → HoldsOfByte first b v
+    → HoldsOfByte first (byte_join a b) v
 byte_join_second sets first v a b n k h = (sets.join_second 256 a.set b.set n k v h.0, common_second first a.entry b.entry v h.1)
 
-pub byte_widen_held : SetLaws → (first : Option Suspended) (v : ℕ) (held new : Byte) (marks : List ℕ) → IsNormal 256 held.set → IsNormal 256 new.set → All (λ mark. mark < 256) marks
+pub byte_widen_held : SetLaws → (first : Option Suspended) (v : ℕ) (held new : Byte) (marks : List ℕ) → IsNormal 256 held.set → IsNormal 256 new.set
+    → All (λ mark. mark < 256) marks
     → HoldsOfByte first held v → HoldsOfByte first (byte_widen held new marks) v
 byte_widen_held sets first v a b marks n k below h = (sets.widen_held 256 a.set b.set marks n k below v h.0, common_first first a.entry b.entry v h.1)
 
-pub byte_widen_new : SetLaws → (first : Option Suspended) (v : ℕ) (held new : Byte) (marks : List ℕ) → IsNormal 256 held.set → IsNormal 256 new.set → All (λ mark. mark < 256) marks
+pub byte_widen_new : SetLaws → (first : Option Suspended) (v : ℕ) (held new : Byte) (marks : List ℕ) → IsNormal 256 held.set → IsNormal 256 new.set
+    → All (λ mark. mark < 256) marks
     → HoldsOfByte first new v → HoldsOfByte first (byte_widen held new marks) v
 byte_widen_new sets first v a b marks n k below h = (sets.widen_new 256 a.set b.set marks n k below v h.0, common_second first a.entry b.entry v h.1)
 
@@ -56,7 +64,8 @@ byte_within_holds sets first v a b within h =
 
 -- ---- masks
 
-masked_normal : SetLaws → BitLaws → (width m : ℕ) (logic : Logic) (set : Form) → m < 2 ^ width → IsNormal (2 ^ width) set → IsNormal (2 ^ width) (logic_set width logic set (single m))
+masked_normal : SetLaws → BitLaws → (width m : ℕ) (logic : Logic) (set : Form) → m < 2 ^ width → IsNormal (2 ^ width) set
+    → IsNormal (2 ^ width) (logic_set width logic set (single m))
 masked_normal sets bits width m logic set below n = bits.logic_normal width logic set (single m) n (sets.single (2 ^ width) m below).0
 
 masked_has : SetLaws → BitLaws → (width m v : ℕ) (logic : Logic) (set : Form) → m < 2 ^ width → IsNormal (2 ^ width) set → Has (2 ^ width) set v

@@ -58,10 +58,12 @@ common_is (Some a) (Some b) = elim (cases_Bool (is_same_entry a b)) [ inl same �
 
 -- ---- sets with relations
 
-both_within : SetLaws → (m : ℕ) (a b : Form) (e f : Option Entry) → Includes m b a → is_entry_within e f ≡ true → (is_within m a b && is_entry_within e f) ≡ true
+both_within : SetLaws → (m : ℕ) (a b : Form) (e f : Option Entry) → Includes m b a → is_entry_within e f ≡ true
+    → (is_within m a b && is_entry_within e f) ≡ true
 both_within sets m a b e f includes entries = and_from (is_within m a b) (is_entry_within e f) ((sets.tested m a b).1 includes) entries
 
-within_along : SetLaws → (m : ℕ) (a b c : Form) (e f g : Option Entry) → (is_within m a b && is_entry_within e f) ≡ true → (is_within m b c && is_entry_within f g) ≡ true
+within_along : SetLaws → (m : ℕ) (a b c : Form) (e f g : Option Entry) → (is_within m a b && is_entry_within e f) ≡ true
+    → (is_within m b c && is_entry_within f g) ≡ true
     → (is_within m a c && is_entry_within e g) ≡ true
 within_along sets m a b c e f g h k =
     let one = and_parts (is_within m a b) (is_entry_within e f) h in
@@ -144,7 +146,8 @@ its_own cell cells = rw (eq-eqb cell.place cell.place refl, eq-eqb cell.size cel
 differs : (place size other : ℕ) → 0 < size → place + size ≤ other → place ≡ other → ⊥
 differs place size other some h e = omega arith
 
-anothers : (cell other : Cell) (cells : List Cell) → 0 < cell.size → cell.place + cell.size ≤ other.place → cell_at cells other.place other.size ≡ Some other.word
+anothers : (cell other : Cell) (cells : List Cell) → 0 < cell.size → cell.place + cell.size ≤ other.place
+    → cell_at cells other.place other.size ≡ Some other.word
     → cell_at (cell ∷ cells) other.place other.size ≡ Some other.word
 anothers cell other cells some behind found = rw (ne_eqb cell.place other.place (differs cell.place cell.size other.place some behind)) found
 
@@ -185,11 +188,13 @@ pub cells_itself : SetLaws → (lo hi from : ℕ) (cells : List Cell) → AreCel
 cells_itself sets lo hi from cells are = within_from cells cells
     (each_then (IsFoundIn cells) (IsWithin cells) cells (λ cell found. found_within (cell_at cells cell.place cell.size) cell.word cell.word found (word_itself sets cell.word)) (each_found lo hi from cells are))
 
-some_along : SetLaws → (found : Option Word) (middle last : Word) → is_found_within found middle ≡ true → word_within middle last ≡ true → is_found_within found last ≡ true
+some_along : SetLaws → (found : Option Word) (middle last : Word) → is_found_within found middle ≡ true → word_within middle last ≡ true
+    → is_found_within found last ≡ true
 some_along sets None middle last h k = h
 some_along sets (Some word) middle last h k = word_along sets word middle last h k
 
-found_along : SetLaws → (first second : Option Word) (last : Word) → OfSome (λ word. is_found_within first word ≡ true) second → is_found_within second last ≡ true
+found_along : SetLaws → (first second : Option Word) (last : Word) → OfSome (λ word. is_found_within first word ≡ true) second
+    → is_found_within second last ≡ true
     → is_found_within first last ≡ true
 found_along sets first None last h k = absurd cc
 found_along sets first (Some middle) last h k = some_along sets first middle last h k
@@ -279,7 +284,8 @@ cells_joined_new sets lo hi from low high start held new are others = within_fro
     (λ cell is. new_within word_join lo hi low high start new others cell (join_above sets cell.size) is)
     (each_cell lo hi from held are))
 
-pub cells_widened_held : SetLaws → BitLaws → (lo hi from low high start : ℕ) (held new : List Cell) (marks : List ℕ) → AreCells lo hi from held → AreCells low high start new
+pub cells_widened_held : SetLaws → BitLaws → (lo hi from low high start : ℕ) (held new : List Cell) (marks : List ℕ) → AreCells lo hi from held
+    → AreCells low high start new
     → All (λ mark. mark < 65536) marks → are_within held (widen_cells held new marks) ≡ true
 unfolding widen_cells
 cells_widened_held sets bits lo hi from low high start held new marks are others below = within_from held (kept (cell_widened marks new) held)
@@ -289,7 +295,8 @@ cells_widened_held sets bits lo hi from low high start held new marks are others
     (λ wide. held_within (λ a b. word_widen a b marks) lo hi low high start held new others cell (widen_above sets cell.size marks below) h))
     (each_cell_found lo hi from held are))
 
-pub cells_widened_new : SetLaws → BitLaws → (lo hi from low high start : ℕ) (held new : List Cell) (marks : List ℕ) → AreCells lo hi from held → AreCells low high start new
+pub cells_widened_new : SetLaws → BitLaws → (lo hi from low high start : ℕ) (held new : List Cell) (marks : List ℕ) → AreCells lo hi from held
+    → AreCells low high start new
     → All (λ mark. mark < 65536) marks → are_within new (widen_cells held new marks) ≡ true
 unfolding widen_cells
 cells_widened_new sets bits lo hi from low high start held new marks are others below = within_from new (kept (cell_widened marks new) held)

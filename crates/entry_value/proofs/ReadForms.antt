@@ -34,7 +34,8 @@ any_normal size = elim (cases_Bool (size == 1)) [ inl one ↦ rw one any_byte_no
 
 -- ---- bytes of cells
 
-byte_of_cell : BitLaws → (at : ℕ) (cell : Cell) → IsNormal 65536 cell.word.set → IsNormal 256 (if at == cell.place then low_set cell.word.set else high_set cell.word.set)
+byte_of_cell : BitLaws → (at : ℕ) (cell : Cell) → IsNormal 65536 cell.word.set
+    → IsNormal 256 (if at == cell.place then low_set cell.word.set else high_set cell.word.set)
 byte_of_cell bits at cell normal = elim (cases_Bool (at == cell.place)) [
   | inl same ↦ rw same (bits.low_normal cell.word.set normal)
   | inr other ↦ rw other (bits.high_normal cell.word.set normal)
@@ -96,6 +97,7 @@ byte_read_low sets bits lo hi from at cells are =
     (each_then (IsCell lo hi) (λ cell. cell.size ≡ 1 → (v : ℕ) → Has 65536 cell.word.set v → v < 256) cells (λ cell is. is.byte) all)))
     (of_byte_low sets bits (byte_at cells at) (byte_normal bits lo hi at cells all))
 
-pub read_low : SetLaws → BitLaws → (lo hi from at size : ℕ) (cells : List Cell) → AreCells lo hi from cells → size ≡ 1 → (v : ℕ) → Has 65536 (read cells at size).set v → v < 256
+pub read_low : SetLaws → BitLaws → (lo hi from at size : ℕ) (cells : List Cell) → AreCells lo hi from cells → size ≡ 1 → (v : ℕ)
+    → Has 65536 (read cells at size).set v → v < 256
 read_low sets bits lo hi from at size cells are one =
     subst (λ (s : ℕ). (v : ℕ) → Has 65536 (read cells at s).set v → v < 256) (sym one) (byte_read_low sets bits lo hi from at cells are)

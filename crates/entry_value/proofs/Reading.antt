@@ -35,7 +35,8 @@ next_place place at size two from to other = omega arith
 one_place : (place at size : ℕ) → size ≡ 1 → place ≤ at → at < place + size → (at ≡ place → ⊥) → ⊥
 one_place place at size one from to other = other (omega arith)
 
-byte_of_cell : BitLaws → (first : Option Suspended) (ram : ℕ → ℕ) → AreBytes ram → (at : ℕ) → at < 65536 → (cell : Cell) → IsSize cell.size → IsNormal 65536 cell.word.set
+byte_of_cell : BitLaws → (first : Option Suspended) (ram : ℕ → ℕ) → AreBytes ram → (at : ℕ) → at < 65536 → (cell : Cell) → IsSize cell.size
+    → IsNormal 65536 cell.word.set
     → HoldsOfWord first cell.word (number_at ram cell.place cell.size) → has_byte cell at ≡ true
     → IsByte ram at (if at == cell.place then low_set cell.word.set else high_set cell.word.set)
 byte_of_cell bits first ram bytes at below cell size normal holds has =
@@ -87,14 +88,16 @@ turned a b = omega arith
 below_word : (a b : ℕ) → a < 256 → b < 256 → a + 256 * b < 65536
 below_word a b h k = omega arith
 
-of_byte : SetLaws → BitLaws → (ram : ℕ → ℕ) → AreBytes ram → (at : ℕ) (found : Option Form) → OfSome (IsByte ram at) found → Has 65536 (word_of_byte found) (ram at)
+of_byte : SetLaws → BitLaws → (ram : ℕ → ℕ) → AreBytes ram → (at : ℕ) (found : Option Form) → OfSome (IsByte ram at) found
+    → Has 65536 (word_of_byte found) (ram at)
 of_byte sets bits ram bytes at None h = few_of sets (ram at) (bytes at)
 of_byte sets bits ram bytes at (Some byte) h =
     let zero_set = sets.single 256 0 (omega arith) in
     subst (λ (n : ℕ). Has 65536 (pair_set byte (single 0)) n) (word_alone (ram at))
     (bits.pair (ram at) 0 byte (single 0) h.0 zero_set.0 h.1 zero_set.1)
 
-of_bytes : SetLaws → BitLaws → (ram : ℕ → ℕ) → AreBytes ram → (at next : ℕ) (low high : Option Form) → OfSome (IsByte ram at) low → OfSome (IsByte ram next) high
+of_bytes : SetLaws → BitLaws → (ram : ℕ → ℕ) → AreBytes ram → (at next : ℕ) (low high : Option Form) → OfSome (IsByte ram at) low
+    → OfSome (IsByte ram next) high
     → Has 65536 (word_of_bytes low high) (ram at + 256 * ram next)
 of_bytes sets bits ram bytes at next None high h k = sets.whole 65536 (ram at + 256 * ram next) (below_word (ram at) (ram next) (bytes at) (bytes next))
 of_bytes sets bits ram bytes at next (Some low) None h k = sets.whole 65536 (ram at + 256 * ram next) (below_word (ram at) (ram next) (bytes at) (bytes next))
@@ -116,7 +119,8 @@ together sets bits first ram bytes at size below (inr two) cells h =
       tt,
     )
 
-or_else : (first : Option Suspended) (v : ℕ) (found : Option Word) (otherwise : Word) → OfSome (λ word. HoldsOfWord first word v) found → HoldsOfWord first otherwise v
+or_else : (first : Option Suspended) (v : ℕ) (found : Option Word) (otherwise : Word) → OfSome (λ word. HoldsOfWord first word v) found
+    → HoldsOfWord first otherwise v
     → HoldsOfWord first (found_or found otherwise) v
 or_else first v None otherwise h k = k
 or_else first v (Some word) otherwise h k = h
@@ -126,7 +130,8 @@ each_of_both : (first : Option Suspended) (ram : ℕ → ℕ) (lo hi : ℕ) (cel
 each_of_both first ram lo hi [] h k = tt
 each_of_both first ram lo hi (cell ∷ cells) h k = (record { size = h.0.size; normal = h.0.normal; holds = k.0 }, each_of_both first ram lo hi cells h.1 k.1)
 
-pub each_holds : (first : Option Suspended) (ram : ℕ → ℕ) (lo hi from : ℕ) (cells : List Cell) → AreCells lo hi from cells → StandsUnder first cells ram → Each (Holds first ram) cells
+pub each_holds : (first : Option Suspended) (ram : ℕ → ℕ) (lo hi from : ℕ) (cells : List Cell) → AreCells lo hi from cells
+    → StandsUnder first cells ram → Each (Holds first ram) cells
 each_holds first ram lo hi from cells are h = each_of_both first ram lo hi cells (each_cell lo hi from cells are)
     (each_from (λ cell. HoldsOfWord first cell.word (number_at ram cell.place cell.size)) cells h.1)
 

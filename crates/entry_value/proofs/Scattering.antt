@@ -48,7 +48,8 @@ second_fails size false h two = refl
 
 -- no access at these addresses has a byte of the cell beside one at its own place
 not_beside : (lo hi size address : ℕ) (at : Form) (cell : Cell) → hi < 65536 → IsCell lo hi cell → address < 65536 → Has 65536 at address
-    → meets_beside at size cell ≡ false → (ram : ℕ → ℕ) (v : ℕ) → (cell.place ≡ address → ⊥) → number_at (written ram address size v) cell.place cell.size ≡ number_at ram cell.place cell.size
+    → meets_beside at size cell ≡ false → (ram : ℕ → ℕ) (v : ℕ) → (cell.place ≡ address → ⊥)
+    → number_at (written ram address size v) cell.place cell.size ≡ number_at ram cell.place cell.size
 not_beside lo hi size address at cell below is low h apart ram v other =
     let parts = or_parts ((cell.size == 2) && is_in 65536 at (cell.place + 1)) ((size == 2) && is_in 65536 at ((cell.place + 65535) % 65536)) apart in
     let place_below = its_place cell.place cell.size hi is.size is.high below in
@@ -65,7 +66,8 @@ not_beside lo hi size address at cell below is low h apart ram v other =
 
 -- ---- a write at one of them
 
-joined_stands : SetLaws → (first : Option Suspended) (ram : ℕ → ℕ) → AreBytes ram → (lo hi size address v : ℕ) (at : Form) (word : Word) (cell : Cell) → hi < 65536 → IsCell lo hi cell
+joined_stands : SetLaws → (first : Option Suspended) (ram : ℕ → ℕ) → AreBytes ram → (lo hi size address v : ℕ) (at : Form) (word : Word) (cell : Cell)
+    → hi < 65536 → IsCell lo hi cell
     → address < 65536 → IsSize size → (size ≡ 1 → v < 256) → Has 65536 at address → IsNormal 65536 word.set → HoldsOfWord first word v → StandsAt first ram cell
     → meets_beside at size cell ≡ false → cell.size ≡ size
     → HoldsOfWord first (word_join cell.word word) (number_at (written ram address size v) cell.place cell.size)
@@ -106,9 +108,11 @@ behind_stands sets first ram bytes lo hi size address v at word below low its sm
     (λ apart same says. subst (λ (s : ℕ). HoldsOfWord first (word_join cell.word word) (number_at (written ram address size v) cell.place s)) same
     (joined_stands sets first ram bytes lo hi size address v at word cell below old.1 low its small h normal holds old.0 apart same))
 
-pub several_covers : SetLaws → (first : Option Suspended) (ram : ℕ → ℕ) (from size address v : ℕ) (map : CellMap) (at : Form) (word : Word) → map.hi < 65536 → AreCells map.lo map.hi from map.cells
+pub several_covers : SetLaws → (first : Option Suspended) (ram : ℕ → ℕ) (from size address v : ℕ) (map : CellMap) (at : Form) (word : Word)
+    → map.hi < 65536 → AreCells map.lo map.hi from map.cells
     → IsNormal 65536 at → IsSize size → IsNormal 65536 word.set → (size ≡ 1 → (n : ℕ) → Has 65536 word.set n → n < 256)
-    → StandsUnder first map.cells ram → Has 65536 at address → HoldsOfWord first word v → StandsUnder first (write_several map at size word).cells (written ram address size v)
+    → StandsUnder first map.cells ram → Has 65536 at address → HoldsOfWord first word v
+    → StandsUnder first (write_several map at size word).cells (written ram address size v)
 unfolding write_several
 several_covers sets first ram from size address v map at word below are addresses is normal byte stands h holds =
     let low = sets.below 65536 address at addresses h in

@@ -40,7 +40,8 @@ normal_found : (lo hi from : ℕ) (cells : List Cell) → AreCells lo hi from ce
 normal_found lo hi from cells are place size = found_at (λ p s word. IsNormalWord word) cells place size
     (each_then (IsCell lo hi) (λ cell. IsNormalWord cell.word) cells (λ cell is. is.normal) (each_cell lo hi from cells are))
 
-held_stands : (first : Option Suspended) (ram : ℕ → ℕ) → AreBytes ram → (f : Word → Word → Word) (lo hi from : ℕ) (new : List Cell) → AreCells lo hi from new → (cell : Cell)
+held_stands : (first : Option Suspended) (ram : ℕ → ℕ) → AreBytes ram → (f : Word → Word → Word) (lo hi from : ℕ) (new : List Cell)
+    → AreCells lo hi from new → (cell : Cell)
     → Covers first cell.size f → Holds first ram cell → OfSome (StandsAt first ram) (with_both f new cell)
 held_stands first ram bytes f lo hi from new are cell covers h = of_both (StandsAt first ram) f cell (cell_at new cell.place cell.size)
     (of_some_then IsNormalWord (λ word. is_nothing cell.size (f cell.word word) ≡ false → HoldsOfWord first (f cell.word word) (number_at ram cell.place cell.size))
@@ -48,7 +49,8 @@ held_stands first ram bytes f lo hi from new are cell covers h = of_both (Stands
     (λ word normal says. covers.one cell.word word (number_at ram cell.place cell.size) h.normal normal (small_number ram bytes cell.place cell.size) h.holds)
     (normal_found lo hi from new are cell.place cell.size))
 
-new_stands : (first : Option Suspended) (ram : ℕ → ℕ) → AreBytes ram → (f : Word → Word → Word) (lo hi : ℕ) (new : List Cell) → Each (Holds first ram) new → (cell : Cell)
+new_stands : (first : Option Suspended) (ram : ℕ → ℕ) → AreBytes ram → (f : Word → Word → Word) (lo hi : ℕ) (new : List Cell)
+    → Each (Holds first ram) new → (cell : Cell)
     → Covers first cell.size f → IsCell lo hi cell → OfSome (StandsAt first ram) (with_both f new cell)
 new_stands first ram bytes f lo hi new held cell covers is = of_both (StandsAt first ram) f cell (cell_at new cell.place cell.size)
     (of_some_then (λ word. IsNormalWord word × HoldsOfWord first word (number_at ram cell.place cell.size))
@@ -62,7 +64,8 @@ new_stands first ram bytes f lo hi new held cell covers is = of_both (StandsAt f
 abbrev pub IsAlike : (lo hi : ℕ) → Cell → Cell → Type 0
 IsAlike lo hi cell new = IsCell lo hi new × (new.place ≡ cell.place) × (new.size ≡ cell.size)
 
-form_stays : (f : Word → Word → Word) (lo hi low high start : ℕ) (new : List Cell) → AreCells low high start new → (cell : Cell) → Forms cell.size f → IsCell lo hi cell
+form_stays : (f : Word → Word → Word) (lo hi low high start : ℕ) (new : List Cell) → AreCells low high start new → (cell : Cell) → Forms cell.size f
+    → IsCell lo hi cell
     → OfSome (IsAlike lo hi cell) (with_both f new cell)
 form_stays f lo hi low high start new are cell forms is = of_both (IsAlike lo hi cell) f cell (cell_at new cell.place cell.size)
     (of_some_then (λ word. IsNormalWord word × (cell.size ≡ 1 → (n : ℕ) → Has 65536 word.set n → n < 256))
@@ -95,14 +98,16 @@ alike_form lo hi from cell (Some new) rest h alike are = (
   lowered lo hi (cell.place + cell.size) (new.place + new.size) rest (omega (arith, alike.1, alike.2)) are,
 )
 
-pub kept_form : (lo hi from : ℕ) (f : Cell → Option Cell) (cells : List Cell) → ((cell : Cell) → IsCell lo hi cell → OfSome (IsAlike lo hi cell) (f cell)) → AreCells lo hi from cells
+pub kept_form : (lo hi from : ℕ) (f : Cell → Option Cell) (cells : List Cell)
+    → ((cell : Cell) → IsCell lo hi cell → OfSome (IsAlike lo hi cell) (f cell)) → AreCells lo hi from cells
     → AreCells lo hi from (kept f cells)
 kept_form lo hi from f [] step are = tt
 kept_form lo hi from f (cell ∷ cells) step are = alike_form lo hi from cell (f cell) (kept f cells) are.1 (step cell are.0) (kept_form lo hi (cell.place + cell.size) f cells step are.2)
 
 -- ---- joined cells
 
-pub join_covers_held : SetLaws → (first : Option Suspended) (ram : ℕ → ℕ) (lo hi from low high start : ℕ) (held new : List Cell) → AreCells lo hi from held → AreCells low high start new
+pub join_covers_held : SetLaws → (first : Option Suspended) (ram : ℕ → ℕ) (lo hi from low high start : ℕ) (held new : List Cell)
+    → AreCells lo hi from held → AreCells low high start new
     → StandsUnder first held ram → StandsUnder first (join_cells held new) ram
 unfolding join_cells
 join_covers_held sets first ram lo hi from low high start held new are others h = (
@@ -113,7 +118,8 @@ join_covers_held sets first ram lo hi from low high start held new are others h 
       (each_holds first ram lo hi from held are h)),
 )
 
-pub join_covers_new : SetLaws → (first : Option Suspended) (ram : ℕ → ℕ) (lo hi from low high start : ℕ) (held new : List Cell) → AreCells lo hi from held → AreCells low high start new
+pub join_covers_new : SetLaws → (first : Option Suspended) (ram : ℕ → ℕ) (lo hi from low high start : ℕ) (held new : List Cell)
+    → AreCells lo hi from held → AreCells low high start new
     → StandsUnder first new ram → StandsUnder first (join_cells held new) ram
 unfolding join_cells
 join_covers_new sets first ram lo hi from low high start held new are others h = (
@@ -124,7 +130,8 @@ join_covers_new sets first ram lo hi from low high start held new are others h =
       (each_cell lo hi from held are)),
 )
 
-pub join_form : SetLaws → (lo hi from low high start : ℕ) (held new : List Cell) → AreCells lo hi from held → AreCells low high start new → AreCells lo hi from (join_cells held new)
+pub join_form : SetLaws → (lo hi from low high start : ℕ) (held new : List Cell) → AreCells lo hi from held → AreCells low high start new
+    → AreCells lo hi from (join_cells held new)
 unfolding join_cells
 join_form sets lo hi from low high start held new are others = kept_form lo hi from (with_both word_join new) held
     (λ cell is. form_stays word_join lo hi low high start new others cell (join_forms sets cell.size) is) are
@@ -133,14 +140,17 @@ join_form sets lo hi from low high start held new are others = kept_form lo hi f
 
 -- a fact of what is made by the widening of the cell's size
 pub of_size : (P : Cell → Type 0) (marks : List ℕ) (new : List Cell) (cell : Cell)
-    → (cell.size ≡ 1 → OfSome P (with_both (λ h n. byte_widened h n marks) new cell)) → ((cell.size ≡ 1 → ⊥) → OfSome P (with_both (λ h n. word_widen h n marks) new cell))
+    → (cell.size ≡ 1 → OfSome P (with_both (λ h n. byte_widened h n marks) new cell))
+    → ((cell.size ≡ 1 → ⊥) → OfSome P (with_both (λ h n. word_widen h n marks) new cell))
     → OfSome P (cell_widened marks new cell)
 of_size P marks new cell byte word = elim (cases_Bool (cell.size == 1)) [
   | inl one ↦ rw one (byte (eqb-true cell.size 1 one))
   | inr wide ↦ rw wide (word (eqb-false cell.size 1 wide))
 ]
 
-pub widen_covers_held : SetLaws → BitLaws → (first : Option Suspended) (ram : ℕ → ℕ) (lo hi from low high start : ℕ) (held new : List Cell) (marks : List ℕ) → AreCells lo hi from held → AreCells low high start new
+pub widen_covers_held : SetLaws → BitLaws
+    → (first : Option Suspended) (ram : ℕ → ℕ) (lo hi from low high start : ℕ) (held new : List Cell) (marks : List ℕ) → AreCells lo hi from held
+    → AreCells low high start new
     → All (λ mark. mark < 65536) marks → StandsUnder first held ram → StandsUnder first (widen_cells held new marks) ram
 unfolding widen_cells
 widen_covers_held sets bits first ram lo hi from low high start held new marks are others below h = (
@@ -153,7 +163,9 @@ widen_covers_held sets bits first ram lo hi from low high start held new marks a
       (each_holds first ram lo hi from held are h)),
 )
 
-pub widen_covers_new : SetLaws → BitLaws → (first : Option Suspended) (ram : ℕ → ℕ) (lo hi from low high start : ℕ) (held new : List Cell) (marks : List ℕ) → AreCells lo hi from held → AreCells low high start new
+pub widen_covers_new : SetLaws → BitLaws
+    → (first : Option Suspended) (ram : ℕ → ℕ) (lo hi from low high start : ℕ) (held new : List Cell) (marks : List ℕ) → AreCells lo hi from held
+    → AreCells low high start new
     → All (λ mark. mark < 65536) marks → StandsUnder first new ram → StandsUnder first (widen_cells held new marks) ram
 unfolding widen_cells
 widen_covers_new sets bits first ram lo hi from low high start held new marks are others below h =
@@ -167,7 +179,8 @@ widen_covers_new sets bits first ram lo hi from low high start held new marks ar
           (each_cell lo hi from held are)),
     )
 
-pub widen_form : SetLaws → BitLaws → (lo hi from low high start : ℕ) (held new : List Cell) (marks : List ℕ) → AreCells lo hi from held → AreCells low high start new
+pub widen_form : SetLaws → BitLaws → (lo hi from low high start : ℕ) (held new : List Cell) (marks : List ℕ) → AreCells lo hi from held
+    → AreCells low high start new
     → All (λ mark. mark < 65536) marks → AreCells lo hi from (widen_cells held new marks)
 unfolding widen_cells
 widen_form sets bits lo hi from low high start held new marks are others below = kept_form lo hi from (cell_widened marks new) held
@@ -183,7 +196,8 @@ found_within : SetLaws → (first : Option Suspended) (v : ℕ) (found : Option 
 found_within sets first v None held within h = absurd (cc)
 found_within sets first v (Some new) held within h = within_holds sets first new held v within h
 
-each_within : SetLaws → (first : Option Suspended) (ram : ℕ → ℕ) (new held : List Cell) → are_within new held ≡ true → Each (StandsAt first ram) new → Each (StandsAt first ram) held
+each_within : SetLaws → (first : Option Suspended) (ram : ℕ → ℕ) (new held : List Cell) → are_within new held ≡ true → Each (StandsAt first ram) new
+    → Each (StandsAt first ram) held
 each_within sets first ram new [] within h = tt
 each_within sets first ram new (cell ∷ cells) within h =
     let parts = and_parts (is_found_within (cell_at new cell.place cell.size) cell.word) (are_within new cells) within in (
@@ -192,6 +206,7 @@ each_within sets first ram new (cell ∷ cells) within h =
       each_within sets first ram new cells parts.1 h,
     )
 
-pub within_covers : SetLaws → (first : Option Suspended) (ram : ℕ → ℕ) (new held : List Cell) → are_within new held ≡ true → StandsUnder first new ram → StandsUnder first held ram
+pub within_covers : SetLaws → (first : Option Suspended) (ram : ℕ → ℕ) (new held : List Cell) → are_within new held ≡ true → StandsUnder first new ram
+    → StandsUnder first held ram
 within_covers sets first ram new held within h =
     (h.0, each_in (StandsAt first ram) held (each_within sets first ram new held within (each_from (StandsAt first ram) new h.1)))

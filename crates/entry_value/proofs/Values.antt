@@ -58,7 +58,8 @@ join_covers sets first size = record {
   other = λ a b v n k small h. (sets.join_second 65536 a.set b.set n k v h.0, common_second first a.entry b.entry v h.1);
 }
 
-pub widen_covers : SetLaws → (first : Option Suspended) (size : ℕ) (marks : List ℕ) → All (λ mark. mark < 65536) marks → Covers first size (λ held new. word_widen held new marks)
+pub widen_covers : SetLaws → (first : Option Suspended) (size : ℕ) (marks : List ℕ) → All (λ mark. mark < 65536) marks
+    → Covers first size (λ held new. word_widen held new marks)
 widen_covers sets first size marks below = record {
   one = λ a b v n k small h. (sets.widen_held 65536 a.set b.set marks n k below v h.0, common_first first a.entry b.entry v h.1);
   other = λ a b v n k small h. (sets.widen_new 65536 a.set b.set marks n k below v h.0, common_second first a.entry b.entry v h.1);
@@ -99,7 +100,8 @@ widened_normal : SetLaws → BitLaws → (held new : Form) (marks : List ℕ) �
 widened_normal sets bits held new marks n k =
     sets.widen_normal 256 (low_set held) (low_set new) (filter (λ mark. nat_lt mark 256) marks) (bits.low_normal held n) (bits.low_normal new k) (all_low marks)
 
-pub byte_held : SetLaws → BitLaws → (held new : Word) (marks : List ℕ) (v : ℕ) → IsNormal 65536 held.set → IsNormal 65536 new.set → v < 256 → Has 65536 held.set v
+pub byte_held : SetLaws → BitLaws → (held new : Word) (marks : List ℕ) (v : ℕ) → IsNormal 65536 held.set → IsNormal 65536 new.set → v < 256
+    → Has 65536 held.set v
     → Has 65536 (byte_widened held new marks).set v
 byte_held sets bits held new marks v n k small h = elim (cases_Bool (is_within 65536 new.set held.set)) [
   | inl within ↦ rw within h
@@ -117,7 +119,8 @@ byte_new sets bits held new marks v n k small h = elim (cases_Bool (is_within 65
       v (low_has sets bits new.set v k small h)))
 ]
 
-pub byte_covers : SetLaws → BitLaws → (first : Option Suspended) (size : ℕ) (marks : List ℕ) → size ≡ 1 → Covers first size (λ held new. byte_widened held new marks)
+pub byte_covers : SetLaws → BitLaws → (first : Option Suspended) (size : ℕ) (marks : List ℕ) → size ≡ 1
+    → Covers first size (λ held new. byte_widened held new marks)
 byte_covers sets bits first size marks one = record {
   one = λ a b v n k small h. (byte_held sets bits a b marks v n k (small one) h.0, common_first first a.entry b.entry v h.1);
   other = λ a b v n k small h. (byte_new sets bits a b marks v n k (small one) h.0, common_second first a.entry b.entry v h.1);
@@ -128,7 +131,8 @@ byte_covers sets bits first size marks one = record {
 -- what is made of two words of a size and a form has that form
 pub record Forms (size : ℕ) (f : Word → Word → Word) : Type 0 where
   pub normal : (a b : Word) → IsNormal 65536 a.set → IsNormal 65536 b.set → IsNormal 65536 (f a b).set
-  pub byte : (a b : Word) → IsNormal 65536 a.set → IsNormal 65536 b.set → size ≡ 1 → ((n : ℕ) → Has 65536 a.set n → n < 256) → ((n : ℕ) → Has 65536 b.set n → n < 256)
+  pub byte : (a b : Word) → IsNormal 65536 a.set → IsNormal 65536 b.set → size ≡ 1 → ((n : ℕ) → Has 65536 a.set n → n < 256)
+      → ((n : ℕ) → Has 65536 b.set n → n < 256)
       → (n : ℕ) → Has 65536 (f a b).set n → n < 256
 
 pub join_forms : SetLaws → (size : ℕ) → Forms size word_join
@@ -146,13 +150,15 @@ widen_forms sets size marks wide below = record {
   byte = λ a b n k one low other v h. absurd (wide one);
 }
 
-pub byte_widened_normal : SetLaws → BitLaws → (held new : Word) (marks : List ℕ) → IsNormal 65536 held.set → IsNormal 65536 new.set → IsNormal 65536 (byte_widened held new marks).set
+pub byte_widened_normal : SetLaws → BitLaws → (held new : Word) (marks : List ℕ) → IsNormal 65536 held.set → IsNormal 65536 new.set
+    → IsNormal 65536 (byte_widened held new marks).set
 byte_widened_normal sets bits held new marks n k = elim (cases_Bool (is_within 65536 new.set held.set)) [
   | inl within ↦ rw within n
   | inr beyond ↦ rw beyond (bits.pair_normal (widened_low held.set new.set marks) (single 0) (widened_normal sets bits held.set new.set marks n k) (sets.single 256 0 (omega arith)).0)
 ]
 
-pub byte_widened_low : SetLaws → BitLaws → (held new : Word) (marks : List ℕ) → IsNormal 65536 held.set → IsNormal 65536 new.set → ((n : ℕ) → Has 65536 held.set n → n < 256)
+pub byte_widened_low : SetLaws → BitLaws → (held new : Word) (marks : List ℕ) → IsNormal 65536 held.set → IsNormal 65536 new.set
+    → ((n : ℕ) → Has 65536 held.set n → n < 256)
     → (n : ℕ) → Has 65536 (byte_widened held new marks).set n → n < 256
 byte_widened_low sets bits held new marks n k low v = elim (cases_Bool (is_within 65536 new.set held.set)) [
   | inl within ↦ rw within (low v)

@@ -83,7 +83,8 @@ still_stands first ram lo hi at size v below cell h =
     (sym (stays ram at size v cell.place cell.size is.size (unmet lo hi at cell below is apart.0) (λ two. unmet lo hi ((at + 1) % 65536) cell below is (apart.1 two))))
     h.0.0
 
-pub one_covers : SetLaws → (first : Option Suspended) (ram : ℕ → ℕ) (from at size v : ℕ) (map : CellMap) (word : Word) → map.hi < 65536 → AreCells map.lo map.hi from map.cells
+pub one_covers : SetLaws → (first : Option Suspended) (ram : ℕ → ℕ) (from at size v : ℕ) (map : CellMap) (word : Word) → map.hi < 65536
+    → AreCells map.lo map.hi from map.cells
     → at < 65536 → IsSize size → IsNormal 65536 word.set → (size ≡ 1 → (n : ℕ) → Has 65536 word.set n → n < 256)
     → StandsUnder first map.cells ram → HoldsOfWord first word v → StandsUnder first (write_one map at size word).cells (written ram at size v)
 unfolding write_one
@@ -123,7 +124,8 @@ before_it : (place size other other_size : ℕ) → 0 < size → other ≤ place
 before_it place size other other_size some h (inl k) = k
 before_it place size other other_size some h (inr k) = absurd (omega arith)
 
-inserted_form : (lo hi from : ℕ) (cell : Cell) (cells : List Cell) → IsCell lo hi cell → from ≤ cell.place → AreCells lo hi from cells → Each (AreApart cell) cells
+inserted_form : (lo hi from : ℕ) (cell : Cell) (cells : List Cell) → IsCell lo hi cell → from ≤ cell.place → AreCells lo hi from cells
+    → Each (AreApart cell) cells
     → AreCells lo hi from (insert cell cells)
 inserted_form lo hi from cell [] is h are apart = (is, h, tt)
 inserted_form lo hi from cell (c ∷ cells) is h are apart = elim (cases_Bool (nat_lt cell.place c.place)) [
@@ -141,7 +143,8 @@ inserted_form lo hi from cell (c ∷ cells) is h are apart = elim (cases_Bool (n
 ]
 
 -- bytes that aren't an access's own stand before it or behind it
-apart_numbers : (at size place its_size : ℕ) → IsSize size → 0 < its_size → (place ≤ at → at < place + its_size → ⊥) → (size ≡ 2 → place ≤ at + 1 → at + 1 < place + its_size → ⊥)
+apart_numbers : (at size place its_size : ℕ) → IsSize size → 0 < its_size → (place ≤ at → at < place + its_size → ⊥)
+    → (size ≡ 2 → place ≤ at + 1 → at + 1 < place + its_size → ⊥)
     → (place + its_size ≤ at) ⊎ (at + size ≤ place)
 apart_numbers at size place its_size is some first second = elim (cases_lt at place) [
   | inr from ↦ inl (elim (cases_lt at (place + its_size)) [ inl to ↦ absurd (first from to) | inr beyond ↦ beyond ])
@@ -151,7 +154,8 @@ apart_numbers at size place its_size is some first second = elim (cases_lt at pl
   ])
 ]
 
-cells_apart : (at size hi : ℕ) (word : Word) (other : Cell) → hi < 65536 → IsSize size → at + size ≤ hi + 1 → IsSize other.size → not (meets at size other) ≡ true
+cells_apart : (at size hi : ℕ) (word : Word) (other : Cell) → hi < 65536 → IsSize size → at + size ≤ hi + 1 → IsSize other.size
+    → not (meets at size other) ≡ true
     → AreApart (record { place = at; size = size; word = word }) other
 cells_apart at size hi word other below is high its h =
     let apart = unmet_from at size other h in
@@ -184,7 +188,8 @@ with_form lo hi from at size word cells below first is normal byte are =
           (each_filter (IsCell lo hi) (λ c. not (meets at size c)) cells (each_cell lo hi from cells are))))
     ]
 
-pub one_form : (from at size : ℕ) (map : CellMap) (word : Word) → map.hi < 65536 → from ≤ map.lo → AreCells map.lo map.hi from map.cells → IsSize size → IsNormal 65536 word.set
+pub one_form : (from at size : ℕ) (map : CellMap) (word : Word) → map.hi < 65536 → from ≤ map.lo → AreCells map.lo map.hi from map.cells → IsSize size
+    → IsNormal 65536 word.set
     → (size ≡ 1 → (n : ℕ) → Has 65536 word.set n → n < 256) → AreCells map.lo map.hi from (write_one map at size word).cells
 unfolding write_one
 one_form from at size map word below first are is normal byte = with_form map.lo map.hi from at size word map.cells below first is normal byte are

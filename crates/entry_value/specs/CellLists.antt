@@ -56,7 +56,8 @@ each_with : (P : Cell → Type 0) (found : Option Cell) (cells : List Cell) → 
 each_with P None cells h k = k
 each_with P (Some cell) cells h k = (h, k)
 
-pub each_kept : (P Q : Cell → Type 0) (f : Cell → Option Cell) (cells : List Cell) → ((cell : Cell) → P cell → OfSome Q (f cell)) → Each P cells → Each Q (kept f cells)
+pub each_kept : (P Q : Cell → Type 0) (f : Cell → Option Cell) (cells : List Cell) → ((cell : Cell) → P cell → OfSome Q (f cell)) → Each P cells
+    → Each Q (kept f cells)
 each_kept P Q f [] step h = tt
 each_kept P Q f (cell ∷ cells) step h = each_with Q (f cell) (kept f cells) (step cell h.0) (each_kept P Q f cells step h.1)
 
@@ -85,8 +86,9 @@ made_of f cells held None there is = tt
 made_of f cells held (Some cell) there is = (held, there, is)
 
 pub kept_from : (f : Cell → Option Cell) (cells : List Cell) (cell : Cell) → Contains (kept f cells) cell → MadeOf f cells cell
-kept_from f cells cell = each_in (MadeOf f cells) (kept f cells)
-    (each_kept (λ held. Contains cells held) (MadeOf f cells) f cells (λ held there. made_of f cells held (f held) there refl) (each_from (λ held. Contains cells held) cells (λ held there. there))) cell
+kept_from f cells cell =
+    let all : Each (Contains cells) cells = each_from (Contains cells) cells (λ held there. there) in
+    each_in (MadeOf f cells) (kept f cells) (each_kept (Contains cells) (MadeOf f cells) f cells (λ held there. made_of f cells held (f held) there refl) all) cell
 
 -- each cell behind a write is the one that was written, or was there
 abbrev WrittenOr : (at size : ℕ) → Word → List Cell → Cell → Type 0
@@ -102,9 +104,11 @@ pub each_written : (P : Cell → Type 0) (map : CellMap) (cell : Cell) → P cel
 unfolding write_one
 each_written P map cell h k =
     let test = λ (c : Cell). not (meets cell.place cell.size c) in
-    each_with_cell P map.lo map.hi cell (filter test map.cells) h (each_then (λ c. P c × (test c ≡ true)) P (filter test map.cells) (λ c both. both.0) (each_filter P test map.cells k))
+    each_with_cell P map.lo map.hi cell (filter test map.cells) h
+    (each_then (λ c. P c × (test c ≡ true)) P (filter test map.cells) (λ c both. both.0) (each_filter P test map.cells k))
 
-pub write_from : (at size : ℕ) (map : CellMap) (word : Word) (cell : Cell) → Contains (write_one map at size word).cells cell → WrittenOr at size word map.cells cell
+pub write_from : (at size : ℕ) (map : CellMap) (word : Word) (cell : Cell) → Contains (write_one map at size word).cells cell
+    → WrittenOr at size word map.cells cell
 write_from at size map word cell =
     let made : Cell = record { place = at; size = size; word = word } in
     let P = WrittenOr at size word map.cells in

@@ -16,8 +16,10 @@ use Rattle.entry_value.specs.Words.{Suspended, IsFromEntry, HoldsOfWord, HoldsOf
 -- relations of numbers to places of the suspended state
 pub record EntryLaws : Type 0 where
   pub holds : (first : Option Suspended) (v : ℕ) (a b : Option Entry) → is_entry_within a b ≡ true → IsFromEntry first a v → IsFromEntry first b v
-  pub and : (first : Option Suspended) (entry : Option Entry) (v m : ℕ) → IsFromEntry first entry v → IsFromEntry first (option_map (entry_and m) entry) (bit_and v m)
-  pub or : (first : Option Suspended) (entry : Option Entry) (v m : ℕ) → IsFromEntry first entry v → IsFromEntry first (option_map (entry_or m) entry) (bit_or v m)
+  pub and : (first : Option Suspended) (entry : Option Entry) (v m : ℕ) → IsFromEntry first entry v
+      → IsFromEntry first (option_map (entry_and m) entry) (bit_and v m)
+  pub or : (first : Option Suspended) (entry : Option Entry) (v m : ℕ) → IsFromEntry first entry v
+      → IsFromEntry first (option_map (entry_or m) entry) (bit_or v m)
   pub common_first : (first : Option Suspended) (a b : Option Entry) (v : ℕ) → IsFromEntry first a v → IsFromEntry first (common_entry a b) v
   pub common_second : (first : Option Suspended) (a b : Option Entry) (v : ℕ) → IsFromEntry first b v → IsFromEntry first (common_entry a b) v
   pub common_is : (a b : Option Entry) → (common_entry a b ≡ None) ⊎ (common_entry a b ≡ a)
@@ -31,42 +33,58 @@ pub record EntryLaws : Type 0 where
 pub record WordLaws : Type 0 where
   pub holds : (first : Option Suspended) (v : ℕ) (a b : Word) → word_within a b ≡ true → HoldsOfWord first a v → HoldsOfWord first b v
   pub join_normal : (a b : Word) → IsNormal 65536 a.set → IsNormal 65536 b.set → IsNormal 65536 (word_join a b).set
-  pub join_holds_first : (first : Option Suspended) (v : ℕ) (a b : Word) → IsNormal 65536 a.set → IsNormal 65536 b.set → HoldsOfWord first a v → HoldsOfWord first (word_join a b) v
-  pub join_holds_second : (first : Option Suspended) (v : ℕ) (a b : Word) → IsNormal 65536 a.set → IsNormal 65536 b.set → HoldsOfWord first b v → HoldsOfWord first (word_join a b) v
-  pub widen_normal : (held new : Word) (marks : List ℕ) → IsNormal 65536 held.set → IsNormal 65536 new.set → AreMarks 65536 marks → IsNormal 65536 (word_widen held new marks).set
-  pub widen_holds_held : (first : Option Suspended) (v : ℕ) (held new : Word) (marks : List ℕ) → IsNormal 65536 held.set → IsNormal 65536 new.set → AreMarks 65536 marks
+  pub join_holds_first : (first : Option Suspended) (v : ℕ) (a b : Word) → IsNormal 65536 a.set → IsNormal 65536 b.set → HoldsOfWord first a v
+      → HoldsOfWord first (word_join a b) v
+  pub join_holds_second : (first : Option Suspended) (v : ℕ) (a b : Word) → IsNormal 65536 a.set → IsNormal 65536 b.set → HoldsOfWord first b v
+      → HoldsOfWord first (word_join a b) v
+  pub widen_normal : (held new : Word) (marks : List ℕ) → IsNormal 65536 held.set → IsNormal 65536 new.set → AreMarks 65536 marks
+      → IsNormal 65536 (word_widen held new marks).set
+  pub widen_holds_held : (first : Option Suspended) (v : ℕ) (held new : Word) (marks : List ℕ) → IsNormal 65536 held.set → IsNormal 65536 new.set
+      → AreMarks 65536 marks
       → HoldsOfWord first held v → HoldsOfWord first (word_widen held new marks) v
-  pub widen_holds_new : (first : Option Suspended) (v : ℕ) (held new : Word) (marks : List ℕ) → IsNormal 65536 held.set → IsNormal 65536 new.set → AreMarks 65536 marks
+  pub widen_holds_new : (first : Option Suspended) (v : ℕ) (held new : Word) (marks : List ℕ) → IsNormal 65536 held.set → IsNormal 65536 new.set
+      → AreMarks 65536 marks
       → HoldsOfWord first new v → HoldsOfWord first (word_widen held new marks) v
   -- masks
   pub and_normal : (m : ℕ) (word : Word) → m < 65536 → IsNormal 65536 word.set → IsNormal 65536 (word_and m word).set
-  pub and : (first : Option Suspended) (m v : ℕ) (word : Word) → m < 65536 → IsNormal 65536 word.set → HoldsOfWord first word v → HoldsOfWord first (word_and m word) (bit_and v m)
+  pub and : (first : Option Suspended) (m v : ℕ) (word : Word) → m < 65536 → IsNormal 65536 word.set → HoldsOfWord first word v
+      → HoldsOfWord first (word_and m word) (bit_and v m)
   pub or_normal : (m : ℕ) (word : Word) → m < 65536 → IsNormal 65536 word.set → IsNormal 65536 (word_or m word).set
-  pub or : (first : Option Suspended) (m v : ℕ) (word : Word) → m < 65536 → IsNormal 65536 word.set → HoldsOfWord first word v → HoldsOfWord first (word_or m word) (bit_or v m)
+  pub or : (first : Option Suspended) (m v : ℕ) (word : Word) → m < 65536 → IsNormal 65536 word.set → HoldsOfWord first word v
+      → HoldsOfWord first (word_or m word) (bit_or v m)
   -- their order
   pub itself : (a : Word) → word_within a a ≡ true
   pub along : (a b c : Word) → word_within a b ≡ true → word_within b c ≡ true → word_within a c ≡ true
   pub join_first : (a b : Word) → IsNormal 65536 a.set → IsNormal 65536 b.set → word_within a (word_join a b) ≡ true
   pub join_second : (a b : Word) → IsNormal 65536 a.set → IsNormal 65536 b.set → word_within b (word_join a b) ≡ true
-  pub widen_held : (held new : Word) (marks : List ℕ) → IsNormal 65536 held.set → IsNormal 65536 new.set → AreMarks 65536 marks → word_within held (word_widen held new marks) ≡ true
-  pub widen_new : (held new : Word) (marks : List ℕ) → IsNormal 65536 held.set → IsNormal 65536 new.set → AreMarks 65536 marks → word_within new (word_widen held new marks) ≡ true
+  pub widen_held : (held new : Word) (marks : List ℕ) → IsNormal 65536 held.set → IsNormal 65536 new.set → AreMarks 65536 marks
+      → word_within held (word_widen held new marks) ≡ true
+  pub widen_new : (held new : Word) (marks : List ℕ) → IsNormal 65536 held.set → IsNormal 65536 new.set → AreMarks 65536 marks
+      → word_within new (word_widen held new marks) ≡ true
   pub whole : (a : Word) → IsNormal 65536 a.set → word_within a (unknown 2) ≡ true
 
 pub record ByteLaws : Type 0 where
   pub holds : (first : Option Suspended) (v : ℕ) (a b : Byte) → byte_within a b ≡ true → HoldsOfByte first a v → HoldsOfByte first b v
   pub join_normal : (a b : Byte) → IsNormal 256 a.set → IsNormal 256 b.set → IsNormal 256 (byte_join a b).set
-  pub join_holds_first : (first : Option Suspended) (v : ℕ) (a b : Byte) → IsNormal 256 a.set → IsNormal 256 b.set → HoldsOfByte first a v → HoldsOfByte first (byte_join a b) v
-  pub join_holds_second : (first : Option Suspended) (v : ℕ) (a b : Byte) → IsNormal 256 a.set → IsNormal 256 b.set → HoldsOfByte first b v → HoldsOfByte first (byte_join a b) v
-  pub widen_normal : (held new : Byte) (marks : List ℕ) → IsNormal 256 held.set → IsNormal 256 new.set → AreMarks 256 marks → IsNormal 256 (byte_widen held new marks).set
-  pub widen_holds_held : (first : Option Suspended) (v : ℕ) (held new : Byte) (marks : List ℕ) → IsNormal 256 held.set → IsNormal 256 new.set → AreMarks 256 marks
+  pub join_holds_first : (first : Option Suspended) (v : ℕ) (a b : Byte) → IsNormal 256 a.set → IsNormal 256 b.set → HoldsOfByte first a v
+      → HoldsOfByte first (byte_join a b) v
+  pub join_holds_second : (first : Option Suspended) (v : ℕ) (a b : Byte) → IsNormal 256 a.set → IsNormal 256 b.set → HoldsOfByte first b v
+      → HoldsOfByte first (byte_join a b) v
+  pub widen_normal : (held new : Byte) (marks : List ℕ) → IsNormal 256 held.set → IsNormal 256 new.set → AreMarks 256 marks
+      → IsNormal 256 (byte_widen held new marks).set
+  pub widen_holds_held : (first : Option Suspended) (v : ℕ) (held new : Byte) (marks : List ℕ) → IsNormal 256 held.set → IsNormal 256 new.set
+      → AreMarks 256 marks
       → HoldsOfByte first held v → HoldsOfByte first (byte_widen held new marks) v
-  pub widen_holds_new : (first : Option Suspended) (v : ℕ) (held new : Byte) (marks : List ℕ) → IsNormal 256 held.set → IsNormal 256 new.set → AreMarks 256 marks
+  pub widen_holds_new : (first : Option Suspended) (v : ℕ) (held new : Byte) (marks : List ℕ) → IsNormal 256 held.set → IsNormal 256 new.set
+      → AreMarks 256 marks
       → HoldsOfByte first new v → HoldsOfByte first (byte_widen held new marks) v
   -- masks
   pub and_normal : (m : ℕ) (byte : Byte) → m < 256 → IsNormal 256 byte.set → IsNormal 256 (byte_and m byte).set
-  pub and : (first : Option Suspended) (m v : ℕ) (byte : Byte) → m < 256 → IsNormal 256 byte.set → HoldsOfByte first byte v → HoldsOfByte first (byte_and m byte) (bit_and v m)
+  pub and : (first : Option Suspended) (m v : ℕ) (byte : Byte) → m < 256 → IsNormal 256 byte.set → HoldsOfByte first byte v
+      → HoldsOfByte first (byte_and m byte) (bit_and v m)
   pub or_normal : (m : ℕ) (byte : Byte) → m < 256 → IsNormal 256 byte.set → IsNormal 256 (byte_or m byte).set
-  pub or : (first : Option Suspended) (m v : ℕ) (byte : Byte) → m < 256 → IsNormal 256 byte.set → HoldsOfByte first byte v → HoldsOfByte first (byte_or m byte) (bit_or v m)
+  pub or : (first : Option Suspended) (m v : ℕ) (byte : Byte) → m < 256 → IsNormal 256 byte.set → HoldsOfByte first byte v
+      → HoldsOfByte first (byte_or m byte) (bit_or v m)
   -- as words
   pub to_word : (first : Option Suspended) (v : ℕ) (byte : Byte) → IsNormal 256 byte.set → HoldsOfByte first byte v
       → HoldsOfWord first (record { set = pair_set byte.set (single 0); entry = byte.entry }) v
@@ -77,8 +95,10 @@ pub record ByteLaws : Type 0 where
   pub along : (a b c : Byte) → byte_within a b ≡ true → byte_within b c ≡ true → byte_within a c ≡ true
   pub join_first : (a b : Byte) → IsNormal 256 a.set → IsNormal 256 b.set → byte_within a (byte_join a b) ≡ true
   pub join_second : (a b : Byte) → IsNormal 256 a.set → IsNormal 256 b.set → byte_within b (byte_join a b) ≡ true
-  pub widen_held : (held new : Byte) (marks : List ℕ) → IsNormal 256 held.set → IsNormal 256 new.set → AreMarks 256 marks → byte_within held (byte_widen held new marks) ≡ true
-  pub widen_new : (held new : Byte) (marks : List ℕ) → IsNormal 256 held.set → IsNormal 256 new.set → AreMarks 256 marks → byte_within new (byte_widen held new marks) ≡ true
+  pub widen_held : (held new : Byte) (marks : List ℕ) → IsNormal 256 held.set → IsNormal 256 new.set → AreMarks 256 marks
+      → byte_within held (byte_widen held new marks) ≡ true
+  pub widen_new : (held new : Byte) (marks : List ℕ) → IsNormal 256 held.set → IsNormal 256 new.set → AreMarks 256 marks
+      → byte_within new (byte_widen held new marks) ≡ true
   pub whole : (a : Byte) → IsNormal 256 a.set → byte_within a (record { set = make 256 0 1 256; entry = None }) ≡ true
 
 pub record ValueLaws : Type 0 where
@@ -89,18 +109,21 @@ pub record ValueLaws : Type 0 where
 pub record CellLaws : Type 0 where
   -- members
   pub each : (lo hi from : ℕ) (list : List Cell) (cell : Cell) → AreCells lo hi from list → Contains list cell → IsCell lo hi cell
-  pub kept_from : (f : Cell → Option Cell) (list : List Cell) (cell : Cell) → Contains (kept f list) cell → (held : Cell) × Contains list held × (f held ≡ Some cell)
+  pub kept_from : (f : Cell → Option Cell) (list : List Cell) (cell : Cell) → Contains (kept f list) cell
+      → (held : Cell) × Contains list held × (f held ≡ Some cell)
   pub write_from : (at size : ℕ) (map : CellMap) (word : Word) (cell : Cell) → Contains (write_one map at size word).cells cell
       → (cell ≡ record { place = at; size = size; word = word }) ⊎ Contains map.cells cell
   -- reads
-  pub reads : (first : Option Suspended) (ram : ℕ → ℕ) (lo hi from at size : ℕ) (list : List Cell) → AreCells lo hi from list → at < 65536 → (size ≡ 1) ⊎ (size ≡ 2)
+  pub reads : (first : Option Suspended) (ram : ℕ → ℕ) (lo hi from at size : ℕ) (list : List Cell) → AreCells lo hi from list → at < 65536
+      → (size ≡ 1) ⊎ (size ≡ 2)
       → StandsUnder first list ram → HoldsOfWord first (cells.read list at size) (number_at ram at size)
   pub read_normal : (lo hi from at size : ℕ) (list : List Cell) → AreCells lo hi from list → IsNormal 65536 (cells.read list at size).set
   pub read_byte : (lo hi from at size : ℕ) (list : List Cell) → AreCells lo hi from list → size ≡ 1 → IsBelow 65536 256 (cells.read list at size).set
   -- words of which each is a byte, as a write of one byte takes them
   pub byte_single : (n v : ℕ) → n < 256 → Has 65536 (single n) v → v < 256
   pub byte_any : (v : ℕ) → Has 65536 (cells.any_of 1) v → v < 256
-  pub byte_widened_normal : (held new : Word) (marks : List ℕ) → IsNormal 65536 held.set → IsNormal 65536 new.set → IsNormal 65536 (cells.byte_widened held new marks).set
+  pub byte_widened_normal : (held new : Word) (marks : List ℕ) → IsNormal 65536 held.set → IsNormal 65536 new.set
+      → IsNormal 65536 (cells.byte_widened held new marks).set
   pub byte_widened : (held new : Word) (marks : List ℕ) → IsNormal 65536 held.set → IsNormal 65536 new.set → IsBelow 65536 256 held.set
       → IsBelow 65536 256 (cells.byte_widened held new marks).set
   -- a write at one address
@@ -108,7 +131,8 @@ pub record CellLaws : Type 0 where
       → map.hi < 65536 → AreCells map.lo map.hi from map.cells → at < 65536 → (size ≡ 1) ⊎ (size ≡ 2)
       → IsNormal 65536 word.set → (size ≡ 1 → IsBelow 65536 256 word.set)
       → StandsUnder first map.cells ram → HoldsOfWord first word v → StandsUnder first (write_one map at size word).cells (written ram at size v)
-  pub write_form : (from at size : ℕ) (map : CellMap) (word : Word) → map.hi < 65536 → from ≤ map.lo → AreCells map.lo map.hi from map.cells → (size ≡ 1) ⊎ (size ≡ 2)
+  pub write_form : (from at size : ℕ) (map : CellMap) (word : Word) → map.hi < 65536 → from ≤ map.lo → AreCells map.lo map.hi from map.cells
+      → (size ≡ 1) ⊎ (size ≡ 2)
       → IsNormal 65536 word.set → (size ≡ 1 → IsBelow 65536 256 word.set) → AreCells map.lo map.hi from (write_one map at size word).cells
   pub write_lo : (at size : ℕ) (map : CellMap) (word : Word) → (write_one map at size word).lo ≡ map.lo
   pub write_hi : (at size : ℕ) (map : CellMap) (word : Word) → (write_one map at size word).hi ≡ map.hi
@@ -116,36 +140,49 @@ pub record CellLaws : Type 0 where
   pub store : (first : Option Suspended) (ram : ℕ → ℕ) (from size address v : ℕ) (map : CellMap) (at : Form) (word : Word)
       → map.hi < 65536 → AreCells map.lo map.hi from map.cells → IsNormal 65536 at → (size ≡ 1) ⊎ (size ≡ 2)
       → IsNormal 65536 word.set → (size ≡ 1 → IsBelow 65536 256 word.set)
-      → StandsUnder first map.cells ram → Has 65536 at address → HoldsOfWord first word v → StandsUnder first (write_any map at size word).cells (written ram address size v)
-  pub store_form : (from size : ℕ) (map : CellMap) (at : Form) (word : Word) → map.hi < 65536 → from ≤ map.lo → AreCells map.lo map.hi from map.cells → (size ≡ 1) ⊎ (size ≡ 2)
+      → StandsUnder first map.cells ram → Has 65536 at address → HoldsOfWord first word v
+      → StandsUnder first (write_any map at size word).cells (written ram address size v)
+  pub store_form : (from size : ℕ) (map : CellMap) (at : Form) (word : Word) → map.hi < 65536 → from ≤ map.lo → AreCells map.lo map.hi from map.cells
+      → (size ≡ 1) ⊎ (size ≡ 2)
       → IsNormal 65536 word.set → (size ≡ 1 → IsBelow 65536 256 word.set) → AreCells map.lo map.hi from (write_any map at size word).cells
   pub store_lo : (size : ℕ) (map : CellMap) (at : Form) (word : Word) → (write_any map at size word).lo ≡ map.lo
   pub store_hi : (size : ℕ) (map : CellMap) (at : Form) (word : Word) → (write_any map at size word).hi ≡ map.hi
-  pub store_one : (map : CellMap) (at : Form) (size : ℕ) (word : Word) → count_of 65536 at ≡ 1 → write_any map at size word ≡ write_one map (slice_index (members 65536 at) 0) size word
+  pub store_one : (map : CellMap) (at : Form) (size : ℕ) (word : Word) → count_of 65536 at ≡ 1
+      → write_any map at size word ≡ write_one map (slice_index (members 65536 at) 0) size word
   pub store_only : (at : Form) (address : ℕ) → count_of 65536 at ≡ 1 → Has 65536 at address → slice_index (members 65536 at) 0 ≡ address
-  pub store_several : (map : CellMap) (at : Form) (size : ℕ) (word : Word) → count_of 65536 at ≢ 1 → write_any map at size word ≡ cells.write_several map at size word
+  pub store_several : (map : CellMap) (at : Form) (size : ℕ) (word : Word) → count_of 65536 at ≢ 1
+      → write_any map at size word ≡ cells.write_several map at size word
   -- what stands under cells
-  pub holds : (first : Option Suspended) (ram : ℕ → ℕ) (new held : List Cell) → are_within new held ≡ true → StandsUnder first new ram → StandsUnder first held ram
+  pub holds : (first : Option Suspended) (ram : ℕ → ℕ) (new held : List Cell) → are_within new held ≡ true → StandsUnder first new ram
+      → StandsUnder first held ram
   pub none : (first : Option Suspended) (ram : ℕ → ℕ) → ((at : ℕ) → ram at < 256) → StandsUnder first [] ram
-  pub agree : (first : Option Suspended) (one other : ℕ → ℕ) (lo hi from : ℕ) (list : List Cell) → hi < 65536 → AreCells lo hi from list → ((at : ℕ) → other at < 256)
+  pub agree : (first : Option Suspended) (one other : ℕ → ℕ) (lo hi from : ℕ) (list : List Cell) → hi < 65536 → AreCells lo hi from list
+      → ((at : ℕ) → other at < 256)
       → ((at : ℕ) → lo ≤ at → at ≤ hi → one at ≡ other at) → StandsUnder first list one → StandsUnder first list other
   -- joins and widened cells
-  pub join_form : (lo hi from low high start : ℕ) (held new : List Cell) → AreCells lo hi from held → AreCells low high start new → AreCells lo hi from (join_cells held new)
-  pub join_stands_held : (first : Option Suspended) (ram : ℕ → ℕ) (lo hi from low high start : ℕ) (held new : List Cell) → AreCells lo hi from held → AreCells low high start new
+  pub join_form : (lo hi from low high start : ℕ) (held new : List Cell) → AreCells lo hi from held → AreCells low high start new
+      → AreCells lo hi from (join_cells held new)
+  pub join_stands_held : (first : Option Suspended) (ram : ℕ → ℕ) (lo hi from low high start : ℕ) (held new : List Cell) → AreCells lo hi from held
+      → AreCells low high start new
       → StandsUnder first held ram → StandsUnder first (join_cells held new) ram
-  pub join_stands_new : (first : Option Suspended) (ram : ℕ → ℕ) (lo hi from low high start : ℕ) (held new : List Cell) → AreCells lo hi from held → AreCells low high start new
+  pub join_stands_new : (first : Option Suspended) (ram : ℕ → ℕ) (lo hi from low high start : ℕ) (held new : List Cell) → AreCells lo hi from held
+      → AreCells low high start new
       → StandsUnder first new ram → StandsUnder first (join_cells held new) ram
   pub widen_form : (lo hi from low high start : ℕ) (held new : List Cell) (marks : List ℕ) → AreCells lo hi from held → AreCells low high start new
       → AreMarks 65536 marks → AreCells lo hi from (widen_cells held new marks)
-  pub widen_stands_held : (first : Option Suspended) (ram : ℕ → ℕ) (lo hi from low high start : ℕ) (held new : List Cell) (marks : List ℕ) → AreCells lo hi from held → AreCells low high start new
+  pub widen_stands_held : (first : Option Suspended) (ram : ℕ → ℕ) (lo hi from low high start : ℕ) (held new : List Cell) (marks : List ℕ)
+      → AreCells lo hi from held → AreCells low high start new
       → AreMarks 65536 marks → StandsUnder first held ram → StandsUnder first (widen_cells held new marks) ram
-  pub widen_stands_new : (first : Option Suspended) (ram : ℕ → ℕ) (lo hi from low high start : ℕ) (held new : List Cell) (marks : List ℕ) → AreCells lo hi from held → AreCells low high start new
+  pub widen_stands_new : (first : Option Suspended) (ram : ℕ → ℕ) (lo hi from low high start : ℕ) (held new : List Cell) (marks : List ℕ)
+      → AreCells lo hi from held → AreCells low high start new
       → AreMarks 65536 marks → StandsUnder first new ram → StandsUnder first (widen_cells held new marks) ram
   -- their order
   pub itself : (lo hi from : ℕ) (list : List Cell) → AreCells lo hi from list → are_within list list ≡ true
   pub along : (a b c : List Cell) → are_within a b ≡ true → are_within b c ≡ true → are_within a c ≡ true
-  pub join_held : (lo hi from low high start : ℕ) (held new : List Cell) → AreCells lo hi from held → AreCells low high start new → are_within held (join_cells held new) ≡ true
-  pub join_new : (lo hi from low high start : ℕ) (held new : List Cell) → AreCells lo hi from held → AreCells low high start new → are_within new (join_cells held new) ≡ true
+  pub join_held : (lo hi from low high start : ℕ) (held new : List Cell) → AreCells lo hi from held → AreCells low high start new
+      → are_within held (join_cells held new) ≡ true
+  pub join_new : (lo hi from low high start : ℕ) (held new : List Cell) → AreCells lo hi from held → AreCells low high start new
+      → are_within new (join_cells held new) ≡ true
   pub widen_held : (lo hi from low high start : ℕ) (held new : List Cell) (marks : List ℕ) → AreCells lo hi from held → AreCells low high start new
       → AreMarks 65536 marks → are_within held (widen_cells held new marks) ≡ true
   pub widen_new : (lo hi from low high start : ℕ) (held new : List Cell) (marks : List ℕ) → AreCells lo hi from held → AreCells low high start new

@@ -14,7 +14,8 @@ unrelated_is cell c e = elim (cases_Bool (is_nothing cell.size (plain_cell cell)
   | inr tells ↦ same_Some (plain_cell cell) c (sym (cond-false (is_nothing cell.size (plain_cell cell).word) None (Some (plain_cell cell)) tells) ∙ e)
 ]
 
-pub stands_without : CellLaws → (first other : Option Suspended) (ram : ℕ → ℕ) (cells : List Cell) → StandsUnder first cells ram → StandsUnder other (kept unrelated cells) ram
+pub stands_without : CellLaws → (first other : Option Suspended) (ram : ℕ → ℕ) (cells : List Cell) → StandsUnder first cells ram
+    → StandsUnder other (kept unrelated cells) ram
 stands_without laws first other ram cells stands = (
   stands.0,
   λ c there.
@@ -43,5 +44,6 @@ are_kept lo hi from (cell ∷ cells) are =
           rw some (one, are.1, rest)
     ]
 
-pub each_plain : CellLaws → (cells : List Cell) (cell : Cell) → Contains (kept unrelated cells) cell → (held : Cell) × Contains cells held × (plain_cell held ≡ cell)
+pub each_plain : CellLaws → (cells : List Cell) (cell : Cell) → Contains (kept unrelated cells) cell
+    → (held : Cell) × Contains cells held × (plain_cell held ≡ cell)
 each_plain laws cells cell there = let found = laws.kept_from unrelated cells cell there in (found.0, found.1, unrelated_is found.0 cell found.2)

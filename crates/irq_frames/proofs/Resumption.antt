@@ -39,7 +39,8 @@ unmasked_is entry word below unmasked =
     let all : bit_and word entry.and ≡ word = ap (bit_and word) (eqb-true entry.and 65535 parts.0) ∙ and_mask word 16 ∙ within_word word below in
     ap (bit_or (bit_and word entry.and)) (eqb-true entry.or 0 parts.1) ∙ nothing_set (bit_and word entry.and) ∙ all
 
-masked_holds : (words : WordLaws) (first : Option Suspended) (entry : Entry) (held : Word) (word : ℕ) → HasMasks (Some entry) → IsNormal 65536 held.set → word < 65536
+masked_holds : (words : WordLaws) (first : Option Suspended) (entry : Entry) (held : Word) (word : ℕ) → HasMasks (Some entry)
+    → IsNormal 65536 held.set → word < 65536
     → HoldsOfWord first held word → HoldsOfWord first (masked_by entry held) (bit_or (bit_and word entry.and) entry.or)
 masked_holds words first entry held word masks normal below holds = elim (cases_Bool (is_unmasked entry)) [
   | inl whole ↦ rw whole (subst (λ (v : ℕ). HoldsOfWord first held v) (sym (unmasked_is entry word below whole)) holds)
@@ -47,7 +48,8 @@ masked_holds words first entry held word masks normal below holds = elim (cases_
       (words.and first entry.and word held masks.0 normal holds))
 ]
 
-by_holds : (words : WordLaws) (places : ℕ → Word) (f : Suspended) (first : Option Suspended) (exit : Word) (entry : Option Entry) (v : ℕ) → exit.entry ≡ entry → AreNormal places
+by_holds : (words : WordLaws) (places : ℕ → Word) (f : Suspended) (first : Option Suspended) (exit : Word) (entry : Option Entry) (v : ℕ)
+    → exit.entry ≡ entry → AreNormal places
     → HasMasks entry → Tells places f first entry → HoldsOfWord (Some f) exit v → HoldsOfWord first (resumed_by places exit entry) v
 by_holds words places f first exit None v is normal masks tells holds = (holds.0, subst (λ (entry : Option Entry). IsFromEntry first entry v) (sym is) tt)
 by_holds words places f first exit (Some entry) v is normal masks tells holds =
@@ -65,11 +67,13 @@ masked_normal words entry held masks normal = elim (cases_Bool (is_unmasked entr
   | inr some ↦ rw some (words.or_normal entry.or (word_and entry.and held) masks.1 (words.and_normal entry.and held masks.0 normal))
 ]
 
-by_normal : (words : WordLaws) (places : ℕ → Word) (exit : Word) (entry : Option Entry) → AreNormal places → HasMasks entry → IsNormal 65536 exit.set → IsNormal 65536 (resumed_by places exit entry).set
+by_normal : (words : WordLaws) (places : ℕ → Word) (exit : Word) (entry : Option Entry) → AreNormal places → HasMasks entry → IsNormal 65536 exit.set
+    → IsNormal 65536 (resumed_by places exit entry).set
 by_normal words places exit None normal masks own = own
 by_normal words places exit (Some entry) normal masks own = masked_normal words entry (places entry.place) masks (normal entry.place)
 
-pub word_normal : (words : WordLaws) (places : ℕ → Word) (exit : Word) → AreNormal places → HasMasks exit.entry → IsNormal 65536 exit.set → IsNormal 65536 (resumed_word places exit).set
+pub word_normal : (words : WordLaws) (places : ℕ → Word) (exit : Word) → AreNormal places → HasMasks exit.entry → IsNormal 65536 exit.set
+    → IsNormal 65536 (resumed_word places exit).set
 word_normal words places exit = by_normal words places exit exit.entry
 
 -- its relation
@@ -86,7 +90,8 @@ masked_entry entry held = elim (cases_Bool (is_unmasked entry)) [
   | inr some ↦ inr (rw some refl)
 ]
 
-pub word_entry : (places : ℕ → Word) (exit : Word) (entry : Entry) → exit.entry ≡ Some entry → IsBehind entry (places entry.place).entry (resumed_word places exit).entry
+pub word_entry : (places : ℕ → Word) (exit : Word) (entry : Entry) → exit.entry ≡ Some entry
+    → IsBehind entry (places entry.place).entry (resumed_word places exit).entry
 word_entry places exit entry is = subst (λ (one : Option Entry). IsBehind entry (places entry.place).entry (resumed_by places exit one).entry) (sym is) (masked_entry entry (places entry.place))
 
 -- CELLS THAT ARE WRITTEN
@@ -137,7 +142,8 @@ rewritten_word ram at address bytes = elim (cases_Bool (address == at)) [
   ])
 ]
 
-rewritten : (ram : ℕ → ℕ) (at size address : ℕ) → ((b : ℕ) → ram b < 256) → (size ≡ 1) ⊎ (size ≡ 2) → written ram at size (number_at ram at size) address ≡ ram address
+rewritten : (ram : ℕ → ℕ) (at size address : ℕ) → ((b : ℕ) → ram b < 256) → (size ≡ 1) ⊎ (size ≡ 2)
+    → written ram at size (number_at ram at size) address ≡ ram address
 rewritten ram at size address bytes (inl one) = subst (λ (s : ℕ). written ram at s (number_at ram at s) address ≡ ram address) (sym one) (rewritten_byte ram at address bytes)
 rewritten ram at size address bytes (inr two) = subst (λ (s : ℕ). written ram at s (number_at ram at s) address ≡ ram address) (sym two) (rewritten_word ram at address bytes)
 
@@ -148,7 +154,8 @@ one_formed laws held cell form is = record {
   are = laws.write_form held.lo cell.place cell.size held cell.word form.high (omega arith) form.are is.size is.normal is.byte;
 }
 
-one_stands : (laws : CellLaws) (first : Option Suspended) (ram : ℕ → ℕ) (held : CellMap) (cell : Cell) → IsCellMap held → IsWritten cell → StandsAt first ram cell
+one_stands : (laws : CellLaws) (first : Option Suspended) (ram : ℕ → ℕ) (held : CellMap) (cell : Cell) → IsCellMap held → IsWritten cell
+    → StandsAt first ram cell
     → StandsUnder first held.cells ram → StandsUnder first (write_one held cell.place cell.size cell.word).cells ram
 one_stands laws first ram held cell form is stands under =
     let at = cell.place in
@@ -163,7 +170,8 @@ all_formed : (laws : CellLaws) (cells : List Cell) (held : CellMap) → IsCellMa
 all_formed laws [] held form each = form
 all_formed laws (cell ∷ cells) held form each = all_formed laws cells (write_one held cell.place cell.size cell.word) (one_formed laws held cell form each.0) each.1
 
-all_stand : (laws : CellLaws) (first : Option Suspended) (ram : ℕ → ℕ) (cells : List Cell) (held : CellMap) → IsCellMap held → Each (λ cell. IsWritten cell × StandsAt first ram cell) cells
+all_stand : (laws : CellLaws) (first : Option Suspended) (ram : ℕ → ℕ) (cells : List Cell) (held : CellMap) → IsCellMap held
+    → Each (λ cell. IsWritten cell × StandsAt first ram cell) cells
     → StandsUnder first held.cells ram → StandsUnder first (with_written cells held).cells ram
 all_stand laws first ram [] held form each under = under
 all_stand laws first ram (cell ∷ cells) held form each under = all_stand laws first ram cells (write_one held cell.place cell.size cell.word)
@@ -212,7 +220,8 @@ same_place touched now then_ place size sized whole agree none =
           (ap (λ (b : ℕ). b + 256 * now ((place + 1) % 65536)) first ∙ ap (λ (b : ℕ). then_ place + 256 * b) high)
     ]
 
-untouched_stand : (first : Option Suspended) (touched : List (ℕ × ℕ)) (now then_ : ℕ → ℕ) (at : CellMap) → IsCellMap at → ((b : ℕ) → now b < 256) → AgreeOutside touched now then_
+untouched_stand : (first : Option Suspended) (touched : List (ℕ × ℕ)) (now then_ : ℕ → ℕ) (at : CellMap) → IsCellMap at → ((b : ℕ) → now b < 256)
+    → AgreeOutside touched now then_
     → StandsUnder first at.cells then_ → StandsUnder first (untouched_cells touched at.cells) now
 untouched_stand first touched now then_ at form bytes agree under =
     let test = λ (cell : Cell). is_untouched touched cell.place cell.size in
@@ -229,23 +238,27 @@ untouched_stand first touched now then_ at form bytes agree under =
 sized_is_byte : (places : ℕ → Word) (size : ℕ) (exit : Word) → size ≡ 1 → resumed_sized places size exit ≡ record { set = exit.set; entry = None }
 sized_is_byte places size exit one = cond-true (size == 1) (record { set = exit.set; entry = None }) (resumed_word places exit) (ap (λ n. n == 1) one)
 
-pub byte_of : (places : ℕ → Word) (size : ℕ) (exit : Word) → size ≡ 1 → ((v : ℕ) → Has 65536 exit.set v → v < 256) → (v : ℕ) → Has 65536 (resumed_sized places size exit).set v → v < 256
+pub byte_of : (places : ℕ → Word) (size : ℕ) (exit : Word) → size ≡ 1 → ((v : ℕ) → Has 65536 exit.set v → v < 256) → (v : ℕ)
+    → Has 65536 (resumed_sized places size exit).set v → v < 256
 byte_of places size exit one below v has = below v (subst (λ (word : Word). Has 65536 word.set v) (sized_is_byte places size exit one) has)
 
-sized_normal : (words : WordLaws) (places : ℕ → Word) (size : ℕ) (exit : Word) → AreNormal places → HasMasks exit.entry → IsNormal 65536 exit.set → IsNormal 65536 (resumed_sized places size exit).set
+sized_normal : (words : WordLaws) (places : ℕ → Word) (size : ℕ) (exit : Word) → AreNormal places → HasMasks exit.entry → IsNormal 65536 exit.set
+    → IsNormal 65536 (resumed_sized places size exit).set
 sized_normal words places size exit normal masks own = elim (cases_Bool (size == 1)) [
   | inl one ↦ rw one own
   | inr two ↦ rw two (word_normal words places exit normal masks own)
 ]
 
-sized_holds : (words : WordLaws) (places : ℕ → Word) (f : Suspended) (first : Option Suspended) (size : ℕ) (exit : Word) (v : ℕ) → AreNormal places → HasMasks exit.entry
+sized_holds : (words : WordLaws) (places : ℕ → Word) (f : Suspended) (first : Option Suspended) (size : ℕ) (exit : Word) (v : ℕ) → AreNormal places
+    → HasMasks exit.entry
     → Tells places f first exit.entry → HoldsOfWord (Some f) exit v → HoldsOfWord first (resumed_sized places size exit) v
 sized_holds words places f first size exit v normal masks tells holds = elim (cases_Bool (size == 1)) [
   | inl one ↦ rw one (holds.0, tt)
   | inr two ↦ rw two (word_holds words places f first exit v normal masks tells holds)
 ]
 
-resumed_written : (words : WordLaws) (places : ℕ → Word) (exit : CellMap) → CanResume places exit → (cell : Cell) → Contains exit.cells cell → IsWritten (resumed_cell places cell)
+resumed_written : (words : WordLaws) (places : ℕ → Word) (exit : CellMap) → CanResume places exit → (cell : Cell) → Contains exit.cells cell
+    → IsWritten (resumed_cell places cell)
 resumed_written words places exit can cell held =
     let is : IsCell exit.lo exit.hi cell = each_in (IsCell exit.lo exit.hi) exit.cells (each_cell exit.lo exit.hi exit.lo exit.cells can.form.are) cell held in
     record {
@@ -255,7 +268,8 @@ resumed_written words places exit can cell held =
       byte = λ one. byte_of places cell.size cell.word one (is.byte one);
     }
 
-exit_each : (places : ℕ → Word) (P : Cell → Type 0) (touched : List (ℕ × ℕ)) (cells : List Cell) → ((cell : Cell) → Contains cells cell → P (resumed_cell places cell))
+exit_each : (places : ℕ → Word) (P : Cell → Type 0) (touched : List (ℕ × ℕ)) (cells : List Cell)
+    → ((cell : Cell) → Contains cells cell → P (resumed_cell places cell))
     → Each P (map (resumed_cell places) (touched_cells touched cells))
 exit_each places P touched cells each =
     let test = λ (cell : Cell). is_all_touched touched cell.place cell.size in
@@ -283,7 +297,8 @@ cells_formed words cells places at exit touched form can =
     all_formed cells (map (resumed_cell places) (touched_cells touched exit.cells)) (record at { cells = untouched_cells touched at.cells }) (untouched_form touched at form)
     (exit_each places IsWritten touched exit.cells (resumed_written words places exit can))
 
-pub ends_stay : (places : ℕ → Word) (at exit : CellMap) (touched : List (ℕ × ℕ)) → ((resumed_cells places at exit touched).lo ≡ at.lo) × ((resumed_cells places at exit touched).hi ≡ at.hi)
+pub ends_stay : (places : ℕ → Word) (at exit : CellMap) (touched : List (ℕ × ℕ))
+    → ((resumed_cells places at exit touched).lo ≡ at.lo) × ((resumed_cells places at exit touched).hi ≡ at.hi)
 unfolding resumed_cells
 ends_stay places at exit touched = same_ends (map (resumed_cell places) (touched_cells touched exit.cells)) (record at { cells = untouched_cells touched at.cells })
 

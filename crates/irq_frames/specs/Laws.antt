@@ -11,7 +11,8 @@ use Rattle.irq_frames.specs.Resuming.{AgreeOutside, AreNormal, CanResume, EachTe
 use Rattle.irq_frames.specs.Unrelated.{plain_cell, unrelated}
 
 pub record RangeLaws : Type 0 where
-  pub add_form : (from hi low high : ℕ) (ranges : List (ℕ × ℕ)) → from ≤ low → low ≤ high → high ≤ hi → AreRanges from hi ranges → AreRanges from hi (with_range low high ranges)
+  pub add_form : (from hi low high : ℕ) (ranges : List (ℕ × ℕ)) → from ≤ low → low ≤ high → high ≤ hi → AreRanges from hi ranges
+      → AreRanges from hi (with_range low high ranges)
   pub add : (from hi at low high : ℕ) (ranges : List (ℕ × ℕ)) → low ≤ high → AreRanges from hi ranges
       → has_address (with_range low high ranges) at ≡ (has_address ranges at || lies_in (at, at) (low, high))
   pub unite_form : (lo hi : ℕ) (ranges others : List (ℕ × ℕ)) → AreRanges lo hi ranges → AreRanges lo hi others → AreRanges lo hi (united ranges others)
@@ -24,20 +25,24 @@ pub record RangeLaws : Type 0 where
 
 pub record FrameLaws : Type 0 where
   -- where a handler begins: cells without relations
-  pub plain_stands : (first other : Option Suspended) (ram : ℕ → ℕ) (cells : List Cell) → StandsUnder first cells ram → StandsUnder other (kept unrelated cells) ram
+  pub plain_stands : (first other : Option Suspended) (ram : ℕ → ℕ) (cells : List Cell) → StandsUnder first cells ram
+      → StandsUnder other (kept unrelated cells) ram
   pub plain_form : (lo hi from : ℕ) (cells : List Cell) → AreCells lo hi from cells → AreCells lo hi from (kept unrelated cells)
   pub plain_each : (cells : List Cell) (cell : Cell) → Contains (kept unrelated cells) cell → (held : Cell) × Contains cells held × (plain_cell held ≡ cell)
   -- words that go on behind it
   pub word : (places : ℕ → Word) (suspended : Suspended) (first : Option Suspended) (exit : Word) (v : ℕ) → AreNormal places → HasMasks exit.entry
       → Tells places suspended first exit.entry → HoldsOfWord (Some suspended) exit v → HoldsOfWord first (resumed_word places exit) v
-  pub word_normal : (places : ℕ → Word) (exit : Word) → AreNormal places → HasMasks exit.entry → IsNormal 65536 exit.set → IsNormal 65536 (resumed_word places exit).set
+  pub word_normal : (places : ℕ → Word) (exit : Word) → AreNormal places → HasMasks exit.entry → IsNormal 65536 exit.set
+      → IsNormal 65536 (resumed_word places exit).set
   pub word_none : (places : ℕ → Word) (exit : Word) → exit.entry ≡ None → (resumed_word places exit).entry ≡ None
-  pub word_entry : (places : ℕ → Word) (exit : Word) (entry : Entry) → exit.entry ≡ Some entry → IsBehind entry (places entry.place).entry (resumed_word places exit).entry
+  pub word_entry : (places : ℕ → Word) (exit : Word) (entry : Entry) → exit.entry ≡ Some entry
+      → IsBehind entry (places entry.place).entry (resumed_word places exit).entry
   -- cells that go on behind it
   pub untouched : (places : ℕ → Word) (suspended : Suspended) (first : Option Suspended) (before now : ℕ → ℕ) (at exit : CellMap) (touched : List (ℕ × ℕ))
       → IsCellMap at → CanResume places exit → EachTells places suspended first exit.cells → AgreeOutside touched now before
       → StandsUnder first at.cells before → StandsUnder (Some suspended) exit.cells now → StandsUnder first (resumed_cells places at exit touched).cells now
-  pub untouched_form : (places : ℕ → Word) (at exit : CellMap) (touched : List (ℕ × ℕ)) → IsCellMap at → CanResume places exit → IsCellMap (resumed_cells places at exit touched)
+  pub untouched_form : (places : ℕ → Word) (at exit : CellMap) (touched : List (ℕ × ℕ)) → IsCellMap at → CanResume places exit
+      → IsCellMap (resumed_cells places at exit touched)
   pub untouched_lo : (places : ℕ → Word) (at exit : CellMap) (touched : List (ℕ × ℕ)) → (resumed_cells places at exit touched).lo ≡ at.lo
   pub untouched_hi : (places : ℕ → Word) (at exit : CellMap) (touched : List (ℕ × ℕ)) → (resumed_cells places at exit touched).hi ≡ at.hi
   pub origin : (places : ℕ → Word) (at exit : CellMap) (touched : List (ℕ × ℕ)) (cell : Cell) → Contains (resumed_cells places at exit touched).cells cell

@@ -27,5 +27,6 @@ pub pair_byte : SetLaws → (low : Form) (v : ℕ) → IsNormal 256 low → Has 
 unfolding pair_set
 pair_byte laws low v normal =
     let small : (x : ℕ) → IsIn x (members 256 low) → x < 256 = λ x there. laws.below 256 x low normal (Contains_from_in (members 256 low) x there) in
-    let below : AreBelow 256 (words (members 256 low) (0 ∷ [])) = λ w there. low_words 256 w (members 256 low) small (in_from_Contains (words (members 256 low) (0 ∷ [])) w there) in
-    rw (le-leb (count_of 256 low * 1) 256 (few_bytes laws 256 low (omega arith) normal)) (laws.gather_below 256 65536 (words (members 256 low) (0 ∷ [])) (omega arith) below v)
+    let alone = words (members 256 low) (0 ∷ []) in
+    let below : AreBelow 256 alone = λ w there. low_words 256 w (members 256 low) small (in_from_Contains alone w there) in
+    rw (le-leb (count_of 256 low * 1) 256 (few_bytes laws 256 low (omega arith) normal)) (laws.gather_below 256 65536 alone (omega arith) below v)

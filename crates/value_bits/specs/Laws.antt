@@ -21,7 +21,8 @@ use Rattle.value_bits.specs.Sets.{IsTop, chosen, logic_set, shift_set, exchange_
 
 pub record BitLaws : Type 0 where
   -- AND, OR and XOR
-  pub logic_normal : (width : ℕ) (logic : Logic) (a b : Form) → IsNormal (2 ^ width) a → IsNormal (2 ^ width) b → IsNormal (2 ^ width) (logic_set width logic a b)
+  pub logic_normal : (width : ℕ) (logic : Logic) (a b : Form) → IsNormal (2 ^ width) a → IsNormal (2 ^ width) b
+      → IsNormal (2 ^ width) (logic_set width logic a b)
   pub logic : (width x y : ℕ) (logic : Logic) (a b : Form) → IsNormal (2 ^ width) a → IsNormal (2 ^ width) b → Has (2 ^ width) a x → Has (2 ^ width) b y
       → Has (2 ^ width) (logic_set width logic a b) (logic_of logic x y)
   -- the low and the high bytes of words, and words of bytes
@@ -34,7 +35,8 @@ pub record BitLaws : Type 0 where
   pub pair_byte : (low : Form) (v : ℕ) → IsNormal 256 low → Has 65536 (pair_set low (single 0)) v → v < 256
   -- moved bits
   pub exchange_normal : (half : ℕ) (a : Form) → IsNormal (2 ^ (half + half)) a → IsNormal (2 ^ (half + half)) (exchange_set half a)
-  pub exchange : (half x : ℕ) (a : Form) → IsNormal (2 ^ (half + half)) a → Has (2 ^ (half + half)) a x → Has (2 ^ (half + half)) (exchange_set half a) (exchanged (2 ^ half) x)
+  pub exchange : (half x : ℕ) (a : Form) → IsNormal (2 ^ (half + half)) a → Has (2 ^ (half + half)) a x
+      → Has (2 ^ (half + half)) (exchange_set half a) (exchanged (2 ^ half) x)
   pub sign_normal : (a : Form) → IsNormal 65536 a → IsNormal 65536 (sign_extend_set a)
   pub sign : (x : ℕ) (a : Form) → IsNormal 65536 a → Has 65536 a x → Has 65536 (sign_extend_set a) (sign_extended x)
   pub shift_normal : (place : ℕ) (a : Form) (top : Top) → IsNormal (2 ^ (place + 1)) a → IsNormal (2 ^ (place + 1)) (shift_set place a top)
@@ -44,7 +46,8 @@ pub record BitLaws : Type 0 where
   pub left : (place x bit : ℕ) (a : Form) (lowest : Lowest) → IsNormal (2 ^ (place + 1)) a → Has (2 ^ (place + 1)) a x → IsLowest place lowest x bit
       → Has (2 ^ (place + 1)) (left_set place a lowest) (shifted_left place x bit)
   -- decimal sums and adjustments
-  pub decimal_normal : (digits : ℕ) (a b : Form) (carry : Tri) → IsNormal (16 ^ digits) a → IsNormal (16 ^ digits) b → IsNormal (16 ^ digits) (decimal_add_set digits a b carry)
+  pub decimal_normal : (digits : ℕ) (a b : Form) (carry : Tri) → IsNormal (16 ^ digits) a → IsNormal (16 ^ digits) b
+      → IsNormal (16 ^ digits) (decimal_add_set digits a b carry)
   pub decimal : (digits x y bit : ℕ) (a b : Form) (carry : Tri) → IsNormal (16 ^ digits) a → IsNormal (16 ^ digits) b
       → Has (16 ^ digits) a x → Has (16 ^ digits) b y → IsBit carry bit → Has (16 ^ digits) (decimal_add_set digits a b carry) (decimal_sum digits x y bit)
   pub decimal_free : (digits x y v : ℕ) (a b : Form) (carry : Tri) → Has (16 ^ digits) a x → Has (16 ^ digits) b y
@@ -60,8 +63,10 @@ pub record BitLaws : Type 0 where
   pub chosen_normal : (m : ℕ) (t : Tri) → 2 ≤ m → IsNormal m (chosen t)
   pub chosen_has : (m bit : ℕ) (t : Tri) → IsBit t bit → Has m (chosen t) bit
   -- even numbers
-  pub even_known : (width : ℕ) (a : Form) → 1 ≤ width → IsNormal (2 ^ width) a → HasRemainder (2 ^ width) 2 0 a → slice_index_or (known_bits width a) 0 Either ≡ Zero
-  pub even_from : (width : ℕ) (bits : List Tri) → length bits ≡ width → slice_index_or bits 0 Either ≡ Zero → HasRemainder (2 ^ width) 2 0 (from_bits width bits)
+  pub even_known : (width : ℕ) (a : Form) → 1 ≤ width → IsNormal (2 ^ width) a → HasRemainder (2 ^ width) 2 0 a
+      → slice_index_or (known_bits width a) 0 Either ≡ Zero
+  pub even_from : (width : ℕ) (bits : List Tri) → length bits ≡ width → slice_index_or bits 0 Either ≡ Zero
+      → HasRemainder (2 ^ width) 2 0 (from_bits width bits)
   pub odd_from : (width : ℕ) (bits : List Tri) → length bits ≡ width → slice_index_or bits 0 Either ≡ One → HasRemainder (2 ^ width) 2 1 (from_bits width bits)
   pub even_and : (width : ℕ) (a b : Form) → 1 ≤ width → IsNormal (2 ^ width) a → IsNormal (2 ^ width) b
       → HasRemainder (2 ^ width) 2 0 b → HasRemainder (2 ^ width) 2 0 (logic_set width And a b)
@@ -88,7 +93,8 @@ pub record BitLaws : Type 0 where
   -- the bits of a number
   pub bits_at : (bits : List Tri) (place v : ℕ) → Agrees bits v → IsBit (slice_index_or bits place Either) (bit_at v place)
   pub bits_put : (bits : List Tri) (place v : ℕ) (t : Tri) → place < length bits → Agrees bits v → IsBit t (bit_at v place) → Agrees (set bits place t) v
-  pub bits_from : (at : ℕ → Tri) (v width : ℕ) → ((place : ℕ) → place < width → IsBit (at place) (bit_at v place)) → v < 2 ^ width → Agrees (map at (range_with_len 0 width)) v
+  pub bits_from : (at : ℕ → Tri) (v width : ℕ) → ((place : ℕ) → place < width → IsBit (at place) (bit_at v place)) → v < 2 ^ width
+      → Agrees (map at (range_with_len 0 width)) v
   pub bits_any : (width v : ℕ) → v < 2 ^ width → Agrees (replicate width Either) v
   pub bits_zero : (width : ℕ) → Agrees (replicate width Zero) 0
   pub bits_append : (bits more : List Tri) (v w : ℕ) → Agrees bits v → Agrees more w → Agrees (bits ++ more) (v + 2 ^ length bits * w)

@@ -112,7 +112,8 @@ above_down m from v h k = mod-eq_of_lt (omega arith)
 low_greater : (n from a b : ℕ) → from + a < n → from + b < n → from + greater a b < n
 low_greater n from a b h k = elim (cases_Bool (nat_lt a b)) [ inl less ↦ rw less k | inr more ↦ rw more h ]
 
-farthest_low : (n m from far : ℕ) (xs : List ℕ) → n ≤ m → AllLow n xs → IsAbove from xs → from + far < n → from + fold (λ most v. greater most (above m from v)) far xs < n
+farthest_low : (n m from far : ℕ) (xs : List ℕ) → n ≤ m → AllLow n xs → IsAbove from xs → from + far < n
+    → from + fold (λ most v. greater most (above m from v)) far xs < n
 farthest_low n m from far [] h low rises k = k
 farthest_low n m from far (x ∷ xs) h low rises k =
     let here = low x (inl refl) in
@@ -127,7 +128,8 @@ hull_low : (n m : ℕ) (xs : List ℕ) → n + n ≤ m → 1 ≤ length xs → A
 unfolding hull
 hull_low n m [] half some low a = absurd (omega arith)
 hull_low n m (x ∷ xs) half some low a =
-    let far : x + farthest m x (x ∷ xs) < n = farthest_low n m x 0 (x ∷ xs) (omega arith) low (omega arith, ascends_above x (x + 1) m xs (omega arith) a.2) (omega (arith, low x (inl refl))) in
+    let far : x + farthest m x (x ∷ xs) < n =
+    farthest_low n m x 0 (x ∷ xs) (omega arith) low (omega arith, ascends_above x (x + 1) m xs (omega arith) a.2) (omega (arith, low x (inl refl))) in
     ends_low n (hull_base m (x ∷ xs)) (farthest m (hull_base m (x ∷ xs)) (x ∷ xs)) (common_stride m (hull_base m (x ∷ xs)) (x ∷ xs))
     (subst (λ (b : ℕ). b + farthest m b (x ∷ xs) < n) (sym (base_first n m x xs half low)) far)
 
@@ -203,7 +205,8 @@ spans_low n m v p q half low other = elim (cases_order p.base q.base) [
   ]
 ]
 
-apart_low : (n m v : ℕ) (a b : Form) → n + n ≤ m → IsNormal m a → IsNormal m b → ((w : ℕ) → Has m a w → w < n) → ((w : ℕ) → Has m b w → w < n) → Has m (join_apart m a b) v → v < n
+apart_low : (n m v : ℕ) (a b : Form) → n + n ≤ m → IsNormal m a → IsNormal m b → ((w : ℕ) → Has m a w → w < n) → ((w : ℕ) → Has m b w → w < n)
+    → Has m (join_apart m a b) v → v < n
 unfolding join_apart
 apart_low n m v (Values xs) (Values ys) half k l low other = elim (cases_Bool (nat_le (length (ascending (xs ++ ys))) 16)) [
   | inl few ↦ rw few (ascending_low n v (xs ++ ys) (λ w there. elim (in_one_of w xs ys there) [ inl one ↦ all_low n xs low w one | inr two ↦ all_low n ys other w two ]))
@@ -225,10 +228,11 @@ pub gather_below : (n m : ℕ) (xs : List ℕ) → n + n ≤ m → AreBelow n xs
 unfolding set_of
 gather_below n m xs half below v =
     let low : AllLow n xs = all_low n xs below in
+    let rises : Ascends 0 m (ascending xs) = Ascends-put_all m [] xs (λ w there. (let small = low w there in omega (arith, small, half))) tt in
     elim (cases_Bool (nat_le (length (ascending xs)) 16)) [
       | inl few ↦ rw few (ascending_low n v xs low)
       | inr many ↦ rw many (
           let more : 16 < length (ascending xs) = leb-false (length (ascending xs)) 16 many in
           make_below n m (hull m (ascending xs)).base (hull m (ascending xs)).stride (hull m (ascending xs)).count
-          (hull_low n m (ascending xs) half (omega arith) (λ w there. low w (in_ascending w xs there)) (Ascends-put_all m [] xs (λ w there. (let small = low w there in omega (arith, small, half))) tt)) (omega arith) v)
+          (hull_low n m (ascending xs) half (omega arith) (λ w there. low w (in_ascending w xs there)) rises) (omega arith) v)
     ]
