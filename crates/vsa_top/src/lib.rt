@@ -17,12 +17,3 @@ mod words;
 pub use outcome::{Outcome, Status};
 pub use top::vsa;
 pub use worker_rounds::{Gate, NoGate};
-
-#[cfg(test)]
-mod analysis_rows;
-#[cfg(test)]
-mod mcs51_rows;
-#[cfg(test)]
-mod run_rows;
-#[cfg(test)]
-mod tests;

@@ -1,11 +1,11 @@
 //! Whole analyses of the MSP430, each record by record against the manual.
 
-use crate::outcome::Status;
-use crate::tests::{answers, begins};
+use crate::answers::{answers, begins};
 use std::process::Abort;
 use std::sync::Wait;
 use std::test::Fail;
 use std::thread::Threads;
+use vsa_top::Status;
 
 /// A program of some records with the reset vector F000h gets this report by these words.
 fn is_analysed_by<R: Abort + Threads + Wait + AllocGlobal + Sync>(

@@ -1,8 +1,6 @@
 //! Whole calls, over streams in memory.
 
-use crate::msp430::Msp430Code;
-use crate::outcome::Status;
-use crate::top::vsa;
+use crate::code::EvenCode;
 use disassembly::disassembly_of;
 use ihex_read::Image;
 use std::alloc::{AllocError, Global};
@@ -11,7 +9,7 @@ use std::sync::Wait;
 use std::test::Fail;
 use std::thread::Threads;
 use vsa_io::{CleanSink, CleanSource, MemSource};
-use worker_rounds::NoGate;
+use vsa_top::{NoGate, Status, vsa};
 
 /// The words of a command line.
 fn words_of(alloc: Global, line: &str) -> Result<Vec<String>, AllocError> {
@@ -141,7 +139,7 @@ fn rows_of_the_last_word(rt: HostRuntime) -> Result<(), Fail> {
     bytes.resize(65534, None)?;
     bytes.push(Some(0x31))?;
     bytes.push(Some(0x40))?;
-    let lines = disassembly_of::<Msp430Code>(rt.alloc(), &Image::new(bytes))?;
+    let lines = disassembly_of::<EvenCode>(rt.alloc(), &Image::new(bytes))?;
     let text = "0000 3412 PUSH @R4+\nFFFE 31403412 MOV #1234h,SP\n";
     assert_eq!(rt; lines.as_slice(), text.as_bytes());
     Ok(())

@@ -1,11 +1,11 @@
 //! The MCS-51's analyses, disassemblies and runs, whole calls over streams in memory.
 
-use crate::outcome::Status;
-use crate::tests::answers;
+use crate::answers::answers;
 use std::process::Abort;
 use std::sync::Wait;
 use std::test::Fail;
 use std::thread::Threads;
+use vsa_top::Status;
 
 /// The answer to the image of some records, with a script behind it.
 fn answers_image<R: Abort + Threads + Wait + AllocGlobal + Sync>(

@@ -1,11 +1,11 @@
 //! Runs along scripts, whole calls over streams in memory.
 
-use crate::outcome::Status;
-use crate::tests::{EIGHT_BYTES, answers};
+use crate::answers::{EIGHT_BYTES, answers};
 use std::process::Abort;
 use std::sync::Wait;
 use std::test::Fail;
 use std::thread::Threads;
+use vsa_top::Status;
 
 /// A program's run along a script: its records stand in front of the reset vector F000h.
 fn runs<R: Abort + Threads + Wait + AllocGlobal + Sync>(
