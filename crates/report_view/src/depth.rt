@@ -60,6 +60,17 @@ impl Depths {
         }
     }
 
+    /// The least and the greatest depth in some sets, where one says something.
+    pub fn of_sets(&self, sets: &Vec<Set<'_>>) -> Option<(u16, u16)> {
+        let mut bounds = None;
+        for set in sets.iter() {
+            if !set.is_whole() {
+                bounds = Some(wider(bounds, self.of_set(set)));
+            }
+        }
+        bounds
+    }
+
     /// A depth in parts of a hundred of the greatest one.
     pub fn share(&self, depth: u16) -> usize {
         let most = usize::from(self.most());
@@ -67,5 +78,13 @@ impl Depths {
             return 0;
         }
         usize::from(depth).wrapping_mul(100) / most
+    }
+}
+
+/// The least and the greatest of two pairs.
+fn wider(known: Option<(u16, u16)>, (least, most): (u16, u16)) -> (u16, u16) {
+    match known {
+        None => (least, most),
+        Some((low, high)) => (low.min(least), high.max(most)),
     }
 }

@@ -13,15 +13,30 @@ use vsa_io::Memory;
 pub fn graph_of(alloc: Global, report: &Report<'_>) -> Result<Markup, Memory> {
     let program = Program::of(alloc, report)?;
     let mut graph = Markup::new(alloc);
+    open_graph(&mut graph, report)?;
+    boxes_of(alloc, &mut graph, &program)?;
+    close(&mut graph)?;
+    Ok(graph)
+}
+
+/// What every graph begins with.
+pub fn open_graph(graph: &mut Markup, report: &Report<'_>) -> Result<(), Memory> {
     graph.put("digraph report {\n  graph [fontname=\"monospace\", labelloc=t, label=\"")?;
     graph.put(if report.closed { "CLOSED" } else { "OPEN" })?;
     graph.put(
         "\"];\n  node [fontname=\"monospace\", shape=plain];\n  edge [fontname=\"monospace\", fontsize=10];\n",
-    )?;
-    let heads = boxes(alloc, &mut graph, &program)?;
-    arrows(&mut graph, &program, &heads)?;
-    graph.put("}\n")?;
-    Ok(graph)
+    )
+}
+
+/// What every graph ends with.
+pub fn close(graph: &mut Markup) -> Result<(), Memory> {
+    graph.put("}\n")
+}
+
+/// The boxes and the arrows of a program.
+pub fn boxes_of(alloc: Global, graph: &mut Markup, program: &Program<'_>) -> Result<(), Memory> {
+    let heads = boxes(alloc, graph, program)?;
+    arrows(graph, program, &heads)
 }
 
 /// Writes the boxes, and answers the first address of the box that an address stands in.

@@ -1,11 +1,20 @@
 //! Shows a report as a page of HTML, or as a graph for Graphviz.
 #![tactic(auto)]
 
+mod ask;
+mod call_graph;
 mod counts;
 mod depth;
+mod diff;
+mod functions;
+mod given;
 mod graph;
+mod map;
 mod markup;
+mod memory;
 mod page;
+mod page_map;
+mod page_tables;
 mod program;
 mod sets;
 mod style;
@@ -14,17 +23,20 @@ mod tests;
 mod view;
 mod ways;
 
-use report_lines::Refusal;
+use crate::ask::{Ask, ask_of};
+use crate::given::given_instead;
+use crate::view::{ViewError, view};
+use report_lines::{Refusal, Why};
 use std::alloc::Global;
 use std::process::ExitCode;
 use std::{env, io};
-use view::{Form, ViewError, form_of, view};
 use vsa_io::{Memory, Source, StdinSource, StdoutSink, write_all};
 
 /// How a run ends.
 #[derive(Clone, Copy)]
 enum Status {
     Done = 0,
+    Differs = 1,
     Usage = 2,
     Refused = 3,
     ReadFault = 5,
@@ -56,14 +68,47 @@ fn input<S: Source>(alloc: Global, source: &mut S) -> Result<Vec<u8>, InputError
     Ok(text)
 }
 
-/// Tells what is refused.
-fn tell(rt: &impl Eprint, refusal: Refusal) -> io::Result<()> {
+/// Tells which line of a report is refused, or what the input is in place of one.
+fn tell_refusal(rt: &impl Eprint, which: &str, refusal: Refusal, text: &[u8]) -> io::Result<()> {
+    let is_first = refusal.why == Why::NoVerdict || refusal.why == Why::Empty;
+    if is_first
+        && which.is_empty()
+        && let Some(sentence) = given_instead(text)
+    {
+        return eprintln!(rt; "view: {sentence}");
+    }
     let (line, sentence) = (refusal.line, refusal.why.sentence());
-    eprintln!(rt; "line {line}: {sentence}")
+    eprintln!(rt; "view: {which}line {line}: {sentence}")
+}
+
+/// Tells why nothing is shown.
+fn tell(rt: &impl Eprint, error: ViewError, text: &[u8]) -> io::Result<()> {
+    match error {
+        ViewError::Refused(refusal) => tell_refusal(rt, "", refusal, text),
+        ViewError::RefusedSecond(refusal) => tell_refusal(rt, "the second report, ", refusal, text),
+        ViewError::BadImage(line) => {
+            eprintln!(rt;
+                "view: line {line} of the image's text is faulty; ./vsa says what is wrong with it."
+            )
+        }
+        ViewError::Foreign(pc) => {
+            eprintln!(rt;
+                "view: the report is of another image: at {pc:04X}h this one has other bytes."
+            )
+        }
+        ViewError::NoFunction(pc) => {
+            eprintln!(rt;
+                "view: no function begins at {pc:04X}h. The page lists those that there are, and so does ./view dot calls."
+            )
+        }
+        ViewError::Memory => eprintln!(rt; "view: memory ran out, so nothing is shown."),
+    }
 }
 
 fn usage(rt: &impl Eprint) -> io::Result<()> {
-    eprintln!(rt; "usage: view html or view dot, with a report on the standard input")
+    eprintln!(rt;
+        "view: the words are html, dot, dot calls, dot ADDRESS or diff; ./view --help says more."
+    )
 }
 
 /// The words behind the program's name, or none where they can't be had.
@@ -72,22 +117,25 @@ fn words(rt: &HostRuntime) -> io::Result<Vec<String>> {
 }
 
 /// Reads the report, and writes what is asked.
-fn run(rt: &HostRuntime, form: Form) -> Status {
+fn run(rt: &HostRuntime, ask: Ask<'_>) -> Status {
     let text = match input(rt.alloc(), &mut StdinSource::new(rt)) {
         Ok(text) => text,
         Err(InputError::Failed) => return Status::ReadFault,
         Err(InputError::Memory) => return Status::Memory,
     };
-    match view(rt.alloc(), form, &text) {
-        Ok(shown) => match write_all(&mut StdoutSink::new(rt), shown.as_bytes()) {
+    match view(rt.alloc(), ask, &text) {
+        Ok(shown) => match write_all(&mut StdoutSink::new(rt), shown.text.as_bytes()) {
+            Ok(()) if shown.differs => Status::Differs,
             Ok(()) => Status::Done,
             Err(_) => Status::WriteFault,
         },
-        Err(ViewError::Refused(refusal)) => {
-            let _ = tell(rt, refusal);
-            Status::Refused
+        Err(error) => {
+            let _ = tell(rt, error, &text);
+            match error {
+                ViewError::Memory => Status::Memory,
+                _ => Status::Refused,
+            }
         }
-        Err(ViewError::Memory) => Status::Memory,
     }
 }
 
@@ -95,9 +143,9 @@ fn main(rt: HostRuntime) -> ExitCode {
     let Ok(words) = words(&rt) else {
         return ExitCode::from(Status::Memory as u8);
     };
-    let Some(form) = form_of(words.as_slice()) else {
+    let Some(ask) = ask_of(words.as_slice()) else {
         let _ = usage(&rt);
         return ExitCode::from(Status::Usage as u8);
     };
-    ExitCode::from(run(&rt, form) as u8)
+    ExitCode::from(run(&rt, ask) as u8)
 }

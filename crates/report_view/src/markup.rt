@@ -37,6 +37,14 @@ impl Markup {
         Ok(())
     }
 
+    /// Adds bytes as they stand.
+    pub fn raw(&mut self, bytes: &[u8]) -> Result<(), Memory>
+        ensures { OnOk result (self.new.text.items ≡ self.old.text.items ++ bytes.now) }
+    {
+        self.text.extend_from_slice(bytes)?;
+        Ok(())
+    }
+
     /// Adds a byte of text in which no mark is read.
     fn escaped_byte(&mut self, byte: u8) -> Result<(), Memory>
         ensures { OnOk result (self.new.text.items ≡ self.old.text.items ++ escape_byte byte) }

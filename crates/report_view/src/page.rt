@@ -1,64 +1,149 @@
 //! A report as one page of HTML.
 
+use crate::ask::Labels;
 use crate::counts::Counts;
 use crate::depth::Depths;
+use crate::functions::Functions;
+use crate::map::maps_of;
 use crate::markup::Markup;
+use crate::memory::{Accesses, Roots};
+use crate::page_map::memories;
+use crate::page_tables::{functions_table, memory_tables, space_word};
 use crate::program::{Link, Program, Site};
 use crate::sets::write_set;
-use crate::style::{HEAD, NOTES, STYLE};
+use crate::style::{COLUMNS, FETCH_ADVICE, HEAD, NOTES, STORE_ADVICE, STYLE, TARGETS_ADVICE};
 use crate::ways::{Way, behind};
-use report_lines::{Access, Cause, Kind, Line, Report, Space};
+use ihex_read::Image;
+use report_lines::{Access, Cause, Kind, Line, Report};
 use std::alloc::Global;
 use vsa_io::Memory;
 
-/// The page of a report.
-pub fn page_of(alloc: Global, report: &Report<'_>) -> Result<Markup, Memory> {
+/// The page of a report, whose text this is, and of its image, where that is there.
+pub fn page_of(
+    alloc: Global,
+    report: &Report<'_>,
+    text: &[u8],
+    labels: Labels<'_>,
+    image: Option<&Image>,
+) -> Result<Markup, Memory> {
     let program = Program::of(alloc, report)?;
     let counts = Counts::of(report);
     let mut page = Markup::new(alloc);
-    head(&mut page, report, counts)?;
+    head(&mut page, report, labels)?;
+    verdict(&mut page, report, counts)?;
     facts(&mut page, report, counts)?;
     open_sites(&mut page, report, counts)?;
+    summaries(alloc, &mut page, report, &program, image)?;
     listing(&mut page, report, &program)?;
     page.put(NOTES)?;
+    lines(&mut page, text)?;
     page.put("</main>\n</html>\n")?;
     Ok(page)
 }
 
-/// The title and what the verdict says.
-fn head(page: &mut Markup, report: &Report<'_>, counts: Counts) -> Result<(), Memory> {
+/// What the lines say of functions and of memory.
+fn summaries(
+    alloc: Global,
+    page: &mut Markup,
+    report: &Report<'_>,
+    program: &Program<'_>,
+    image: Option<&Image>,
+) -> Result<(), Memory> {
+    let depths = Depths::of(report);
+    let reset = match image {
+        Some(image) if !report.grows_up() => reset_of(image),
+        _ => None,
+    };
+    let functions = Functions::of(alloc, program, report, reset)?;
+    functions_table(alloc, page, report, program, &functions)?;
+    let roots = Roots::of(alloc, &functions)?;
+    let accesses = Accesses::of(alloc, report, depths, &roots)?;
+    memory_tables(page, &functions, &accesses)?;
+    let maps = maps_of(alloc, report, image)?;
+    memories(alloc, page, &maps, image.is_some())
+}
+
+/// Where the program of an image of the MSP430 begins.
+fn reset_of(image: &Image) -> Option<u16> {
+    let (low, high) = (image.byte(0xFFFE)?, image.byte(0xFFFF)?);
+    Some(
+        u16::from(high)
+            .wrapping_mul(256)
+            .wrapping_add(u16::from(low & 0xFE)),
+    )
+}
+
+/// The lines of the report as they are.
+fn lines(page: &mut Markup, text: &[u8]) -> Result<(), Memory> {
+    page.put("<h2 id=lines>The report</h2>\n<details><summary>Its lines</summary>\n<pre>\n")?;
+    page.escaped(text)?;
+    page.put("</pre>\n</details>\n")
+}
+
+/// The word of the verdict.
+fn verdict_word(report: &Report<'_>) -> &'static str {
+    if report.closed { "CLOSED" } else { "OPEN" }
+}
+
+/// The title, and where the report is from.
+fn head(page: &mut Markup, report: &Report<'_>, labels: Labels<'_>) -> Result<(), Memory> {
     page.put("<!DOCTYPE html>\n<html lang=en>\n<meta charset=utf-8>\n")?;
-    page.put(
-        "<meta name=viewport content=\"width=device-width,initial-scale=1\">\n<title>Firmware report: ",
-    )?;
-    page.put(if report.closed { "CLOSED" } else { "OPEN" })?;
+    page.put("<meta name=viewport content=\"width=device-width,initial-scale=1\">\n<title>")?;
+    page.put(verdict_word(report))?;
+    page.put(": ")?;
+    page.escaped(labels.image.unwrap_or("firmware report").as_bytes())?;
     page.put("</title>\n<style>\n")?;
     page.put(STYLE)?;
-    page.put("</style>\n<main>\n<h1>Firmware report</h1>\n")?;
+    page.put("</style>\n<main>\n<h1>Firmware report")?;
+    if let Some(image) = labels.image {
+        page.put(" of <b>")?;
+        page.escaped(image.as_bytes())?;
+        page.put("</b>")?;
+    }
+    page.put("</h1>\n")?;
+    label(page, "SHA-256 of the image: ", labels.sum)?;
+    label(page, "Analysed by: ", labels.words)?;
+    label(page, "Version: ", labels.version)
+}
+
+/// A line that says where the report is from.
+fn label(page: &mut Markup, name: &str, text: Option<&str>) -> Result<(), Memory> {
+    let Some(text) = text else {
+        return Ok(());
+    };
+    page.put("<p class=of>")?;
+    page.put(name)?;
+    page.put("<code>")?;
+    page.escaped(text.as_bytes())?;
+    page.put("</code>\n")
+}
+
+/// What the verdict says.
+fn verdict(page: &mut Markup, report: &Report<'_>, counts: Counts) -> Result<(), Memory> {
     if report.closed {
         page.put(
             "<div class=verdict><b>CLOSED</b>\n<p>The analysis is complete. Whatever the inputs are and whenever interrupts come, the program runs only the instructions on this page, goes only along the ways shown, reads and writes only at the addresses shown, and its stack pointer has only the values shown.\n<p>This holds from reset on, for the chip as the analyser's documents define it.\n</div>\n",
         )
     } else {
         page.put(
-            "<div class=\"open verdict\"><b>OPEN</b>\n<p>The analysis isn't complete. It stopped at ",
+            "<div class=\"open verdict\"><b>OPEN</b>\n<p>The analysis isn't complete. It met its limits at ",
         )?;
         count(page, counts.opens, "site", "sites")?;
         page.put(
-            ", and what the program does from there on isn't on this page. So nothing on this page holds for the whole program yet: other code may run, and the stack may grow further.\n</div>\n",
+            ", and what the program does from there on isn't all on this page. So nothing on this page holds for the whole program yet: other code may run, and the stack may grow further.\n</div>\n",
         )
     }
 }
 
 /// A number with its noun.
-fn count(page: &mut Markup, number: usize, one: &str, more: &str) -> Result<(), Memory> {
+pub fn count(page: &mut Markup, number: usize, one: &str, more: &str) -> Result<(), Memory> {
     page.number(number)?;
     page.put(" ")?;
     page.put(if number == 1 { one } else { more })
 }
 
 /// A link to the row of an address.
-fn link(page: &mut Markup, address: u16) -> Result<(), Memory> {
+pub fn link(page: &mut Markup, address: u16) -> Result<(), Memory> {
     page.put("<a href=#")?;
     page.address(address)?;
     page.put(">")?;
@@ -156,14 +241,23 @@ fn unknown_place(page: &mut Markup, report: &Report<'_>) -> Result<(), Memory> {
     Ok(())
 }
 
-/// The open sites with their causes.
-fn open_sites(page: &mut Markup, report: &Report<'_>, counts: Counts) -> Result<(), Memory> {
-    if counts.opens == 0 {
-        return Ok(());
-    }
-    page.put("<h2>Open sites</h2>\n<ul>\n")?;
+/// What a cause means, and what to do, with the open sites that have it.
+fn sites_with(
+    page: &mut Markup,
+    report: &Report<'_>,
+    letter: u8,
+    advice: &str,
+) -> Result<(), Memory> {
+    let mut is_first = true;
     for line in report.lines.iter() {
-        if let Line::Open(open) = line {
+        if let Line::Open(open) = line
+            && letter_of(&open.cause) == letter
+        {
+            if is_first {
+                page.put(advice)?;
+                page.put("<ul>\n")?;
+            }
+            is_first = false;
             page.put("<li>")?;
             link(page, open.pc)?;
             page.put(" ")?;
@@ -171,7 +265,31 @@ fn open_sites(page: &mut Markup, report: &Report<'_>, counts: Counts) -> Result<
             page.put("\n")?;
         }
     }
-    page.put("</ul>\n")
+    if is_first {
+        Ok(())
+    } else {
+        page.put("</ul>\n")
+    }
+}
+
+/// The first letter of a cause.
+fn letter_of(cause: &Cause<'_>) -> u8 {
+    match cause {
+        Cause::Fetch => b'F',
+        Cause::Store(_) => b'S',
+        Cause::Targets(_) => b'T',
+    }
+}
+
+/// The open sites by their causes: first the stores, since what follows one may be its fault.
+fn open_sites(page: &mut Markup, report: &Report<'_>, counts: Counts) -> Result<(), Memory> {
+    if counts.opens == 0 {
+        return Ok(());
+    }
+    page.put("<h2 id=open>Open sites</h2>\n")?;
+    sites_with(page, report, b'S', STORE_ADVICE)?;
+    sites_with(page, report, b'T', TARGETS_ADVICE)?;
+    sites_with(page, report, b'F', FETCH_ADVICE)
 }
 
 /// Why the analysis stops, in words.
@@ -199,6 +317,7 @@ const SECTION: usize = 256;
 /// The program by address.
 fn listing(page: &mut Markup, report: &Report<'_>, program: &Program<'_>) -> Result<(), Memory> {
     page.put(HEAD)?;
+    page.put(COLUMNS)?;
     let depths = Depths::of(report);
     let mut rows = 0usize;
     let mut front: Option<&Site<'_>> = None;
@@ -212,7 +331,8 @@ fn listing(page: &mut Markup, report: &Report<'_>, program: &Program<'_>) -> Res
         };
         rows = rows.wrapping_add(1);
         if rows % SECTION == 0 {
-            page.put("</table></section>\n<section><table><tbody>\n")?;
+            page.put("</table></section>\n<section><table class=v>")?;
+            page.put(COLUMNS)?;
         }
         row(page, site, follows, depths)?;
         front = Some(site);
@@ -256,17 +376,17 @@ fn row(
     page.put("<tr id=")?;
     page.address(site.pc)?;
     page.put(match (follows, site.is_open()) {
-        (true, false) => "><th>",
-        (false, false) => " class=s><th>",
-        (true, true) => " class=o><th>",
-        (false, true) => " class=\"s o\"><th>",
+        (true, false) => "><th scope=row>",
+        (false, false) => " class=s><th scope=row>",
+        (true, true) => " class=o><th scope=row>",
+        (false, true) => " class=\"s o\"><th scope=row>",
     })?;
     link(page, site.pc)?;
     instruction(page, site)?;
     page.put("<td class=w>")?;
-    links(page, &site.goes)?;
-    page.put("<td class=\"w c\">")?;
-    links(page, &site.comes)?;
+    links(page, &site.goes, "next ")?;
+    page.put("<td class=w>")?;
+    links(page, &site.comes, "above ")?;
     page.put("<td class=m>")?;
     for access in site.accesses.iter() {
         write_access(page, access)?;
@@ -294,23 +414,27 @@ fn instruction(page: &mut Markup, site: &Site<'_>) -> Result<(), Memory> {
     }
 }
 
-fn links(page: &mut Markup, links: &Vec<Link>) -> Result<(), Memory> {
+/// The ways to other addresses, or from them. A neighbour has a word of its own in either case.
+fn links(page: &mut Markup, links: &Vec<Link>, neighbour: &str) -> Result<(), Memory> {
     for link in links.iter() {
+        let (class, words) = match link.way {
+            Way::Next => ("n", neighbour),
+            Way::Jump => ("j", "jump "),
+            Way::Call => ("l", "call "),
+            Way::Return => ("r", "return "),
+            Way::Interrupt => ("i", "interrupt "),
+            Way::Resume => ("u", "resume "),
+            Way::Plain => ("p", ""),
+        };
         page.put("<a class=")?;
-        page.put(match link.way {
-            Way::Next => "n",
-            Way::Jump => "j",
-            Way::Call => "l",
-            Way::Return => "r",
-            Way::Interrupt => "i",
-            Way::Resume => "u",
-            Way::Plain => "p",
-        })?;
+        page.put(class)?;
         page.put(" href=#")?;
         page.address(link.at)?;
-        page.put(">")?;
+        page.put("><i>")?;
+        page.put(words)?;
+        page.put("</i>")?;
         page.address(link.at)?;
-        page.put("</a>")?;
+        page.put("</a> ")?;
     }
     Ok(())
 }
@@ -323,21 +447,15 @@ fn write_access(page: &mut Markup, access: &Access<'_>) -> Result<(), Memory> {
         Kind::WriteOne => "writes 1 </i>",
         Kind::WriteTwo => "writes 2 </i>",
     })?;
-    page.put(match access.space {
-        Space::Mem => "",
-        Space::Ram => "ram ",
-        Space::Sfr => "sfr ",
-        Space::Xram => "xram ",
-        Space::Code => "code ",
-    })?;
+    page.put(space_word(access.space))?;
     write_set(page, &access.at)?;
-    page.put("</span>")
+    page.put("</span> ")
 }
 
 /// The stack pointer's values, behind a bar of the depths.
 fn stack(page: &mut Markup, site: &Site<'_>, depths: Option<Depths>) -> Result<(), Memory> {
     if let Some(depths) = depths {
-        bar(page, depths, bounds_of(site, depths))?;
+        bar(page, depths, depths.of_sets(&site.stacks).unwrap_or((0, 0)))?;
     }
     let mut is_first = true;
     for set in site.stacks.iter() {
@@ -348,25 +466,6 @@ fn stack(page: &mut Markup, site: &Site<'_>, depths: Option<Depths>) -> Result<(
         write_set(page, set)?;
     }
     Ok(())
-}
-
-/// The least and the greatest depth of a site.
-fn bounds_of(site: &Site<'_>, depths: Depths) -> (u16, u16) {
-    let mut bounds = None;
-    for set in site.stacks.iter() {
-        if !set.is_whole() {
-            bounds = Some(wider(bounds, depths.of_set(set)));
-        }
-    }
-    bounds.unwrap_or((0, 0))
-}
-
-/// The least and the greatest of two pairs.
-fn wider(known: Option<(u16, u16)>, (least, most): (u16, u16)) -> (u16, u16) {
-    match known {
-        None => (least, most),
-        Some((low, high)) => (low.min(least), high.max(most)),
-    }
 }
 
 /// A bar up to the greatest depth, where that isn't 0.

@@ -1,6 +1,7 @@
 //! Sets in words.
 
 use crate::markup::Markup;
+use hex_digits::{byte, word};
 use report_lines::{Form, Set, Width};
 use vsa_io::Memory;
 
@@ -19,7 +20,10 @@ pub fn write_set(page: &mut Markup, set: &Set<'_>) -> Result<(), Memory> {
     }
     match set.form {
         Form::Every => page.put("any"),
-        Form::List => list(page, set.text),
+        Form::List => match step_of(set.text) {
+            Some(step) => span(page, set, step),
+            None => list(page, set.text),
+        },
         Form::Run {
             base,
             stride,
@@ -28,10 +32,45 @@ pub fn write_set(page: &mut Markup, set: &Set<'_>) -> Result<(), Memory> {
             number(page, base, set.width)?;
             page.put(" to ")?;
             number(page, last_of(base, stride, count, set.width), set.width)?;
+            if stride == 1 {
+                return Ok(());
+            }
             page.put(" by ")?;
             page.number(usize::from(stride))
         }
     }
+}
+
+/// The difference of the numbers of a list, where they are four or more in equal steps.
+fn step_of(text: &[u8]) -> Option<u16> {
+    let mut count = 0usize;
+    let mut last = 0u16;
+    let mut step = 0u16;
+    for part in text.split(|byte| *byte == b',') {
+        let value = byte(part).or(word(part))?;
+        let own = value.wrapping_sub(last);
+        if count > 1 && own != step {
+            return None;
+        }
+        if count > 0 {
+            step = own;
+        }
+        last = value;
+        count = count.saturating_add(1);
+    }
+    if count < 4 { None } else { Some(step) }
+}
+
+/// Writes a list of numbers in equal steps by its ends.
+fn span(page: &mut Markup, set: &Set<'_>, step: u16) -> Result<(), Memory> {
+    number(page, set.least, set.width)?;
+    page.put(" to ")?;
+    number(page, set.greatest, set.width)?;
+    if step == 1 {
+        return Ok(());
+    }
+    page.put(" by ")?;
+    page.number(usize::from(step))
 }
 
 /// Writes the numbers of a list.

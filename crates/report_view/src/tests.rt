@@ -1,6 +1,7 @@
 //! Pages and graphs of small reports and of a large one.
 
-use crate::view::{Form, view};
+use crate::ask::{Ask, Labels};
+use crate::view::view;
 use std::alloc::{AllocError, Global};
 use std::process::Abort;
 use std::test::Fail;
@@ -21,12 +22,12 @@ const STRANGE_TEXT: &str =
 fn counts(
     rt: &impl Abort,
     alloc: Global,
-    form: Form,
+    ask: Ask<'_>,
     report: &str,
     parts: &[(&str, usize)],
 ) -> Result<(), Fail> {
-    let shown = view(alloc, form, report.as_bytes())?;
-    let text = str::from_utf8(shown.as_bytes())?;
+    let shown = view(alloc, ask, report.as_bytes())?;
+    let text = str::from_utf8(shown.text.as_bytes())?;
     for (part, count) in parts.iter() {
         assert_eq!(rt; text.matches(*part).count(), *count, "{part:?}");
     }
@@ -44,7 +45,7 @@ fn ways_of_calls_and_jumps(rt: HostRuntime) -> Result<(), Fail> {
         ("tooltip=\"jump\"", 1),
         ("\"F00E\":\"F00E\" -> \"F008\":\"F008\"", 1),
     ];
-    counts(&rt, rt.alloc(), Form::Dot, TWO_CALLS, parts.as_slice())
+    counts(&rt, rt.alloc(), Ask::Dot, TWO_CALLS, parts.as_slice())
 }
 
 #[test]
@@ -66,7 +67,7 @@ fn ways_of_interrupts(rt: HostRuntime) -> Result<(), Fail> {
             1,
         ),
     ];
-    counts(&rt, rt.alloc(), Form::Dot, WAKING_HANDLER, parts.as_slice())
+    counts(&rt, rt.alloc(), Ask::Dot, WAKING_HANDLER, parts.as_slice())
 }
 
 #[test]
@@ -77,8 +78,8 @@ fn page_of_a_closed_report(rt: HostRuntime) -> Result<(), Fail> {
         ("<td class=t>BIC #00F0h,0000h(SP)<", 1),
         ("<td class=b>B1C0F0000000<", 1),
         ("<tr id=F008 ", 1),
-        ("<a class=i href=#F008>F008</a>", 1),
-        ("<a class=i href=#F006>F006</a>", 1),
+        ("<a class=i href=#F008><i>interrupt </i>F008</a>", 1),
+        ("<a class=i href=#F006><i>interrupt </i>F006</a>", 1),
         ("<span><i>writes 2 </i>027E</span>", 1),
         ("4 bytes below 0280, first at <a href=#F008>F008</a>", 1),
         ("At 1 place it can have any value", 1),
@@ -86,7 +87,7 @@ fn page_of_a_closed_report(rt: HostRuntime) -> Result<(), Fail> {
     counts(
         &rt,
         rt.alloc(),
-        Form::Html,
+        Ask::Html(Labels::NONE),
         WAKING_HANDLER,
         parts.as_slice(),
     )
@@ -96,15 +97,21 @@ fn page_of_a_closed_report(rt: HostRuntime) -> Result<(), Fail> {
 fn page_with_strange_text(rt: HostRuntime) -> Result<(), Fail> {
     let parts = [
         ("<td class=t>A&lt;B&gt;&amp;&quot;C<", 1),
-        ("It stopped at 2 sites,", 1),
+        ("It met its limits at 2 sites,", 1),
         ("<td><td><em>no instruction in the report</em>", 1),
         ("<td colspan=7>Open. ", 2),
         ("</i>xram 0200 to 023E by 2<", 1),
         ("not known", 1),
     ];
-    counts(&rt, rt.alloc(), Form::Html, STRANGE_TEXT, parts.as_slice())?;
+    counts(
+        &rt,
+        rt.alloc(),
+        Ask::Html(Labels::NONE),
+        STRANGE_TEXT,
+        parts.as_slice(),
+    )?;
     let parts = [("A&lt;B&gt;&amp;&quot;C", 1)];
-    counts(&rt, rt.alloc(), Form::Dot, STRANGE_TEXT, parts.as_slice())
+    counts(&rt, rt.alloc(), Ask::Dot, STRANGE_TEXT, parts.as_slice())
 }
 
 /// A report of 10,000 edges, from each of a hundred addresses to each.
@@ -123,15 +130,21 @@ fn ten_thousand_edges(alloc: Global) -> Result<String, AllocError> {
 fn row_ten_thousand_edges(rt: HostRuntime) -> Result<(), Fail> {
     let text = ten_thousand_edges(rt.alloc())?;
     let parts = [("<tr id=", 100), ("<a class=", 20_000)];
-    counts(&rt, rt.alloc(), Form::Html, text.as_str(), parts.as_slice())?;
+    counts(
+        &rt,
+        rt.alloc(),
+        Ask::Html(Labels::NONE),
+        text.as_str(),
+        parts.as_slice(),
+    )?;
     let parts = [(" -> ", 10_000)];
-    counts(&rt, rt.alloc(), Form::Dot, text.as_str(), parts.as_slice())
+    counts(&rt, rt.alloc(), Ask::Dot, text.as_str(), parts.as_slice())
 }
 
 #[test]
 fn form_is_exact(rt: HostRuntime) -> Result<(), Fail> {
-    let shown = view(rt.alloc(), Form::Dot, EIGHT_BYTES.as_bytes())?;
-    let text = str::from_utf8(shown.as_bytes())?;
+    let shown = view(rt.alloc(), Ask::Dot, EIGHT_BYTES.as_bytes())?;
+    let text = str::from_utf8(shown.text.as_bytes())?;
     assert!(rt; text.starts_with("digraph report {\n"));
     assert!(rt;
         text.ends_with(

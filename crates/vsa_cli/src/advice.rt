@@ -1,39 +1,25 @@
 //! What an answer means for a person who runs the program, on standard error. Standard output has the answer itself.
 
+use crate::inputs::other_input;
+use crate::noted::Noted;
+use crate::options::range_of;
+use crate::slips::{Slip, slip_of};
+use crate::source::NotedSource;
+use crate::usage::USAGE;
+use crate::warnings::Watch;
+use hex_digits::word;
+use std::alloc::Global;
 use std::{io, str};
+use vsa_io::{Sink, Source};
 use vsa_top::Status;
 
-/// The command line, printed where it isn't valid.
-const USAGE: &str = "\
-usage: vsa MODE CHIP [--ram LO-HI] [--calls N] [--targets N] [--workers N] [--steps N] < INPUT
-       vsa gen CHIP --number N
+/// The questions of a step of the MSP430.
+const MSP430_QUESTIONS: &str =
+    "A step of the MSP430 asks, in this order, what is open: which interrupt comes, 0 for none; which of two where PC or SP is an operand, 0 or 1; each byte that is neither RAM nor in the image, 0 to FF, the low one of a word first; bits 9 to 15 of SR, 0 to 7F; what PUSH.B, DADD and RRC leave open.";
 
-Modes, with the input that each reads from standard input:
-  analyse   an Intel HEX text: prints what the program can do
-  disasm    an Intel HEX text: prints its instructions
-  run       an Intel HEX text, and a script after its end record: runs the program, prints what each step does
-  gen       nothing: makes a program of N functions, analyses it, prints how many lines its report has
-
-Chips: msp430, and mcs51 (the 8051, as an 8052).
-
-Options, each at most once, as --name value or --name=value:
-  --ram LO-HI   for msp430, not with gen: the first and the last address of RAM, by four hexadecimal digits each. LO is even and
-                at least 0200, HI is odd and above LO. Default: 0200-09FF
-  --calls N     for analyse: how many call sites a location remembers, 0 to 8. Default: 6
-  --targets N   for analyse: how many targets of one instruction are followed, 1 to 256. Default: 64
-  --workers N   for analyse: how many threads work, 1 to 16. Default: 1
-  --steps N     for run: the greatest number of steps, 0 to 1000000. Default: 100
-  --number N    for gen, which needs it: the number of functions, 1 to 2000
-
-Limits: 4,194,304 bytes for an Intel HEX text, 268,435,456 bytes for a script.
-
-Examples:
-  vsa analyse msp430 < image.hex
-  vsa disasm msp430 --ram 0200-03FF < image.hex
-  cat image.hex script.txt | vsa run msp430 --steps 1000
-  vsa analyse mcs51 < image.ihx
-
-docs/REPORT.md says what each line of an answer means.";
+/// The questions of a step of the MCS-51.
+const MCS51_QUESTIONS: &str =
+    "A step of the MCS-51 asks, in this order, what is open: which interrupt comes, 0 for none; the high address byte of MOVX @Ri, 0 to FF; which of two at PUSH and POP of SP, 0 or 1; each byte of a register that isn't held, of external RAM, or off the image, 0 to FF; the open bits of PSW, IE and IP; A and B behind a division by 0, 0 to FF.";
 
 /// The sentence for a status, if there is one. The report, the disassembly and the trace of a run speak for themselves.
 fn sentence_of(status: Status) -> Option<&'static str> {
@@ -51,7 +37,7 @@ fn sentence_of(status: Status) -> Option<&'static str> {
             "standard input can't be read, so nothing is printed. Is it a folder, or closed?",
         ),
         Status::WriteFault => Some(
-            "standard output can't be written, so the answer is cut short. Is the disk full, or the pipe closed?",
+            "standard output can't be written, so the answer is cut short. Is the disk full?",
         ),
         Status::Memory => Some("memory ran out before there was an answer, so nothing is printed."),
         Status::TooLong => Some(
@@ -61,7 +47,7 @@ fn sentence_of(status: Status) -> Option<&'static str> {
             "the run leaves the model in the step of the last line: no instruction stands at that address, or the step writes into the image.",
         ),
         Status::NeedChoice => Some(
-            "the script ends before a choice that the step of the last line asks. Add a number for it; docs/REPORT.md lists the questions.",
+            "the script ends before a choice that the step of the last line asks. docs/REPORT.md lists the questions.",
         ),
     }
 }
@@ -100,12 +86,21 @@ fn fault_of(name: &str) -> Option<&'static str> {
             "of the image text isn't there: the text ends without an end record, :00000001FF. Was it cut off?",
         ),
         "Trailing" => Some(
-            "of the image text stands after the end record, where only blank lines may.",
+            "of the image text stands after the end record, where only blank lines may. A script is read by the mode run alone.",
         ),
         "NoReset" => Some(
-            "of the image text ends an image without a reset vector. Both bytes at FFFEh and FFFFh must be in it.",
+            "of the image text ends an image without a reset vector. Both bytes at FFFEh and FFFFh must be in it. Is it an image of the 8051 (mcs51), or did the linker script forget the vectors?",
         ),
         _ => None,
+    }
+}
+
+/// What the line of a byte at a wrong place says, by the address of its record.
+fn misplaced_at(address: u16) -> &'static str {
+    if address < 0x0200 {
+        "of the image text has a byte below 0200h, where the MSP430 has its peripherals. Is it an image of the 8051? Then the chip is mcs51."
+    } else {
+        "of the image text has a byte in RAM. Say by --ram LO-HI where the chip has its RAM; if the byte is a variable's first value, let the program copy it from the code at its start."
     }
 }
 
@@ -116,8 +111,20 @@ fn named_line(first: &[u8]) -> Option<(&str, &str)> {
 }
 
 /// What is wrong with the line that an answer names.
-fn line_sentence_of(status: Status, fault: &str) -> Option<&'static str> {
+fn line_sentence_of<S: Source + Drop>(
+    status: Status,
+    line: &str,
+    fault: &str,
+    source: &NotedSource<S>,
+) -> Option<&'static str> {
     match status {
+        Status::BadImage if fault == "Misplaced" => {
+            let number = line.parse::<usize>().ok()?;
+            match source.address_of(number) {
+                Some(address) => Some(misplaced_at(address)),
+                None => fault_of(fault),
+            }
+        }
         Status::BadImage => fault_of(fault),
         Status::BadCert => Some(
             "of the script, counted after the end record, is no number of 1 to 4 hexadecimal digits.",
@@ -126,19 +133,144 @@ fn line_sentence_of(status: Status, fault: &str) -> Option<&'static str> {
     }
 }
 
-/// Prints what an answer means, by its status and how its text begins.
-pub fn print_advice(rt: &impl Eprint, status: Status, first: &[u8]) -> io::Result<()> {
+/// The address to which the last edge of a trace goes, and the step that lacks a choice.
+fn lacking_step(last: &[u8]) -> Option<(Option<&str>, &str)> {
+    let text = str::from_utf8(last).ok()?;
+    let (front, step) = text.trim_end().split_once("NEED ")?;
+    let place = front.trim_end().split(' ').last();
+    Some((place.filter(|place| word(place.as_bytes()).is_some()), step))
+}
+
+/// Says which step lacks a choice, and what it may ask.
+fn print_need(rt: &impl Eprint, words: &[String], last: &[u8]) -> io::Result<()> {
+    let Some((place, step)) = lacking_step(last) else {
+        return Ok(());
+    };
+    match place {
+        Some(place) => {
+            eprintln!(rt;
+                "vsa: the script has no number left for a choice of step {step}, at {place}h."
+            )?
+        }
+        None => eprintln!(rt; "vsa: the script has no number left for a choice of step {step}.")?,
+    }
+    let questions = if has_word(words, "mcs51") {
+        MCS51_QUESTIONS
+    } else {
+        MSP430_QUESTIONS
+    };
+    eprintln!(rt; "vsa: {questions}")?;
+    eprintln!(rt;
+        "vsa: add a line with the number, in hexadecimal, to the script. docs/REPORT.md says all of each question."
+    )
+}
+
+/// Whether a word stands among the words.
+fn has_word(words: &[String], word: &str) -> bool {
+    words.iter().any(|own| own.as_str() == word)
+}
+
+/// Says what is wrong with the words.
+fn print_slip(rt: &impl Eprint, alloc: Global, words: &[String]) -> io::Result<()> {
+    match slip_of(alloc, words) {
+        Ok(Slip::Help) => eprintln!(rt; "{USAGE}"),
+        Ok(Slip::Wrong(text)) => {
+            eprintln!(rt; "vsa: {text}")?;
+            eprintln!(rt; "vsa: ./vsa --help says which words there are.")
+        }
+        Err(_) => eprintln!(rt;
+            "vsa: the command line isn't valid; ./vsa --help says which words there are."
+        ),
+    }
+}
+
+/// Warns of what a report shows that is rarely meant.
+fn print_warnings(rt: &impl Eprint, watch: &Watch) -> io::Result<()> {
+    if let Some(pc) = watch.allowed_in_vain() {
+        eprintln!(rt;
+            "vsa: warning: the instruction at {pc:04X}h allows interrupts, and no handler is in the report: the image has no vector of one, or none returns by RETI. Did the linker script leave out the vectors, FFE0h to FFFDh?"
+        )?;
+    }
+    if let Some((variable, low)) = watch.overwritten() {
+        let (at, pc) = (variable.at, variable.pc);
+        eprintln!(rt;
+            "vsa: warning: the stack pointer falls to {low:04X}h, and the stack then has {at:04X}h, which the instruction at {pc:04X}h names: is a variable overwritten?"
+        )?;
+    }
+    Ok(())
+}
+
+/// The RAM that the words say, and else the usual one.
+pub fn ram_of(words: &[String]) -> (u16, u16) {
+    for word in words {
+        let text = word.as_str();
+        let text = text.strip_prefix("--ram=").unwrap_or(text);
+        if let Some(range) = range_of(text.as_bytes()) {
+            return range;
+        }
+    }
+    (0x0200, 0x09FF)
+}
+
+/// What looks at the lines of an answer to these words: at those of a report of the MSP430.
+pub fn watch_of(alloc: Global, words: &[String]) -> Option<Watch> {
+    if has_word(words, "analyse") && has_word(words, "msp430") {
+        Some(Watch::new(alloc, ram_of(words)))
+    } else {
+        None
+    }
+}
+
+/// Says what an input is that is no image text, or what is wrong with one of its lines.
+fn print_refusal<S: Source + Drop>(
+    rt: &impl Eprint,
+    status: Status,
+    first: &[u8],
+    source: &NotedSource<S>,
+) -> io::Result<()> {
+    if status == Status::BadImage
+        && let Some(sentence) = other_input(source.first())
+    {
+        return eprintln!(rt; "vsa: {sentence}");
+    }
     if let Some((line, fault)) = named_line(first)
-        && let Some(sentence) = line_sentence_of(status, fault)
+        && let Some(sentence) = line_sentence_of(status, line, fault, source)
     {
         return eprintln!(rt; "vsa: line {line} {sentence}");
     }
-    let Some(sentence) = sentence_of(status) else {
-        return Ok(());
-    };
-    eprintln!(rt; "vsa: {sentence}")?;
-    if status == Status::Usage {
-        eprintln!(rt; "{USAGE}")?;
+    print_sentence(rt, status)
+}
+
+/// Prints the sentence for a status.
+fn print_sentence(rt: &impl Eprint, status: Status) -> io::Result<()> {
+    match sentence_of(status) {
+        Some(sentence) => eprintln!(rt; "vsa: {sentence}"),
+        None => Ok(()),
     }
-    Ok(())
+}
+
+/// Prints what an answer means, by its status, its words, and what was read and written.
+pub fn print_advice<R: Eprint, S: Source + Drop, K: Sink + Drop>(
+    rt: &R,
+    alloc: Global,
+    status: Status,
+    words: &[String],
+    source: &NotedSource<S>,
+    sink: &Noted<K>,
+) -> io::Result<()> {
+    match status {
+        Status::Usage => return print_slip(rt, alloc, words),
+        Status::NeedChoice => return print_need(rt, words, sink.last()),
+        Status::BadImage | Status::BadCert => {
+            return print_refusal(rt, status, sink.first(), source);
+        }
+        _ => {}
+    }
+    print_sentence(rt, status)?;
+    match sink.watch() {
+        Some(watch) if status == Status::Done || status == Status::Open => {
+            print_warnings(rt, watch)
+        }
+        _ => Ok(()),
+    }
 }

@@ -2,13 +2,24 @@
 #![tactic(auto)]
 
 mod advice;
+mod inputs;
 mod noted;
+mod options;
+mod output;
+mod slips;
+mod source;
+#[cfg(test)]
+mod tests;
+mod usage;
+mod warnings;
 
-use crate::advice::print_advice;
+use crate::advice::{print_advice, watch_of};
 use crate::noted::Noted;
+use crate::output::Output;
+use crate::source::NotedSource;
 use std::process::ExitCode;
 use std::{env, io};
-use vsa_io::{StdinSource, StdoutSink};
+use vsa_io::StdinSource;
 use vsa_top::{NoGate, Status, vsa};
 
 /// The words after the program's name. If one of them isn't UTF-8 there are none, which are as invalid.
@@ -20,26 +31,20 @@ fn words(rt: &HostRuntime) -> io::Result<Vec<String>> {
     }
 }
 
-/// Prints what an answer means. Where standard error fails, only this is lost.
-fn tell(rt: &HostRuntime, status: Status, first: &[u8]) {
-    let _ = print_advice(rt, status, first);
-}
-
 fn main(rt: HostRuntime) -> ExitCode {
     let Ok(words) = words(&rt) else {
-        tell(&rt, Status::Memory, &[]);
+        let _ = eprintln!(rt;
+            "vsa: memory ran out before there was an answer, so nothing is printed."
+        );
         return ExitCode::from(Status::Memory as u8);
     };
-    let mut source = StdinSource::new(&rt);
-    let mut sink = Noted::new(StdoutSink::new(&rt));
-    let outcome = vsa(
-        &rt,
-        rt.alloc(),
-        words.as_slice(),
-        &mut source,
-        &mut sink,
-        &NoGate,
-    );
-    tell(&rt, outcome.status, sink.first());
+    let words = words.as_slice();
+    let mut source = NotedSource::new(StdinSource::new(&rt));
+    let mut sink = Noted::new(Output::new(&rt), watch_of(rt.alloc(), words));
+    let outcome = vsa(&rt, rt.alloc(), words, &mut source, &mut sink, &NoGate);
+    // Nobody is there to read what a closed pipe means. Where standard error fails, only the words are lost.
+    if !sink.sink().is_closed() {
+        let _ = print_advice(&rt, rt.alloc(), outcome.status, words, &source, &sink);
+    }
     ExitCode::from(outcome.status as u8)
 }
