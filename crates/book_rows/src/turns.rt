@@ -2,7 +2,7 @@
 ghost use Rattle.std.specs.Prelude.{◌≡◌, ◌<◌, ◌++◌, false, List, All, IfOk};
 ghost use Rattle.turn_table.specs.Events.{AllBelow};
 ghost use Rattle.turn_table.specs.Named.{name_of};
-ghost use Rattle.turn_table.specs.declared.turns.Line.{Line};
+ghost use Rattle.book_rows.specs.declared.turns.Line.{Line};
 
 use std::alloc::Global;
 use std::sync::Wait;
