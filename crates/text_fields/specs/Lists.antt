@@ -7,7 +7,7 @@ use Rattle.std.proofs.lemmas.Bool.{cases_Bool, false≢true, eq-eqb, eqb-true}
 use Rattle.std.proofs.lemmas.Option.{none-some, same_Some}
 use Rattle.std.proofs.lemmas.List.{length-map}
 use Rattle.std.proofs.lemmas.List.Splits.{join_with_byte-slice_split, length-slice_split}
-use Rattle.text_fields.specs.Spelling.{Spelling, IsExact, Avoids, has_byte, has_byte-append, has_byte-both, has_byte-between, then_only, map_only}
+use Rattle.text_fields.specs.Spelling.{Spelling, IsExact, Avoids, has_byte, has_byte-left, has_byte-both, has_byte-between, then_only, map_only}
 use Rattle.text_fields.specs.Fields.{cut_at, cut_only, IfForm, or_mark, or_mark_is_exact, or_mark_avoids, told_by, told_by_is_exact, told_by_avoids, restated, restated_is_exact, restated_avoids}
 
 -- the values of some texts
@@ -95,9 +95,6 @@ listed_longer s at least h [] form = absurd (omega (arith, form.0))
 listed_longer s at least h (x ∷ []) form = h x form.1.0
 listed_longer s at least h (x ∷ y ∷ xs) form =
     omega (arith, h x form.1.0, length-append (s.text x) (at ∷ join_with_byte at (map s.text (y ∷ xs))))
-
-has_byte-left : (at : ℕ) (front rest : List ℕ) → has_byte at front ≡ true → has_byte at (front ++ rest) ≡ true
-has_byte-left at front rest has = rw (has_byte-append at front rest, has) refl
 
 -- and it has each byte that each text has
 pub listed_has : {A : Type 0} (s : Spelling A) (between at : ℕ) → ((x : A) → s.Form x → has_byte at (s.text x) ≡ true) → (xs : List A) → (listed s between).Form xs

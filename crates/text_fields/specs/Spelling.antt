@@ -68,3 +68,6 @@ has_byte-first at rest = rw (eq-eqb at at refl) refl
 
 pub has_byte-at : (at : ℕ) (front rest : List ℕ) → has_byte at (front ++ at ∷ rest) ≡ true
 has_byte-at at front rest = rw (has_byte-append at front (at ∷ rest), eq-eqb at at refl) (or_true (has_byte at front))
+
+pub has_byte-left : (at : ℕ) (front rest : List ℕ) → has_byte at front ≡ true → has_byte at (front ++ rest) ≡ true
+has_byte-left at front rest has = rw (has_byte-append at front rest, has) refl
