@@ -1,48 +1,16 @@
 -- Steps of the loops.
-use Rattle.std.proofs.Common.{◌≡◌, ℕ, zero, suc, ◌+◌, ◌-◌, ◌/◌, ◌%◌, ◌<◌, ◌≤◌, Bool, true, false, Option, None, Some, List, [], ◌∷◌, ◌++◌, take, drop, get_or, length, refl, sym, ap, ap₂, ◌∙◌, arith, append_assoc}
-use Rattle.std.specs.Prelude.{◌==◌, option_map, option_and_then}
-use Rattle.std.proofs.lemmas.Bool.{eq-eqb, ne_eqb}
-use Rattle.std.proofs.lemmas.List.{append-nil, drop_more, drop_all, take_more}
+use Rattle.std.proofs.Common.{◌≡◌, ℕ, zero, suc, ◌+◌, ◌-◌, ◌/◌, ◌%◌, ◌≤◌, Option, List, [], ◌∷◌, ◌++◌, take, drop, get_or, length, sym, ap, ap₂, ◌∙◌, arith, append_assoc}
+use Rattle.std.specs.Prelude.{option_map}
+use Rattle.std.proofs.lemmas.List.{append-nil, drop_all, take_rest}
 use Rattle.hex_digits.specs.Digits.{hex, hex_digit}
 use Rattle.text_fields.specs.Spelling.{Spelling}
-use Rattle.text_fields.specs.Numbers.{digit_of, digits_behind}
-use Rattle.text_fields.specs.Fields.{cut_at}
-use Rattle.text_fields.specs.Lists.{listed, listed_more, listed_last}
+use Rattle.text_fields.specs.Lists.{listed, listed_others, others_text}
 
 -- CUTS
 
 -- more in front of what stands before the cut
 abbrev pub prefixed : List ℕ → Option (List ℕ × List ℕ) → Option (List ℕ × List ℕ)
 prefixed front parts = option_map (λ p. (front ++ p.0, p.1)) parts
-
--- LISTS
-
-with_more : {A : Type 0} (values : List A) (value : A) (more : Option (List A)) → option_map (λ xs. values ++ xs) (option_map (λ xs. value ∷ xs) more) ≡ option_map (λ xs. (values ++ value ∷ []) ++ xs) more
-with_more values value None = refl
-with_more values value (Some xs) = ap Some (sym (append_assoc values (value ∷ []) xs))
-
--- one more value
-pub list_more : {A : Type 0} (s : Spelling A) (at : ℕ) (values longer : List A) (rest first behind : List ℕ) (value : A) → Some (first, behind) ≡ cut_at at rest → Some value ≡ s.value first
-    → longer ≡ values ++ value ∷ [] → option_map (λ more. values ++ more) ((listed s at).value rest) ≡ option_map (λ more. longer ++ more) ((listed s at).value behind)
-list_more s at values longer rest first behind value is read pushed =
-    ap (option_map (λ more. values ++ more)) (listed_more s at rest first behind (sym is) ∙ ap (option_and_then (λ a. option_map (λ more. a ∷ more) ((listed s at).value behind))) (sym read))
-    ∙ with_more values value ((listed s at).value behind) ∙ ap (λ xs. option_map (λ more. xs ++ more) ((listed s at).value behind)) (sym pushed)
-
-pub list_bad : {A : Type 0} (s : Spelling A) (at : ℕ) (values : List A) (rest first behind : List ℕ) → Some (first, behind) ≡ cut_at at rest → None ≡ s.value first
-    → option_map (λ more. values ++ more) ((listed s at).value rest) ≡ None
-list_bad s at values rest first behind is read =
-    ap (option_map (λ more. values ++ more)) (listed_more s at rest first behind (sym is) ∙ ap (option_and_then (λ a. option_map (λ more. a ∷ more) ((listed s at).value behind))) (sym read))
-
--- the last value
-pub list_last : {A : Type 0} (s : Spelling A) (at : ℕ) (values longer : List A) (rest : List ℕ) (value : A) → None ≡ cut_at at rest → Some value ≡ s.value rest → longer ≡ values ++ value ∷ []
-    → option_map (λ more. values ++ more) ((listed s at).value rest) ≡ Some longer
-list_last s at values longer rest value is read pushed =
-    ap (option_map (λ more. values ++ more)) (listed_last s at rest (sym is) ∙ ap (option_map (λ a. a ∷ [])) (sym read)) ∙ ap Some (sym pushed)
-
-pub list_last_bad : {A : Type 0} (s : Spelling A) (at : ℕ) (values : List A) (rest : List ℕ) → None ≡ cut_at at rest → None ≡ s.value rest
-    → option_map (λ more. values ++ more) ((listed s at).value rest) ≡ None
-list_last_bad s at values rest is read =
-    ap (option_map (λ more. values ++ more)) (listed_last s at rest (sym is) ∙ ap (option_map (λ a. a ∷ [])) (sym read))
 
 -- NUMBERS
 
@@ -53,3 +21,16 @@ hex_last zero n digit old before all some is pushed same = absurd (omega arith)
 hex_last (suc digits) n digit old before all some is pushed same =
     let one_less : suc digits - 1 ≡ digits = omega arith in
     pushed ∙ ap₂ (λ front d. front ++ d ∷ []) (is ∙ ap (λ d. old ++ hex d (n / 16)) one_less) same ∙ append_assoc old (hex digits (n / 16)) (hex_digit (n % 16) ∷ [])
+
+-- LISTS
+
+-- all values behind the first one
+pub list_pushed : {A : Type 0} (s : Spelling A) (at : ℕ) (values others : List A) (first : A) (i : ℕ) (old pushed all : List ℕ) → 1 ≤ length values → first ≡ get_or values 0 first
+    → others ≡ take (length values - 1) (drop 1 values) → length others ≤ i → pushed ≡ old ++ s.text first
+    → all ++ others_text s at (drop i others) ≡ pushed ++ others_text s at others → all ≡ old ++ (listed s at).text values
+list_pushed s at [] others first i old pushed all some is rest past one so_far = absurd (omega arith)
+list_pushed s at (x ∷ xs) others first i old pushed all some is rest past one so_far =
+    let whole : others ≡ xs = rest ∙ take_rest (x ∷ xs) 1 in
+    sym (append-nil all) ∙ ap (λ rest. all ++ others_text s at rest) (sym (drop_all i others past)) ∙ so_far
+    ∙ ap₂ (λ front ys. front ++ others_text s at ys) (one ∙ ap (λ y. old ++ s.text y) is) whole
+    ∙ append_assoc old (s.text x) (others_text s at xs) ∙ ap (λ t. old ++ t) (sym (listed_others s at x xs))

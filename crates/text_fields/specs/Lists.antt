@@ -5,7 +5,7 @@ use Rattle.std.specs.Str.{bytes_eq}
 use Rattle.std.proofs.Common.{refl, sym, ap, ap₂, ◌∙◌, subst, inl, inr, arith, append_assoc, length-append}
 use Rattle.std.proofs.lemmas.Bool.{cases_Bool, false≢true, eq-eqb, eqb-true}
 use Rattle.std.proofs.lemmas.Option.{none-some, same_Some}
-use Rattle.std.proofs.lemmas.List.{length-map}
+use Rattle.std.proofs.lemmas.List.{append-nil, length-map}
 use Rattle.std.proofs.lemmas.List.Splits.{join_with_byte-slice_split, length-slice_split}
 use Rattle.text_fields.specs.Spelling.{Spelling, IsExact, Avoids, has_byte, has_byte-left, has_byte-both, has_byte-between, then_only, map_only}
 use Rattle.text_fields.specs.Fields.{cut_at, cut_only, IfForm, or_mark, or_mark_is_exact, or_mark_avoids, told_by, told_by_is_exact, told_by_avoids, restated, restated_is_exact, restated_avoids}
@@ -130,6 +130,42 @@ alone (Some a) = refl
 -- the last value
 pub listed_last : {A : Type 0} (s : Spelling A) (at : ℕ) (text : List ℕ) → cut_at at text ≡ None → (listed s at).value text ≡ option_map (λ a. a ∷ []) (s.value text)
 listed_last s at text e = ap (values_of s.value) (split_none at text (uncut at text e)) ∙ alone (s.value text)
+
+with_more : {A : Type 0} (values : List A) (value : A) (more : Option (List A)) → option_map (λ xs. values ++ xs) (option_map (λ xs. value ∷ xs) more) ≡ option_map (λ xs. (values ++ value ∷ []) ++ xs) more
+with_more values value None = refl
+with_more values value (Some xs) = ap Some (sym (append_assoc values (value ∷ []) xs))
+
+-- one more value
+pub list_more : {A : Type 0} (s : Spelling A) (at : ℕ) (values longer : List A) (rest first behind : List ℕ) (value : A) → Some (first, behind) ≡ cut_at at rest → Some value ≡ s.value first
+    → longer ≡ values ++ value ∷ [] → option_map (λ more. values ++ more) ((listed s at).value rest) ≡ option_map (λ more. longer ++ more) ((listed s at).value behind)
+list_more s at values longer rest first behind value is read pushed =
+    ap (option_map (λ more. values ++ more)) (listed_more s at rest first behind (sym is) ∙ ap (option_and_then (λ a. option_map (λ more. a ∷ more) ((listed s at).value behind))) (sym read))
+    ∙ with_more values value ((listed s at).value behind) ∙ ap (λ xs. option_map (λ more. xs ++ more) ((listed s at).value behind)) (sym pushed)
+
+pub list_bad : {A : Type 0} (s : Spelling A) (at : ℕ) (values : List A) (rest first behind : List ℕ) → Some (first, behind) ≡ cut_at at rest → None ≡ s.value first
+    → option_map (λ more. values ++ more) ((listed s at).value rest) ≡ None
+list_bad s at values rest first behind is read =
+    ap (option_map (λ more. values ++ more)) (listed_more s at rest first behind (sym is) ∙ ap (option_and_then (λ a. option_map (λ more. a ∷ more) ((listed s at).value behind))) (sym read))
+
+-- the last value
+pub list_last : {A : Type 0} (s : Spelling A) (at : ℕ) (values longer : List A) (rest : List ℕ) (value : A) → None ≡ cut_at at rest → Some value ≡ s.value rest → longer ≡ values ++ value ∷ []
+    → option_map (λ more. values ++ more) ((listed s at).value rest) ≡ Some longer
+list_last s at values longer rest value is read pushed =
+    ap (option_map (λ more. values ++ more)) (listed_last s at rest (sym is) ∙ ap (option_map (λ a. a ∷ [])) (sym read)) ∙ ap Some (sym pushed)
+
+pub list_last_bad : {A : Type 0} (s : Spelling A) (at : ℕ) (values : List A) (rest : List ℕ) → None ≡ cut_at at rest → None ≡ s.value rest
+    → option_map (λ more. values ++ more) ((listed s at).value rest) ≡ None
+list_last_bad s at values rest is read =
+    ap (option_map (λ more. values ++ more)) (listed_last s at rest (sym is) ∙ ap (option_map (λ a. a ∷ [])) (sym read))
+
+-- the values behind the first one, each behind the byte
+abbrev pub others_text : {A : Type 0} → Spelling A → (at : ℕ) → List A → List ℕ
+others_text s at [] = []
+others_text s at (x ∷ xs) = at ∷ (s.text x ++ others_text s at xs)
+
+pub listed_others : {A : Type 0} (s : Spelling A) (at : ℕ) (x : A) (xs : List A) → (listed s at).text (x ∷ xs) ≡ s.text x ++ others_text s at xs
+listed_others s at x [] = sym (append-nil (s.text x))
+listed_others s at x (y ∷ xs) = ap (λ (t : List ℕ). s.text x ++ at ∷ t) (listed_others s at y xs)
 
 -- SIDE BY SIDE
 

@@ -67,11 +67,11 @@ pub fn push_list<F: Field>(
         return Ok(());
     };
     field.push(first, out)?;
-    if others.is_empty() {
-        return Ok(());
+    for value in others {
+        out.push(between)?;
+        field.push(value, out)?;
     }
-    out.push(between)?;
-    push_list(field, between, others, out)
+    Ok(())
 }
 
 /// The values of such a list, or none where the text is the mark.

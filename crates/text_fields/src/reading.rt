@@ -41,10 +41,12 @@ pub fn cut(text: &[u8], at: u8) -> Option<(&[u8], &[u8])>
 pub fn has(text: &[u8], at: u8) -> bool
     ensures { result ≡ has_byte at text.now }
 {
-    let [first, rest @ ..] = text else {
-        return false;
-    };
-    *first == at || has(rest, at)
+    for byte in text {
+        if *byte == at {
+            return true;
+        }
+    }
+    false
 }
 
 /// The value of an upper-case hexadecimal digit.

@@ -1,5 +1,5 @@
 -- Known bits: 0, 1, or x for one that may be either, the highest bit first.
-use Rattle.std.specs.Prelude.{◌≡◌, ℕ, ◌==◌, ◌||◌, Bool, true, false, List, [], ◌∷◌, reverse, length}
+use Rattle.std.specs.Prelude.{◌≡◌, ℕ, ◌==◌, ◌||◌, Bool, true, false, Option, List, [], ◌∷◌, reverse, length}
 use Rattle.std.specs.List.{AllByRecursion}
 use Rattle.std.proofs.Common.{refl, sym, ◌∙◌, inl, inr}
 use Rattle.std.proofs.lemmas.List.{reverse-reverse, length-reverse}
@@ -19,6 +19,10 @@ all_bits = Zero ∷ One ∷ Either ∷ []
 
 abbrev pub bit_field : Spelling Tri
 bit_field = one_of (λ bit. bit_code bit ∷ []) all_bits
+
+-- the bit that a character stands for
+abbrev pub bit_of : ℕ → Option Tri
+bit_of b = bit_field.value (b ∷ [])
 
 -- so many bits, which are listed from the lowest on
 abbrev pub bits_field : (count : ℕ) → Spelling (List Tri)

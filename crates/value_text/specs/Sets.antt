@@ -1,5 +1,5 @@
 -- Sets of numbers as a report spells them: a star for all, ascending numbers with commas, or base, stride and count of a run.
-use Rattle.std.specs.Prelude.{◌≡◌, ◌⊎◌, ℕ, zero, suc, ◌+◌, ◌-◌, ◌*◌, ◌^◌, ◌<◌, ◌≤◌, ◌==◌, ◌&&◌, ◌||◌, if◌then◌else◌, Bool, true, false, Option, None, Some, List, [], ◌∷◌, ◌++◌, codes, length, map}
+use Rattle.std.specs.Prelude.{◌≡◌, ◌⊎◌, ℕ, zero, suc, ◌+◌, ◌-◌, ◌*◌, ◌^◌, ◌<◌, ◌≤◌, ◌==◌, ◌&&◌, ◌||◌, if◌then◌else◌, Bool, true, false, Option, None, Some, option_map, List, [], ◌∷◌, ◌++◌, codes, length, map}
 use Rattle.std.specs.List.{AllByRecursion, flat_map, join_with_byte}
 use Rattle.std.proofs.Common.{refl, sym, ap, ap₂, ◌∙◌, subst, inl, inr, arith, append_assoc}
 use Rattle.std.proofs.Math.Nat.{pow-suc}
@@ -17,6 +17,10 @@ use Rattle.text_fields.specs.Numbers.{is_digit, hex_number, hex_number_is_exact,
 use Rattle.text_fields.specs.Fields.{IfForm, OneForm, passing, passing_is_exact, passing_avoids, or_mark, or_mark_is_exact, or_mark_avoids, byte_differs, beside, beside_is_exact, beside_avoids, either, either_is_exact, either_avoids, told_by, told_by_is_exact, told_by_avoids, restated, restated_is_exact, restated_avoids, respelled, respelled_is_exact, respelled_avoids}
 use Rattle.text_fields.specs.Lists.{listed, listed_is_exact, listed_avoids}
 use Rattle.value_text.specs.Runs.{is_list, is_run, ascends, ascends_only, ascends_back, run_only, run_back, whole_only, whole_back, run_is_below}
+
+-- numbers of bytes have two digits, and those of words four
+abbrev pub IsWidth : ℕ → Type 0
+IsWidth digits = (digits ≡ 2) ⊎ (digits ≡ 4)
 
 -- THE FIELDS
 
@@ -57,6 +61,12 @@ form_field digits = told_by (parts_field digits) (form_of (16 ^ digits)) (parts_
 -- a set of numbers of so many digits
 abbrev pub set_field : (digits : ℕ) → Spelling Form
 set_field digits = respelled (restated (form_field digits) (IsNormal (16 ^ digits))) (form_text digits (16 ^ digits))
+
+-- the set of a text that isn't a star
+abbrev pub part_of : (digits : ℕ) → List ℕ → Option Form
+part_of digits text =
+    if has_byte 47 text then option_map (λ run. form_of (16 ^ digits) (Some (inl run))) ((run_field digits).value text)
+    else option_map Values ((list_field digits).value text)
 
 -- a set has digits, stars, commas and slashes
 abbrev pub is_set_byte : ℕ → Bool
@@ -152,6 +162,9 @@ same_run digits run =
     ∙ append_assoc (hex digits run.base ++ codes "/" ++ short_hex run.stride) (codes "/") (short_hex run.count)
     ∙ append_assoc (hex digits run.base ++ codes "/") (short_hex run.stride) (47 ∷ short_hex run.count)
     ∙ append_assoc (hex digits run.base) (codes "/") (short_hex run.stride ++ 47 ∷ short_hex run.count)
+
+pub other_run_text : (digits : ℕ) (run : Progression) → (run.count == 16 ^ digits) ≡ false → form_text digits (16 ^ digits) (Run run) ≡ (run_field digits).text (run.base, (run.stride, run.count))
+other_run_text digits run other = rw other (same_run digits run)
 
 run_text : (digits : ℕ) (run : Progression) (all : Bool) → (run.count == 16 ^ digits) ≡ all → form_text digits (16 ^ digits) (Run run) ≡ (form_field digits).text (Run run)
 run_text digits run true all = rw all refl

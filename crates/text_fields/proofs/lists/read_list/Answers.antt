@@ -1,5 +1,5 @@
 use Rattle.std.proofs.Common.{◌∙◌, sym}
-use Rattle.text_fields.proofs.Steps.{list_bad, list_last, list_last_bad, list_more}
+use Rattle.text_fields.specs.Lists.{list_bad, list_last, list_last_bad, list_more}
 use Rattle.text_fields.proofs.lists.read_list.Goals as goal
 
 pub returns-in_default-read : goal.returns-in_default-read
