@@ -1,5 +1,5 @@
 -- Cells of RAM: a dash for none, or each with its place, a dot, its size, a colon and its word, with semicolons between them.
-use Rattle.std.specs.Prelude.{◌≡◌, ◌⊎◌, ℕ, suc, ◌+◌, ◌^◌, ◌<◌, ◌≤◌, ◌==◌, ◌&&◌, ◌||◌, nat_le, not, Bool, true, false, List, [], ◌∷◌, ◌++◌, codes, length}
+use Rattle.std.specs.Prelude.{◌≡◌, ◌⊎◌, ℕ, suc, ◌+◌, ◌^◌, ◌<◌, ◌≤◌, ◌==◌, ◌&&◌, ◌||◌, nat_le, not, Bool, true, false, Option, option_map, List, [], ◌∷◌, ◌++◌, codes, length}
 use Rattle.std.specs.List.{AllByRecursion}
 use Rattle.std.proofs.Common.{refl, sym, ◌∙◌, subst, inl, inr, arith}
 use Rattle.std.proofs.lemmas.Bool.{cases_Bool, and_parts, and_from, or_cases, true≢false, leb-true, le-leb, eqb-true, eq-eqb, not-true}
@@ -43,6 +43,10 @@ cell_parts cell = ((cell.place, cell.size), cell.word)
 -- a cell that passes a test, with a place of so many digits
 abbrev pub cell_field : (digits : ℕ) → Spelling ℕ → (framed : Bool) → (Cell → Bool) → Spelling Cell
 cell_field digits place framed test = passing (told_by (beside 58 (beside 46 (hex_number digits) size_field) (word_field digits place framed)) cell_of cell_parts) test
+
+-- a cell of any kind
+abbrev pub any_cell : (digits : ℕ) → Spelling ℕ → (framed : Bool) → List ℕ → Option Cell
+any_cell digits place framed text = option_map cell_of ((beside 58 (beside 46 (hex_number digits) size_field) (word_field digits place framed)).value text)
 
 -- each cell passes the test, and has a relation of the frame
 abbrev pub AreRelated : (digits : ℕ) → (IsPlace : ℕ → Type 0) → (framed : Bool) → (Cell → Bool) → List Cell → Type 0
@@ -108,7 +112,7 @@ size_back : (size : ℕ) → (size ≡ 1) ⊎ (size ≡ 2) → size_field.Form s
 size_back size (inl one) = rw one (omega arith, refl)
 size_back size (inr two) = rw two (omega arith, refl)
 
-cells_back : (digits : ℕ) (place : Spelling ℕ) (framed : Bool) (test : Cell → Bool) (lo hi from : ℕ) → hi < 16 ^ digits → (cells : List Cell) → AreCells lo hi from cells
+pub cells_back : (digits : ℕ) (place : Spelling ℕ) (framed : Bool) (test : Cell → Bool) (lo hi from : ℕ) → hi < 16 ^ digits → (cells : List Cell) → AreCells lo hi from cells
     → AreRelated digits place.Form framed test cells → AllByRecursion (cell_field digits place framed test).Form cells × (are_cells lo hi from cells ≡ true)
 cells_back digits place framed test lo hi from below [] are related = (tt, refl)
 cells_back digits place framed test lo hi from below (cell ∷ cells) are related =

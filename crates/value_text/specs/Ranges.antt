@@ -38,7 +38,7 @@ ranges_back from hi (range ∷ ranges) are =
     and_from (nat_le from range.0) _ (le-leb from range.0 are.0)
     (and_from (nat_le range.0 range.1) _ (le-leb range.0 range.1 are.1) (and_from (nat_le range.1 hi) _ (le-leb range.1 hi are.2) (ranges_back (range.1 + 2) hi ranges are.3)))
 
-range_forms : (digits from hi : ℕ) (ranges : List (ℕ × ℕ)) → hi < 16 ^ digits → AreRanges from hi ranges → AllByRecursion (range_field digits).Form ranges
+pub range_forms : (digits from hi : ℕ) (ranges : List (ℕ × ℕ)) → hi < 16 ^ digits → AreRanges from hi ranges → AllByRecursion (range_field digits).Form ranges
 range_forms digits from hi [] below are = tt
 range_forms digits from hi (range ∷ ranges) below are = ((omega (arith, are.1, are.2), omega (arith, are.2)), range_forms digits (range.1 + 2) hi ranges below are.3)
 

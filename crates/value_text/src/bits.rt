@@ -27,7 +27,10 @@ pub fn read_bits<const N: usize>(text: &[u8]) -> Option<[Tri; N]>
     }
     let mut bits = [Tri::Zero; N];
     for i in 0..N {
-        bits[N - 1 - i] = bit_of(text[i])?;
+        let Some(bit) = bit_of(text[i]) else {
+            return None;
+        };
+        bits[N - 1 - i] = bit;
     }
     Some(bits)
 }
