@@ -4,7 +4,7 @@ use Rattle.std.specs.List.{find, list_all}
 use Rattle.std.specs.Option.{option_or}
 use Rattle.std.specs.Str.{bytes_eq}
 use Rattle.std.proofs.Common.{refl, sym, ap, ap₂, ◌∙◌, subst, inl, inr, arith, length-append}
-use Rattle.std.proofs.lemmas.Bool.{cases_Bool, and_parts, false≢true, eq-eqb, eqb-true, ne_eqb}
+use Rattle.std.proofs.lemmas.Bool.{cases_Bool, and_parts, false≢true, eq-eqb, eqb-true, eqb-false, ne_eqb}
 use Rattle.std.proofs.lemmas.Option.{none-some, same_Some}
 use Rattle.std.proofs.lemmas.Slice.Eq.{bytes_eq-Decides}
 use Rattle.text_fields.specs.Spelling.{Spelling, IsExact, Avoids, has_byte, has_byte-both, has_byte-between, has_byte-at, then_only, map_only, test_only}
@@ -137,6 +137,27 @@ differ a b = if bytes_eq a b then false else true
 abbrev pub are_apart : List (List ℕ) → Bool
 are_apart [] = true
 are_apart (text ∷ texts) = list_all (λ other. differ text other) texts && are_apart texts
+
+-- a number by its name in a table
+abbrev pub name_in : List (ℕ × List ℕ) → ℕ → List ℕ
+name_in [] n = []
+name_in (row ∷ rows) n = if row.0 == n then row.1 else name_in rows n
+
+abbrev pub number_in : List (ℕ × List ℕ) → List ℕ → Option ℕ
+number_in [] text = None
+number_in (row ∷ rows) text = if bytes_eq row.1 text then Some row.0 else number_in rows text
+
+abbrev pub is_named : List (ℕ × List ℕ) → ℕ → Bool
+is_named [] n = false
+is_named (row ∷ rows) n = (row.0 == n) || is_named rows n
+
+abbrev pub one_named : List (ℕ × List ℕ) → Spelling ℕ
+one_named rows = record { text = name_in rows; value = number_in rows; Form = λ n. is_named rows n ≡ true }
+
+-- no two rows of a table have one number, or one name
+abbrev pub are_rows_apart : List (ℕ × List ℕ) → Bool
+are_rows_apart [] = true
+are_rows_apart (row ∷ rows) = list_all (λ other. if other.0 == row.0 then false else differ row.1 other.1) rows && are_rows_apart rows
 
 -- neither of two names begins the other
 abbrev pub are_told_apart : List ℕ → List ℕ → Bool
@@ -436,3 +457,61 @@ found_avoids text (x ∷ xs) at none a is = elim (cases_Bool (has_byte at (text 
 
 pub one_of_avoids : {A : Type 0} (text : A → List ℕ) (values : List A) (at : ℕ) → none_has at (map text values) ≡ true → Avoids (one_of text values) at
 one_of_avoids text values at none = λ a is. found_avoids text values at none a is
+
+-- the number of the first row isn't that of a later one, nor is its name
+row_apart : (row : ℕ × List ℕ) (rows : List (ℕ × List ℕ)) (n : ℕ) → list_all (λ other. if other.0 == row.0 then false else differ row.1 other.1) rows ≡ true → is_named rows n ≡ true
+    → ((row.0 == n) ≡ false) × (bytes_eq row.1 (name_in rows n) ≡ false)
+row_apart row [] n apart is = absurd (false≢true is)
+row_apart row (other ∷ rows) n apart is =
+    let parts = and_parts (if other.0 == row.0 then false else differ row.1 other.1) _ apart in
+    elim (cases_Bool (other.0 == row.0)) [
+      | inl same ↦ absurd (false≢true (rw same at parts.0))
+      | inr else' ↦ elim (cases_Bool (other.0 == n)) [
+        | inl here ↦
+            let differs = differ_only row.1 other.1 (rw else' at parts.0) in
+            let number : (row.0 == n) ≡ false = ne_eqb row.0 n (λ e. eqb-false other.0 row.0 else' (eqb-true other.0 n here ∙ sym e)) in
+            (number, rw here differs)
+        | inr later ↦ rw later (row_apart row rows n parts.1 (rw later at is))
+      ]
+    ]
+
+named_back : (rows : List (ℕ × List ℕ)) (n : ℕ) → are_rows_apart rows ≡ true → is_named rows n ≡ true → number_in rows (name_in rows n) ≡ Some n
+named_back [] n apart is = absurd (false≢true is)
+named_back (row ∷ rows) n apart is =
+    let parts = and_parts _ (are_rows_apart rows) apart in
+    elim (cases_Bool (row.0 == n)) [
+      | inl here ↦ rw (here, bytes_same row.1 row.1 refl) (ap Some (eqb-true row.0 n here))
+      | inr later ↦
+          let is_later : is_named rows n ≡ true = rw later at is in
+          rw (later, (row_apart row rows n parts.0 is_later).1) (named_back rows n parts.1 is_later)
+    ]
+
+named_only : (rows : List (ℕ × List ℕ)) (text : List ℕ) (n : ℕ) → are_rows_apart rows ≡ true → number_in rows text ≡ Some n → (is_named rows n ≡ true) × (name_in rows n ≡ text)
+named_only [] text n apart e = absurd (none-some n e)
+named_only (row ∷ rows) text n apart e =
+    let parts = and_parts _ (are_rows_apart rows) apart in
+    elim (cases_Bool (bytes_eq row.1 text)) [
+      | inl here ↦ rw (eq-eqb row.0 n (same_Some row.0 n (rw here at e))) (refl, same_bytes row.1 text here)
+      | inr later ↦
+          let behind = named_only rows text n parts.1 (rw later at e) in
+          rw ((row_apart row rows n parts.0 behind.0).0) behind
+    ]
+
+pub one_named_is_exact : (rows : List (ℕ × List ℕ)) → are_rows_apart rows ≡ true → IsExact (one_named rows)
+one_named_is_exact rows apart = record {
+  back = λ n is. named_back rows n apart is;
+  only = λ text n e. named_only rows text n apart e;
+}
+
+name_avoids : (rows : List (ℕ × List ℕ)) (at n : ℕ) → none_has at (map (λ row. row.1) rows) ≡ true → is_named rows n ≡ true → has_byte at (name_in rows n) ≡ false
+name_avoids [] at n none is = refl
+name_avoids (row ∷ rows) at n none is = elim (cases_Bool (has_byte at row.1)) [
+  | inl has ↦ absurd (false≢true (rw has at none))
+  | inr hasnt ↦ elim (cases_Bool (row.0 == n)) [
+    | inl here ↦ rw here hasnt
+    | inr later ↦ rw later (name_avoids rows at n (rw hasnt at none) (rw later at is))
+  ]
+]
+
+pub one_named_avoids : (rows : List (ℕ × List ℕ)) (at : ℕ) → none_has at (map (λ row. row.1) rows) ≡ true → Avoids (one_named rows) at
+one_named_avoids rows at none = λ n is. name_avoids rows at n none is

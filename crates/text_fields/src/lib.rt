@@ -14,10 +14,12 @@
 #![tactic(auto)]
 
 mod lists;
+mod names;
 mod reading;
 mod writing;
 
 pub use lists::{Field, push_list, push_list_or_mark, read_list, read_list_or_mark};
+pub use names::{push_name, read_name};
 pub use reading::{behind, cut, has, number, short};
 pub use writing::{push_number, push_short};
 

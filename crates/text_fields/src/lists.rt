@@ -1,7 +1,6 @@
 //! Lists of fields.
 
 ghost use Rattle.std.specs.Prelude.{◌≡◌, ◌++◌, IfOk, OnOk};
-ghost use Rattle.std.specs.List.{AllByRecursion};
 ghost use Rattle.std.specs.Option.{option_map};
 ghost use Rattle.text_fields.specs.Spelling.{Spelling};
 ghost use Rattle.text_fields.specs.Lists.{listed, listed_or_mark};
@@ -23,7 +22,6 @@ pub trait Field {
 
     /// Adds the text of a value.
     fn push(&self, value: &Self::Value, out: &mut Vec<u8>) -> Result<(), AllocError>
-        requires { (field self.now).Form value.now }
         ensures { OnOk result (out.new.items ≡ out.old.items ++ (field self.now).text value.now) };
 }
 
@@ -60,7 +58,6 @@ pub fn push_list<F: Field>(
     values: &[F::Value],
     out: &mut Vec<u8>,
 ) -> Result<(), AllocError>
-    requires { AllByRecursion (F.field field.now).Form values.now }
     ensures { OnOk result (out.new.items ≡ out.old.items ++ (listed (F.field field.now) between).text values.now) }
 {
     let [first, others @ ..] = values else {
@@ -99,7 +96,6 @@ pub fn push_list_or_mark<F: Field>(
     values: &[F::Value],
     out: &mut Vec<u8>,
 ) -> Result<(), AllocError>
-    requires { AllByRecursion (F.field field.now).Form values.now }
     ensures { OnOk result (out.new.items ≡ out.old.items
         ++ (listed_or_mark (F.field field.now) between mark.now).text values.now) }
 {

@@ -63,6 +63,10 @@ listed_cells digits place framed test = listed_or_mark (cell_field digits place 
 abbrev pub cells_field : (digits : ℕ) → Spelling ℕ → (framed : Bool) → (Cell → Bool) → (lo hi : ℕ) → Spelling (List Cell)
 cells_field digits place framed test lo hi = restated (passing (listed_cells digits place framed test) (are_cells lo hi lo)) (AreCellsIn digits place.Form framed test lo hi)
 
+-- the text of cells, whatever the frame and the RAM that they lie in
+abbrev pub cells_text : (digits : ℕ) → Spelling ℕ → List Cell → List ℕ
+cells_text digits place = (listed_cells digits place true (λ cell. true)).text
+
 -- a cell has a dot and a colon beside the bytes of its word
 abbrev pub is_cells_byte : ℕ → Bool
 is_cells_byte at = is_word_byte at || (46 == at) || (58 == at) || (59 == at) || (45 == at)
@@ -100,10 +104,9 @@ pub cell_back : (lo hi : ℕ) (cell : Cell) → IsCell lo hi cell → is_cell lo
 cell_back lo hi cell is =
     and_from (nat_le lo cell.place) _ (le-leb lo cell.place is.low)
     (and_from (nat_le (cell.place + cell.size) (hi + 1)) _ (le-leb (cell.place + cell.size) (hi + 1) is.high)
-        (and_from (not (cell.size == 1) || is_byte_set cell.word.set) _
-            (byte_passes (cell.size == 1) (is_byte_set cell.word.set) (λ one. bytes_back cell.word.set is.normal (is.byte (eqb-true cell.size 1 one))))
-            (not-back (is_nothing cell.size cell.word) is.says)))
-
+    (and_from (not (cell.size == 1) || is_byte_set cell.word.set) _
+    (byte_passes (cell.size == 1) (is_byte_set cell.word.set) (λ one. bytes_back cell.word.set is.normal (is.byte (eqb-true cell.size 1 one))))
+    (not-back (is_nothing cell.size cell.word) is.says)))
 
 size_only : (size : ℕ) → ((size == 1) || (size == 2)) ≡ true → (size ≡ 1) ⊎ (size ≡ 2)
 size_only size test = elim (or_cases (size == 1) (size == 2) test) [ inl one ↦ inl (eqb-true size 1 one) | inr two ↦ inr (eqb-true size 2 two) ]
@@ -149,8 +152,8 @@ cell_is_exact digits place framed test h apart =
     let parts = beside 58 (beside 46 (hex_number digits) size_field) (word_field digits place framed) in
     passing_is_exact (told_by parts cell_of cell_parts) test
     (told_by_is_exact parts cell_of cell_parts
-        (beside_is_exact 58 (beside 46 (hex_number digits) size_field) (word_field digits place framed) (at_is_exact digits) (word_is_exact digits place framed h apart) (at_avoids digits 58 refl refl))
-        (λ parts form. refl))
+    (beside_is_exact 58 (beside 46 (hex_number digits) size_field) (word_field digits place framed) (at_is_exact digits) (word_is_exact digits place framed h apart) (at_avoids digits 58 refl refl))
+    (λ parts form. refl))
 
 cell_avoids : (digits : ℕ) (place : Spelling ℕ) (framed : Bool) (test : Cell → Bool) (at : ℕ) → is_digit at ≡ false → (46 == at) ≡ false → (58 == at) ≡ false → is_word_byte at ≡ false → Avoids place at
     → Avoids (cell_field digits place framed test) at
@@ -158,7 +161,7 @@ cell_avoids digits place framed test at no_digit no_dot no_colon no_word apart =
     let parts = beside 58 (beside 46 (hex_number digits) size_field) (word_field digits place framed) in
     passing_avoids (told_by parts cell_of cell_parts) test at
     (told_by_avoids parts cell_of cell_parts at
-        (beside_avoids 58 at (beside 46 (hex_number digits) size_field) (word_field digits place framed) no_colon (at_avoids digits at no_digit no_dot) (word_avoids digits place framed at no_word apart)))
+    (beside_avoids 58 at (beside 46 (hex_number digits) size_field) (word_field digits place framed) no_colon (at_avoids digits at no_digit no_dot) (word_avoids digits place framed at no_word apart)))
 
 cell_has_dot : (digits : ℕ) (place : Spelling ℕ) (framed : Bool) (test : Cell → Bool) (cell : Cell) → (cell_field digits place framed test).Form cell → has_byte 46 ((cell_field digits place framed test).text cell) ≡ true
 cell_has_dot digits place framed test cell form =
@@ -170,9 +173,9 @@ cells_is_exact digits place framed test lo hi below h no_and no_semicolon =
     let cell = cell_field digits place framed test in
     restated_is_exact (passing (listed_cells digits place framed test) (are_cells lo hi lo)) (AreCellsIn digits place.Form framed test lo hi)
     (passing_is_exact (listed_cells digits place framed test) (are_cells lo hi lo)
-        (listed_or_mark_is_exact cell 59 (codes "-")
-            (λ cells form. byte_differs 46 ((listed cell 59).text cells) (codes "-") false refl (λ none. true≢false (sym (listed_has cell 59 46 (cell_has_dot digits place framed test) cells form) ∙ none)))
-            (cell_is_exact digits place framed test h no_and) (cell_avoids digits place framed test 59 refl refl refl refl no_semicolon)))
+    (listed_or_mark_is_exact cell 59 (codes "-")
+    (λ cells form. byte_differs 46 ((listed cell 59).text cells) (codes "-") false refl (λ none. true≢false (sym (listed_has cell 59 46 (cell_has_dot digits place framed test) cells form) ∙ none)))
+    (cell_is_exact digits place framed test h no_and) (cell_avoids digits place framed test 59 refl refl refl refl no_semicolon)))
     (λ cells are. cells_back digits place framed test lo hi lo below cells are.0 are.1)
     (λ cells form. cells_only digits place framed test lo hi lo cells form.0 form.1)
 
@@ -190,5 +193,5 @@ cells_avoids digits place framed test lo hi at below none apart =
     restated_avoids (passing (listed_cells digits place framed test) (are_cells lo hi lo)) (AreCellsIn digits place.Form framed test lo hi) at
     (λ cells are. cells_back digits place framed test lo hi lo below cells are.0 are.1)
     (passing_avoids (listed_cells digits place framed test) (are_cells lo hi lo) at
-        (listed_or_mark_avoids (cell_field digits place framed test) 59 (codes "-") at parts.3 (rw parts.4 refl)
-            (cell_avoids digits place framed test at (no_digits at (word_byte_parts at parts.0).0) parts.1 parts.2 parts.0 apart)))
+    (listed_or_mark_avoids (cell_field digits place framed test) 59 (codes "-") at parts.3 (rw parts.4 refl)
+    (cell_avoids digits place framed test at (no_digits at (word_byte_parts at parts.0).0) parts.1 parts.2 parts.0 apart)))

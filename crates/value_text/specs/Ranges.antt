@@ -19,6 +19,10 @@ are_ranges from hi (range ∷ ranges) = nat_le from range.0 && (nat_le range.0 r
 abbrev pub range_field : (digits : ℕ) → Spelling (ℕ × ℕ)
 range_field digits = beside 45 (hex_number digits) (hex_number digits)
 
+-- the text of ranges, whatever RAM they lie in
+abbrev pub ranges_text : (digits : ℕ) → List (ℕ × ℕ) → List ℕ
+ranges_text digits = (listed_or_mark (range_field digits) 44 (codes "-")).text
+
 abbrev pub ranges_field : (digits lo hi : ℕ) → Spelling (List (ℕ × ℕ))
 ranges_field digits lo hi = restated (passing (listed_or_mark (range_field digits) 44 (codes "-")) (are_ranges lo hi)) (AreRanges lo hi)
 
@@ -60,8 +64,8 @@ ranges_is_exact digits lo hi some below =
     let range = range_field digits in
     restated_is_exact (passing (listed_or_mark range 44 (codes "-")) (are_ranges lo hi)) (AreRanges lo hi)
     (passing_is_exact (listed_or_mark range 44 (codes "-")) (are_ranges lo hi)
-        (listed_or_mark_is_exact range 44 (codes "-") (λ ranges form. longer_differs ((listed range 44).text ranges) 45 (listed_longer range 44 2 (λ r is. range_longer digits r some) ranges form))
-            (range_is_exact digits) (range_avoids digits 44 refl refl)))
+    (listed_or_mark_is_exact range 44 (codes "-") (λ ranges form. longer_differs ((listed range 44).text ranges) 45 (listed_longer range 44 2 (λ r is. range_longer digits r some) ranges form))
+    (range_is_exact digits) (range_avoids digits 44 refl refl)))
     (ranges_narrow digits lo hi below) (λ ranges form. ranges_only lo hi ranges form.1)
 
 pub ranges_avoids : (digits lo hi at : ℕ) → hi < 16 ^ digits → is_digit at ≡ false → (44 == at) ≡ false → (45 == at) ≡ false → Avoids (ranges_field digits lo hi) at
@@ -69,4 +73,4 @@ ranges_avoids digits lo hi at below no_digit no_comma no_dash =
     let range = range_field digits in
     restated_avoids (passing (listed_or_mark range 44 (codes "-")) (are_ranges lo hi)) (AreRanges lo hi) at (ranges_narrow digits lo hi below)
     (passing_avoids (listed_or_mark range 44 (codes "-")) (are_ranges lo hi) at
-        (listed_or_mark_avoids range 44 (codes "-") at no_comma (rw no_dash refl) (range_avoids digits at no_digit no_dash)))
+    (listed_or_mark_avoids range 44 (codes "-") at no_comma (rw no_dash refl) (range_avoids digits at no_digit no_dash)))

@@ -92,7 +92,7 @@ run_avoids : (digits at : ℕ) → is_digit at ≡ false → (47 == at) ≡ fals
 run_avoids digits at no_digit no_slash =
     passing_avoids (beside 47 (hex_number digits) (steps_field digits)) (λ run. is_run (16 ^ digits) run.0 run.1.0 run.1.1) at
     (beside_avoids 47 at (hex_number digits) (steps_field digits) no_slash (number_avoids digits at no_digit)
-        (beside_avoids 47 at (short_number digits) (short_number digits) no_slash (short_avoids digits at no_digit) (short_avoids digits at no_digit)))
+    (beside_avoids 47 at (short_number digits) (short_number digits) no_slash (short_avoids digits at no_digit) (short_avoids digits at no_digit)))
 
 run_has_slash : (digits : ℕ) (run : ℕ × (ℕ × ℕ)) → (run_field digits).Form run → has_byte 47 ((run_field digits).text run) ≡ true
 run_has_slash digits run form = has_byte-at 47 (hex digits run.0) ((steps_field digits).text run.1)
@@ -179,8 +179,8 @@ pub set_is_exact : (digits : ℕ) → 2 ≤ digits → IsExact (set_field digits
 set_is_exact digits two =
     respelled_is_exact (restated (form_field digits) (IsNormal (16 ^ digits))) (form_text digits (16 ^ digits))
     (restated_is_exact (form_field digits) (IsNormal (16 ^ digits))
-        (told_by_is_exact (parts_field digits) (form_of (16 ^ digits)) (parts_of (16 ^ digits)) (parts_is_exact digits) (parts_back digits))
-        (form_narrow digits two) (form_wide digits two))
+    (told_by_is_exact (parts_field digits) (form_of (16 ^ digits)) (parts_of (16 ^ digits)) (parts_is_exact digits) (parts_back digits))
+    (form_narrow digits two) (form_wide digits two))
     (same_text digits)
 
 pub neither : (x y : Bool) → (x || y) ≡ false → (x ≡ false) × (y ≡ false)
@@ -199,5 +199,5 @@ set_avoids digits at two none =
     let parts = set_byte_parts at none in
     respelled_avoids (restated (form_field digits) (IsNormal (16 ^ digits))) (form_text digits (16 ^ digits)) at (same_text digits)
     (restated_avoids (form_field digits) (IsNormal (16 ^ digits)) at (form_narrow digits two)
-        (told_by_avoids (parts_field digits) (form_of (16 ^ digits)) (parts_of (16 ^ digits)) at
-            (or_mark_avoids (either 47 (run_field digits) (list_field digits)) (codes "*") at (rw parts.1 refl) (one_avoids digits at parts.0 parts.2 parts.3))))
+    (told_by_avoids (parts_field digits) (form_of (16 ^ digits)) (parts_of (16 ^ digits)) at
+    (or_mark_avoids (either 47 (run_field digits) (list_field digits)) (codes "*") at (rw parts.1 refl) (one_avoids digits at parts.0 parts.2 parts.3))))

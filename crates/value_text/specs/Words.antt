@@ -60,6 +60,13 @@ IsByteIn digits IsPlace framed byte = IsNormal 256 byte.set × HasRelation digit
 abbrev pub byte_field : (digits : ℕ) → Spelling ℕ → (framed : Bool) → Spelling Byte
 byte_field digits place framed = restated (told_by (remembering 2 digits place framed) byte_of byte_parts) (IsByteIn digits place.Form framed)
 
+-- the text of a word, and of a byte, whatever the frame
+abbrev pub word_text : (digits : ℕ) → Spelling ℕ → Word → List ℕ
+word_text digits place = (word_field digits place true).text
+
+abbrev pub byte_text : (digits : ℕ) → Spelling ℕ → Byte → List ℕ
+byte_text digits place = (byte_field digits place true).text
+
 -- a relation has an at sign, an ampersand and a bar beside the bytes of its place
 abbrev pub is_word_byte : ℕ → Bool
 is_word_byte at = is_set_byte at || (64 == at) || (38 == at) || (124 == at)
@@ -76,7 +83,7 @@ pub relation_avoids : (digits : ℕ) (place : Spelling ℕ) (at : ℕ) → is_di
 relation_avoids digits place at no_digit no_and no_bar apart =
     told_by_avoids (beside 38 place (beside 124 (hex_number digits) (hex_number digits))) entry_of numbers_of at
     (beside_avoids 38 at place (beside 124 (hex_number digits) (hex_number digits)) no_and apart
-        (beside_avoids 124 at (hex_number digits) (hex_number digits) no_bar (number_avoids digits at no_digit) (number_avoids digits at no_digit)))
+    (beside_avoids 124 at (hex_number digits) (hex_number digits) no_bar (number_avoids digits at no_digit) (number_avoids digits at no_digit)))
 
 remembering_is_exact : (width digits : ℕ) (place : Spelling ℕ) (framed : Bool) → 2 ≤ width → IsExact place → Avoids place 38 → IsExact (remembering width digits place framed)
 remembering_is_exact width digits place framed two h apart =
@@ -98,7 +105,7 @@ remembering_avoids width digits place framed at two none apart =
     let parts = word_byte_parts at none in
     passing_avoids (with_tail 64 (set_field width) (relation_field digits place)) (λ parts. framed || is_none parts.1) at
     (with_tail_avoids 64 at (set_field width) (relation_field digits place) parts.1 (set_avoids width at two parts.0)
-        (relation_avoids digits place at (no_digits at parts.0) parts.2 parts.3 apart))
+    (relation_avoids digits place at (no_digits at parts.0) parts.2 parts.3 apart))
 
 -- the test of the frame says that the relation is one of it
 pub frame_back : (width digits : ℕ) (place : Spelling ℕ) (framed : Bool) (entry : Option Entry) → HasRelation digits place.Form framed entry

@@ -1,13 +1,12 @@
 //! Cells.
 
-ghost use Rattle.std.specs.Prelude.{◌≡◌, ◌++◌, ◌≤◌, ◌<◌, ◌^◌, IfOk, OnOk};
+ghost use Rattle.std.specs.Prelude.{◌≡◌, ◌++◌, IfOk, OnOk};
 ghost use Rattle.std.specs.Option.{option_map};
 ghost use Rattle.entry_value.specs.Cells as the_cells;
 ghost use Rattle.text_fields.specs.Numbers.{hex_number};
 ghost use Rattle.text_fields.specs.Fields.{beside};
 ghost use Rattle.value_text.specs.Sets.{IsWidth};
 ghost use Rattle.value_text.specs.Cells as fields;
-ghost use Rattle.value_text.specs.Cells.{AreCellsIn};
 
 use crate::members::is_byte_set;
 use crate::words::{Places, push_word, read_word};
@@ -75,7 +74,7 @@ impl<P: Places> Field for CellField<P> {
         out.push(b'.')?;
         push_number(out, value.size as u16, 1)?;
         out.push(b':')?;
-        push_word(self.places, self.framed, &value.word, out)
+        push_word(self.places, &value.word, out)
     }
 }
 
@@ -147,19 +146,13 @@ pub fn read_cells<P: Places>(
 }
 
 /// Adds cells.
-pub fn push_cells<P: Places>(
-    places: P,
-    framed: bool,
-    lo: u16,
-    hi: u16,
-    cells: &[Cell],
-    out: &mut Vec<u8>,
-) -> Result<(), AllocError>
-    requires inside { hi < 16 ^ P.width places }
-    requires cells { AreCellsIn (P.width places) (P.names places).Form framed (P.keeps places) lo hi cells.now }
+pub fn push_cells<P: Places>(places: P, cells: &[Cell], out: &mut Vec<u8>) -> Result<(), AllocError>
     ensures { OnOk result (out.new.items ≡ out.old.items
-        ++ (fields.cells_field (P.width places) (P.names places) framed (P.keeps places) lo hi).text cells.now) }
+        ++ fields.cells_text (P.width places) (P.names places) cells.now) }
 {
-    let field = CellField { places, framed };
+    let field = CellField {
+        places,
+        framed: true,
+    };
     push_list_or_mark(&field, b';', b"-".as_slice(), cells, out)
 }

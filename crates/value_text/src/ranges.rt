@@ -1,6 +1,6 @@
 //! Touched ranges.
 
-ghost use Rattle.std.specs.Prelude.{◌≡◌, ◌++◌, ◌≤◌, ◌<◌, ◌^◌, IfOk, OnOk};
+ghost use Rattle.std.specs.Prelude.{◌≡◌, ◌++◌, ◌≤◌, IfOk, OnOk};
 ghost use Rattle.std.specs.Option.{option_map};
 ghost use Rattle.irq_frames.specs.Ranges.{AreRanges};
 ghost use Rattle.value_text.specs.Ranges as fields;
@@ -85,17 +85,9 @@ pub fn read_ranges(
 }
 
 /// Adds ranges of addresses of so many digits.
-pub fn push_ranges(
-    digits: u8,
-    lo: u16,
-    hi: u16,
-    ranges: &Ranges,
-    out: &mut Vec<u8>,
-) -> Result<(), AllocError>
-    requires few { digits ≤ 4 }
-    requires inside { hi < 16 ^ digits }
-    requires ranges { AreRanges lo hi ranges.now }
-    ensures { OnOk result (out.new.items ≡ out.old.items ++ (fields.ranges_field digits lo hi).text ranges.now) }
+pub fn push_ranges(digits: u8, ranges: &Ranges, out: &mut Vec<u8>) -> Result<(), AllocError>
+    requires { digits ≤ 4 }
+    ensures { OnOk result (out.new.items ≡ out.old.items ++ fields.ranges_text digits ranges.now) }
 {
     let field = RangeField { digits };
     push_list_or_mark(&field, b',', b"-".as_slice(), ranges.list(), out)

@@ -7,7 +7,6 @@ ghost use Rattle.text_fields.specs.Numbers.{hex_number};
 ghost use Rattle.text_fields.specs.Fields.{beside, with_tail};
 ghost use Rattle.value_text.specs.Sets.{IsWidth, set_field};
 ghost use Rattle.value_text.specs.Words as fields;
-ghost use Rattle.value_text.specs.Words.{HasRelation};
 
 use crate::sets::{read_byte_set, read_word_set};
 use crate::writing::{push_byte_set, push_word_set};
@@ -38,7 +37,6 @@ pub trait Places: Copy {
 
     /// Adds the name of a place.
     fn push_place(&self, place: u16, out: &mut Vec<u8>) -> Result<(), AllocError>
-        requires { (names self.now).Form place }
         ensures { OnOk result (out.new.items ≡ out.old.items ++ (names self.now).text place) };
 
     /// Whether the chip keeps a cell.
@@ -114,12 +112,7 @@ pub fn read_byte<P: Places>(places: P, framed: bool, text: &[u8]) -> Option<Byte
 }
 
 /// Adds a place and both masks.
-fn push_relation<P: Places>(
-    places: P,
-    entry: &Entry,
-    out: &mut Vec<u8>,
-) -> Result<(), AllocError>
-    requires { (P.names places).Form entry.now.place }
+fn push_relation<P: Places>(places: P, entry: &Entry, out: &mut Vec<u8>) -> Result<(), AllocError>
     ensures { OnOk result (out.new.items ≡ out.old.items
         ++ (fields.relation_field (P.width places) (P.names places)).text entry.now) }
 {
@@ -131,15 +124,9 @@ fn push_relation<P: Places>(
 }
 
 /// Adds a word.
-pub fn push_word<P: Places>(
-    places: P,
-    framed: bool,
-    word: &Word,
-    out: &mut Vec<u8>,
-) -> Result<(), AllocError>
-    requires { HasRelation (P.width places) (P.names places).Form framed word.now.entry }
+pub fn push_word<P: Places>(places: P, word: &Word, out: &mut Vec<u8>) -> Result<(), AllocError>
     ensures { OnOk result (out.new.items ≡ out.old.items
-        ++ (fields.word_field (P.width places) (P.names places) framed).text word.now) }
+        ++ fields.word_text (P.width places) (P.names places) word.now) }
 {
     push_word_set(out, &word.set)?;
     match &word.entry {
@@ -152,15 +139,9 @@ pub fn push_word<P: Places>(
 }
 
 /// Adds a byte.
-pub fn push_byte<P: Places>(
-    places: P,
-    framed: bool,
-    byte: &Byte,
-    out: &mut Vec<u8>,
-) -> Result<(), AllocError>
-    requires { HasRelation (P.width places) (P.names places).Form framed byte.now.entry }
+pub fn push_byte<P: Places>(places: P, byte: &Byte, out: &mut Vec<u8>) -> Result<(), AllocError>
     ensures { OnOk result (out.new.items ≡ out.old.items
-        ++ (fields.byte_field (P.width places) (P.names places) framed).text byte.now) }
+        ++ fields.byte_text (P.width places) (P.names places) byte.now) }
 {
     push_byte_set(out, &byte.set)?;
     match &byte.entry {

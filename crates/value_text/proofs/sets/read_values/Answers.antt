@@ -7,7 +7,7 @@ use Rattle.value_text.proofs.sets.read_values.Goals as goal
 pub returns-in_default-number : goal.returns-in_default-number
 returns-in_default-number c =
     no_list c.args.digits c.args.text.now (c.loop-first.invariant.0
-        ∙ list_bad (hex_number c.args.digits) 44 c.loop-first.values c.loop-first.rest.now c.in-Some.first.now c.in-Some.behind.now c.in-Some.ensures.parts c.in_default-number.ensures.value)
+    ∙ list_bad (hex_number c.args.digits) 44 c.loop-first.values c.loop-first.rest.now c.in-Some.first.now c.in-Some.behind.now c.in-Some.ensures.parts c.in_default-number.ensures.value)
 
 pub returns-then-len-eq-LONGEST : goal.returns-then-len-eq-LONGEST
 returns-then-len-eq-LONGEST c =
@@ -16,8 +16,7 @@ returns-then-len-eq-LONGEST c =
 pub loop-first-preserved : goal.loop-first-preserved
 loop-first-preserved c =
     let longer : length c.push.new.self ≡ length c.loop-first.values + 1 =
-    ap length c.push.ensures ∙ omega (arith, length-append c.loop-first.values (c.in-Some-number.value ∷ [])) in
-    (
+    ap length c.push.ensures ∙ omega (arith, length-append c.loop-first.values (c.in-Some-number.value ∷ [])) in (
       c.loop-first.invariant.0
           ∙ list_more (hex_number c.args.digits) 44 c.loop-first.values c.push.new.self c.loop-first.rest.now c.in-Some.first.now c.in-Some.behind.now c.in-Some-number.value
           c.in-Some.ensures.parts c.in-Some-number.ensures.value c.push.ensures,
@@ -27,7 +26,7 @@ loop-first-preserved c =
 pub returns-in_default-number-2 : goal.returns-in_default-number-2
 returns-in_default-number-2 c =
     no_list c.args.digits c.args.text.now (c.loop-first.invariant.0
-        ∙ list_last_bad (hex_number c.args.digits) 44 c.loop-first.values c.loop-first.rest.now c.in_default.ensures.parts c.in_default-number-2.ensures.value)
+    ∙ list_last_bad (hex_number c.args.digits) 44 c.loop-first.values c.loop-first.rest.now c.in_default.ensures.parts c.in_default-number-2.ensures.value)
 
 pub returns-then-len-eq-LONGEST-2 : goal.returns-then-len-eq-LONGEST-2
 returns-then-len-eq-LONGEST-2 c =
@@ -38,7 +37,7 @@ returns-then-ascends c =
     tested c.args.digits c.loop-first.values c.push-2.new.self c.as_slice.result.now c.args.text.now c.loop-first.rest.now c.in-Some-number-2.value true
     c.loop-first.invariant.1 (λ full. absurd (omega (arith, full, c.if-len-eq-LONGEST-2.false, c.len-2.ensures.length))) c.push-2.ensures
     (c.loop-first.invariant.0
-        ∙ list_last (hex_number c.args.digits) 44 c.loop-first.values c.push-2.new.self c.loop-first.rest.now c.in-Some-number-2.value c.in_default.ensures.parts c.in-Some-number-2.ensures.value c.push-2.ensures)
+    ∙ list_last (hex_number c.args.digits) 44 c.loop-first.values c.push-2.new.self c.loop-first.rest.now c.in-Some-number-2.value c.in_default.ensures.parts c.in-Some-number-2.ensures.value c.push-2.ensures)
     c.as_slice.ensures (sym c.ascends.ensures ∙ c.if-ascends.true)
 
 pub returns-else-ascends : goal.returns-else-ascends
@@ -46,5 +45,5 @@ returns-else-ascends c =
     tested c.args.digits c.loop-first.values c.push-2.new.self c.as_slice.result.now c.args.text.now c.loop-first.rest.now c.in-Some-number-2.value false
     c.loop-first.invariant.1 (λ full. absurd (omega (arith, full, c.if-len-eq-LONGEST-2.false, c.len-2.ensures.length))) c.push-2.ensures
     (c.loop-first.invariant.0
-        ∙ list_last (hex_number c.args.digits) 44 c.loop-first.values c.push-2.new.self c.loop-first.rest.now c.in-Some-number-2.value c.in_default.ensures.parts c.in-Some-number-2.ensures.value c.push-2.ensures)
+    ∙ list_last (hex_number c.args.digits) 44 c.loop-first.values c.push-2.new.self c.loop-first.rest.now c.in-Some-number-2.value c.in_default.ensures.parts c.in-Some-number-2.ensures.value c.push-2.ensures)
     c.as_slice.ensures (sym c.ascends.ensures ∙ c.if-ascends.false)
