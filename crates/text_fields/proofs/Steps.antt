@@ -1,5 +1,5 @@
 -- Steps of the loops.
-use Rattle.std.proofs.Common.{◌≡◌, ℕ, zero, suc, ◌+◌, ◌-◌, ◌/◌, ◌%◌, ◌≤◌, Option, List, [], ◌∷◌, ◌++◌, take, drop, get_or, length, sym, ap, ap₂, ◌∙◌, arith, append_assoc}
+use Rattle.std.proofs.Common.{◌≡◌, ℕ, zero, suc, ◌-◌, ◌/◌, ◌%◌, ◌≤◌, Option, List, [], ◌∷◌, ◌++◌, take, drop, get_or, length, sym, ap, ap₂, ◌∙◌, arith, append_assoc}
 use Rattle.std.specs.Prelude.{option_map}
 use Rattle.std.proofs.lemmas.List.{append-nil, drop_all, take_rest}
 use Rattle.hex_digits.specs.Digits.{hex, hex_digit}

@@ -1,14 +1,13 @@
 -- Rows of bits, as they are read and written.
-use Rattle.std.proofs.Common.{◌≡◌, ℕ, ◌+◌, ◌-◌, ◌<◌, ◌≤◌, Option, None, Some, List, [], ◌∷◌, ◌++◌, map, length, take, drop, get_or, set, reverse, refl, sym, ap, ap₂, ◌∙◌, arith, append_assoc}
-use Rattle.std.specs.Prelude.{option_map, option_and_then, ◌==◌}
-use Rattle.std.specs.List.{flat_map}
+use Rattle.std.proofs.Common.{◌≡◌, ℕ, ◌+◌, ◌-◌, ◌<◌, ◌≤◌, Option, None, Some, List, [], ◌∷◌, ◌++◌, map, length, take, drop, get_or, set, reverse, refl, sym, ap, ap₂, ◌∙◌, arith}
+use Rattle.std.specs.Prelude.{option_map, option_and_then}
 use Rattle.std.proofs.lemmas.Bool.{eq-eqb}
-use Rattle.std.proofs.lemmas.List.{append-nil, reverse-append, reverse-reverse, take_more, take_all, map-append, drop_more, take-append-drop}
+use Rattle.std.proofs.lemmas.List.{reverse-append, reverse-reverse, take_more, take_all, map-append, drop_more, take-append-drop}
 use Rattle.std.proofs.lemmas.Grind.{drop-set_at}
 use Rattle.std.proofs.Math.ListN.{drop_of_length-le}
 use Rattle.value_bits.specs.declared.tri.Tri.{Tri}
 use Rattle.text_fields.specs.Lists.{values_of}
-use Rattle.value_text.specs.Bits.{bit_code, bit_field, bit_of, bits_field}
+use Rattle.value_text.specs.Bits.{bit_field, bit_of, bits_field}
 
 -- the bits of the bytes of a text
 abbrev pub row_of : List ℕ → Option (List Tri)

@@ -1,10 +1,10 @@
 -- What is read of a text has its form.
-use Rattle.std.proofs.Common.{◌≡◌, ◌⊎◌, ℕ, ◌*◌, ◌^◌, ◌≤◌, Bool, true, false, Option, None, Some, List, refl, sym, ap, ◌∙◌, inl, inr, arith, if◌then◌else◌}
+use Rattle.std.proofs.Common.{◌≡◌, ℕ, ◌^◌, ◌≤◌, Bool, true, false, Option, None, Some, List, refl, sym, ◌∙◌, inl, inr, arith, if◌then◌else◌}
 use Rattle.std.specs.Prelude.{option_map, codes, IfSome}
 use Rattle.std.specs.Str.{bytes_eq}
 use Rattle.value_set.specs.Form.{IsNormal}
 use Rattle.value_set.specs.declared.form.Form.{Form}
-use Rattle.value_set.specs.declared.form.Form.TheVariants.{Values, Run}
+use Rattle.value_set.specs.declared.form.Form.TheVariants.{Values}
 use Rattle.text_fields.specs.Spelling.{Spelling, IsExact, has_byte}
 use Rattle.value_text.specs.Sets.{IsWidth, form_of, list_field, part_of, run_field, set_field, set_is_exact}
 

@@ -1,12 +1,12 @@
 -- Known bits: 0, 1, or x for one that may be either, the highest bit first.
-use Rattle.std.specs.Prelude.{◌≡◌, ℕ, ◌==◌, ◌||◌, Bool, true, false, Option, List, [], ◌∷◌, reverse, length}
+use Rattle.std.specs.Prelude.{◌≡◌, ℕ, true, Option, List, [], ◌∷◌, reverse, length}
 use Rattle.std.specs.List.{AllByRecursion}
 use Rattle.std.proofs.Common.{refl, sym, ◌∙◌, inl, inr}
 use Rattle.std.proofs.lemmas.List.{reverse-reverse, length-reverse}
 use Rattle.value_bits.specs.declared.tri.Tri.{Tri}
 use Rattle.value_bits.specs.declared.tri.Tri.TheVariants.{Zero, One, Either}
-use Rattle.text_fields.specs.Spelling.{Spelling, IsExact, Avoids, has_byte}
-use Rattle.text_fields.specs.Fields.{IsOneOf, one_of, one_of_is_exact, one_of_avoids, none_has, told_by, told_by_is_exact, told_by_avoids, restated, restated_is_exact, restated_avoids}
+use Rattle.text_fields.specs.Spelling.{Spelling, IsExact, Avoids}
+use Rattle.text_fields.specs.Fields.{one_of, one_of_is_exact, one_of_avoids, none_has, told_by, told_by_is_exact, told_by_avoids, restated, restated_is_exact, restated_avoids}
 use Rattle.text_fields.specs.Lists.{in_row, in_row_is_exact, in_row_avoids}
 
 abbrev pub bit_code : Tri → ℕ

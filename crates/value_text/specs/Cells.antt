@@ -1,11 +1,10 @@
 -- Cells of RAM: a dash for none, or each with its place, a dot, its size, a colon and its word, with semicolons between them.
-use Rattle.std.specs.Prelude.{◌≡◌, ◌⊎◌, ℕ, suc, ◌+◌, ◌^◌, ◌<◌, ◌≤◌, ◌==◌, ◌&&◌, ◌||◌, nat_le, not, Bool, true, false, Option, option_map, List, [], ◌∷◌, ◌++◌, codes, length}
+use Rattle.std.specs.Prelude.{◌≡◌, ◌⊎◌, ℕ, ◌+◌, ◌^◌, ◌<◌, ◌==◌, ◌&&◌, ◌||◌, nat_le, not, Bool, true, false, Option, option_map, List, [], ◌∷◌, ◌++◌, codes}
 use Rattle.std.specs.List.{AllByRecursion}
-use Rattle.std.proofs.Common.{refl, sym, ◌∙◌, subst, inl, inr, arith}
-use Rattle.std.proofs.lemmas.Bool.{cases_Bool, and_parts, and_from, or_cases, true≢false, leb-true, le-leb, eqb-true, eq-eqb, not-true}
+use Rattle.std.proofs.Common.{refl, sym, ◌∙◌, inl, inr, arith}
+use Rattle.std.proofs.lemmas.Bool.{and_parts, and_from, or_cases, true≢false, leb-true, le-leb, eqb-true, eq-eqb, not-true}
 use Rattle.hex_digits.specs.Digits.{hex}
-use Rattle.value_set.specs.Form.{IsNormal, Has}
-use Rattle.value_set.specs.declared.form.Form.{Form}
+use Rattle.value_set.specs.Form.{IsNormal}
 use Rattle.entry_value.specs.declared.cells.Cell.{Cell}
 use Rattle.entry_value.specs.declared.word.Word.{Word}
 use Rattle.entry_value.specs.Cells.{AreCells, IsCell, is_nothing}
@@ -14,7 +13,7 @@ use Rattle.text_fields.specs.Numbers.{is_digit, hex_number, hex_number_is_exact,
 use Rattle.text_fields.specs.Fields.{byte_differs, passing, passing_is_exact, passing_avoids, beside, beside_is_exact, beside_avoids, told_by, told_by_is_exact, told_by_avoids, restated, restated_is_exact, restated_avoids}
 use Rattle.text_fields.specs.Lists.{listed, listed_has, listed_or_mark, listed_or_mark_is_exact, listed_or_mark_avoids}
 use Rattle.value_text.specs.Members.{is_byte_set, bytes_only, bytes_back}
-use Rattle.value_text.specs.Words.{HasRelation, IsWordIn, is_word_byte, word_byte_parts, no_digits, word_field, word_is_exact, word_avoids}
+use Rattle.value_text.specs.Words.{HasRelation, is_word_byte, word_byte_parts, no_digits, word_field, word_is_exact, word_avoids}
 use Rattle.value_text.specs.Sets.{neither}
 
 -- THE TESTS

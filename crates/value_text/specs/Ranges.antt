@@ -1,11 +1,11 @@
 -- Ranges of addresses: a dash for none, or each with its first and its last address, with commas between them.
-use Rattle.std.specs.Prelude.{◌≡◌, ℕ, suc, ◌+◌, ◌^◌, ◌<◌, ◌≤◌, ◌==◌, ◌&&◌, nat_le, Bool, true, false, List, [], ◌∷◌, ◌++◌, codes, length}
+use Rattle.std.specs.Prelude.{◌≡◌, ℕ, ◌+◌, ◌^◌, ◌<◌, ◌≤◌, ◌==◌, ◌&&◌, nat_le, Bool, true, false, List, [], ◌∷◌, codes, length}
 use Rattle.std.specs.List.{AllByRecursion}
 use Rattle.std.proofs.Common.{refl, arith, length-append}
 use Rattle.std.proofs.lemmas.Bool.{and_parts, and_from, leb-true, le-leb}
 use Rattle.hex_digits.specs.Digits.{hex}
 use Rattle.irq_frames.specs.Ranges.{AreRanges}
-use Rattle.text_fields.specs.Spelling.{Spelling, IsExact, Avoids, has_byte}
+use Rattle.text_fields.specs.Spelling.{Spelling, IsExact, Avoids}
 use Rattle.text_fields.specs.Numbers.{is_digit, hex_number, hex_number_is_exact, number_avoids, hex_length}
 use Rattle.text_fields.specs.Fields.{longer_differs, passing, passing_is_exact, passing_avoids, beside, beside_is_exact, beside_avoids, restated, restated_is_exact, restated_avoids}
 use Rattle.text_fields.specs.Lists.{listed, listed_longer, listed_or_mark, listed_or_mark_is_exact, listed_or_mark_avoids}

@@ -1,20 +1,19 @@
 -- Sets of numbers as a report spells them: a star for all, ascending numbers with commas, or base, stride and count of a run.
-use Rattle.std.specs.Prelude.{◌≡◌, ◌⊎◌, ℕ, zero, suc, ◌+◌, ◌-◌, ◌*◌, ◌^◌, ◌<◌, ◌≤◌, ◌==◌, ◌&&◌, ◌||◌, if◌then◌else◌, Bool, true, false, Option, None, Some, option_map, List, [], ◌∷◌, ◌++◌, codes, length, map}
-use Rattle.std.specs.List.{AllByRecursion, flat_map, join_with_byte}
+use Rattle.std.specs.Prelude.{◌≡◌, ◌⊎◌, ℕ, ◌^◌, ◌≤◌, ◌==◌, ◌||◌, if◌then◌else◌, Bool, true, false, Option, None, Some, option_map, List, [], ◌∷◌, ◌++◌, codes, length, map}
+use Rattle.std.specs.List.{join_with_byte}
 use Rattle.std.proofs.Common.{refl, sym, ap, ap₂, ◌∙◌, subst, inl, inr, arith, append_assoc}
-use Rattle.std.proofs.Math.Nat.{pow-suc}
-use Rattle.std.proofs.lemmas.Bool.{cases_Bool, and_parts, and_from, false≢true, true≢false, leb-true, le-leb, eq-eqb, eqb-true}
+use Rattle.std.proofs.lemmas.Bool.{and_parts, and_from, true≢false, leb-true, le-leb, eq-eqb, eqb-true}
 use Rattle.std.proofs.lemmas.List.{append-nil}
 use Rattle.hex_digits.specs.Digits.{hex}
 use Rattle.chip_law.specs.Digits as report
 use Rattle.chip_law.specs.Line.{comma_list, form_text}
-use Rattle.value_set.specs.Form.{Ascends, IsNormal, IsNormalRun}
+use Rattle.value_set.specs.Form.{IsNormal, IsNormalRun}
 use Rattle.value_set.specs.declared.form.Progression.{Progression}
 use Rattle.value_set.specs.declared.form.Form.{Form}
 use Rattle.value_set.specs.declared.form.Form.TheVariants.{Values, Run}
 use Rattle.text_fields.specs.Spelling.{Spelling, IsExact, Avoids, has_byte, has_byte-at}
 use Rattle.text_fields.specs.Numbers.{is_digit, hex_number, hex_number_is_exact, number_avoids, short_hex, short_number, short_number_is_exact, short_avoids, longer_power}
-use Rattle.text_fields.specs.Fields.{IfForm, OneForm, passing, passing_is_exact, passing_avoids, or_mark, or_mark_is_exact, or_mark_avoids, byte_differs, beside, beside_is_exact, beside_avoids, either, either_is_exact, either_avoids, told_by, told_by_is_exact, told_by_avoids, restated, restated_is_exact, restated_avoids, respelled, respelled_is_exact, respelled_avoids}
+use Rattle.text_fields.specs.Fields.{passing, passing_is_exact, passing_avoids, or_mark, or_mark_is_exact, or_mark_avoids, byte_differs, beside, beside_is_exact, beside_avoids, either, either_is_exact, either_avoids, told_by, told_by_is_exact, told_by_avoids, restated, restated_is_exact, restated_avoids, respelled, respelled_is_exact, respelled_avoids}
 use Rattle.text_fields.specs.Lists.{listed, listed_is_exact, listed_avoids}
 use Rattle.value_text.specs.Runs.{is_list, is_run, ascends, ascends_only, ascends_back, run_only, run_back, whole_only, whole_back, run_is_below}
 

@@ -1,7 +1,7 @@
 -- Words and bytes: a set, and perhaps the relation to a place of the state that an interrupt suspended.
 use Rattle.std.specs.Prelude.{◌≡◌, ℕ, ◌^◌, ◌<◌, ◌≤◌, ◌==◌, ◌||◌, Bool, true, false, Option, None, Some, is_none, List}
 use Rattle.std.proofs.Common.{refl, arith}
-use Rattle.std.proofs.lemmas.Bool.{false≢true, true≢false}
+use Rattle.std.proofs.lemmas.Bool.{false≢true}
 use Rattle.value_set.specs.Form.{IsNormal}
 use Rattle.value_set.specs.declared.form.Form.{Form}
 use Rattle.entry_value.specs.declared.word.Entry.{Entry}

@@ -1,4 +1,4 @@
-use Rattle.std.proofs.Common.{sym, ◌∙◌, arith}
+use Rattle.std.proofs.Common.{◌∙◌, arith}
 use Rattle.std.proofs.lemmas.List.{length-set}
 use Rattle.value_text.proofs.BitLemmas.{bits_bad, bits_step}
 use Rattle.value_text.proofs.bits.read_bits.Goals as goal

@@ -1,4 +1,4 @@
-use Rattle.std.proofs.Common.{◌+◌, suc, take, get_or, add-one, ap, ◌∙◌, sym}
+use Rattle.std.proofs.Common.{take, get_or, add-one, ap, ◌∙◌, sym}
 use Rattle.irq_frames.specs.Ranges.{with_range}
 use Rattle.value_text.proofs.RangeLemmas.{add_next, range_at}
 use Rattle.value_text.proofs.ranges.ranges_of.Goals as goal

@@ -1,4 +1,4 @@
-use Rattle.std.proofs.Common.{◌≡◌, ◌+◌, ◌++◌, ◌∷◌, [], true, false, length, length-append, arith, sym, ap, ◌∙◌}
+use Rattle.std.proofs.Common.{◌≡◌, ◌+◌, ◌∷◌, [], true, false, length, length-append, arith, sym, ap, ◌∙◌}
 use Rattle.text_fields.specs.Numbers.{hex_number}
 use Rattle.text_fields.specs.Lists.{list_bad, list_last, list_last_bad, list_more}
 use Rattle.value_text.proofs.ListLemmas.{no_list, tested, too_many}
