@@ -1,0 +1,5 @@
+pub mod Spelling
+pub mod Numbers
+pub mod Fields
+pub mod Lists
+pub mod Lines

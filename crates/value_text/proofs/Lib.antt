@@ -1,0 +1,5 @@
+pub mod FormLemmas
+pub mod ListLemmas
+pub mod ReadLemmas
+pub mod BitLemmas
+pub mod RangeLemmas

@@ -1,0 +1,158 @@
+//! Cells.
+
+ghost use Rattle.std.specs.Prelude.{◌≡◌, ◌++◌, IfOk, OnOk};
+ghost use Rattle.std.specs.Option.{option_map};
+ghost use Rattle.entry_value.specs.Cells as the_cells;
+ghost use Rattle.text_fields.specs.Numbers.{hex_number};
+ghost use Rattle.text_fields.specs.Fields.{beside};
+ghost use Rattle.value_text.specs.Sets.{IsWidth};
+ghost use Rattle.value_text.specs.Cells as fields;
+
+use crate::members::is_byte_set;
+use crate::words::{Places, push_word, read_word};
+use entry_value::{Cell, Word};
+use std::alloc::{AllocError, Global};
+use text_fields::{Field, cut, number, push_list_or_mark, push_number, read_list_or_mark};
+use value_set::Vs16;
+
+/// A cell as a field, in an interrupt's frame or in none.
+#[derive(Clone, Copy)]
+struct CellField<P: Places> {
+    places: P,
+    framed: bool,
+}
+
+/// How many bytes: one or two.
+fn read_size(text: &[u8]) -> Option<u8>
+    ensures { result ≡ fields.size_field.value text.now }
+{
+    let size = number(text, 1)?;
+    if size == 1 || size == 2 {
+        Some(size as u8)
+    } else {
+        None
+    }
+}
+
+/// A place and a size.
+fn read_at(text: &[u8], digits: u8) -> Option<(u16, u8)>
+    requires { IsWidth digits }
+    ensures { result ≡ (beside 46 (hex_number digits) fields.size_field).value text.now }
+{
+    let (place, size) = cut(text, b'.')?;
+    Some((number(place, digits)?, read_size(size)?))
+}
+
+/// A cell of any kind.
+fn read_cell<P: Places>(places: P, framed: bool, text: &[u8]) -> Option<Cell>
+    ensures { result ≡ fields.any_cell (P.width places) (P.names places) framed text.now }
+{
+    let (at, word) = cut(text, b':')?;
+    let (place, size) = read_at(at, places.digits())?;
+    let word = read_word(places, framed, word)?;
+    Some(Cell { place, size, word })
+}
+
+impl<P: Places> Field for CellField<P> {
+    type Value = Cell;
+
+    ghost use Rattle.value_text.specs.Cells.{cell_field};
+
+    ghost field = { λ cell. cell_field (P.width cell.places) (P.names cell.places) cell.framed (P.keeps cell.places) };
+
+    fn read(&self, text: &[u8]) -> Option<Cell> {
+        let cell = read_cell(self.places, self.framed, text)?;
+        if self.places.is_kept(&cell) {
+            Some(cell)
+        } else {
+            None
+        }
+    }
+
+    fn push(&self, value: &Cell, out: &mut Vec<u8>) -> Result<(), AllocError> {
+        push_number(out, value.place, self.places.digits())?;
+        out.push(b'.')?;
+        push_number(out, value.size as u16, 1)?;
+        out.push(b':')?;
+        push_word(self.places, &value.word, out)
+    }
+}
+
+/// A word of which nothing is known, of one byte or two.
+fn any_of(size: u8) -> Vs16
+    ensures { result ≡ the_cells.any_of size }
+{
+    if size != 1 {
+        return Vs16::any();
+    }
+    match Vs16::run(0, 1, 256) {
+        Some(bytes) => bytes,
+        None => unreachable!(),
+    }
+}
+
+/// Whether a word of a size says nothing.
+fn is_nothing(size: u8, word: &Word) -> bool
+    ensures { result ≡ the_cells.is_nothing size word.now }
+{
+    any_of(size).within(&word.set) && word.entry.is_none()
+}
+
+/// Whether a cell lies in RAM, has numbers of its size, and says something.
+fn is_cell(lo: u16, hi: u16, cell: &Cell) -> bool
+    ensures { result ≡ fields.is_cell lo hi cell.now }
+{
+    lo <= cell.place
+        && cell.place as u32 + cell.size as u32 <= hi as u32 + 1
+        && (cell.size != 1 || is_byte_set(&cell.word.set))
+        && !is_nothing(cell.size, &cell.word)
+}
+
+/// Whether cells in RAM from an address to another ascend, and none overlaps the next.
+fn are_cells(lo: u16, hi: u16, cells: &[Cell]) -> bool
+    ensures { result ≡ fields.are_cells lo hi lo cells.now }
+{
+    let mut from = lo as u32;
+    for cell in cells {
+        if !is_cell(lo, hi, cell) || (cell.place as u32) < from {
+            return false;
+        }
+        from = cell.place as u32 + cell.size as u32;
+    }
+    true
+}
+
+/// The cells that a text spells, in RAM from an address to another, in an interrupt's frame or in none.
+pub fn read_cells<P: Places>(
+    alloc: Global,
+    places: P,
+    framed: bool,
+    lo: u16,
+    hi: u16,
+    text: &[u8],
+) -> Result<Option<Vec<Cell>>, AllocError>
+    ensures { IfOk result (λ found. option_map (λ cells. cells.items) found
+        ≡ (fields.cells_field (P.width places) (P.names places) framed (P.keeps places) lo hi).value text.now) }
+{
+    let field = CellField { places, framed };
+    let Some(cells) = read_list_or_mark(alloc, &field, b';', b"-".as_slice(), text)? else {
+        return Ok(None);
+    };
+    if are_cells(lo, hi, &cells) {
+        Ok(Some(cells))
+    } else {
+        Ok(None)
+    }
+}
+
+/// Adds cells.
+pub fn push_cells<P: Places>(places: P, cells: &[Cell], out: &mut Vec<u8>) -> Result<(), AllocError>
+    ensures { OnOk result (out.new.items ≡ out.old.items
+        ++ fields.cells_text (P.width places) (P.names places) cells.now) }
+{
+    let field = CellField {
+        places,
+        framed: true,
+    };
+    push_list_or_mark(&field, b';', b"-".as_slice(), cells, out)
+}
