@@ -61,15 +61,26 @@ fn place_piece(alloc: Global, places: &mut [Option<u8>], piece: &str) -> Result<
     }
 }
 
+/// Places the pieces of a row, and says whether they have digits of bytes.
+fn place_all(alloc: Global, places: &mut [Option<u8>], pieces: &str) -> Result<bool, AllocError>
+    requires { length places.old ≡ 65536 }
+{
+    for piece in pieces.split(',') {
+        if !place_piece(alloc, places, piece)? {
+            return Ok(false);
+        }
+    }
+    Ok(true)
+}
+
 /// An image of these pieces, with F000h as the reset vector.
 pub fn image_of(alloc: Global, pieces: &str) -> Result<Option<Image>, AllocError> {
     let mut places = nothing(alloc)?;
     places[0xFFFE] = Some(0x00);
     places[0xFFFF] = Some(0xF0);
-    for piece in pieces.split(',') {
-        if !place_piece(alloc, &mut places, piece)? {
-            return Ok(None);
-        }
+    if place_all(alloc, &mut places, pieces)? {
+        Ok(Some(Image::new(places)))
+    } else {
+        Ok(None)
     }
-    Ok(Some(Image::new(places)))
 }

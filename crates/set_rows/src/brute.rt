@@ -3,8 +3,6 @@
 ghost use Rattle.std.specs.Prelude.{◌≡◌, ◌+◌, ◌*◌, ◌%◌, ◌<◌, ◌≤◌, length, IsTrue, bit_xor};
 ghost use Rattle.value_set.specs.Form.{members};
 
-use value_set::Vs8;
-use value_set::Operation;
 use crate::plain::{
     self, Marks, Steps, agrees, count_of, gathered, includes, made, together, window,
 };
@@ -12,6 +10,7 @@ use crate::samples::{Sample, marked, some_samples};
 use std::alloc::Global;
 use std::process::Abort;
 use std::test::Fail;
+use value_set::{Operation, Vs8};
 
 /// A sum with a carry, modulo 256.
 struct CarriedSum;

@@ -1,7 +1,6 @@
 //! What the calls of a set answer, in plain loops over the 256 numbers.
 
-use value_set::Vs8;
-use value_set::{Form, Progression};
+use value_set::{Form, Progression, Vs8};
 
 /// Which of the 256 numbers are members.
 pub type Marks = [bool; 256];

@@ -1,9 +1,9 @@
 //! Some hundred sets to try the calls on, each with what it is in plain numbers.
 
-use value_set::Vs8;
 use crate::plain::{Marks, Plain, Steps, gathered, made};
 use std::alloc::Global;
 use std::test::Fail;
+use value_set::Vs8;
 
 /// A set, what it is in plain numbers, and its members in order.
 #[derive(Drop)]

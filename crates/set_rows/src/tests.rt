@@ -1,9 +1,7 @@
 //! Rows that reports print, and the calls of sets of words.
 
-use value_set::Operation;
-use value_set::Form;
-use value_set::{Vs8, Vs16};
 use std::test::Fail;
+use value_set::{Form, Operation, Vs8, Vs16};
 
 fn run8(base: u8, stride: u8, count: u32) -> Result<Vs8, Fail> {
     Ok(Vs8::run(base, stride, count).ok_or("a run of bytes")?)
