@@ -105,20 +105,30 @@ fn arrows(
     for site in program.sites.values() {
         let own = heads.get(&site.pc).copied().unwrap_or(site.pc);
         for link in site.goes.iter() {
-            let other = heads.get(&link.at).copied().unwrap_or(link.at);
+            let other = heads.get(&link.at).copied();
+            let is_inside = other == Some(own);
             // An edge inside a box goes to its next row.
-            if link.way == Way::Next && own == other && site.pc < link.at {
+            if link.way == Way::Next && is_inside && site.pc < link.at {
                 continue;
             }
             graph.put("  ")?;
-            let is_inside = own == other;
             end(graph, own, site.pc, is_inside)?;
             graph.put(" -> ")?;
-            end(graph, other, link.at, is_inside)?;
+            match other {
+                Some(head) => end(graph, head, link.at, is_inside)?,
+                None => outside(graph, link.at)?,
+            }
             graph.put(style_of(link.way))?;
         }
     }
     Ok(())
+}
+
+/// An end of an arrow at an address that has no row.
+fn outside(graph: &mut Markup, pc: u16) -> Result<(), Memory> {
+    graph.put("\"")?;
+    graph.address(pc)?;
+    graph.put("\"")
 }
 
 /// An end of an arrow. One inside a box goes along its right side.

@@ -1,7 +1,8 @@
 //! Pages and graphs of small reports and of a large one.
 
-use crate::ask::{Ask, Labels};
-use crate::view::view;
+use crate::ask::{Ask, Labels, ask_of, front_of};
+use crate::given::given_instead;
+use crate::view::{ViewError, view};
 use std::alloc::{AllocError, Global};
 use std::process::Abort;
 use std::test::Fail;
@@ -151,5 +152,168 @@ fn form_is_exact(rt: HostRuntime) -> Result<(), Fail> {
             "\"F004\":\"F004\":e -> \"F004\":\"F004\":e [tooltip=\"jump\", color=\"#0b57d0\"];\n}\n"
         )
     );
+    Ok(())
+}
+
+#[test]
+fn functions_and_memory(rt: HostRuntime) -> Result<(), Fail> {
+    let parts = [
+        // The function takes nothing, and its call two bytes.
+        (
+            "<a href=#F00E>F00E</a><td>calls<td>1<td>0<td>0<td class=a><td class=a><a href=#F004>F004</a> <a href=#F008>F008</a> \n",
+            1,
+        ),
+        (
+            "<a href=#F000>F000</a><td>reset<td>4<td>0<td>2<td class=a><a href=#F00E>F00E</a> <td class=a>\n",
+            1,
+        ),
+        (
+            ", first at <a href=#F00E>F00E</a> in the function <a href=#F00E>F00E</a>, called at <a href=#F004>F004</a> in the program that a reset begins at <a href=#F000>F000</a>.\n",
+            1,
+        ),
+        (
+            "<th scope=row>027E<td class=a><a href=#F00E>F00E</a> <td class=a><a href=#F004>F004</a> <a href=#F008>F008</a> <td",
+            1,
+        ),
+        ("<tr class=x>", 0),
+    ];
+    counts(
+        &rt,
+        rt.alloc(),
+        Ask::Html(Labels::NONE),
+        TWO_CALLS,
+        parts.as_slice(),
+    )
+}
+
+/// A function that calls itself.
+const RECURSION: &str =
+    "OPEN\nE F000 F004\nE F004 F006\nE F006 F006\nI F000 31408002 MOV #0280h,SP\nI F004 0343 MOV #0,R3\nI F006 B01206F0 CALL #F006h\nM F006 mem w2 0000/2/8000\nO F006 Store 0000/2/8000\nS F000 0000/2/8000\nS F004 0280\nS F006 0000/2/8000\nT 0280 2\n";
+
+#[test]
+fn recursion_is_named(rt: HostRuntime) -> Result<(), Fail> {
+    let parts = [
+        ("<td>recursive: see the stack pointer<td", 2),
+        ("<h3>Stores that may write the program</h3>", 1),
+        ("<h3>No instruction</h3>", 0),
+    ];
+    counts(
+        &rt,
+        rt.alloc(),
+        Ask::Html(Labels::NONE),
+        RECURSION,
+        parts.as_slice(),
+    )?;
+    let parts = [("\\nrecursive\"", 2), ("\"F006\" -> \"F006\"", 1)];
+    counts(&rt, rt.alloc(), Ask::Calls, RECURSION, parts.as_slice())
+}
+
+#[test]
+fn one_function(rt: HostRuntime) -> Result<(), Fail> {
+    let parts = [("[label=<", 1), ("\"F00E\":\"F00E\" -> \"F008\" [", 1)];
+    counts(
+        &rt,
+        rt.alloc(),
+        Ask::Function(0xF00E),
+        TWO_CALLS,
+        parts.as_slice(),
+    )?;
+    let shown = view(rt.alloc(), Ask::Function(0xF008), TWO_CALLS.as_bytes());
+    assert!(rt; matches!(shown, Err(ViewError::NoFunction(0xF008))));
+    Ok(())
+}
+
+#[test]
+fn differences(rt: HostRuntime) -> Result<(), Fail> {
+    let both = format!(in rt.alloc(); "{EIGHT_BYTES}{TWO_CALLS}")?;
+    let parts = [
+        (
+            "old: CLOSED, stack 0 bytes, T 0280 1\nnew: CLOSED, stack 2 bytes, T 027E 1\n",
+            1,
+        ),
+        ("\nmemory, by address\n+ mem r2 027E\n+ mem w2 027E\n", 1),
+        ("\n- F004 FF3F JMP F004h\n+ F004 B0120EF0 CALL #F00Eh\n", 1),
+        ("\nways: 1 went, 5 came\n", 1),
+    ];
+    counts(&rt, rt.alloc(), Ask::Diff, both.as_str(), parts.as_slice())?;
+    let both = format!(in rt.alloc(); "{EIGHT_BYTES}{EIGHT_BYTES}")?;
+    let parts = [("\nno line differs\n", 1)];
+    counts(&rt, rt.alloc(), Ask::Diff, both.as_str(), parts.as_slice())
+}
+
+/// The labels of an image.
+const LABELS: Labels<'static> = Labels {
+    image: Some("a<b>.hex"),
+    sum: Some("00ff"),
+    words: None,
+    version: None,
+};
+
+#[test]
+fn page_with_its_image(rt: HostRuntime) -> Result<(), Fail> {
+    let image = ":08F0000031408002FF3F123491\n:02FFFE0000F011\n:00000001FF\n";
+    let text = format!(in rt.alloc(); "{EIGHT_BYTES}{image}")?;
+    let parts = [
+        ("<title>CLOSED: a&lt;b&gt;.hex</title>", 1),
+        ("SHA-256 of the image: <code>00ff</code>", 1),
+        ("<code>F006 to F007</code>.\n", 1),
+        ("code that can run: 6 bytes", 1),
+    ];
+    counts(
+        &rt,
+        rt.alloc(),
+        Ask::Html(LABELS),
+        text.as_str(),
+        parts.as_slice(),
+    )?;
+    let other = ":02F0000031409D\n:00000001FF\n";
+    let text = format!(in rt.alloc(); "{EIGHT_BYTES}{other}")?;
+    let shown = view(rt.alloc(), Ask::Html(LABELS), text.as_bytes());
+    assert!(rt; matches!(shown, Err(ViewError::Foreign(0xF000))));
+    Ok(())
+}
+
+#[test]
+fn equal_steps(rt: HostRuntime) -> Result<(), Fail> {
+    let report =
+        "CLOSED\nM F000 mem r1 0200,0203,0206,0209\nM F000 mem r2 0200,0202,0204\nM F000 mem w1 0200,0201,0202,0203\nT none 0\n";
+    let parts = [
+        ("</i>0200 to 0209 by 3<", 1),
+        ("</i>0200, 0202, 0204<", 1),
+        ("</i>0200 to 0203<", 1),
+    ];
+    counts(
+        &rt,
+        rt.alloc(),
+        Ask::Html(Labels::NONE),
+        report,
+        parts.as_slice(),
+    )
+}
+
+#[test]
+fn words_and_inputs(rt: HostRuntime) -> Result<(), Fail> {
+    for (text, is_asked) in [
+        ("html", true),
+        ("html image=a.hex sha256=00 words=x", true),
+        ("html a.hex", false),
+        ("dot", true),
+        ("dot calls", true),
+        ("dot F00E", true),
+        ("dot f00", false),
+        ("diff", true),
+        ("diff a", false),
+        ("", false),
+    ] {
+        let mut words = Vec::new(rt.alloc());
+        for word in text.split_ascii_whitespace() {
+            words.push(String::from_str(rt.alloc(), word)?)?;
+        }
+        assert_eq!(rt; ask_of(words.as_slice()).is_some(), is_asked, "{text}");
+    }
+    assert_eq!(rt; front_of(b"E a\nT b\n:00\n").1, b":00\n".as_slice());
+    assert!(rt; given_instead(b":00000001FF\n").is_some());
+    assert!(rt; given_instead(b"F000 FF3F JMP F000h\n").is_some());
+    assert!(rt; given_instead(b"SHUT\n").is_none());
     Ok(())
 }
