@@ -12,7 +12,7 @@ use Rattle.call_context.specs.declared.node.Node.{Node}
 use Rattle.call_context.specs.declared.node.Node.TheVariants.{At, Exit}
 use Rattle.text_fields.specs.Spelling.{Spelling, IsExact, Avoids, has_byte}
 use Rattle.text_fields.specs.Numbers.{is_digit, hex_number, hex_number_is_exact, number_avoids, hex_length}
-use Rattle.text_fields.specs.Fields.{IfForm, OneForm, other_bytes, byte_differs, named, named_is_exact, named_avoids, passing, passing_is_exact, passing_avoids, or_mark, or_mark_is_exact, or_mark_avoids, beside, beside_is_exact, beside_avoids, beside_by, beside_by_is_exact, either_front, either_front_is_exact, either_front_avoids, told_by, told_by_is_exact, told_by_avoids, restated, restated_is_exact, restated_avoids}
+use Rattle.text_fields.specs.Fields.{IfForm, OneForm, behind, cut_at, front_value, other_bytes, byte_differs, named, named_is_exact, named_avoids, passing, passing_is_exact, passing_avoids, or_mark, or_mark_is_exact, or_mark_avoids, beside, beside_is_exact, beside_avoids, beside_by, beside_by_is_exact, either_front, either_front_is_exact, either_front_avoids, told_by, told_by_is_exact, told_by_avoids, restated, restated_is_exact, restated_avoids}
 use Rattle.text_fields.specs.Lists.{listed, listed_longer, listed_or_mark, listed_or_mark_is_exact, listed_or_mark_avoids}
 use Rattle.node_fields.specs.Decimals.{is_decimal, decimal_field, decimal_is_exact, decimal_avoids}
 
@@ -121,8 +121,23 @@ parts_field digits state = either_front
     (codes "N ") (beside_by 32 (location_field digits) (λ parts. state (node_of (inl parts))))
     (codes "X ") (beside_by 32 (exit_field digits) (λ parts. state (node_of (inr parts))))
 
+abbrev pub HasRowForm : {A : Type 0} → (digits : ℕ) → (Node → Spelling A) → Node × A → Type 0
+HasRowForm digits state row = IsNodeText digits row.0 × (state row.0).Form row.1
+
 abbrev pub row_field : {A : Type 0} → (digits : ℕ) → (Node → Spelling A) → Spelling (Node × A)
-row_field digits state = told_by (parts_field digits state) row_of row_parts
+row_field digits state = restated (told_by (parts_field digits state) row_of row_parts) (HasRowForm digits state)
+
+-- the node in front of the first space of a text, and the text behind it
+abbrev pub split_in : (List ℕ → Option Node) → List ℕ → Option (Node × List ℕ)
+split_in value text = option_and_then (λ parts. option_map (λ node. (node, parts.1)) (value parts.0)) (cut_at 32 text)
+
+abbrev pub split_behind : (digits : ℕ) → Option (List ℕ) → Option (List ℕ) → Option (Node × List ℕ)
+split_behind digits (Some rest) other = split_in (location_in digits) rest
+split_behind digits None other = option_and_then (split_in (exit_in digits)) other
+
+-- the node of a row, and the text behind it
+abbrev pub split_row : (digits : ℕ) → List ℕ → Option (Node × List ℕ)
+split_row digits line = split_behind digits (behind (codes "N ") line) (behind (codes "X ") line)
 
 -- LAWS
 
@@ -139,7 +154,7 @@ irq_is_exact : (digits : ℕ) → IsExact (irq_field digits)
 irq_is_exact digits =
     named_is_exact (beside 64 decimal_field (entry_field digits)) (codes "irq")
     (beside_is_exact 64 decimal_field (entry_field digits) decimal_is_exact
-        (beside_is_exact 46 (sp_field digits) level_field (sp_is_exact digits) level_is_exact (sp_avoids digits 46 refl refl)) (decimal_avoids 64 refl))
+    (beside_is_exact 46 (sp_field digits) level_field (sp_is_exact digits) level_is_exact (sp_avoids digits 46 refl refl)) (decimal_avoids 64 refl))
 
 frame_back : (digits : ℕ) (parts : Option (ℕ × (Option ℕ × ℕ))) → (or_mark (irq_field digits) (codes "base")).Form parts → frame_parts (frame_of parts) ≡ parts
 frame_back digits None form = refl
@@ -160,24 +175,24 @@ pub frame_is_exact : (digits : ℕ) → IsExact (frame_field digits)
 frame_is_exact digits =
     restated_is_exact (told_by (or_mark (irq_field digits) (codes "base")) frame_of frame_parts) (IsFrameText digits)
     (told_by_is_exact (or_mark (irq_field digits) (codes "base")) frame_of frame_parts
-        (or_mark_is_exact (irq_field digits) (codes "base") (λ parts form. irq_isnt_base digits parts) (irq_is_exact digits)) (frame_back digits))
+    (or_mark_is_exact (irq_field digits) (codes "base") (λ parts form. irq_isnt_base digits parts) (irq_is_exact digits)) (frame_back digits))
     (frame_narrow digits) (frame_wide digits)
 
 pub frame_avoids_space : (digits : ℕ) → Avoids (frame_field digits) 32
 frame_avoids_space digits =
     restated_avoids (told_by (or_mark (irq_field digits) (codes "base")) frame_of frame_parts) (IsFrameText digits) 32 (frame_narrow digits)
     (told_by_avoids (or_mark (irq_field digits) (codes "base")) frame_of frame_parts 32
-        (or_mark_avoids (irq_field digits) (codes "base") 32 refl
-            (named_avoids (beside 64 decimal_field (entry_field digits)) (codes "irq") 32 refl
-                (beside_avoids 64 32 decimal_field (entry_field digits) refl (decimal_avoids 32 refl)
-                    (beside_avoids 46 32 (sp_field digits) level_field refl (sp_avoids digits 32 refl refl) (passing_avoids decimal_field (λ level. nat_lt level 10) 32 (decimal_avoids 32 refl)))))))
+    (or_mark_avoids (irq_field digits) (codes "base") 32 refl
+    (named_avoids (beside 64 decimal_field (entry_field digits)) (codes "irq") 32 refl
+    (beside_avoids 64 32 decimal_field (entry_field digits) refl (decimal_avoids 32 refl)
+    (beside_avoids 46 32 (sp_field digits) level_field refl (sp_avoids digits 32 refl refl) (passing_avoids decimal_field (λ level. nat_lt level 10) 32 (decimal_avoids 32 refl)))))))
 
 calls_is_exact : IsExact calls_field
 calls_is_exact =
     passing_is_exact (listed_or_mark (hex_number 4) 44 []) (λ sites. nat_le (length sites) 8)
     (listed_or_mark_is_exact (hex_number 4) 44 [] (λ sites form. other_bytes ((listed (hex_number 4) 44).text sites) []
-            (λ e. absurd (omega (arith, ap length e, listed_longer (hex_number 4) 44 4 (λ site small. omega (arith, hex_length 4 site)) sites form))))
-        (hex_number_is_exact 4) (number_avoids 4 44 refl))
+    (λ e. absurd (omega (arith, ap length e, listed_longer (hex_number 4) 44 4 (λ site small. omega (arith, hex_length 4 site)) sites form))))
+    (hex_number_is_exact 4) (number_avoids 4 44 refl))
 
 calls_avoid : (at : ℕ) → is_digit at ≡ false → (44 == at) ≡ false → Avoids calls_field at
 calls_avoid at no_digit no_comma = passing_avoids (listed_or_mark (hex_number 4) 44 []) (λ sites. nat_le (length sites) 8) at (listed_or_mark_avoids (hex_number 4) 44 [] at no_comma refl (number_avoids 4 at no_digit))
@@ -214,22 +229,61 @@ pub node_is_exact : (digits : ℕ) → IsExact (node_field digits)
 node_is_exact digits =
     restated_is_exact (told_by (either_front (codes "N ") (location_field digits) (codes "X ") (exit_field digits)) node_of node_parts) (IsNodeText digits)
     (told_by_is_exact (either_front (codes "N ") (location_field digits) (codes "X ") (exit_field digits)) node_of node_parts
-        (either_front_is_exact (codes "N ") (location_field digits) (codes "X ") (exit_field digits) (location_is_exact digits) (exit_is_exact digits) refl) (λ parts form. node_back digits parts))
+    (either_front_is_exact (codes "N ") (location_field digits) (codes "X ") (exit_field digits) (location_is_exact digits) (exit_is_exact digits) refl) (λ parts form. node_back digits parts))
     (node_narrow digits) (node_wide digits)
 
 row_back : {A : Type 0} (digits : ℕ) (state : Node → Spelling A) (parts : RowParts A) → row_parts (row_of parts) ≡ parts
 row_back digits state (inl parts) = refl
 row_back digits state (inr parts) = refl
 
+row_narrow : {A : Type 0} (digits : ℕ) (state : Node → Spelling A) (node : Node) (a : A) → HasRowForm digits state (node, a) → (told_by (parts_field digits state) row_of row_parts).Form (node, a)
+row_narrow digits state (At pc calls frame) a form = (((form.0.0, ((form.0.1, le-leb (length calls) 8 form.0.2), form.0.3)), form.1), refl)
+row_narrow digits state (Exit pc frame) a form = (((form.0.0, form.0.1), form.1), refl)
+
+row_wide : {A : Type 0} (digits : ℕ) (state : Node → Spelling A) (node : Node) (a : A) → (told_by (parts_field digits state) row_of row_parts).Form (node, a) → HasRowForm digits state (node, a)
+row_wide digits state (At pc calls frame) a form = ((form.0.0.0, form.0.0.1.0.0, leb-true (length calls) 8 form.0.0.1.0.1, form.0.0.1.1), form.0.1)
+row_wide digits state (Exit pc frame) a form = ((form.0.0.0, form.0.0.1), form.0.1)
+
 pub row_is_exact : {A : Type 0} (digits : ℕ) (state : Node → Spelling A) → ((node : Node) → IsExact (state node)) → IsExact (row_field digits state)
 row_is_exact digits state h =
-    told_by_is_exact (parts_field digits state) row_of row_parts
+    restated_is_exact (told_by (parts_field digits state) row_of row_parts) (HasRowForm digits state)
+    (told_by_is_exact (parts_field digits state) row_of row_parts
     (either_front_is_exact
-        (codes "N ") (beside_by 32 (location_field digits) (λ parts. state (node_of (inl parts))))
-        (codes "X ") (beside_by 32 (exit_field digits) (λ parts. state (node_of (inr parts))))
-        (beside_by_is_exact 32 (location_field digits) (λ parts. state (node_of (inl parts))) (location_is_exact digits) (λ parts form. h (node_of (inl parts))) (location_avoids_space digits))
-        (beside_by_is_exact 32 (exit_field digits) (λ parts. state (node_of (inr parts))) (exit_is_exact digits) (λ parts form. h (node_of (inr parts))) (exit_avoids_space digits)) refl)
-    (λ parts form. row_back digits state parts)
+    (codes "N ") (beside_by 32 (location_field digits) (λ parts. state (node_of (inl parts))))
+    (codes "X ") (beside_by 32 (exit_field digits) (λ parts. state (node_of (inr parts))))
+    (beside_by_is_exact 32 (location_field digits) (λ parts. state (node_of (inl parts))) (location_is_exact digits) (λ parts form. h (node_of (inl parts))) (location_avoids_space digits))
+    (beside_by_is_exact 32 (exit_field digits) (λ parts. state (node_of (inr parts))) (exit_is_exact digits) (λ parts form. h (node_of (inr parts))) (exit_avoids_space digits)) refl)
+    (λ parts form. row_back digits state parts))
+    (λ row form. row_narrow digits state row.0 row.1 form) (λ row form. row_wide digits state row.0 row.1 form)
+
+-- a row is read by its node first
+state_read : {P A : Type 0} (to : P → Node) (into : P × A → RowParts A) → ((p : P) (a : A) → row_of (into (p, a)) ≡ (to p, a)) → (p : P) (a : Option A)
+    → option_map row_of (option_map into (option_map (λ x. (p, x)) a)) ≡ option_map (λ x. (to p, x)) a
+state_read to into same p None = refl
+state_read to into same p (Some a) = ap Some (same p a)
+
+place_read : {P A : Type 0} (state : Node → Spelling A) (to : P → Node) (into : P × A → RowParts A) → ((p : P) (a : A) → row_of (into (p, a)) ≡ (to p, a)) → (text : List ℕ) (place : Option P)
+    → option_map row_of (option_map into (option_and_then (λ p. option_map (λ a. (p, a)) ((state (to p)).value text)) place))
+    ≡ option_and_then (λ (split : Node × List ℕ). option_map (λ a. (split.0, a)) ((state split.0).value split.1)) (option_map (λ node. (node, text)) (option_map to place))
+place_read state to into same text None = refl
+place_read state to into same text (Some p) = state_read to into same p ((state (to p)).value text)
+
+cut_read : {P A : Type 0} (state : Node → Spelling A) (value : List ℕ → Option P) (to : P → Node) (into : P × A → RowParts A) → ((p : P) (a : A) → row_of (into (p, a)) ≡ (to p, a)) → (cut : Option (List ℕ × List ℕ))
+    → option_map row_of (option_map into (option_and_then (λ (parts : List ℕ × List ℕ). option_and_then (λ p. option_map (λ a. (p, a)) ((state (to p)).value parts.1)) (value parts.0)) cut))
+    ≡ option_and_then (λ (split : Node × List ℕ). option_map (λ a. (split.0, a)) ((state split.0).value split.1)) (option_and_then (λ (parts : List ℕ × List ℕ). option_map (λ node. (node, parts.1)) (option_map to (value parts.0))) cut)
+cut_read state value to into same None = refl
+cut_read state value to into same (Some parts) = place_read state to into same parts.1 (value parts.0)
+
+sides_read : {A : Type 0} (digits : ℕ) (state : Node → Spelling A) (first other : Option (List ℕ))
+    → option_map row_of (front_value (beside_by 32 (location_field digits) (λ parts. state (node_of (inl parts)))).value (beside_by 32 (exit_field digits) (λ parts. state (node_of (inr parts)))).value first other)
+    ≡ option_and_then (λ (split : Node × List ℕ). option_map (λ a. (split.0, a)) ((state split.0).value split.1)) (split_behind digits first other)
+sides_read digits state (Some rest) other = cut_read state (location_field digits).value (λ parts. node_of (inl parts)) inl (λ p a. refl) (cut_at 32 rest)
+sides_read digits state None None = refl
+sides_read digits state None (Some rest) = cut_read state (exit_field digits).value (λ parts. node_of (inr parts)) inr (λ p a. refl) (cut_at 32 rest)
+
+pub row_value : {A : Type 0} (digits : ℕ) (state : Node → Spelling A) (line : List ℕ)
+    → (row_field digits state).value line ≡ option_and_then (λ (split : Node × List ℕ). option_map (λ a. (split.0, a)) ((state split.0).value split.1)) (split_row digits line)
+row_value digits state line = sides_read digits state (behind (codes "N ") line) (behind (codes "X ") line)
 
 row_text_of : {A : Type 0} (digits : ℕ) (state : Node → Spelling A) (node : Node) (a : A) → (row_field digits state).text (node, a) ≡ (node_field digits).text node ++ 32 ∷ (state node).text a
 row_text_of digits state (At pc calls frame) a = refl

@@ -5,7 +5,7 @@
 mod reading;
 mod writing;
 
-pub use reading::{read_exit, read_location};
+pub use reading::{read_exit, read_location, split_row};
 pub use writing::push_node;
 
 #[cfg(test)]

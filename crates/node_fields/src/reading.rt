@@ -1,6 +1,6 @@
 //! Frames, locations and exits that texts spell.
 
-ghost use Rattle.std.specs.Prelude.{◌≡◌, ◌≤◌, ◌<◌, IfSome};
+ghost use Rattle.std.specs.Prelude.{◌≡◌, ◌≤◌, option_map};
 ghost use Rattle.node_fields.specs.Decimals as decimals;
 ghost use Rattle.node_fields.specs.Nodes as fields;
 
@@ -16,11 +16,8 @@ fn read_decimal(text: &[u8]) -> Option<u8>
 {
     match text {
         [digit] if b'0' <= *digit && *digit <= b'9' => Some(*digit - b'0'),
-        [first, second]
-            if b'0' < *first && *first <= b'9' && b'0' <= *second && *second <= b'9' =>
-        {
-            Some((*first - b'0') * 10 + (*second - b'0'))
-        }
+        [first, second] if b'0' < *first && *first <= b'9' && b'0' <= *second && *second <= b'9' =>
+            { Some((*first - b'0') * 10 + (*second - b'0')) }
         _ => None,
     }
 }
@@ -143,4 +140,39 @@ pub fn read_exit(text: &[u8], digits: u8) -> Option<Node>
 {
     let (pc, frame) = cut(text, b':')?;
     Some(Node::Exit(number(pc, 4)?, read_frame(frame, digits)?))
+}
+
+/// The node in front of the first space of a text, and the text behind it.
+fn split_location(row: &[u8], digits: u8) -> Option<(Node, &[u8])>
+    requires { digits ≤ 4 }
+    ensures { option_map (λ x. (x.0, x.1.now)) result ≡ fields.split_in (fields.location_in digits) row.now }
+{
+    let (node, text) = cut(row, b' ')?;
+    let Some(node) = read_location(node, digits) else {
+        return None;
+    };
+    Some((node, text))
+}
+
+/// The same of an exit.
+fn split_exit(row: &[u8], digits: u8) -> Option<(Node, &[u8])>
+    requires { digits ≤ 4 }
+    ensures { option_map (λ x. (x.0, x.1.now)) result ≡ fields.split_in (fields.exit_in digits) row.now }
+{
+    let (node, text) = cut(row, b' ')?;
+    let Some(node) = read_exit(node, digits) else {
+        return None;
+    };
+    Some((node, text))
+}
+
+/// The node of a row, and the text behind it and its space. A stack pointer has at most four digits.
+pub fn split_row(row: &[u8], digits: u8) -> Option<(Node, &[u8])>
+    requires { digits ≤ 4 }
+    ensures { option_map (λ x. (x.0, x.1.now)) result ≡ fields.split_row digits row.now }
+{
+    match behind(b"N ".as_slice(), row) {
+        Some(rest) => split_location(rest, digits),
+        None => split_exit(behind(b"X ".as_slice(), row)?, digits),
+    }
 }

@@ -7,7 +7,7 @@ use Rattle.node_fields.proofs.reading.read_sites.Goals as goal
 pub returns-in_default-number : goal.returns-in_default-number
 returns-in_default-number c =
     no_sites c.args.text.now (c.loop-first.invariant.0
-        ∙ list_bad (hex_number 4) 44 c.loop-first.sites c.loop-first.rest.now c.in-Some.first.now c.in-Some.behind.now c.in-Some.ensures.parts c.in_default-number.ensures.value)
+    ∙ list_bad (hex_number 4) 44 c.loop-first.sites c.loop-first.rest.now c.in-Some.first.now c.in-Some.behind.now c.in-Some.ensures.parts c.in_default-number.ensures.value)
 
 pub returns-then-len-eq-MOST_SITES : goal.returns-then-len-eq-MOST_SITES
 returns-then-len-eq-MOST_SITES c =
@@ -16,8 +16,7 @@ returns-then-len-eq-MOST_SITES c =
 pub loop-first-preserved : goal.loop-first-preserved
 loop-first-preserved c =
     let longer : length c.push.new.self ≡ length c.loop-first.sites + 1 =
-    ap length c.push.ensures ∙ omega (arith, length-append c.loop-first.sites (c.in-Some-number.site ∷ [])) in
-    (
+    ap length c.push.ensures ∙ omega (arith, length-append c.loop-first.sites (c.in-Some-number.site ∷ [])) in (
       c.loop-first.invariant.0
           ∙ list_more (hex_number 4) 44 c.loop-first.sites c.push.new.self c.loop-first.rest.now c.in-Some.first.now c.in-Some.behind.now c.in-Some-number.site
           c.in-Some.ensures.parts c.in-Some-number.ensures.value c.push.ensures,
@@ -27,7 +26,7 @@ loop-first-preserved c =
 pub returns-in_default-number-2 : goal.returns-in_default-number-2
 returns-in_default-number-2 c =
     no_sites c.args.text.now (c.loop-first.invariant.0
-        ∙ list_last_bad (hex_number 4) 44 c.loop-first.sites c.loop-first.rest.now c.in_default.ensures.parts c.in_default-number-2.ensures.value)
+    ∙ list_last_bad (hex_number 4) 44 c.loop-first.sites c.loop-first.rest.now c.in_default.ensures.parts c.in_default-number-2.ensures.value)
 
 pub returns-then-len-eq-MOST_SITES-2 : goal.returns-then-len-eq-MOST_SITES-2
 returns-then-len-eq-MOST_SITES-2 c =
@@ -38,4 +37,4 @@ returns c =
     all_sites c.loop-first.sites c.push-2.new.self c.args.text.now c.in-Some-number-2.site c.loop-first.invariant.1
     (λ full. absurd (omega (arith, full, c.if-len-eq-MOST_SITES-2.false, c.len-2.ensures.length))) c.push-2.ensures
     (c.loop-first.invariant.0
-        ∙ list_last (hex_number 4) 44 c.loop-first.sites c.push-2.new.self c.loop-first.rest.now c.in-Some-number-2.site c.in_default.ensures.parts c.in-Some-number-2.ensures.value c.push-2.ensures)
+    ∙ list_last (hex_number 4) 44 c.loop-first.sites c.push-2.new.self c.loop-first.rest.now c.in-Some-number-2.site c.in_default.ensures.parts c.in-Some-number-2.ensures.value c.push-2.ensures)
