@@ -8,16 +8,12 @@ use Rattle.std.specs.Cmp.Lexicographic.{slice_cmp}
 use Rattle.std.specs.Ordering.{nat_cmp}
 use Rattle.std.proofs.lemmas.Bool.{cases_Bool, cond-true, cond-false, false≢true}
 use Rattle.call_context.specs.declared.node.Node.{Node}
-use Rattle.state_parts.specs.Front.{or_else}
 use Rattle.cert_text.specs.declared.fault.LineFault.{LineFault}
 use Rattle.cert_text.specs.declared.fault.LineFault.TheVariants.{Syntax, Order}
-use Rattle.cert_text.specs.Nodes.{node_text}
-use Rattle.cert_text.specs.Premises.{Premises}
-use Rattle.cert_text.specs.Certificate.{StateTexts, AreTexts, first_line, last_line, line_of, last_node, Begins, Completes, IsFaultyBehind, IsFaulty, FaultAt, EndsBadly, FirstBadLine}
-use Rattle.cert_text.specs.Reading.{is_less, entry_of, Progress, at_first, with_entry, entry_step, line_step, with_progress, lines_read, is_empty, finish, table_of}
-use Rattle.cert_text.proofs.Fronts.{cases_Option}
+use Rattle.cert_text.specs.Certificate.{StateTexts, AreTexts, node_text, first_line, last_line, line_of, last_node, Begins, Completes, IsFaultyBehind, IsFaulty, FaultAt, EndsBadly, FirstBadLine}
+use Rattle.cert_text.specs.Reading.{is_less, or_else, entry_of, Progress, at_first, with_entry, entry_step, line_step, with_progress, lines_read, is_empty, finish, table_of}
 use Rattle.cert_text.proofs.CertLemmas.{begins_read, bytes_are, completes_read, entry_again, entry_takes, less_is, no_node_ends, step_entry}
-use Rattle.cert_text.proofs.TextLemmas.{reads_on}
+use Rattle.cert_text.proofs.TextLemmas.{cases_Option, reads_on}
 
 bytes_differ : (xs ys : List ℕ) → (xs ≡ ys → ⊥) → bytes_eq xs ys ≡ false
 bytes_differ xs ys other = elim (cases_Bool (bytes_eq xs ys)) [
@@ -32,23 +28,23 @@ isnt_less o other = elim (cases_Bool (is_less o)) [
 ]
 
 -- a line that is no node's, and one that is out of order
-behind_read : {A : Type 0} (texts : StateTexts A) (table : List (Node × A)) (line : List ℕ) (fault : LineFault) → Premises → AreTexts texts → IsFaultyBehind texts table line fault
+behind_read : {A : Type 0} (texts : StateTexts A) (table : List (Node × A)) (line : List ℕ) (fault : LineFault) → AreTexts texts → IsFaultyBehind texts table line fault
     → line_step texts (record { begun = true; ended = false; table = table; last = last_node texts [] table }) line ≡ Err fault
-behind_read texts table line Syntax premises are faulty =
+behind_read texts table line Syntax are faulty =
     let p : Progress _ = record { begun = true; ended = false; table = table; last = last_node texts [] table } in
     let none : entry_of texts line ≡ None = elim (cases_Option (entry_of texts line)) [
       | inl is ↦ is
       | inr found ↦
-          let is = entry_takes texts line found.0 premises are found.1 in
+          let is = entry_takes texts line found.0 are found.1 in
           absurd (faulty.1 found.0.0 found.0.1 is.1 is.0)
     ] in
     step_entry texts p line refl refl (bytes_differ line last_line faulty.0) ∙ ap (or_else (Err Syntax) (with_entry texts p)) none
-behind_read {A} texts table line Order premises are faulty =
+behind_read {A} texts table line Order are faulty =
     let p : Progress _ = record { begun = true; ended = false; table = table; last = last_node texts [] table } in
     let entry : Node × A = (faulty.node, faulty.state) in
     let key = node_text texts.digits faulty.node in
     let other : bytes_eq line last_line ≡ false = ap (λ l. bytes_eq l last_line) faulty.line_is ∙ no_node_ends texts entry in
-    let read : entry_of texts line ≡ Some entry = ap (entry_of texts) faulty.line_is ∙ entry_again texts entry premises are faulty.form in
+    let read : entry_of texts line ≡ Some entry = ap (entry_of texts) faulty.line_is ∙ entry_again texts entry are faulty.form in
     step_entry texts p line refl refl other ∙ ap (or_else (Err Syntax) (with_entry texts p)) read
     ∙ cond-false (is_less (slice_cmp nat_cmp (last_node texts [] table) key)) _ _ (isnt_less (slice_cmp nat_cmp (last_node texts [] table) key) faulty.low)
 
@@ -69,21 +65,21 @@ pub record StopsAt {A : Type 0} (texts : StateTexts A) (before : List (List ℕ)
   pub reads : lines_read texts 0 at_first before ≡ Ok progress
   pub stops : line_step texts progress line ≡ Err fault
 
-faulty_stops : {A : Type 0} (texts : StateTexts A) (before : List (List ℕ)) (line : List ℕ) (fault : LineFault) → Premises → AreTexts texts → IsFaulty texts before line fault
+faulty_stops : {A : Type 0} (texts : StateTexts A) (before : List (List ℕ)) (line : List ℕ) (fault : LineFault) → AreTexts texts → IsFaulty texts before line fault
     → StopsAt texts before line fault
-faulty_stops texts before line fault premises are (inl first) = record {
+faulty_stops texts before line fault are (inl first) = record {
   progress = at_first;
   reads = ap (lines_read texts 0 at_first) first.0 ∙ nothing_read texts;
   stops = first_read texts line first.1 ∙ ap (λ f. Err f) (sym first.2);
 }
-faulty_stops texts before line fault premises are (inr (inl nodes)) = record {
+faulty_stops texts before line fault are (inr (inl nodes)) = record {
   progress = record { begun = true; ended = false; table = nodes.0; last = last_node texts [] nodes.0 };
-  reads = begins_read texts before nodes.0 premises are nodes.1;
-  stops = behind_read texts nodes.0 line fault premises are nodes.2;
+  reads = begins_read texts before nodes.0 are nodes.1;
+  stops = behind_read texts nodes.0 line fault are nodes.2;
 }
-faulty_stops texts before line fault premises are (inr (inr all)) = record {
+faulty_stops texts before line fault are (inr (inr all)) = record {
   progress = record { begun = true; ended = true; table = all.0; last = last_node texts [] all.0 };
-  reads = completes_read texts before all.0 premises are all.1;
+  reads = completes_read texts before all.0 are all.1;
   stops = ended_read texts (record { begun = true; ended = true; table = all.0; last = last_node texts [] all.0 }) line refl ∙ ap (λ f. Err f) (sym all.2);
 }
 
@@ -92,10 +88,10 @@ stops_there : {A : Type 0} (texts : StateTexts A) (count : ℕ) (p : Progress A)
 unfolding lines_read
 stops_there texts count p line behind fault stops = ap (with_progress (λ next. lines_read texts (suc count) next behind) (suc count)) stops
 
-pub fault_read : {A : Type 0} (texts : StateTexts A) (lines : List (List ℕ)) (count : ℕ) (fault : LineFault) → Premises → AreTexts texts → FaultAt texts lines count fault
+pub fault_read : {A : Type 0} (texts : StateTexts A) (lines : List (List ℕ)) (count : ℕ) (fault : LineFault) → AreTexts texts → FaultAt texts lines count fault
     → lines_read texts 0 at_first lines ≡ Err (count + 1, fault)
-fault_read texts lines count fault premises are at =
-    let stop = faulty_stops texts at.before at.line fault premises are at.faulty in
+fault_read texts lines count fault are at =
+    let stop = faulty_stops texts at.before at.line fault are at.faulty in
     let number : suc (0 + length at.before) ≡ count + 1 = omega (arith, at.count_is) in
     ap (lines_read texts 0 at_first) at.lines_are ∙ reads_on texts 0 at_first stop.progress at.before (at.line ∷ at.behind) stop.reads
     ∙ stops_there texts (0 + length at.before) stop.progress at.line at.behind fault stop.stops ∙ ap (λ k. Err (k, fault)) number
@@ -109,18 +105,18 @@ some_rest : (rest : List ℕ) → (rest ≡ [] → ⊥) → is_empty rest ≡ fa
 some_rest [] other = absurd (other refl)
 some_rest (b ∷ rest) other = refl
 
-ends_read : {A : Type 0} (texts : StateTexts A) (lines : List (List ℕ)) (rest : List ℕ) → Premises → AreTexts texts
+ends_read : {A : Type 0} (texts : StateTexts A) (lines : List (List ℕ)) (rest : List ℕ) → AreTexts texts
     → ((lines ≡ []) ⊎ (((table : List (Node × A)) × Begins texts lines table) ⊎ ((table : List (Node × A)) × Completes texts lines table × (rest ≡ [] → ⊥))))
     → table_of texts lines rest ≡ Err (length lines + 1, Syntax)
-ends_read texts lines rest premises are (inl none) = end_read texts lines rest at_first (ap (lines_read texts 0 at_first) none ∙ nothing_read texts) refl
-ends_read texts lines rest premises are (inr (inl nodes)) =
-    end_read texts lines rest (record { begun = true; ended = false; table = nodes.0; last = last_node texts [] nodes.0 }) (begins_read texts lines nodes.0 premises are nodes.1) refl
-ends_read texts lines rest premises are (inr (inr all)) =
-    end_read texts lines rest (record { begun = true; ended = true; table = all.0; last = last_node texts [] all.0 }) (completes_read texts lines all.0 premises are all.1) (some_rest rest all.2)
+ends_read texts lines rest are (inl none) = end_read texts lines rest at_first (ap (lines_read texts 0 at_first) none ∙ nothing_read texts) refl
+ends_read texts lines rest are (inr (inl nodes)) =
+    end_read texts lines rest (record { begun = true; ended = false; table = nodes.0; last = last_node texts [] nodes.0 }) (begins_read texts lines nodes.0 are nodes.1) refl
+ends_read texts lines rest are (inr (inr all)) =
+    end_read texts lines rest (record { begun = true; ended = true; table = all.0; last = last_node texts [] all.0 }) (completes_read texts lines all.0 are all.1) (some_rest rest all.2)
 
-pub bad_read : {A : Type 0} (texts : StateTexts A) (lines : List (List ℕ)) (rest : List ℕ) (number : ℕ) (fault : LineFault) → Premises → AreTexts texts
+pub bad_read : {A : Type 0} (texts : StateTexts A) (lines : List (List ℕ)) (rest : List ℕ) (number : ℕ) (fault : LineFault) → AreTexts texts
     → FirstBadLine texts lines rest number fault → table_of texts lines rest ≡ Err (number, fault)
-bad_read texts lines rest number fault premises are (inl at) =
-    ap (finish rest (length lines + 1)) (fault_read texts lines at.0 fault premises are at.1) ∙ ap (λ k. Err (k, fault)) (sym at.2)
-bad_read texts lines rest number fault premises are (inr ends) =
-    ends_read texts lines rest premises are ends.0.so_far ∙ ap₂ (λ k f. Err (k, f)) (sym ends.2) (sym ends.1)
+bad_read texts lines rest number fault are (inl at) =
+    ap (finish rest (length lines + 1)) (fault_read texts lines at.0 fault are at.1) ∙ ap (λ k. Err (k, fault)) (sym at.2)
+bad_read texts lines rest number fault are (inr ends) =
+    ends_read texts lines rest are ends.0.so_far ∙ ap₂ (λ k f. Err (k, f)) (sym ends.2) (sym ends.1)

@@ -1,5 +1,5 @@
 -- A text by its whole lines and the line that has begun, and one that goes on.
-use Rattle.std.proofs.Common.{◌≡◌, ℕ, suc, take, drop, get_or, subst, ◌+◌, ◌<◌, ◌≤◌, refl, sym, ap, ◌∙◌, arith, append_assoc, length-append, true, false, ◌⊎◌, inl, inr, List, [], ◌∷◌, ◌++◌, length, map, Ok, Err, Result}
+use Rattle.std.proofs.Common.{◌≡◌, ℕ, suc, take, drop, get_or, subst, ◌+◌, ◌<◌, ◌≤◌, refl, sym, ap, ◌∙◌, arith, append_assoc, length-append, true, false, ◌⊎◌, inl, inr, Option, None, Some, List, [], ◌∷◌, ◌++◌, length, map, Ok, Err, Result}
 use Rattle.std.specs.Prelude.{◌==◌}
 use Rattle.std.proofs.lemmas.Bool.{cases_Bool}
 use Rattle.std.proofs.lemmas.Bool.Decides.{nat_tests}
@@ -66,6 +66,11 @@ same_Ok same = grind arith
 
 pub same_Err : {A B : Type 0} {x y : B} → ◌≡◌ {A = Result A B} (Err x) (Err y) → x ≡ y
 same_Err same = grind arith
+
+-- an option has a value or none
+pub cases_Option : {A : Type 0} (o : Option A) → (o ≡ None) ⊎ ((x : A) × (o ≡ Some x))
+cases_Option None = inl refl
+cases_Option (Some x) = inr (x, refl)
 
 pub cases_Result : {A B : Type 0} (r : Result A B) → ((x : A) × (r ≡ Ok x)) ⊎ ((e : B) × (r ≡ Err e))
 cases_Result (Ok x) = inl (x, refl)

@@ -7,10 +7,10 @@ use Rattle.std.specs.Ordering.{nat_cmp}
 use Rattle.std.specs.BTreeSet.{insert_key}
 use Rattle.std.specs.List.{All, flat_map}
 use Rattle.call_context.specs.declared.node.Node.{Node}
-use Rattle.state_parts.specs.Numbers.{IsWidth}
+use Rattle.text_fields.specs.Numbers.{IsWidth}
+use Rattle.node_fields.specs.Nodes.{node_field, IsNodeText}
 use Rattle.cert_text.specs.declared.fault.LineFault.{LineFault}
 use Rattle.cert_text.specs.declared.fault.LineFault.TheVariants.{Syntax, Order}
-use Rattle.cert_text.specs.Nodes.{node_text, HasNodeForm}
 
 -- how a chip writes the states of its nodes, and with how many digits a stack pointer
 pub record StateTexts (A : Type 0) : Type 1 where
@@ -24,7 +24,11 @@ pub record AreTexts {A : Type 0} (texts : StateTexts A) : Type 0 where
   pub width : IsWidth texts.digits
   pub takes : (node : Node) (text : List ℕ) (state : A) → texts.state_of node text ≡ Some state → (text ≡ texts.text_of state) × texts.HasForm node state
   pub again : (node : Node) (state : A) → texts.HasForm node state → texts.state_of node (texts.text_of state) ≡ Some state
-  pub nodes : (node : Node) (state : A) → texts.HasForm node state → HasNodeForm texts.digits node
+  pub nodes : (node : Node) (state : A) → texts.HasForm node state → IsNodeText texts.digits node
+
+-- a node as its line begins, behind its letter
+abbrev pub node_text : (digits : ℕ) → Node → List ℕ
+node_text digits = (node_field digits).text
 
 abbrev pub first_line : List ℕ
 first_line = codes "CERT 1"

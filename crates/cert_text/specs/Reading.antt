@@ -1,28 +1,32 @@
 -- Reading certificates line by line, and a reader of one in pieces.
-use Rattle.std.specs.Prelude.{◌≡◌, ◌≤◌, ℕ, suc, ◌+◌, ◌&&◌, ◌==◌, if◌then◌else◌, Bool, true, false, Option, None, Some, Result, Ok, Err, List, [], ◌∷◌, ◌++◌, length}
+use Rattle.std.specs.Prelude.{◌≡◌, ◌≤◌, ℕ, suc, ◌+◌, ◌&&◌, ◌==◌, if◌then◌else◌, Bool, true, false, Option, None, Some, option_map, option_and_then, Result, Ok, Err, List, [], ◌∷◌, ◌++◌, length}
 use Rattle.std.specs.declared.cmp.Ordering.{Ordering}
 use Rattle.std.specs.declared.cmp.Ordering.TheVariants.{Less, Equal, Greater}
 use Rattle.std.specs.Cmp.Lexicographic.{slice_cmp}
 use Rattle.std.specs.Ordering.{nat_cmp}
 use Rattle.std.specs.Str.{bytes_eq}
 use Rattle.call_context.specs.declared.node.Node.{Node}
-use Rattle.state_parts.specs.Front.{◌>>=◌, or_else, expect}
+use Rattle.node_fields.specs.Nodes.{split_row}
 use Rattle.cert_text.specs.declared.fault.LineFault.{LineFault}
 use Rattle.cert_text.specs.declared.fault.LineFault.TheVariants.{Syntax, Order}
 use Rattle.cert_text.specs.declared.fault.ReadError.{ReadError}
 use Rattle.cert_text.specs.declared.fault.ReadError.TheVariants as errors
-use Rattle.cert_text.specs.Nodes.{node_text, node_front}
-use Rattle.cert_text.specs.Certificate.{StateTexts, first_line, last_line}
+use Rattle.cert_text.specs.Certificate.{StateTexts, node_text, first_line, last_line}
 
 abbrev pub is_less : Ordering → Bool
 is_less Less = true
 is_less Equal = false
 is_less Greater = false
 
+-- what follows from a value, or what stands in for none
+abbrev pub or_else : {A B : Type 0} → B → (A → B) → Option A → B
+or_else otherwise f None = otherwise
+or_else otherwise f (Some x) = f x
+
 -- the node and the state of a line
 unfoldable pub entry_of : {A : Type 0} → StateTexts A → List ℕ → Option (Node × A)
 entry_of texts line =
-    node_front texts.digits line >>= λ node. expect 32 node.1 >>= λ text. texts.state_of node.0 text >>= λ state. Some (node.0, state)
+    option_and_then (λ split. option_map (λ state. (split.0, state)) (texts.state_of split.0 split.1)) (split_row texts.digits line)
 
 -- what lines have given: whether the first and the last one were read, the nodes, and the last of them as it is written
 pub record Progress (A : Type 0) : Type 0 where

@@ -4,14 +4,12 @@
 mod fault;
 mod laws;
 mod line;
-mod node;
-mod node_text;
 mod reader;
 mod state_text;
 mod writer;
 
 pub use fault::{LineFault, ReadError};
-pub use laws::{certificates_are_read, nodes_are_read_again};
+pub use laws::certificates_are_read;
 pub use reader::{MOST_BYTES, Reader};
 pub use state_text::StateText;
 pub use writer::certificate_of;

@@ -3,16 +3,14 @@
 ghost use Rattle.std.specs.Prelude.{◌≡◌, ◌++◌, Ok, IfOk, IfErr, IfSome, OnOk, OnErr};
 ghost use Rattle.std.specs.Cmp.Lexicographic.{slice_cmp};
 ghost use Rattle.std.specs.Ordering.{nat_cmp};
-ghost use Rattle.cert_text.specs.Nodes.{HasNodeForm};
+ghost use Rattle.node_fields.specs.Nodes.{IsNodeText};
 ghost use Rattle.cert_text.specs.Reading as entries;
 ghost use Rattle.cert_text.specs.Reading.{TellsLine, line_step};
 
 use crate::fault::{LineFault, ReadError};
-use crate::node::node_front;
-use crate::node_text::push_node;
 use crate::state_text::StateText;
 use call_context::Node;
-use state_parts::expect;
+use node_fields::{push_node, split_row};
 use std::alloc::Global;
 use std::cmp::Ordering;
 use std::marker::Model;
@@ -54,13 +52,10 @@ fn entry_of<C: StateText>(
     line: &[u8],
 ) -> Result<Option<(Node, C::Abs)>, Memory>
     ensures value { IfOk result (λ found. found ≡ entries.entry_of (C.texts chip.now) line.now) }
-    ensures form { IfOk result (λ found. IfSome found (λ entry. HasNodeForm (C.texts chip.now).digits entry.0)) }
+    ensures form { IfOk result (λ found. IfSome found (λ entry. IsNodeText (C.texts chip.now).digits entry.0)) }
 {
     chip.laws();
-    let Some((node, rest)) = node_front(line, chip.digits()) else {
-        return Ok(None);
-    };
-    let Some(text) = expect(rest, b' ') else {
+    let Some((node, text)) = split_row(line, chip.digits()) else {
         return Ok(None);
     };
     match chip.state_of(alloc, &node, text)? {

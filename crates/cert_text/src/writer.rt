@@ -9,9 +9,9 @@ ghost use Rattle.cert_text.specs.Certificate as certificates;
 ghost use Rattle.cert_text.specs.Certificate.{AreNodes, HasEntryForm, with_lines};
 ghost use Rattle.cert_text.specs.Writing.{bytes_of};
 
-use crate::node_text::push_node;
 use crate::state_text::StateText;
 use call_context::Node;
+use node_fields::push_node;
 use std::alloc::{AllocError, Global};
 use std::collections::BTreeSet;
 use vsa_io::Memory;

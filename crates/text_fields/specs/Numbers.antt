@@ -1,5 +1,5 @@
 -- Numbers as upper-case hexadecimal digits: of a fixed length, or without leading zeros.
-use Rattle.std.specs.Prelude.{◌≡◌, ℕ, zero, suc, ◌+◌, ◌-◌, ◌*◌, ◌/◌, ◌%◌, ◌^◌, ◌<◌, ◌≤◌, ◌==◌, ◌&&◌, ◌||◌, nat_lt, nat_le, not, if◌then◌else◌, Bool, true, false, Option, None, Some, option_map, option_and_then, List, [], ◌∷◌, ◌++◌, length}
+use Rattle.std.specs.Prelude.{◌≡◌, ◌⊎◌, ℕ, zero, suc, ◌+◌, ◌-◌, ◌*◌, ◌/◌, ◌%◌, ◌^◌, ◌<◌, ◌≤◌, ◌==◌, ◌&&◌, ◌||◌, nat_lt, nat_le, not, if◌then◌else◌, Bool, true, false, Option, None, Some, option_map, option_and_then, List, [], ◌∷◌, ◌++◌, length}
 use Rattle.std.proofs.Common.{refl, zero-add, sym, ap, ap₂, ◌∙◌, inl, inr, arith, length-append}
 use Rattle.std.proofs.Math.Nat.{pow-suc}
 use Rattle.std.proofs.lemmas.Bool.{cases_Bool, cases_lt, false≢true, le-leb, leb-true, cond-true, cond-false, ltb-false, lt-ltb, le-ltb, eq-eqb, eqb-true, and_parts, and_from}
@@ -7,6 +7,10 @@ use Rattle.std.proofs.lemmas.Bool.Decides.{nat_tests}
 use Rattle.std.proofs.lemmas.Option.{none-some, same_Some}
 use Rattle.hex_digits.specs.Digits.{hex, hex_digit}
 use Rattle.text_fields.specs.Spelling.{Spelling, IsExact, Avoids, has_byte, has_byte-both, then_only, map_only, test_only}
+
+-- numbers of bytes have two digits, and those of words four
+abbrev pub IsWidth : ℕ → Type 0
+IsWidth digits = (digits ≡ 2) ⊎ (digits ≡ 4)
 
 -- 0 to 9, A to F
 abbrev pub is_digit : ℕ → Bool

@@ -5,8 +5,9 @@ use Rattle.std.specs.Str.{bytes_eq}
 use Rattle.value_set.specs.Form.{IsNormal}
 use Rattle.value_set.specs.declared.form.Form.{Form}
 use Rattle.value_set.specs.declared.form.Form.TheVariants.{Values}
+use Rattle.text_fields.specs.Numbers.{IsWidth}
 use Rattle.text_fields.specs.Spelling.{Spelling, IsExact, has_byte}
-use Rattle.value_text.specs.Sets.{IsWidth, form_of, list_field, part_of, run_field, set_field, set_is_exact}
+use Rattle.value_text.specs.Sets.{form_of, list_field, part_of, run_field, set_field, set_is_exact}
 
 pub read_has_form : {A : Type 0} (s : Spelling A) (text : List ℕ) (result : Option A) → IsExact s → result ≡ s.value text → IfSome result s.Form
 read_has_form s text None h e = tt

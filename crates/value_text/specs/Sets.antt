@@ -17,10 +17,6 @@ use Rattle.text_fields.specs.Fields.{passing, passing_is_exact, passing_avoids, 
 use Rattle.text_fields.specs.Lists.{listed, listed_is_exact, listed_avoids}
 use Rattle.value_text.specs.Runs.{is_list, is_run, ascends, ascends_only, ascends_back, run_only, run_back, whole_only, whole_back, run_is_below}
 
--- numbers of bytes have two digits, and those of words four
-abbrev pub IsWidth : ℕ → Type 0
-IsWidth digits = (digits ≡ 2) ⊎ (digits ≡ 4)
-
 -- THE FIELDS
 
 -- ascending numbers, with commas

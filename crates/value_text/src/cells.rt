@@ -3,9 +3,8 @@
 ghost use Rattle.std.specs.Prelude.{◌≡◌, ◌++◌, IfOk, OnOk};
 ghost use Rattle.std.specs.Option.{option_map};
 ghost use Rattle.entry_value.specs.Cells as the_cells;
-ghost use Rattle.text_fields.specs.Numbers.{hex_number};
+ghost use Rattle.text_fields.specs.Numbers.{IsWidth, hex_number};
 ghost use Rattle.text_fields.specs.Fields.{beside};
-ghost use Rattle.value_text.specs.Sets.{IsWidth};
 ghost use Rattle.value_text.specs.Cells as fields;
 
 use crate::members::is_byte_set;

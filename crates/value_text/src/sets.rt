@@ -2,11 +2,10 @@
 
 ghost use Rattle.std.specs.Prelude.{◌≡◌, ◌<◌, ◌≤◌, ◌^◌, IfSome, length};
 ghost use Rattle.value_set.specs.Form.{Ascends, IsNormal};
-ghost use Rattle.text_fields.specs.Numbers.{hex_number};
+ghost use Rattle.text_fields.specs.Numbers.{IsWidth, hex_number};
 ghost use Rattle.text_fields.specs.Fields.{beside};
 ghost use Rattle.value_text.specs.Runs as runs;
 ghost use Rattle.value_text.specs.Sets as fields;
-ghost use Rattle.value_text.specs.Sets.{IsWidth};
 
 use arrayvec::ArrayVec;
 use text_fields::{cut, has, number, short};

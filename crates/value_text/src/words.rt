@@ -3,9 +3,9 @@
 ghost use Rattle.std.specs.Prelude.{◌≡◌, ◌++◌, ◌<◌, ◌^◌, ℕ, Bool, OnOk};
 ghost use Rattle.entry_value.specs.declared.cells.Cell.{Cell as ACell};
 ghost use Rattle.text_fields.specs.Spelling.{Spelling};
-ghost use Rattle.text_fields.specs.Numbers.{hex_number};
+ghost use Rattle.text_fields.specs.Numbers.{IsWidth, hex_number};
 ghost use Rattle.text_fields.specs.Fields.{beside, with_tail};
-ghost use Rattle.value_text.specs.Sets.{IsWidth, set_field};
+ghost use Rattle.value_text.specs.Sets.{set_field};
 ghost use Rattle.value_text.specs.Words as fields;
 
 use crate::sets::{read_byte_set, read_word_set};

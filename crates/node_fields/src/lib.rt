@@ -1,0 +1,12 @@
+//! Nodes as fields of a text: `specs/Nodes.antt` has the spelling of frames, locations and exits, and of a row, which is a
+//! node and what is written of it. The calls read and write them, each with one exact clause.
+#![tactic(auto)]
+
+mod reading;
+mod writing;
+
+pub use reading::{read_exit, read_location, split_row};
+pub use writing::push_node;
+
+#[cfg(test)]
+mod tests;
