@@ -101,6 +101,9 @@ fn called(page: &mut Markup, function: &Function) -> Result<(), Memory> {
     Ok(())
 }
 
+/// How many steps of a way are told.
+const MOST_STEPS: usize = 24;
+
 /// The way to the place where the stack is deepest, in words.
 fn worst_path(
     alloc: Global,
@@ -120,8 +123,17 @@ fn worst_path(
     page.put(", first at ")?;
     link(page, place)?;
     let steps = functions.path_to(alloc, program, depths, place)?;
-    for step in steps.iter() {
+    for step in steps.iter().take(MOST_STEPS) {
         path_step(page, functions, *step)?;
+    }
+    if steps.len() > MOST_STEPS {
+        page.put(", and so on up ")?;
+        count(
+            page,
+            steps.len().wrapping_sub(MOST_STEPS),
+            "more step",
+            "more steps",
+        )?;
     }
     page.put(".\n")
 }

@@ -274,6 +274,23 @@ fn page_with_its_image(rt: HostRuntime) -> Result<(), Fail> {
 }
 
 #[test]
+fn stack_from_where_it_is_set(rt: HostRuntime) -> Result<(), Fail> {
+    let report =
+        "CLOSED\nE 0000 0003\nE 0003 0008\nE 0006 0006\nE 0008 0006\nI 0000 758130 MOV 81h,#30h\nI 0003 120008 LCALL 0008h\nI 0006 80FE SJMP 0006h\nI 0008 22 RET\nM 0000 sfr w1 81\nM 0003 ram w1 31\nM 0003 ram w1 32\nM 0008 ram r1 31\nM 0008 ram r1 32\nS 0000 07\nS 0003 30\nS 0006 30\nS 0008 32\nT 32 0\n";
+    let parts = [
+        ("2 bytes above 30, first at <a href=#0008>0008</a>", 1),
+        ("stack: 2 bytes", 1),
+    ];
+    counts(
+        &rt,
+        rt.alloc(),
+        Ask::Html(Labels::NONE),
+        report,
+        parts.as_slice(),
+    )
+}
+
+#[test]
 fn equal_steps(rt: HostRuntime) -> Result<(), Fail> {
     let report =
         "CLOSED\nM F000 mem r1 0200,0203,0206,0209\nM F000 mem r2 0200,0202,0204\nM F000 mem w1 0200,0201,0202,0203\nT none 0\n";
