@@ -236,6 +236,9 @@ fn differences(rt: HostRuntime) -> Result<(), Fail> {
         ("\nways: 1 went, 5 came\n", 1),
     ];
     counts(&rt, rt.alloc(), Ask::Diff, both.as_str(), parts.as_slice())?;
+    let both = format!(in rt.alloc(); "{EIGHT_BYTES}{STRANGE_TEXT}")?;
+    let parts = [("\nopen sites\n+ F002 Fetch\n+ F002 Targets *\n\n", 1)];
+    counts(&rt, rt.alloc(), Ask::Diff, both.as_str(), parts.as_slice())?;
     let both = format!(in rt.alloc(); "{EIGHT_BYTES}{EIGHT_BYTES}")?;
     let parts = [("\nno line differs\n", 1)];
     counts(&rt, rt.alloc(), Ask::Diff, both.as_str(), parts.as_slice())
