@@ -1,5 +1,6 @@
 //! How far the stack has grown.
 
+use hex_digits::byte;
 use report_lines::{Line, Report, Set};
 
 /// The stack of a report: its first value, and how far it grows at most.
@@ -17,6 +18,13 @@ impl Depths {
     pub fn of(report: &Report<'_>) -> Option<Depths> {
         let extreme = report.summary.extreme?;
         let grows_up = report.grows_up();
+        if let Some(top) = first_set(report) {
+            return Some(Depths {
+                grows_up,
+                top,
+                extreme,
+            });
+        }
         let mut top = extreme;
         for line in report.lines.iter() {
             if let Line::Stack(stack) = line
@@ -79,6 +87,34 @@ impl Depths {
         }
         usize::from(depth).wrapping_mul(100) / most
     }
+}
+
+/// Where the MCS-51's program sets its stack pointer, by an instruction such as `MOV 81h,#08h`: the least such value. Until then
+/// it has the reset's, from which nothing grows.
+fn first_set(report: &Report<'_>) -> Option<u16> {
+    let mut least: Option<u16> = None;
+    for line in report.lines.iter() {
+        if let Line::Instr(instr) = line
+            && report.grows_up()
+            && let [
+                b'M',
+                b'O',
+                b'V',
+                b' ',
+                b'8',
+                b'1',
+                b'h',
+                b',',
+                b'#',
+                digits @ ..,
+                b'h',
+            ] = instr.text
+            && let Some(value) = byte(digits)
+        {
+            least = Some(least.map_or(value, |known| known.min(value)));
+        }
+    }
+    least
 }
 
 /// The least and the greatest of two pairs.

@@ -1,5 +1,7 @@
 //! What two reports differ in.
 
+ghost use Rattle.std.specs.Prelude.{◌≤◌};
+
 use crate::depth::Depths;
 use crate::markup::Markup;
 use crate::view::Shown;
@@ -8,16 +10,19 @@ use std::alloc::Global;
 use std::collections::BTreeSet;
 use vsa_io::Memory;
 
-/// The parts of the lines of a letter, each once, from so many bytes behind the letter on.
+/// The parts of the lines of a letter, each once, from their byte `from` on, which is behind the letter and its space.
 fn parts_of<'a>(
     alloc: Global,
     text: &'a [u8],
     letter: u8,
     from: usize,
-) -> Result<BTreeSet<&'a [u8]>, Memory> {
+) -> Result<BTreeSet<&'a [u8]>, Memory>
+    requires { 2 ≤ from }
+{
     let mut parts = BTreeSet::new(alloc);
     for line in text.split(|byte| *byte == b'\n') {
-        if line.len() > from && line.first() == Some(&letter) {
+        // (the first line, CLOSED or OPEN, has no space there)
+        if line.len() > from && line[0] == letter && line[1] == b' ' {
             parts.insert(&line[from..])?;
         }
     }
@@ -39,7 +44,9 @@ impl<'a> Change<'a> {
         new: &'a [u8],
         letter: u8,
         from: usize,
-    ) -> Result<Change<'a>, Memory> {
+    ) -> Result<Change<'a>, Memory>
+        requires { 2 ≤ from }
+    {
         let old = parts_of(alloc, old, letter, from)?;
         let new = parts_of(alloc, new, letter, from)?;
         Ok(Change {

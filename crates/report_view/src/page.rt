@@ -50,12 +50,14 @@ fn summaries(
     image: Option<&Image>,
 ) -> Result<(), Memory> {
     let depths = Depths::of(report);
-    let reset = match image {
-        Some(image) if !report.grows_up() => reset_of(image),
-        _ => None,
+    // The MCS-51 has no vectors in its image.
+    let vectors = if report.grows_up() { None } else { image };
+    let reset = match vectors {
+        Some(image) => reset_of(image),
+        None => None,
     };
     let functions = Functions::of(alloc, program, report, reset)?;
-    functions_table(alloc, page, report, program, &functions)?;
+    functions_table(alloc, page, report, program, &functions, vectors)?;
     let roots = Roots::of(alloc, &functions)?;
     let accesses = Accesses::of(alloc, report, depths, &roots)?;
     memory_tables(page, &functions, &accesses)?;

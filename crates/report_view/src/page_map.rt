@@ -20,7 +20,9 @@ pub fn memories(
     maps: &Vec<Map>,
     has_image: bool,
 ) -> Result<(), Memory> {
-    page.put("<h2 id=map>Map</h2>\n")?;
+    page.put(
+        "<h2 id=map>Map</h2>\n<p>Each strip has its own scale, from its first address to its last.\n",
+    )?;
     for map in maps.iter() {
         let parts = map.parts(alloc)?;
         if !parts.is_empty() {

@@ -8,6 +8,7 @@ use crate::page::{count, link};
 use crate::program::Program;
 use crate::sets::write_set;
 use crate::ways::Way;
+use ihex_read::Image;
 use report_lines::{Line, Report, Space};
 use std::alloc::Global;
 use std::collections::BTreeMap;
@@ -20,6 +21,7 @@ pub fn functions_table(
     report: &Report<'_>,
     program: &Program<'_>,
     functions: &Functions,
+    image: Option<&Image>,
 ) -> Result<(), Memory> {
     let callers = callers_of(alloc, functions)?;
     page.put("<h2 id=functions>Functions</h2>\n")?;
@@ -28,7 +30,7 @@ pub fn functions_table(
         "<div class=scroll><table class=f><caption>Where calls, interrupts and the reset lead, with the bytes of stack that each takes: by itself, and with all that it calls. Interrupts that come in between aren't counted.</caption>\n<thead><tr><th scope=col>Function<th scope=col>Begun by<th scope=col>Instructions<th scope=col>Own stack<th scope=col>With calls<th scope=col>Calls<th scope=col>Called at</thead>\n<tbody>\n",
     )?;
     for function in functions.by_entry.values() {
-        function_row(page, function, callers.get(&function.entry))?;
+        function_row(page, function, callers.get(&function.entry), image)?;
     }
     page.put("</table></div>\n")
 }
@@ -56,6 +58,7 @@ fn function_row(
     page: &mut Markup,
     function: &Function,
     callers: Option<&Vec<u16>>,
+    image: Option<&Image>,
 ) -> Result<(), Memory> {
     page.put("<tr><th scope=row>")?;
     link(page, function.entry)?;
@@ -64,6 +67,11 @@ fn function_row(
         Kind::Handler => "<td>interrupts",
         Kind::Called => "<td>calls",
     })?;
+    if let Some(image) = image
+        && function.kind == Kind::Handler
+    {
+        vectors(page, image, function.entry)?;
+    }
     page.put("<td>")?;
     page.number(function.body.len())?;
     page.put("<td>")?;
@@ -89,6 +97,24 @@ fn function_row(
     page.put("\n")
 }
 
+/// The vectors of the MSP430's image that have an address.
+fn vectors(page: &mut Markup, image: &Image, entry: u16) -> Result<(), Memory> {
+    for k in 0..15u16 {
+        let at = k.wrapping_mul(2).wrapping_add(0xFFE0);
+        if let Some(low) = image.byte(at)
+            && let Some(high) = image.byte(at.wrapping_add(1))
+            && u16::from(high)
+                .wrapping_mul(256)
+                .wrapping_add(u16::from(low & 0xFE))
+                == entry
+        {
+            page.put(" ")?;
+            page.address(at)?;
+        }
+    }
+    Ok(())
+}
+
 /// The functions that one calls, each once.
 fn called(page: &mut Markup, function: &Function) -> Result<(), Memory> {
     for k in 0..function.calls.len() {
@@ -100,6 +126,9 @@ fn called(page: &mut Markup, function: &Function) -> Result<(), Memory> {
     }
     Ok(())
 }
+
+/// How many steps of a way are told.
+const MOST_STEPS: usize = 24;
 
 /// The way to the place where the stack is deepest, in words.
 fn worst_path(
@@ -120,8 +149,17 @@ fn worst_path(
     page.put(", first at ")?;
     link(page, place)?;
     let steps = functions.path_to(alloc, program, depths, place)?;
-    for step in steps.iter() {
+    for step in steps.iter().take(MOST_STEPS) {
         path_step(page, functions, *step)?;
+    }
+    if steps.len() > MOST_STEPS {
+        page.put(", and so on up ")?;
+        count(
+            page,
+            steps.len().wrapping_sub(MOST_STEPS),
+            "more step",
+            "more steps",
+        )?;
     }
     page.put(".\n")
 }

@@ -236,6 +236,9 @@ fn differences(rt: HostRuntime) -> Result<(), Fail> {
         ("\nways: 1 went, 5 came\n", 1),
     ];
     counts(&rt, rt.alloc(), Ask::Diff, both.as_str(), parts.as_slice())?;
+    let both = format!(in rt.alloc(); "{EIGHT_BYTES}{STRANGE_TEXT}")?;
+    let parts = [("\nopen sites\n+ F002 Fetch\n+ F002 Targets *\n\n", 1)];
+    counts(&rt, rt.alloc(), Ask::Diff, both.as_str(), parts.as_slice())?;
     let both = format!(in rt.alloc(); "{EIGHT_BYTES}{EIGHT_BYTES}")?;
     let parts = [("\nno line differs\n", 1)];
     counts(&rt, rt.alloc(), Ask::Diff, both.as_str(), parts.as_slice())
@@ -271,6 +274,23 @@ fn page_with_its_image(rt: HostRuntime) -> Result<(), Fail> {
     let shown = view(rt.alloc(), Ask::Html(LABELS), text.as_bytes());
     assert!(rt; matches!(shown, Err(ViewError::Foreign(0xF000))));
     Ok(())
+}
+
+#[test]
+fn stack_from_where_it_is_set(rt: HostRuntime) -> Result<(), Fail> {
+    let report =
+        "CLOSED\nE 0000 0003\nE 0003 0008\nE 0006 0006\nE 0008 0006\nI 0000 758130 MOV 81h,#30h\nI 0003 120008 LCALL 0008h\nI 0006 80FE SJMP 0006h\nI 0008 22 RET\nM 0000 sfr w1 81\nM 0003 ram w1 31\nM 0003 ram w1 32\nM 0008 ram r1 31\nM 0008 ram r1 32\nS 0000 07\nS 0003 30\nS 0006 30\nS 0008 32\nT 32 0\n";
+    let parts = [
+        ("2 bytes above 30, first at <a href=#0008>0008</a>", 1),
+        ("stack: 2 bytes", 1),
+    ];
+    counts(
+        &rt,
+        rt.alloc(),
+        Ask::Html(Labels::NONE),
+        report,
+        parts.as_slice(),
+    )
 }
 
 #[test]

@@ -188,7 +188,7 @@ fn print_slip(rt: &impl Eprint, alloc: Global, words: &[String]) -> io::Result<(
 fn print_warnings(rt: &impl Eprint, watch: &Watch) -> io::Result<()> {
     if let Some(pc) = watch.allowed_in_vain() {
         eprintln!(rt;
-            "vsa: warning: the instruction at {pc:04X}h allows interrupts, and no handler is in the report: the image has no vector of one, or none returns by RETI. Did the linker script leave out the vectors, FFE0h to FFFDh?"
+            "vsa: warning: the instruction at {pc:04X}h allows interrupts, and no handler is in the report, since the image has no vector of one. Did the linker script leave out the vectors, FFE0h to FFFDh?"
         )?;
     }
     if let Some((variable, low)) = watch.overwritten() {

@@ -100,6 +100,12 @@ fn warnings(rt: HostRuntime) {
             .map(|(variable, low)| (variable.at, variable.pc, low)),
         Some((0x027E, 0xF008, 0x027E))
     );
+    // An interrupt comes, and its handler never returns.
+    let watch = seen(
+        rt.alloc(),
+        "CLOSED\nI F004 32D2 BIS #8,SR\nI F006 FF3F JMP F006h\nM F006 mem w2 027C\nM F006 mem w2 027E\nT none 0\n",
+    );
+    assert_eq!(rt; watch.allowed_in_vain(), None);
     let watch = seen(
         rt.alloc(),
         "CLOSED\nI F004 32D0D800 BIS #00D8h,SR\nI F008 0013 RETI\nI F00A 82430002 MOV #0,&0200h\nS F004 0280\nT 0280 0\n",

@@ -2,7 +2,7 @@
 
 use crate::options::word_of;
 use arrayvec::ArrayVec;
-use report_lines::{Instr, Line, Stack, cut};
+use report_lines::{Access, Instr, Kind, Line, Stack, cut};
 use std::alloc::Global;
 
 /// How long the lines are that are looked at. Longer ones have sets, and say nothing here.
@@ -23,8 +23,10 @@ pub struct Watch {
     /// The line that has begun, and whether it is longer than what is kept of it.
     line: ArrayVec<u8, ROOM>,
     is_cut: bool,
-    /// The first instruction that allows interrupts.
-    allows: Option<u16>,
+    /// The first instruction that allows interrupts, and the address behind it, where one may come.
+    allows: Option<(u16, u16)>,
+    /// How many lines there write a word. An interrupt's entry has two, and no instruction more than one there.
+    words: usize,
     has_reti: bool,
     variables: Vec<Variable>,
     /// The least and the greatest stack pointer, where one is known.
@@ -39,6 +41,7 @@ impl Watch {
             line: ArrayVec::new(),
             is_cut: false,
             allows: None,
+            words: 0,
             has_reti: false,
             variables: Vec::new(alloc),
             stack: None,
@@ -62,6 +65,7 @@ impl Watch {
         if !self.is_cut {
             match Line::read(line.as_slice()) {
                 Ok(Line::Instr(instr)) => self.note_instr(&instr),
+                Ok(Line::Access(access)) => self.note_access(&access),
                 Ok(Line::Stack(stack)) => self.note_stack(&stack),
                 _ => {}
             }
@@ -74,7 +78,7 @@ impl Watch {
             self.has_reti = true;
         }
         if self.allows.is_none() && allows_interrupts(instr.text) {
-            self.allows = Some(instr.pc);
+            self.allows = Some((instr.pc, instr.pc.wrapping_add(instr.len)));
         }
         for operand in instr.text.split(|byte| *byte == b',' || *byte == b' ') {
             if let [b'&', digits @ .., b'h'] = operand
@@ -85,6 +89,15 @@ impl Watch {
                 // Where memory is short a variable is missed, and the report is as it was.
                 let _ = self.variables.push(Variable { at, pc: instr.pc });
             }
+        }
+    }
+
+    fn note_access(&mut self, access: &Access<'_>) {
+        if let Some((_, behind)) = self.allows
+            && access.pc == behind
+            && access.kind == Kind::WriteTwo
+        {
+            self.words = self.words.saturating_add(1);
         }
     }
 
@@ -99,9 +112,12 @@ impl Watch {
         });
     }
 
-    /// The first instruction that allows interrupts, where no handler returns.
+    /// The first instruction that allows interrupts, where none comes behind it and no handler returns.
     pub fn allowed_in_vain(&self) -> Option<u16> {
-        if self.has_reti { None } else { self.allows }
+        if self.has_reti || self.words > 1 {
+            return None;
+        }
+        self.allows.map(|(pc, _)| pc)
     }
 
     /// The first variable within the stack, and the least stack pointer.
