@@ -7,10 +7,10 @@ use entry_value::{
     Cell, Cells, Word, inclusion_covers, reads_hold, reads_keep_form, unions_cover,
     unions_keep_form, writes_are_at_one_or_several, writes_cover, writes_keep_form,
 };
+use no_memory::Memory;
 use std::alloc::Global;
 use std::marker::Model;
 use value_set::Vs16;
-use vsa_io::Memory;
 
 /// The cells of a RAM in ascending order of their places. A read and a write at one address find them by binary search;
 /// the other calls go over them once. A write at several addresses needs no memory.

@@ -5,11 +5,11 @@ ghost use Rattle.book_rows.specs.Counting.{entering, node_at, posting};
 
 use call_context::{Calls, Frame, Node, Sequence, Unit};
 use chip_law::{Chip, Work};
+use no_memory::Memory;
 use round_core::{Book, Claimed, Done, Event};
 use std::alloc::Global;
 use std::cell::Cell;
 use std::test::Fail;
-use vsa_io::Memory;
 
 /// How often each call was made.
 #[derive(Drop)]

@@ -5,13 +5,13 @@ ghost use Rattle.book_rows.specs.Tree.{leading, node_at, posting};
 
 use call_context::{Calls, Frame, Node, Sequence, Unit};
 use chip_law::{Chip, Work};
+use no_memory::Memory;
 use round_core::Event;
 use std::alloc::Global;
 use std::sync::atomic::AtomicU64;
 use std::sync::atomic::Ordering::SeqCst;
 use std::test::Fail;
 use std::thread;
-use vsa_io::Memory;
 use worker_crew::fixpoint;
 use worker_rounds::{Gate, NoGate};
 

@@ -8,11 +8,11 @@ ghost use Rattle.fact_table.specs.Named.{table_of};
 use call_context::{Calls, Frame, Node, Sequence, Unit};
 use chip_law::{Chip, Work};
 use fact_table::{FactTable, Seat};
+use no_memory::Memory;
 use round_core::{Book, Claimed, Done};
 use std::alloc::Global;
 use std::sync::Wait;
 use std::test::Fail;
-use vsa_io::Memory;
 
 fn only_node() -> Node
     ensures { result ≡ At 0 [] Base }

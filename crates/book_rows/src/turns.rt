@@ -4,12 +4,12 @@ ghost use Rattle.turn_table.specs.Events.{AllBelow};
 ghost use Rattle.turn_table.specs.Named.{name_of};
 ghost use Rattle.book_rows.specs.declared.turns.Line.{Line};
 
+use no_memory::Memory;
 use std::alloc::Global;
 use std::sync::Wait;
 use std::test::Fail;
 use std::thread::{Threads, join};
 use turn_table::{Journaled, Seat, TurnTable};
-use vsa_io::Memory;
 
 #[derive(Clone, Copy, Debug, PartialEq)]
 struct Line {

@@ -13,12 +13,12 @@ use Rattle.call_context.specs.declared.shown.Item.{Item}
 use Rattle.call_context.specs.declared.shown.Item.TheVariants.{Instr, Edge, Access, Stack}
 use Rattle.call_context.specs.declared.shown.Set.{Set}
 use Rattle.call_context.specs.declared.shown.Set.TheVariants.{B, W}
-use Rattle.call_context.specs.declared.shown.Space.{Space}
-use Rattle.call_context.specs.declared.shown.Space.TheVariants.{Mem, Ram, Sfr, Xram, Code}
+use Rattle.chip_numbers.specs.declared.space.Space.{Space}
+use Rattle.chip_numbers.specs.declared.space.Space.TheVariants.{Mem, Ram, Sfr, Xram, Code}
 use Rattle.call_context.specs.contracts.shown.CausePartialEq.TheImpl as cause_impl
 use Rattle.call_context.specs.contracts.shown.ItemPartialEq.TheImpl as item_impl
 use Rattle.call_context.specs.contracts.shown.SetPartialEq.TheImpl as set_impl
-use Rattle.call_context.specs.contracts.shown.SpacePartialEq.TheImpl as space_impl
+use Rattle.chip_numbers.specs.contracts.space.SpacePartialEq.TheImpl as space_impl
 use Rattle.value_set.specs.declared.form.Form.{Form}
 use Rattle.value_set.specs.declared.form.Form.TheVariants.{Values, Run}
 use Rattle.value_set.specs.declared.form.Progression.{Progression}

@@ -1,4 +1,3 @@
 pub mod Calls
-pub mod Few
 pub mod Nodes
-pub mod Single
+pub mod Showing

@@ -1,6 +1,7 @@
 -- The parts of nodes.
-use Rattle.std.specs.Prelude.{ℕ}
+use Rattle.std.specs.Prelude.{ℕ, None, Some}
 use Rattle.call_context.specs.declared.node.Frame.{Frame}
+use Rattle.call_context.specs.declared.node.Frame.TheVariants.{Base, Irq}
 use Rattle.call_context.specs.declared.node.Node.{Node}
 use Rattle.call_context.specs.declared.node.Node.TheVariants.{At, Exit}
 
@@ -16,3 +17,9 @@ frame_of (Exit pc frame) = frame
 abbrev pub IsLocation : Node → Type 0
 IsLocation (At pc calls frame) = Unit {0}
 IsLocation (Exit pc frame) = ⊥
+
+-- an interrupt's frame that was entered at one stack pointer
+abbrev pub HasEntry : Frame → Type 0
+HasEntry Base = ⊥
+HasEntry (Irq vector None level) = ⊥
+HasEntry (Irq vector (Some sp) level) = Unit {0}

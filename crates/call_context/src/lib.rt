@@ -2,15 +2,15 @@
 #![tactic(auto)]
 
 mod calls;
-mod few;
 mod laws;
 mod node;
 mod sequence;
 mod shown;
 
 pub use calls::{pop_call, push_call};
-pub use few::Few;
+pub use chip_numbers::Space;
 pub use laws::{equal_items_are_one, equal_nodes_are_one};
 pub use node::{Calls, Frame, Node, Unit};
 pub use sequence::Sequence;
-pub use shown::{Cause, InstrBytes, Item, Set, Space};
+pub use shown::{Cause, InstrBytes, Item, Set};
+pub use value_set::Few;

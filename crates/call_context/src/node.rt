@@ -1,6 +1,6 @@
 //! Locations of a program with their contexts, and the units of work over them.
 
-use crate::few::Few;
+use value_set::Few;
 
 /// A call string: the sites of the calls that led here, oldest first, at most 8 of them.
 pub type Calls = Few<8>;

@@ -3,23 +3,9 @@
 ghost use Rattle.std.specs.Prelude.{◌≡◌, ◌≤◌, ◌<◌, ◌++◌, ◌∷◌, [], length};
 
 use arrayvec::ArrayVec;
+use chip_numbers::Space;
 use std::marker::Model;
 use value_set::{Vs8, Vs16};
-
-/// A space of addresses.
-#[derive(Clone, Copy, Debug, PartialEq, Eq, Hash)]
-pub enum Space {
-    /// The one memory of an MSP430.
-    Mem,
-    /// The internal RAM of an MCS-51.
-    Ram,
-    /// The special function registers of an MCS-51.
-    Sfr,
-    /// The external RAM of an MCS-51.
-    Xram,
-    /// The code memory of an MCS-51.
-    Code,
-}
 
 /// Why a site is left open.
 #[derive(Clone, Copy, Debug, PartialEq, Eq, Hash)]

@@ -4,8 +4,8 @@ ghost use Rattle.std.specs.Prelude.{ℕ, ◌<◌};
 ghost use Rattle.value_set.specs.Form.{Has};
 
 use abs_memory::CellList;
-use irq_frames::unrelated;
 use entry_value::{Cells, Entry, Word};
+use irq_frames::unrelated;
 use std::test::Fail;
 use value_set::Vs16;
 

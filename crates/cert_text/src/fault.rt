@@ -1,8 +1,8 @@
 //! What is wrong with a certificate.
 
+use no_memory::Memory;
 use std::alloc::{AllocError, AllocFailed};
 use thiserror::Error;
-use vsa_io::Memory;
 
 /// What is wrong with a line.
 #[derive(Clone, Copy, Debug, PartialEq, Eq)]

@@ -10,11 +10,11 @@ ghost use Rattle.cert_text.specs.Reading.{TellsLine, line_step};
 use crate::fault::{LineFault, ReadError};
 use crate::state_text::StateText;
 use call_context::Node;
+use no_memory::Memory;
 use node_fields::{push_node, split_row};
 use std::alloc::Global;
 use std::cmp::Ordering;
 use std::marker::Model;
-use vsa_io::Memory;
 
 /// What the lines so far have given.
 #[derive(Drop)]

@@ -4,8 +4,8 @@ ghost use Rattle.std.specs.Prelude.{◌≡◌, ◌++◌, IfOk, OnOk};
 ghost use Rattle.cert_text.specs.Certificate.{StateTexts, AreTexts};
 
 use call_context::Node;
+use no_memory::Memory;
 use std::alloc::{AllocError, Global};
-use vsa_io::Memory;
 
 /// A chip whose states have a text.
 pub trait StateText {

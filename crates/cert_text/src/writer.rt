@@ -11,10 +11,10 @@ ghost use Rattle.cert_text.specs.Writing.{bytes_of};
 
 use crate::state_text::StateText;
 use call_context::Node;
+use no_memory::Memory;
 use node_fields::push_node;
 use std::alloc::{AllocError, Global};
 use std::collections::BTreeSet;
-use vsa_io::Memory;
 
 /// The line of a node and its state.
 fn line_of<C: StateText>(

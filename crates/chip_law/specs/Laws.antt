@@ -9,12 +9,13 @@ use Rattle.call_context.specs.declared.node.Unit.{Unit as WorkUnit}
 use Rattle.call_context.specs.declared.node.Unit.TheVariants.{One, Back}
 use Rattle.call_context.specs.declared.shown.Cause.{Cause}
 use Rattle.call_context.specs.declared.shown.Cause.TheVariants.{Fetch, Targets, Store}
-use Rattle.call_context.specs.Nodes.{pc_of, frame_of, IsLocation}
+use Rattle.call_context.specs.Nodes.{pc_of, frame_of, HasEntry, IsLocation}
 use Rattle.chip_law.specs.declared.chip.Work.{Work}
 use Rattle.chip_law.specs.Analysis.{Analysis, AreFormed, KeepsForm, IsOrdered}
 use Rattle.chip_law.specs.Machine.{Machine}
-use Rattle.call_context.specs.Single.{Single, AreShowing}
-use Rattle.call_context.specs.Single.Single.{Edge}
+use Rattle.call_context.specs.Showing.{AreShowing}
+use Rattle.chip_numbers.specs.Single.{Single}
+use Rattle.chip_numbers.specs.Single.Single.{Edge}
 use Rattle.chip_law.specs.Outcome.{Leaving}
 use Rattle.chip_law.specs.Outcome.Leaving.{no_instruction, program_written}
 use Rattle.chip_law.specs.Outcome.Outcome.{Next, Wild}
@@ -22,12 +23,6 @@ use Rattle.chip_law.specs.Outcome.Outcome.{Next, Wild}
 -- The abstract state of a node stands for a single state, where this one is the first that is suspended, if any is.
 abbrev pub Cover : Type 0 → Type 0 → Type 1
 Cover S A = Node → A → S → Option S → Type 0
-
--- an interrupt's frame that was entered at one stack pointer
-abbrev pub HasEntry : Frame → Type 0
-HasEntry Base = ⊥
-HasEntry (Irq vector None level) = ⊥
-HasEntry (Irq vector (Some sp) level) = Unit {0}
 
 -- A work waits for the frame of a handler that it enters, where the stack pointer there is known.
 abbrev pub IsWaitedFor : {A : Type 0} → Work A → Frame → Type 0

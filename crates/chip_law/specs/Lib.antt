@@ -1,5 +1,4 @@
 pub mod Analysis
-pub mod Digits
 pub mod Laws
 pub mod Line
 pub mod Machine

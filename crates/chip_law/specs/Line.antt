@@ -3,13 +3,13 @@ use Rattle.std.specs.Prelude.{ℕ, Bool, ◌==◌, List, [], ◌∷◌, ◌++◌
 use Rattle.std.specs.List.{flat_map}
 use Rattle.call_context.specs.declared.shown.Set.{Set}
 use Rattle.call_context.specs.declared.shown.Set.TheVariants.{B, W}
-use Rattle.call_context.specs.declared.shown.Space.{Space}
-use Rattle.call_context.specs.declared.shown.Space.TheVariants.{Mem, Ram, Sfr, Xram, Code}
+use Rattle.chip_numbers.specs.declared.space.Space.{Space}
+use Rattle.chip_numbers.specs.declared.space.Space.TheVariants.{Mem, Ram, Sfr, Xram, Code}
 use Rattle.call_context.specs.declared.shown.Cause.{Cause}
 use Rattle.call_context.specs.declared.shown.Cause.TheVariants.{Fetch, Targets, Store}
 use Rattle.call_context.specs.declared.shown.Item.{Item}
 use Rattle.call_context.specs.declared.shown.Item.TheVariants.{Instr, Edge, Access, Stack}
-use Rattle.chip_law.specs.Digits.{hex, short_hex}
+use Rattle.hex_digits.specs.Digits.{hex, short_hex, hex_bytes}
 use Rattle.value_set.specs.declared.form.Form.{Form}
 use Rattle.value_set.specs.declared.form.Form.TheVariants.{Values, Run}
 
@@ -46,13 +46,9 @@ space_text Code = codes "code"
 abbrev pub kind_text : Bool → ℕ → List ℕ
 kind_text write size = (if write then 119 else 114) ∷ (if size == 1 then 49 else 50) ∷ []
 
--- two digits for each byte
-abbrev pub bytes_text : List ℕ → List ℕ
-bytes_text bytes = flat_map (hex 2) bytes
-
 -- the line of an item, where an instruction at a place has this text
 abbrev pub item_line_of : (ℕ → List ℕ → List ℕ) → Item → List ℕ
-item_line_of text (Instr pc bytes) = codes "I " ++ hex 4 pc ++ codes " " ++ bytes_text bytes ++ codes " " ++ text pc bytes
+item_line_of text (Instr pc bytes) = codes "I " ++ hex 4 pc ++ codes " " ++ hex_bytes bytes ++ codes " " ++ text pc bytes
 item_line_of text (Edge origin target) = codes "E " ++ hex 4 origin ++ codes " " ++ hex 4 target
 item_line_of text (Access pc space write size at) =
     codes "M " ++ hex 4 pc ++ codes " " ++ space_text space ++ codes " " ++ kind_text write size ++ codes " " ++ set_text at

@@ -1,6 +1,6 @@
 -- What a step of a chip leads to.
 use Rattle.std.specs.Prelude.{ℕ, List}
-use Rattle.call_context.specs.Single.{Single}
+use Rattle.chip_numbers.specs.Single.{Single}
 
 -- why a step leads out of what the model says
 pub data Leaving : Type 0 where

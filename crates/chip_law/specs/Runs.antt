@@ -1,7 +1,7 @@
 -- Runs of a chip from reset, and what is met on them.
 use Rattle.std.specs.Prelude.{ℕ, zero, suc, List, Contains}
 use Rattle.chip_law.specs.Machine.{Machine}
-use Rattle.call_context.specs.Single.{Single}
+use Rattle.chip_numbers.specs.Single.{Single}
 use Rattle.chip_law.specs.Outcome.{Leaving}
 use Rattle.chip_law.specs.Outcome.Outcome.{Next, Wild}
 

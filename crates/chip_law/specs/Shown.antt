@@ -2,7 +2,8 @@
 use Rattle.std.specs.Prelude.{◌≡◌, ◌⊎◌, ℕ, List, [], ◌∷◌, ◌++◌}
 use Rattle.call_context.specs.declared.shown.Item.{Item}
 use Rattle.chip_law.specs.Line.{item_line_of}
-use Rattle.call_context.specs.Single.{Single, Shows}
+use Rattle.call_context.specs.Showing.{Shows}
+use Rattle.chip_numbers.specs.Single.{Single}
 
 -- a line begins at the start of a text, or behind a line feed
 abbrev pub EndsLine : List ℕ → Type 0

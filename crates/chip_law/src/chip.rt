@@ -8,8 +8,8 @@ ghost use Rattle.std.specs.Prelude.{IfOk, ◌≡◌, ℕ, List};
 
 use arrayvec::ArrayString;
 use call_context::{Cause, Frame, Item, Node, Sequence, Unit};
+use no_memory::Memory;
 use std::alloc::Global;
-use vsa_io::Memory;
 
 /// What the work of a unit gives.
 #[derive(Drop)]

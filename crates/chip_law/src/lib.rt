@@ -2,9 +2,7 @@
 #![tactic(auto)]
 
 mod chip;
-mod digits;
 mod line;
 
 pub use chip::{Chip, ChipText, InstrText, LawfulChip, Work};
-pub use digits::{hex_byte, hex_word};
 pub use line::{item_line, open_line, put_item, put_open};

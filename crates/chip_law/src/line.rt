@@ -1,15 +1,15 @@
 //! The lines of a report, one for each item and open.
 
 ghost use Rattle.std.specs.Prelude.{◌≡◌, ◌++◌, ◌∷◌, codes, IfOk, OnOk, OnErr};
-ghost use Rattle.chip_law.specs.Digits.{hex, short_hex};
-ghost use Rattle.chip_law.specs.Line.{word_set_text, byte_set_text, set_text, item_line_of, open_line_of, bytes_text, space_text, kind_text, comma_list};
+ghost use Rattle.hex_digits.specs.Digits.{hex, short_hex, hex_bytes};
+ghost use Rattle.chip_law.specs.Line.{word_set_text, byte_set_text, set_text, item_line_of, open_line_of, space_text, kind_text, comma_list};
 
 use crate::chip::InstrText;
-use crate::digits::{hex_byte, hex_word, push_short_hex};
 use call_context::{Cause, Item, Set, Space};
+use hex_digits::{hex_byte, hex_word, push_short_hex};
+use no_memory::Memory;
 use std::alloc::{AllocError, Global};
 use value_set::{Form, Progression, Vs8, Vs16};
-use vsa_io::Memory;
 
 /// Adds words with commas between them.
 fn push_words(line: &mut Vec<u8>, words: &[u16]) -> Result<(), AllocError>
@@ -123,7 +123,7 @@ fn instr_line<C: InstrText>(
     pc: u16,
     bytes: &[u8],
 ) -> Result<Vec<u8>, AllocError>
-    ensures { IfOk result (λ line. line.items ≡ codes "I " ++ hex 4 pc ++ codes " " ++ bytes_text bytes.now ++ codes " " ++ C.text_of chip.now pc bytes.now) }
+    ensures { IfOk result (λ line. line.items ≡ codes "I " ++ hex 4 pc ++ codes " " ++ hex_bytes bytes.now ++ codes " " ++ C.text_of chip.now pc bytes.now) }
 {
     let mut line = line_at(alloc, b'I', pc)?;
     line.push(b' ')?;

@@ -8,15 +8,16 @@ use Rattle.call_context.specs.declared.node.Frame.TheVariants.{Base, Irq}
 use Rattle.call_context.specs.declared.node.Node.{Node}
 use Rattle.call_context.specs.declared.node.Node.TheVariants.{At, Exit}
 use Rattle.call_context.specs.declared.node.Unit.TheVariants.{One, Back}
-use Rattle.call_context.specs.Nodes.{pc_of, frame_of, IsLocation}
+use Rattle.call_context.specs.Nodes.{pc_of, frame_of, IsLocation, HasEntry}
 use Rattle.chip_law.specs.declared.chip.Work.{Work}
 use Rattle.chip_law.specs.Analysis.{Analysis, AreFormed}
-use Rattle.chip_law.specs.Laws.{Cover, IsLawful, Lands, Resumes, IsWaitedFor, HasEntry}
+use Rattle.chip_law.specs.Laws.{Cover, IsLawful, Lands, Resumes, IsWaitedFor}
 use Rattle.chip_law.specs.Laws.Lands.{stays, enters, leaves}
 use Rattle.chip_law.specs.Machine.{Machine}
 use Rattle.chip_law.specs.Runs.{RunsTo}
-use Rattle.call_context.specs.Single.{Single, AreShowing}
-use Rattle.call_context.specs.Single.Single.{Edge}
+use Rattle.call_context.specs.Showing.{AreShowing}
+use Rattle.chip_numbers.specs.Single.{Single}
+use Rattle.chip_numbers.specs.Single.Single.{Edge}
 use Rattle.chip_law.specs.Outcome.Outcome.{Next}
 use Rattle.chip_law.specs.Table.{IsUnitOver, IsHeldIn, IsClosedTable, IsFormedTable, WaitsFor}
 use Rattle.closing_law.specs.Covered.{StandsSomewhere, IsShown, CoversRuns}

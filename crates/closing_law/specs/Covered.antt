@@ -4,7 +4,8 @@ use Rattle.call_context.specs.declared.node.Node.{Node}
 use Rattle.call_context.specs.declared.node.Unit.{Unit as WorkUnit}
 use Rattle.call_context.specs.declared.shown.Cause.{Cause}
 use Rattle.call_context.specs.Nodes.{pc_of, IsLocation}
-use Rattle.call_context.specs.Single.{Single, AreShowing}
+use Rattle.call_context.specs.Showing.{AreShowing}
+use Rattle.chip_numbers.specs.Single.{Single}
 use Rattle.chip_law.specs.Analysis.{Analysis}
 use Rattle.chip_law.specs.Laws.{Cover}
 use Rattle.chip_law.specs.Machine.{Machine}

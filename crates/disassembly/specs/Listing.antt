@@ -1,8 +1,7 @@
 -- The disassembly of an image: a line for each instruction, and for each unit that is none.
 use Rattle.std.specs.Prelude.{ℕ, zero, suc, ◌≡◌, ◌<◌, ◌≤◌, ◌⊎◌, ◌+◌, ◌/◌, ◌==◌, if◌then◌else◌, Option, None, Some, List, [], ◌∷◌, ◌++◌, codes, length}
-use Rattle.chip_law.specs.Digits.{hex}
-use Rattle.chip_law.specs.Line.{bytes_text}
-use Rattle.ihex_read.specs.Image.{byte_at}
+use Rattle.hex_digits.specs.Digits.{hex, hex_bytes}
+use Rattle.image.specs.Image.{byte_at}
 use Rattle.disassembly.specs.declared.code.Line.{Line}
 
 -- the bytes and the text of an instruction
@@ -19,7 +18,7 @@ Reads = List (Option ℕ) → ℕ → Found → Type 0
 
 -- an address, the bytes from there on, and what they are, with a line feed
 abbrev pub disassembly_line : ℕ → List ℕ → List ℕ → List ℕ
-disassembly_line at bytes text = hex 4 at ++ codes " " ++ bytes_text bytes ++ codes " " ++ text ++ codes "\n"
+disassembly_line at bytes text = hex 4 at ++ codes " " ++ hex_bytes bytes ++ codes " " ++ text ++ codes "\n"
 
 -- A unit that is no instruction: both bytes of a word, or the one that is there with its own address, or nothing where none
 -- is.

@@ -4,7 +4,7 @@ ghost use Rattle.std.specs.Prelude.{◌≡◌, ◌⊎◌, ◌%◌, ℕ, List, Op
 ghost use Rattle.disassembly.specs.Listing.{shown};
 
 use arrayvec::{ArrayString, ArrayVec};
-use ihex_read::Image;
+use image::Image;
 
 /// An instruction that stands in an image.
 #[derive(Drop)]

@@ -1,18 +1,18 @@
 //! The disassembly of an image.
 
 ghost use Rattle.std.specs.Prelude.{◌≡◌, ◌⊎◌, ◌+◌, ◌++◌, ◌%◌, ◌≤◌, ℕ, List, Option, IfOk, OnOk};
-ghost use Rattle.chip_law.specs.Line.{bytes_text};
-ghost use Rattle.ihex_read.specs.Image.{byte_at};
+ghost use Rattle.hex_digits.specs.Digits.{hex_bytes};
+ghost use Rattle.image.specs.Image.{byte_at};
 ghost use Rattle.disassembly.specs.Listing.{IsDisassembly, disassembly_line, lines_at, passed_at, second_at, shown, unknown_lines};
 
 use crate::code::{Code, Line};
-use chip_law::{hex_byte, hex_word};
-use ihex_read::Image;
+use hex_digits::{hex_byte, hex_word};
+use image::Image;
 use std::alloc::{AllocError, Global};
 
 /// Adds two digits for each byte.
 fn push_bytes(lines: &mut Vec<u8>, bytes: &[u8]) -> Result<(), AllocError>
-    ensures { OnOk result (lines.new.items ≡ lines.old.items ++ bytes_text bytes.now) }
+    ensures { OnOk result (lines.new.items ≡ lines.old.items ++ hex_bytes bytes.now) }
 {
     for byte in bytes {
         lines.extend_from_slice(&hex_byte(*byte))?;

@@ -7,9 +7,9 @@ ghost use Rattle.entry_value.specs.Cells as the_cells;
 ghost use Rattle.entry_value.specs.Cells.{CellMap, AreCells, StandsUnder, number_at, written};
 
 use crate::word::Word;
+use no_memory::Memory;
 use std::alloc::Global;
 use value_set::Vs16;
-use vsa_io::Memory;
 
 /// What is known of one byte of RAM, or of two with the low one first.
 #[derive(Clone, Copy, Debug, PartialEq, Eq)]

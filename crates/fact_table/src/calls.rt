@@ -8,9 +8,9 @@ ghost use Rattle.turn_table.specs.Named.{name_of};
 use crate::facts::{Seat, Turns};
 use crate::next::{claim_next, post_and_claim};
 use chip_law::Chip;
+use no_memory::Memory;
 use round_core::{Claimed, Done, Ticket, outs_stay};
 use std::sync::Wait;
-use vsa_io::Memory;
 
 /// Claims a unit for the seat, and says whether another one is left to claim. A refusal adds nothing.
 pub fn claim_at<R: Wait, C: Chip>(

@@ -7,8 +7,8 @@ ghost use Rattle.round_core.specs.Machine.{replay};
 ghost use Rattle.round_core.specs.declared.event.Event.TheVariants.{Post};
 
 use chip_law::Chip;
+use no_memory::Memory;
 use round_core::{Book, Claimed, Done};
-use vsa_io::Memory;
 
 /// Claims a unit of the book, and says whether another one is left to claim.
 pub(crate) fn claim_next<C: Chip>(

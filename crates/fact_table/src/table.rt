@@ -12,11 +12,11 @@ ghost use Rattle.turn_table.specs.Shown.{IsOwn, first_seat, seat_split, new_seat
 use crate::calls::{claim_at, give_back_at, post_at};
 use crate::facts::{Facts, Seat, Turns};
 use chip_law::Chip;
+use no_memory::Memory;
 use round_core::{Book, Claimed, Done, Ticket};
 use std::alloc::Global;
 use std::sync::Wait;
 use turn_table::TurnTable;
-use vsa_io::Memory;
 
 /// A book that the workers of several threads share, each at a seat of its own.
 #[derive(Drop)]

@@ -1,1 +1,2 @@
 pub mod ByteDigits
+mod DigitsLemmas

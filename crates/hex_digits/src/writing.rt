@@ -1,9 +1,10 @@
 //! The digits of numbers.
 
-ghost use Rattle.std.specs.Prelude.{◌≡◌, ◌≤◌, ◌<◌, ◌+◌, ◌++◌, ◌∷◌, [], length};
-ghost use Rattle.hex_digits.specs.Digits.{hex, hex_digit, byte_text, word_text};
+ghost use Rattle.std.specs.Prelude.{◌≡◌, ◌≤◌, ◌<◌, ◌+◌, ◌++◌, ◌∷◌, [], length, OnOk};
+ghost use Rattle.hex_digits.specs.Digits.{hex, hex_digit, short_hex, byte_text, word_text};
 
 use arrayvec::ArrayString;
+use std::alloc::AllocError;
 
 /// The character of a digit below 16.
 fn digit(value: u8) -> u8
@@ -35,6 +36,17 @@ pub fn hex_word(value: u16) -> [u8; 4]
         digit((value / 16 % 16) as u8),
         digit((value % 16) as u8),
     ]
+}
+
+/// Adds a number without leading zeros.
+pub fn push_short_hex(line: &mut Vec<u8>, value: u32) -> Result<(), AllocError>
+    ensures { OnOk result (line.new.items ≡ line.old.items ++ short_hex value) }
+{
+    if value >= 16 {
+        push_short_hex(line, value / 16)?;
+    }
+    line.push(digit((value % 16) as u8))?;
+    Ok(())
 }
 
 /// Adds a digit below 16.

@@ -5,10 +5,10 @@ use Rattle.std.specs.List.{enumerate_from}
 use Rattle.std.proofs.lemmas.List.Elements.{All-nil, All-cons, All-take, All-drop, All-append, All-contains, All-from_get_or}
 use Rattle.std.proofs.lemmas.Bool.{leb-true}
 use Rattle.hex.specs.Hex.{hex_digit_value}
-use Rattle.ihex_read.specs.Image.{byte_at, IsByte}
+use Rattle.image.specs.Image.{byte_at, IsByte}
 use Rattle.ihex_read.specs.ImageText.{placed_from, placed_of, Denotes, IsImage}
-use Rattle.ihex_read.specs.declared.rule_set.Rules.{Rules}
-use Rattle.ihex_read.specs.declared.rule_set.Tail.{Tail}
+use Rattle.image.specs.declared.rule_set.Rules.{Rules}
+use Rattle.ihex_read.specs.declared.tail.Tail.{Tail}
 use Rattle.ihex_read.specs.Record.{bytes_of, record_of, data_of, placed_by, base_behind, offset_of, type_of}
 
 both : (x y : Bool) → (x && y) ≡ true → (x ≡ true) × (y ≡ true)

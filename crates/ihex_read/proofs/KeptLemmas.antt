@@ -8,12 +8,12 @@ use Rattle.std.proofs.lemmas.List.Folds.{list_any_at, list_any-append, find-appe
 use Rattle.std.proofs.lemmas.List.{take_all}
 use Rattle.std.proofs.Math.Seq.{take-suc}
 use Rattle.ihex_read.specs.declared.fault.HexFault.TheVariants.{OutOfRange, Clash, Misplaced, NoReset}
-use Rattle.ihex_read.specs.declared.rule_set.Rules.{Rules}
-use Rattle.ihex_read.specs.declared.rule_set.Rules.TheVariants.{Msp430, Mcs51}
-use Rattle.ihex_read.specs.declared.rule_set.Tail.{Tail}
-use Rattle.ihex_read.specs.Image.{byte_at}
+use Rattle.image.specs.declared.rule_set.Rules.{Rules}
+use Rattle.image.specs.declared.rule_set.Rules.TheVariants.{Msp430, Mcs51}
+use Rattle.ihex_read.specs.declared.tail.Tail.{Tail}
+use Rattle.image.specs.Image.{byte_at}
 use Rattle.ihex_read.specs.ImageText.{base_of, placed_of, has, alone_faults, placing_faults, fault_of, is_misplaced, is_end, lacks_reset, IsOpen, Denotes}
-use Rattle.ihex_read.specs.Kept.{Suits, IsReadUnder}
+use Rattle.image.specs.Kept.{Suits, IsReadUnder}
 use Rattle.ihex_read.specs.Record.{record_of, placed_by}
 use Rattle.ihex_read.proofs.ByteLemmas.{denoted_bytes}
 use Rattle.ihex_read.proofs.MadeLemmas.{placed_of-push}

@@ -9,10 +9,10 @@ use Rattle.std.proofs.lemmas.List.{append-nil}
 use Rattle.std.proofs.lemmas.List.Folds.{find-append}
 use Rattle.ihex_read.specs.declared.fault.HexFault.{HexFault}
 use Rattle.ihex_read.specs.declared.fault.HexFault.TheVariants.{OutOfRange, Clash, Misplaced, NoReset}
-use Rattle.ihex_read.specs.declared.rule_set.Rules.{Rules}
-use Rattle.ihex_read.specs.declared.rule_set.Rules.TheVariants.{Msp430, Mcs51}
+use Rattle.image.specs.declared.rule_set.Rules.{Rules}
+use Rattle.image.specs.declared.rule_set.Rules.TheVariants.{Msp430, Mcs51}
 use Rattle.ihex_read.specs.Alone.{alone_fault}
-use Rattle.ihex_read.specs.Image.{byte_at}
+use Rattle.image.specs.Image.{byte_at}
 use Rattle.ihex_read.specs.ImageText.{base_from, base_of, placed_from, placed_of, clashes, lacks_reset, has, alone_faults, placing_faults, fault_of}
 use Rattle.ihex_read.specs.Loading.{Made, is_outside, is_taken, is_resettable, placing_fault, written}
 use Rattle.ihex_read.specs.Record.{record_of, type_of, offset_of, data_of, base_behind, placed_by}

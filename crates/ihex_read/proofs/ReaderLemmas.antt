@@ -4,9 +4,9 @@ use Rattle.std.specs.Prelude.{map, flat_map, Option, Some, All, ◌↔◌}
 use Rattle.std.proofs.lemmas.List.{append-nil, take-append-drop, take_rest, take_all, length-map, map-append, flat_map_more}
 use Rattle.std.proofs.lemmas.List.Elements.{All-push}
 use Rattle.std.proofs.Math.Seq.{take-add, take-append_seam}
-use Rattle.ihex_read.specs.declared.rule_set.Rules.{Rules}
-use Rattle.ihex_read.specs.declared.rule_set.Tail.{Tail}
-use Rattle.ihex_read.specs.declared.rule_set.Tail.TheVariants.{Blank, Second}
+use Rattle.image.specs.declared.rule_set.Rules.{Rules}
+use Rattle.ihex_read.specs.declared.tail.Tail.{Tail}
+use Rattle.ihex_read.specs.declared.tail.Tail.TheVariants.{Blank, Second}
 use Rattle.ihex_read.specs.declared.fault.HexFault.{HexFault}
 use Rattle.ihex_read.specs.ImageText.{is_end, IsOpen, Ends, FirstFault, of_line, no_end, trailing}
 use Rattle.ihex_read.specs.Lines.{without_return, last_line, lines_of}

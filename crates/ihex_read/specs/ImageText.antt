@@ -2,19 +2,14 @@
 use Rattle.std.specs.Prelude.{◌≡◌, ℕ, ◌+◌, ◌%◌, ◌<◌, ◌≤◌, ◌==◌, ◌↔◌, nat_lt, nat_le, Bool, true, false, not, ◌&&◌, ◌||◌, List, [], ◌∷◌, ◌++◌, length, take, drop, sum, slice_index, Option, None, Some, All, Contains, find}
 use Rattle.std.specs.List.{slice_index_or, list_any, list_all}
 use Rattle.hex.specs.Hex.{is_hex_digit}
-use Rattle.ihex_read.specs.declared.rule_set.Rules.{Rules}
-use Rattle.ihex_read.specs.declared.rule_set.Rules.TheVariants.{Msp430, Mcs51}
-use Rattle.ihex_read.specs.declared.rule_set.Tail.{Tail}
-use Rattle.ihex_read.specs.declared.rule_set.Tail.TheVariants.{Blank, Second}
+use Rattle.image.specs.declared.rule_set.Rules.{Rules}
+use Rattle.image.specs.declared.rule_set.Rules.TheVariants.{Msp430, Mcs51}
+use Rattle.ihex_read.specs.declared.tail.Tail.{Tail}
+use Rattle.ihex_read.specs.declared.tail.Tail.TheVariants.{Blank, Second}
 use Rattle.ihex_read.specs.declared.fault.HexFault.{HexFault}
 use Rattle.ihex_read.specs.declared.fault.HexFault.TheVariants.{NoColon, BadDigit, BadLength, BadSum, BadType, BadTypeLength, OutOfRange, Clash, Misplaced, NoEnd, Trailing, NoReset}
-use Rattle.ihex_read.specs.Image.{byte_at}
+use Rattle.image.specs.Image.{byte_at}
 use Rattle.ihex_read.specs.Record.{record_of, is_miscounted, length_of, type_of, is_length_of_type, base_behind, placed_by}
-
--- RAM stands from an even address to an odd one above it, behind the peripherals
-abbrev pub IsRamRange : Rules → Type 0
-IsRamRange (Msp430 lo hi) = (lo % 2 ≡ 0) × (hi % 2 ≡ 1) × (512 ≤ lo) × (lo < hi)
-IsRamRange Mcs51 = Unit {0}
 
 -- the base behind lines: that of the last record of type 02 or 04, else the one in front of them
 abbrev pub base_from : ℕ → List (List ℕ) → ℕ

@@ -1,7 +1,5 @@
 pub mod Alone
-pub mod Image
 pub mod ImageText
-pub mod Kept
 pub mod Lines
 pub mod Names
 pub mod Record

@@ -2,11 +2,11 @@
 -- these two alone.
 use Rattle.std.specs.Prelude.{◌≡◌, ℕ, ◌==◌, Bool, true, false, not, ◌&&◌, nat_lt, List, [], ◌∷◌, Option, None, Some, is_some, slice_set, find}
 use Rattle.std.specs.List.{list_any}
-use Rattle.ihex_read.specs.declared.rule_set.Rules.{Rules}
-use Rattle.ihex_read.specs.declared.rule_set.Rules.TheVariants.{Msp430, Mcs51}
+use Rattle.image.specs.declared.rule_set.Rules.{Rules}
+use Rattle.image.specs.declared.rule_set.Rules.TheVariants.{Msp430, Mcs51}
 use Rattle.ihex_read.specs.declared.fault.HexFault.{HexFault}
 use Rattle.ihex_read.specs.declared.fault.HexFault.TheVariants.{OutOfRange, Clash, Misplaced, NoReset}
-use Rattle.ihex_read.specs.Image.{byte_at}
+use Rattle.image.specs.Image.{byte_at}
 use Rattle.ihex_read.specs.ImageText.{base_of, IsImage, placing_faults, is_misplaced}
 use Rattle.ihex_read.specs.Record.{type_of, placed_by}
 

@@ -1,7 +1,7 @@
 -- A reader of a text in pieces, and what a text tells before it has ended.
 use Rattle.std.specs.Prelude.{◌==◌, ◌<◌, ◌≤◌, ℕ, List, length, count_by, Option}
-use Rattle.ihex_read.specs.declared.rule_set.Rules.{Rules}
-use Rattle.ihex_read.specs.declared.rule_set.Tail.{Tail}
+use Rattle.image.specs.declared.rule_set.Rules.{Rules}
+use Rattle.ihex_read.specs.declared.tail.Tail.{Tail}
 use Rattle.ihex_read.specs.declared.fault.HexFault.{HexFault}
 use Rattle.ihex_read.specs.declared.fault.HexError.{HexError}
 use Rattle.ihex_read.specs.declared.fault.HexError.TheVariants.{Bad, Memory}

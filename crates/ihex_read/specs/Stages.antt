@@ -1,8 +1,8 @@
 -- How far a text has been read: its whole lines, the line that has begun, and what the whole lines have made.
 use Rattle.std.specs.Prelude.{◌≡◌, ◌++◌, ◌∷◌, [], ◌≤◌, ℕ, Bool, true, false, List, map, flat_map, length, Option, None, Some, All}
-use Rattle.ihex_read.specs.declared.rule_set.Rules.{Rules}
-use Rattle.ihex_read.specs.declared.rule_set.Tail.{Tail}
-use Rattle.ihex_read.specs.declared.rule_set.Tail.TheVariants.{Blank, Second}
+use Rattle.image.specs.declared.rule_set.Rules.{Rules}
+use Rattle.ihex_read.specs.declared.tail.Tail.{Tail}
+use Rattle.ihex_read.specs.declared.tail.Tail.TheVariants.{Blank, Second}
 use Rattle.ihex_read.specs.declared.fault.HexFault.{HexFault}
 use Rattle.ihex_read.specs.declared.fault.HexFault.TheVariants.{Trailing}
 use Rattle.ihex_read.specs.declared.stage.Progress.{Progress}

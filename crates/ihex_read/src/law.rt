@@ -2,12 +2,12 @@
 
 ghost use Rattle.std.specs.Prelude.{◌≡◌, ◌⊎◌, ◌++◌, ℕ, All, List, Option, length};
 ghost use Rattle.ihex_read.specs.declared.fault.HexFault.{HexFault};
-ghost use Rattle.ihex_read.specs.declared.rule_set.Rules.{Rules};
-ghost use Rattle.ihex_read.specs.declared.rule_set.Tail.{Tail};
-ghost use Rattle.ihex_read.specs.declared.rule_set.Tail.TheVariants.{Second};
-ghost use Rattle.ihex_read.specs.Image.{IsByte};
+ghost use Rattle.image.specs.declared.rule_set.Rules.{Rules};
+ghost use Rattle.ihex_read.specs.declared.tail.Tail.{Tail};
+ghost use Rattle.ihex_read.specs.declared.tail.Tail.TheVariants.{Second};
+ghost use Rattle.image.specs.Image.{IsByte};
 ghost use Rattle.ihex_read.specs.ImageText.{Denotes, FirstFault, GoesOnBehind};
-ghost use Rattle.ihex_read.specs.Kept.{IsReadUnder};
+ghost use Rattle.image.specs.Kept.{IsReadUnder};
 ghost use Rattle.ihex_read.specs.Lines.{lines_of};
 ghost use Rattle.ihex_read.specs.Reading.{FaultsWithin, HasEnded};
 

@@ -17,7 +17,6 @@
 //! A reader keeps the line that has begun, the image and a few numbers. It reads a text in linear time.
 #![tactic(auto)]
 
-mod address_map;
 mod fault;
 mod feeding;
 mod law;
@@ -25,14 +24,14 @@ mod lines;
 mod loading;
 mod placing;
 mod record;
-mod rule_set;
 mod stage;
+mod tail;
 
-pub use address_map::Image;
 pub use fault::{HexError, HexFault};
 pub use feeding::{MOST_BYTES, Reader};
+pub use image::{Image, Rules};
 pub use law::{
     ended_texts_stay, image_or_fault, images_have_bytes, images_keep_rules, whole_faults_stay,
 };
 pub use lines::without_return;
-pub use rule_set::{Rules, Tail};
+pub use tail::Tail;

@@ -8,12 +8,11 @@ ghost use Rattle.ihex_read.specs.ImageText.{fault_of, is_end};
 ghost use Rattle.ihex_read.specs.Loading.{Made, placing_fault, row_fault, written};
 ghost use Rattle.ihex_read.specs.Record.{base_behind, placed_by, type_of};
 
-use crate::address_map::Image;
 use crate::fault::HexFault;
-use crate::rule_set::Rules;
 use crate::{placing, record};
+use image::{Image, Rules};
+use no_memory::Memory;
 use std::alloc::Global;
-use vsa_io::Memory;
 
 /// What the lines so far have made: the base of the next data record, and what stands at each address.
 #[derive(Debug, Drop)]

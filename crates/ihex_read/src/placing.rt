@@ -7,7 +7,7 @@ ghost use Rattle.std.specs.List.{list_any, enumerate_from};
 ghost use Rattle.ihex_read.specs.ImageText.{is_misplaced};
 ghost use Rattle.ihex_read.specs.Loading.{is_outside, is_taken, is_resettable, written};
 
-use crate::rule_set::Rules;
+use image::Rules;
 
 /// One more than the highest address.
 pub const END_OF_MEMORY: usize = 65536;

@@ -1,18 +1,17 @@
 //! How far the lines of a text have come.
 
 ghost use Rattle.std.specs.Prelude.{◌≡◌, ◌<◌, ◌^◌, ◌++◌, ◌∷◌, [], List, ℕ, length, IfOk, IfErr, OnOk, OnErr};
-ghost use Rattle.ihex_read.specs.declared.rule_set.Tail.{Tail};
+ghost use Rattle.ihex_read.specs.declared.tail.Tail.{Tail};
 ghost use Rattle.std.specs.Result.{result_err};
 ghost use Rattle.ihex_read.specs.ImageText.{Denotes};
 ghost use Rattle.ihex_read.specs.Reading.{TellsWhole};
 ghost use Rattle.ihex_read.specs.Stages.{IsBehind, GoesOn, next_fault};
 
-use crate::address_map::Image;
 use crate::fault::{HexError, HexFault};
 use crate::loading::Loader;
-use crate::rule_set::Rules;
+use image::{Image, Rules};
+use no_memory::Memory;
 use std::alloc::Global;
-use vsa_io::Memory;
 
 /// What the lines so far have made, and whether one of them is an end record.
 #[derive(Drop)]

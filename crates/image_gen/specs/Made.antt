@@ -1,8 +1,8 @@
 -- Programs of so many functions that are called one after the other, and their image texts. Codes are those of TI's
 -- SLAU049 and of Intel's MCS-51 Programmer's Guide and Instruction Set.
 use Rattle.std.specs.Prelude.{◌≡◌, ℕ, ◌+◌, ◌-◌, ◌*◌, ◌/◌, ◌%◌, ◌≤◌, List, [], ◌∷◌, ◌++◌, length, take, drop, flat_map}
-use Rattle.image_gen.specs.declared.chip_name.ChipName.{ChipName}
-use Rattle.image_gen.specs.declared.chip_name.ChipName.TheVariants.{Msp430, Mcs51}
+use Rattle.image.specs.declared.chip_name.ChipName.{ChipName}
+use Rattle.image.specs.declared.chip_name.ChipName.TheVariants.{Msp430, Mcs51}
 use Rattle.image_gen.specs.Records.{each, stretch_lines, end_line}
 
 -- a word in the order of the MSP430 and in that of the MCS-51

@@ -3,11 +3,11 @@
 ghost use Rattle.std.specs.Prelude.{◌≡◌, ◌≤◌, IfOk};
 ghost use Rattle.image_gen.specs.Made.{made_image};
 
-use crate::chip_name::ChipName;
 use crate::records::{END, put_stretch};
 use crate::{mcs51, msp430};
+use image::ChipName;
+use no_memory::Memory;
 use std::alloc::Global;
-use vsa_io::Memory;
 
 /// The greatest number of functions.
 pub const MOST: u32 = 2000;

@@ -4,13 +4,12 @@
 //! records.
 #![tactic(auto)]
 
-mod chip_name;
 mod image_text;
 mod laws;
 mod mcs51;
 mod msp430;
 mod records;
 
-pub use chip_name::ChipName;
+pub use image::ChipName;
 pub use image_text::{MOST, make};
 pub use laws::calls_reach_functions;

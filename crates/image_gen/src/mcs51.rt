@@ -3,8 +3,8 @@
 ghost use Rattle.std.specs.Prelude.{◌≡◌, ◌+◌, ◌*◌, ◌≤◌, IfOk, length};
 ghost use Rattle.image_gen.specs.Made.{mcs51_function_at, mcs51_program};
 
+use no_memory::Memory;
 use std::alloc::Global;
-use vsa_io::Memory;
 
 /// Where the chip starts.
 pub const RESET: u16 = 0x0000;

@@ -3,8 +3,8 @@
 ghost use Rattle.std.specs.Prelude.{◌≡◌, ◌+◌, ◌*◌, ◌≤◌, IfOk, length, flat_map};
 ghost use Rattle.image_gen.specs.Made.{low_first, msp430_function_at, msp430_words, msp430_program};
 
+use no_memory::Memory;
 use std::alloc::{AllocError, Global};
-use vsa_io::Memory;
 
 /// Where the program starts.
 pub const START: u16 = 0x4000;

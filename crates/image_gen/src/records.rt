@@ -3,8 +3,8 @@
 ghost use Rattle.std.specs.Prelude.{◌≡◌, ◌+◌, ◌≤◌, ◌<◌, ◌++◌, OnOk, length, sum};
 ghost use Rattle.image_gen.specs.Records.{checksum_of, record_line, stretch_lines};
 
+use no_memory::Memory;
 use std::alloc::Global;
-use vsa_io::Memory;
 
 /// The end record's line.
 pub const END: &[u8] = b":00000001FF\n";

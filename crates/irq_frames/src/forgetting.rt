@@ -7,9 +7,9 @@ ghost use Rattle.entry_value.specs.Cells.{write_one};
 ghost use Rattle.irq_frames.specs.Unrelated as cells_of;
 
 use entry_value::{Cells, Word};
+use no_memory::Memory;
 use std::alloc::Global;
 use value_set::Vs16;
-use vsa_io::Memory;
 
 /// A set without a relation.
 fn plain(set: Vs16) -> Word

@@ -4,9 +4,9 @@ ghost use Rattle.std.specs.Prelude.{◌≡◌, ◌≤◌, ◌<◌, ◌||◌, ◌
 ghost use Rattle.irq_frames.specs.Ranges as the_ranges;
 ghost use Rattle.irq_frames.specs.Ranges.{AreRanges, EachReaches, has_address, lies_in};
 
+use no_memory::Memory;
 use std::alloc::Global;
 use std::marker::Model;
-use vsa_io::Memory;
 
 /// Addresses, as ascending ranges that neither overlap nor touch, each from its first address to its last one.
 #[derive(Drop)]

@@ -12,9 +12,9 @@ ghost use Rattle.irq_frames.specs.Resuming.{resumed_cell, resumed_cells, resumed
 
 use crate::ranges::Ranges;
 use entry_value::{Cell, Cells, Word, bytes_stay_bytes, words_are_ordered};
+use no_memory::Memory;
 use std::alloc::Global;
 use value_set::Vs16;
-use vsa_io::Memory;
 
 /// What the places of a suspended state held.
 pub trait Places {

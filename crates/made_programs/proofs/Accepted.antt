@@ -9,7 +9,7 @@ use Rattle.std.proofs.lemmas.List.Elements.{All-nil, All-cons, All-append, All-w
 use Rattle.std.proofs.lemmas.List.Folds.{list_any_none}
 use Rattle.ihex_read.specs.declared.fault.HexFault.{HexFault}
 use Rattle.ihex_read.specs.declared.fault.HexFault.TheVariants.{NoColon, BadDigit, BadLength, BadSum, BadType, BadTypeLength, OutOfRange, Clash, Misplaced, NoReset}
-use Rattle.ihex_read.specs.declared.rule_set.Rules.{Rules}
+use Rattle.image.specs.declared.rule_set.Rules.{Rules}
 use Rattle.ihex_read.specs.ImageText.{IsOpen, alone_faults, placing_faults, base_from, base_of, placed_from, placed_of, clashes, fault_of, has, is_end, is_misplaced}
 use Rattle.ihex_read.specs.Record.{record_of, base_behind, placed_by}
 use Rattle.made_programs.proofs.RecordLines.{IsRow, base_stays, line_at, no_end, none_alone, placed_back}

@@ -3,14 +3,14 @@ use Rattle.std.proofs.Common.{◌≡◌, ℕ, ◌+◌, ◌<◌, ◌≤◌, ◌==
 use Rattle.std.proofs.lemmas.Bool.{cases_lt, or_right, and_right, or_from, lt-leb}
 use Rattle.std.proofs.lemmas.List.{get_or_append_left, get_or_at, take-append-le}
 use Rattle.std.proofs.lemmas.List.Folds.{list_any-append}
-use Rattle.image_gen.specs.declared.chip_name.ChipName.{ChipName}
-use Rattle.image_gen.specs.declared.chip_name.ChipName.TheVariants.{Msp430, Mcs51}
+use Rattle.image.specs.declared.chip_name.ChipName.{ChipName}
+use Rattle.image.specs.declared.chip_name.ChipName.TheVariants.{Msp430, Mcs51}
 use Rattle.image_gen.specs.Made.{low_first, high_first, made_image, msp430_program, mcs51_program}
 use Rattle.ihex_read.specs.declared.fault.HexFault.{HexFault}
-use Rattle.ihex_read.specs.declared.rule_set.Rules.{Rules}
-use Rattle.ihex_read.specs.declared.rule_set.Rules.TheVariants as rules
-use Rattle.ihex_read.specs.declared.rule_set.Tail.{Tail}
-use Rattle.ihex_read.specs.declared.rule_set.Tail.TheVariants.{Blank}
+use Rattle.image.specs.declared.rule_set.Rules.{Rules}
+use Rattle.image.specs.declared.rule_set.Rules.TheVariants as rules
+use Rattle.ihex_read.specs.declared.tail.Tail.{Tail}
+use Rattle.ihex_read.specs.declared.tail.Tail.TheVariants.{Blank}
 use Rattle.ihex_read.specs.ImageText.{Denotes, Ends, FirstFault, of_line, no_end, trailing, GoesOnBehind, fault_of, has_byte, is_end, lacks_reset, placed_of}
 use Rattle.ihex_read.specs.Lines.{lines_of}
 use Rattle.made_programs.specs.Chips.{rules_of}

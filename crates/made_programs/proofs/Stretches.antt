@@ -2,7 +2,7 @@
 use Rattle.std.proofs.Common.{◌≡◌, ℕ, ◌+◌, ◌-◌, ◌*◌, ◌/◌, ◌<◌, ◌≤◌, min, zero, suc, false, List, [], ◌∷◌, ◌++◌, length, take, drop, None, refl, sym, ◌∙◌, ap, append_assoc, append-nil, length-drop, length-take, subst, codes, arith}
 use Rattle.std.proofs.lemmas.List.Elements.{All-take, All-drop}
 use Rattle.image_gen.specs.Records.{each, end_line, record_of, stretch_lines}
-use Rattle.ihex_read.specs.declared.rule_set.Rules.{Rules}
+use Rattle.image.specs.declared.rule_set.Rules.{Rules}
 use Rattle.ihex_read.specs.ImageText.{Ends, fault_of, lacks_reset, placed_of}
 use Rattle.ihex_read.specs.Lines.{lines_of}
 use Rattle.made_programs.proofs.Accepted.{IsFree, IsLaid, laid_below, laid_more}

@@ -1,8 +1,8 @@
 -- The rules under which the text of a program is read.
-use Rattle.image_gen.specs.declared.chip_name.ChipName.{ChipName}
-use Rattle.image_gen.specs.declared.chip_name.ChipName.TheVariants.{Msp430, Mcs51}
-use Rattle.ihex_read.specs.declared.rule_set.Rules.{Rules}
-use Rattle.ihex_read.specs.declared.rule_set.Rules.TheVariants as rules
+use Rattle.image.specs.declared.chip_name.ChipName.{ChipName}
+use Rattle.image.specs.declared.chip_name.ChipName.TheVariants.{Msp430, Mcs51}
+use Rattle.image.specs.declared.rule_set.Rules.{Rules}
+use Rattle.image.specs.declared.rule_set.Rules.TheVariants as rules
 
 -- RAM of the MSP430 from 0200h to 09FFh
 abbrev pub rules_of : ChipName → Rules

@@ -1,7 +1,7 @@
 -- The accumulator alone.
 use Rattle.std.proofs.Common.{◌≡◌, ℕ, ◌+◌, ◌-◌, ◌*◌, ◌/◌, ◌%◌, ◌<◌, Bool, true, false, Option, None, refl, sym, subst, arith}
 use Rattle.std.specs.Option.{option_map}
-use Rattle.value_bits.specs.Numbers.{adjusted_carry, decimal_adjusted, exchanged, shifted_left, shifted_right}
+use Rattle.chip_numbers.specs.Numbers.{adjusted_carry, decimal_adjusted, exchanged, shifted_left, shifted_right}
 use Rattle.mcs51_decode.specs.declared.instr.AccumulatorOperation.{AccumulatorOperation}
 use Rattle.mcs51_decode.specs.declared.instr.AccumulatorOperation.TheVariants.{Rr, Rrc, Rl, Rlc, Swap, Da, Clr, Cpl}
 use Rattle.mcs51_chip.specs.declared.state.ChipState.{ChipState}

@@ -179,7 +179,7 @@ pub fn show_source<M: Cells>(
     pc: u16,
     state: &State<M>,
     origin: &Source,
-) -> Result<(), vsa_io::Memory>
+) -> Result<(), no_memory::Memory>
     ensures { OnOk result (items.new ≡ items.old ++ accumulator.source_items pc state.now origin.now) }
 {
     match origin {

@@ -9,8 +9,8 @@ use mcs51_operands::{bit_addresses, carry, read_bit, read_byte};
 use mcs51_results::{byte_with_bit, carry_bit_made, carry_made, status_with_bit};
 use mcs51_state::{State, Status};
 use mcs51_stores::{set_status, write_byte};
+use no_memory::Memory;
 use value_bits::Tri;
-use vsa_io::Memory;
 
 /// The address of PSW, whose bits have the addresses from there on.
 const PSW: u8 = 0xD0;

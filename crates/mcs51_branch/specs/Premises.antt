@@ -10,7 +10,7 @@ use Rattle.value_set.specs.Form.{Has, IsNormal, above, gather}
 use Rattle.value_set.specs.Summing.{single, sub}
 use Rattle.value_bits.specs.Bits.{Agrees, known_bits}
 use Rattle.value_bits.specs.Flags.{IsFlag, agreed}
-use Rattle.value_bits.specs.Numbers.{low_byte, word_of}
+use Rattle.chip_numbers.specs.Numbers.{low_byte, word_of}
 use Rattle.value_bits.specs.Sets.{low_set, pair_set}
 
 pub record OfSets : Type 0 where

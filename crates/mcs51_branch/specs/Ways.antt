@@ -1,6 +1,6 @@
 -- A jump that goes one way or not at all.
 use Rattle.std.specs.Prelude.{◌≡◌, Bool, true, false, Option, None, Some, Result, Ok, Err}
-use Rattle.vsa_io.specs.declared.refusal.Memory.{Memory}
+use Rattle.no_memory.specs.declared.refusal.Memory.{Memory}
 use Rattle.mcs51_state.specs.Known.{Known}
 
 -- what is known where the jump goes this way, if it can; else all is as it was

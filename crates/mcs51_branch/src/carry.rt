@@ -8,9 +8,9 @@ use crate::places::cut_place;
 use crate::window::order_window;
 use entry_value::Cells;
 use mcs51_state::{CarryFact, State};
+use no_memory::Memory;
 use value_bits::{Flag, Tri, w8};
 use value_set::Vs8;
-use vsa_io::Memory;
 
 /// Where CY stands among the bits of PSW that are held.
 const CARRY: usize = 5;

@@ -11,8 +11,8 @@ use crate::window::{Window, equality_window};
 use entry_value::Cells;
 use mcs51_decode::Condition;
 use mcs51_state::{CarryFact, Compared, State};
+use no_memory::Memory;
 use value_set::Vs8;
-use vsa_io::Memory;
 
 /// Makes of what is known in front of JC, JNC, JZ, JNZ or SJMP what is known where it is taken, or isn't. Where that can't
 /// be, answers `false`. Then, and where memory lacks, all is as it was.

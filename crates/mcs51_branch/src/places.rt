@@ -8,9 +8,9 @@ ghost use Rattle.mcs51_branch.specs.Ways.{IsWay};
 use crate::window::Window;
 use entry_value::{Cells, Word, bytes_stay_bytes};
 use mcs51_state::{Compared, State};
+use no_memory::Memory;
 use value_bits::w16;
 use value_set::{Vs8, Vs16};
-use vsa_io::Memory;
 
 /// The numbers that a byte may be.
 pub(crate) fn set_at<M: Cells>(state: &State<M>, place: Compared) -> Vs8

@@ -13,9 +13,9 @@ use arrayvec::ArrayVec;
 use entry_value::{Byte, Cells};
 use mcs51_chip::{Address, Sfr, sfr_at};
 use mcs51_state::{Compared, State};
+use no_memory::Memory;
 use value_bits::w8;
 use value_set::{Form, Vs8, members_are_below};
-use vsa_io::Memory;
 
 /// The number that a place of a byte stands for.
 fn weight(place: u8) -> u8

@@ -9,8 +9,8 @@ use Rattle.std.proofs.lemmas.List.Elements.{All-set, All-get_or, All-replicate, 
 use Rattle.std.proofs.lemmas.List.{get_or_past}
 use borrow.Author.Tests.{ltb-true, ltb-false}
 use Rattle.std.proofs.lemmas.Nat.Bits.{bit_at-lt}
-use Rattle.ihex_read.specs.Image.{IsByte, byte_at}
-use Rattle.call_context.specs.Single.{Single}
+use Rattle.image.specs.Image.{IsByte, byte_at}
+use Rattle.chip_numbers.specs.Single.{Single}
 use Rattle.mcs51_decode.specs.declared.instr.Memory.{Memory}
 use Rattle.mcs51_decode.specs.declared.instr.Memory.TheVariants.{Direct, Working as InWorking}
 use Rattle.mcs51_decode.specs.declared.instr.Working.{Working}

@@ -3,7 +3,7 @@ use Rattle.std.proofs.Common.{ℕ, ◌+◌, ◌%◌, ◌<◌, ◌≤◌, ◌==�
 use Rattle.std.specs.List.{filter, range_with_len}
 use Rattle.std.proofs.lemmas.List.Sums.{length-filter, count_by-le-length}
 use Rattle.std.proofs.lemmas.List.FromFn.{length-range_with_len}
-use Rattle.ihex_read.specs.Image.{byte_at}
+use Rattle.image.specs.Image.{byte_at}
 use Rattle.mcs51_decode.specs.declared.instr.Source.TheVariants as source
 use Rattle.mcs51_decode.specs.declared.instr.Place.TheVariants.{Accumulator, Memory as InMemory}
 use Rattle.mcs51_decode.specs.declared.instr.BitTest.{BitTest}

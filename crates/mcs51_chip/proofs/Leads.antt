@@ -4,8 +4,8 @@ use Rattle.std.specs.Prelude.{Contains}
 use Rattle.std.specs.Int.{bit_at}
 use Rattle.std.proofs.lemmas.Bool.Decides.{nat_tests}
 use Rattle.std.proofs.lemmas.List.Elements.{Contains-get_or}
-use Rattle.ihex_read.specs.Image.{byte_at}
-use Rattle.call_context.specs.Single.Single.{Instr as Ran}
+use Rattle.image.specs.Image.{byte_at}
+use Rattle.chip_numbers.specs.Single.Single.{Instr as Ran}
 use Rattle.mcs51_decode.specs.declared.instr.BitTest.TheVariants.{SetAndClear, Set, Clear}
 use Rattle.mcs51_decode.specs.declared.instr.Instr.{Instr}
 use Rattle.mcs51_decode.specs.declared.instr.External.{External as AnExternal}

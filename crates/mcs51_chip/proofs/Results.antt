@@ -1,7 +1,7 @@
 -- Results are bytes, and targets are addresses.
 use Rattle.std.proofs.Common.{◌≡◌, ℕ, ◌+◌, ◌-◌, ◌*◌, ◌/◌, ◌%◌, ◌<◌, ◌==◌, Bool, true, false, cond, nat_lt, zero, suc, bit_and, bit_or, bit_xor, arith}
 use Rattle.std.proofs.lemmas.Nat.{and_le_l, or_lt, xor_lt}
-use Rattle.value_bits.specs.Numbers.{shifted_right, shifted_left, exchanged, decimal_adjusted}
+use Rattle.chip_numbers.specs.Numbers.{shifted_right, shifted_left, exchanged, decimal_adjusted}
 use Rattle.mcs51_decode.specs.declared.instr.Logic.{Logic}
 use Rattle.mcs51_decode.specs.declared.instr.Logic.TheVariants as logic
 use Rattle.mcs51_decode.specs.declared.instr.CarryOperation.{CarryOperation}

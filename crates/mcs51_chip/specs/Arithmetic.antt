@@ -1,7 +1,7 @@
 -- What instructions make of the accumulator and of CY, AC and OV (Intel, MCS-51 Programmer's Guide and Instruction Set,
 -- "Instruction Definitions").
 use Rattle.std.specs.Prelude.{ℕ, ◌+◌, ◌-◌, ◌*◌, ◌/◌, ◌%◌, not, nat_lt, nat_le, Bool, true, false, bit_and, bit_or, bit_xor}
-use Rattle.value_bits.specs.Numbers.{shifted_right, shifted_left, exchanged, decimal_adjusted, adjusted_carry}
+use Rattle.chip_numbers.specs.Numbers.{shifted_right, shifted_left, exchanged, decimal_adjusted, adjusted_carry}
 use Rattle.mcs51_decode.specs.declared.instr.Operation.{Operation}
 use Rattle.mcs51_decode.specs.declared.instr.Operation.TheVariants.{Add, Addc, Orl, Anl, Xrl, Subb}
 use Rattle.mcs51_decode.specs.declared.instr.Logic.{Logic}

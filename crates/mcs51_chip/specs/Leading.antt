@@ -8,7 +8,7 @@ use Rattle.mcs51_decode.specs.declared.refusal.NoInstr.{NoInstr}
 use Rattle.mcs51_decode.specs.Encoding.{bytes_of}
 use Rattle.mcs51_decode.specs.Standing.{Decodes, Stands}
 use Rattle.mcs51_decode.specs.Targets.{following}
-use Rattle.call_context.specs.Single.Single.{Instr as Ran}
+use Rattle.chip_numbers.specs.Single.Single.{Instr as Ran}
 use Rattle.choosing.specs.Outcome.Outcome.{Wild}
 use Rattle.mcs51_chip.specs.declared.place.Access.TheVariants.{External}
 use Rattle.mcs51_chip.specs.declared.place.Address.{Address}

@@ -4,10 +4,10 @@
 -- that aren't held; A and then B of a division by 0.
 use Rattle.std.specs.Prelude.{◌≡◌, ℕ, ◌+◌, ◌-◌, ◌*◌, ◌/◌, ◌%◌, ◌==◌, not, nat_lt, if◌then◌else◌, Bool, true, false, Option, Some, Result, Ok, Err, List, [], ◌∷◌, ◌++◌, length, map, slice_index}
 use Rattle.std.specs.Int.{bit_at}
-use Rattle.ihex_read.specs.Image.{byte_at}
-use Rattle.call_context.specs.declared.shown.Space.TheVariants as space
-use Rattle.call_context.specs.Single.{Single}
-use Rattle.call_context.specs.Single.Single.{Instr as Ran, Edge, Access as Accessed, Stack}
+use Rattle.image.specs.Image.{byte_at}
+use Rattle.chip_numbers.specs.declared.space.Space.TheVariants as space
+use Rattle.chip_numbers.specs.Single.{Single}
+use Rattle.chip_numbers.specs.Single.Single.{Instr as Ran, Edge, Access as Accessed, Stack}
 use Rattle.mcs51_decode.specs.declared.instr.Working.TheVariants.{Indirect as At, Register as InRegister}
 use Rattle.mcs51_decode.specs.declared.instr.Source.TheVariants as source
 use Rattle.mcs51_decode.specs.declared.instr.Place.TheVariants.{Accumulator, Memory as InMemory}

@@ -2,8 +2,8 @@
 
 ghost use Rattle.std.specs.Prelude.{◌≡◌, ◌==◌, ◌++◌, ◌∷◌, ◌-◌, ◌<◌, ◌≤◌, ℕ, [], All, IsSome, List, Option, Some, length, slice_index, true};
 ghost use Rattle.std.specs.Int.{bit_at};
-ghost use Rattle.ihex_read.specs.Image.{IsByte, byte_at};
-ghost use Rattle.call_context.specs.Single.{Single};
+ghost use Rattle.image.specs.Image.{IsByte, byte_at};
+ghost use Rattle.chip_numbers.specs.Single.{Single};
 ghost use Rattle.mcs51_decode.specs.declared.instr.Instr.{Instr as AnInstr};
 ghost use Rattle.mcs51_decode.specs.declared.refusal.NoInstr.TheVariants.{Excluded, OffImage};
 ghost use Rattle.mcs51_decode.specs.Standing.{HasExcluded, Lacks, Stands};

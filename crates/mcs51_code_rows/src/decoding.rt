@@ -1,6 +1,6 @@
 ghost use Rattle.std.specs.Prelude.{◌≡◌, ◌<◌, IfOk, length};
 
-use ihex_read::Image;
+use image::Image;
 use mcs51_decode::{NoInstr, decode, encode, from_bytes};
 use std::alloc::{AllocError, Global};
 use std::process::Abort;

@@ -5,7 +5,7 @@ use Rattle.std.specs.Int.Bits.{or_zero_r}
 use Rattle.std.proofs.lemmas.Bool.{and_parts, eqb-true}
 use Rattle.std.proofs.lemmas.List.Elements.{Contains-push_cases}
 use Rattle.std.proofs.lemmas.Nat.{and_mask}
-use Rattle.chip_law.specs.Laws.{HasEntry}
+use Rattle.call_context.specs.Nodes.{HasEntry}
 use Rattle.call_context.specs.declared.node.Frame.{Frame}
 use Rattle.call_context.specs.declared.node.Frame.TheVariants.{Base, Irq}
 use Rattle.entry_value.specs.declared.word.Entry.{Entry}

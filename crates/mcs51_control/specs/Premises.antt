@@ -1,7 +1,7 @@
 -- What the laws of calls, returns and jumps rest on: laws of sets, of reads, of the stack and of accesses.
 use Rattle.std.specs.Prelude.{◌≡◌, ℕ, ◌+◌, ◌%◌, ◌<◌, ◌↔◌, Bool, true, Option, option_map, [], ◌∷◌}
 use Rattle.entry_value.specs.Words.{HoldsOfByte}
-use Rattle.value_bits.specs.Numbers.{word_of}
+use Rattle.chip_numbers.specs.Numbers.{word_of}
 use Rattle.value_bits.specs.Sets.{pair_set}
 use Rattle.value_set.specs.declared.form.Form.{Form}
 use Rattle.value_set.specs.Form.{Has, Includes, IsNormal}

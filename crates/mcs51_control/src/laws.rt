@@ -2,7 +2,7 @@
 
 ghost use Rattle.std.specs.Prelude.{◌≡◌, ◌+◌, ◌%◌, ◌<◌, ℕ, Bool, true, List, [], Option};
 ghost use Rattle.call_context.specs.declared.node.Frame.{Frame as AFrame};
-ghost use Rattle.chip_law.specs.Laws.{HasEntry};
+ghost use Rattle.call_context.specs.Nodes.{HasEntry};
 ghost use Rattle.choosing.specs.Gives.{Gives};
 ghost use Rattle.value_set.specs.Form.{Has, IsNormal};
 ghost use Rattle.value_set.specs.Summing.{single};

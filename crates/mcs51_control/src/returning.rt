@@ -8,9 +8,9 @@ use entry_value::{Byte, Cells, Entry};
 use mcs51_operands::{access, read_byte};
 use mcs51_state::{Addresses, Levels, State};
 use mcs51_stores::{pop_byte, stack_top};
+use no_memory::Memory;
 use value_bits::w16;
 use value_set::{Vs8, Vs16};
-use vsa_io::Memory;
 
 /// What stands on top of the stack: the high byte of a return address.
 fn high_byte<M: Cells>(framed: bool, state: &State<M>) -> Byte

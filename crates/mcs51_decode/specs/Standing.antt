@@ -1,6 +1,6 @@
 -- What an image has at an address: an instruction, a gap where a byte of one is needed, or the excluded opcode.
 use Rattle.std.specs.Prelude.{ℕ, ◌≡◌, ◌<◌, ◌+◌, ◌%◌, suc, Option, None, Some, Result, Ok, Err, List, [], ◌∷◌, length, false}
-use Rattle.ihex_read.specs.Image.{byte_at}
+use Rattle.image.specs.Image.{byte_at}
 use Rattle.mcs51_decode.specs.declared.instr.Instr.{Instr}
 use Rattle.mcs51_decode.specs.declared.refusal.NoInstr.{NoInstr}
 use Rattle.mcs51_decode.specs.declared.refusal.NoInstr.TheVariants.{OffImage, Excluded}

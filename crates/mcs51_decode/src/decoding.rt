@@ -10,7 +10,7 @@ ghost use Rattle.mcs51_decode.specs.Decoding.{byte_upward, operand_upward, decod
 use crate::instr::Instr;
 use crate::refusal::NoInstr;
 use crate::rows::row_of;
-use ihex_read::Image;
+use image::Image;
 
 /// Whether an opcode is no instruction's.
 fn is_no_instruction(opcode: u8) -> bool

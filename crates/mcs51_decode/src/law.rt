@@ -1,7 +1,7 @@
 //! What holds of all bytes and images.
 
 ghost use Rattle.std.specs.Prelude.{◌≡◌, ◌<◌, ◌+◌, ◌++◌, ℕ, All, List, [], ◌∷◌, take, Option, Result, Ok, Some, length, false};
-ghost use Rattle.ihex_read.specs.Image.{IsByte};
+ghost use Rattle.image.specs.Image.{IsByte};
 ghost use Rattle.mcs51_decode.specs.declared.instr.Instr.{Instr};
 ghost use Rattle.mcs51_decode.specs.declared.refusal.NoInstr.{NoInstr};
 ghost use Rattle.mcs51_decode.specs.Table.{Row, is_excluded, length_at, row_at};

@@ -35,7 +35,7 @@ mod targets;
 
 pub use decoding::{decode, from_bytes};
 pub use encoding::{encode, number_of_pointer, number_of_register};
-pub use ihex_read::Image;
+pub use image::Image;
 pub use instr::{
     AccumulatorOperation, BitOperation, BitTest, CarryByBit, CarryOperation, CodeBase, Comparison,
     Condition, Counter, External, Instr, Logic, Mask, Memory, Operation, Place, Pointer, Register,

@@ -5,10 +5,10 @@ use Rattle.call_context.specs.declared.shown.Item.{Item}
 use Rattle.call_context.specs.declared.shown.Item.TheVariants as items
 use Rattle.call_context.specs.declared.shown.Set.{Set}
 use Rattle.call_context.specs.declared.shown.Set.TheVariants.{B, W}
-use Rattle.call_context.specs.declared.shown.Space.{Space}
-use Rattle.call_context.specs.declared.shown.Space.TheVariants.{Mem, Ram, Sfr, Xram, Code}
-use Rattle.call_context.specs.Single.{Single}
-use Rattle.call_context.specs.Single.Single.{Instr as Ran, Edge, Access as Accessed, Stack}
+use Rattle.chip_numbers.specs.declared.space.Space.{Space}
+use Rattle.chip_numbers.specs.declared.space.Space.TheVariants.{Mem, Ram, Sfr, Xram, Code}
+use Rattle.chip_numbers.specs.Single.{Single}
+use Rattle.chip_numbers.specs.Single.Single.{Instr as Ran, Edge, Access as Accessed, Stack}
 use Rattle.choosing.specs.Outcome.Outcome.{Wild}
 use Rattle.choosing.specs.Choosing.{asked_as}
 use Rattle.mcs51_decode.specs.declared.instr.Instr.{Instr}

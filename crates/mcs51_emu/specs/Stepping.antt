@@ -1,6 +1,6 @@
 -- What a step of the machine says of the chip.
 use Rattle.std.specs.Prelude.{◌≡◌, ℕ, Option, None, Some, List, map}
-use Rattle.call_context.specs.Single.{Single}
+use Rattle.chip_numbers.specs.Single.{Single}
 use Rattle.choosing.specs.Outcome.Outcome.{Next, Wild as LeavesModel}
 use Rattle.mcs51_chip.specs.declared.state.ChipState.{ChipState}
 use Rattle.mcs51_chip.specs.Step.{step_of}

@@ -4,7 +4,7 @@ ghost use Rattle.std.specs.Prelude.{◌≡◌, ◌<◌, ◌≤◌, ◌-◌};
 ghost use Rattle.mcs51_chip.specs.Arithmetic as numbers;
 ghost use Rattle.mcs51_chip.specs.Registers as states;
 ghost use Rattle.mcs51_decode.specs.declared.instr.AccumulatorOperation.TheVariants as operations;
-ghost use Rattle.value_bits.specs.Numbers.{high_adjusted, low_adjusted, shifted_left, shifted_right};
+ghost use Rattle.chip_numbers.specs.Numbers.{high_adjusted, low_adjusted, shifted_left, shifted_right};
 ghost use Rattle.mcs51_emu.specs.Form.{unheld};
 
 use crate::bits::bit_of;

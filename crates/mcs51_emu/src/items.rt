@@ -3,7 +3,7 @@
 ghost use Rattle.std.specs.Prelude.{◌≡◌, ◌+◌, ◌<◌, ◌≤◌, ◌++◌, ◌∷◌, [], map};
 ghost use Rattle.arrayvec.specs.ArrayVec.{array_vec_len};
 ghost use Rattle.call_context.specs.declared.shown.Item.TheVariants as items;
-ghost use Rattle.call_context.specs.Single.Single.{Edge, Stack};
+ghost use Rattle.chip_numbers.specs.Single.Single.{Edge, Stack};
 ghost use Rattle.mcs51_chip.specs.Step.{accessed};
 ghost use Rattle.mcs51_emu.specs.Listing.{item_of, listed, ran, shown};
 

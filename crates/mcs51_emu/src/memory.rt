@@ -2,7 +2,7 @@
 
 ghost use Rattle.std.specs.Prelude.{◌≡◌, ◌<◌, ◌≤◌, length};
 ghost use Rattle.choosing.specs.Choosing.{asked};
-ghost use Rattle.ihex_read.specs.Image.{byte_at};
+ghost use Rattle.image.specs.Image.{byte_at};
 ghost use Rattle.mcs51_chip.specs.Memory as memories;
 ghost use Rattle.mcs51_chip.specs.State.{IsChipState};
 ghost use Rattle.mcs51_emu.specs.Form.{unheld};

@@ -7,7 +7,7 @@ use Rattle.value_set.specs.Form.{Has, IsNormal}
 use Rattle.value_set.specs.Summing.{single}
 use Rattle.call_context.specs.declared.node.Node.TheVariants.{At}
 use Rattle.call_context.specs.declared.shown.Item.{Item}
-use Rattle.call_context.specs.Single.{AreShowing}
+use Rattle.call_context.specs.Showing.{AreShowing}
 use Rattle.mcs51_chip.specs.declared.place.Access.{Access}
 use Rattle.mcs51_chip.specs.declared.place.Access.TheVariants.{Internal}
 use Rattle.mcs51_chip.specs.declared.place.Address.TheVariants.{InRam as AtRam}

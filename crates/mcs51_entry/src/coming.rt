@@ -10,10 +10,10 @@ use call_context::{Frame, Sequence};
 use entry_value::Cells;
 use mcs51_operands::read_bit;
 use mcs51_state::{Addresses, State};
+use no_memory::Memory;
 use std::alloc::Global;
 use value_bits::Tri;
 use value_set::{Form, Vs8, members_are_below};
-use vsa_io::Memory;
 
 /// An interrupt that may come.
 #[derive(Clone, Copy, Debug, PartialEq, Eq)]

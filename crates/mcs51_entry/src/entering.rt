@@ -10,9 +10,9 @@ use irq_frames::{Ranges, unrelated};
 use mcs51_operands::access;
 use mcs51_state::{Addresses, Levels, State, Status};
 use mcs51_stores::push_pair;
+use no_memory::Memory;
 use std::alloc::Global;
 use value_set::Vs8;
-use vsa_io::Memory;
 
 /// The relation of a place to itself: all of what it holds.
 fn itself(place: u16) -> Entry

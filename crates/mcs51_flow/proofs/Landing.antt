@@ -11,8 +11,9 @@ use Rattle.call_context.specs.declared.node.Node.TheVariants.{At, Exit}
 use Rattle.call_context.specs.declared.shown.Item.{Item}
 use Rattle.call_context.specs.declared.shown.Item.TheVariants as items
 use Rattle.call_context.specs.declared.shown.Set.TheVariants.{B}
-use Rattle.call_context.specs.Single.{Single, AreShowing}
-use Rattle.call_context.specs.Single.Single.{Instr as RanOne, Edge as Went, Stack as Stood}
+use Rattle.call_context.specs.Showing.{AreShowing}
+use Rattle.chip_numbers.specs.Single.{Single}
+use Rattle.chip_numbers.specs.Single.Single.{Instr as RanOne, Edge as Went, Stack as Stood}
 use Rattle.chip_law.specs.declared.chip.Work.{Work}
 use Rattle.chip_law.specs.Laws.{IsWaitedFor, Lands}
 use Rattle.chip_law.specs.Laws.Lands.{enters, leaves, stays}

@@ -11,11 +11,11 @@ use Rattle.call_context.specs.declared.node.Unit.{Unit as WorkUnit}
 use Rattle.call_context.specs.declared.node.Unit.TheVariants.{One, Back}
 use Rattle.call_context.specs.declared.shown.Cause.{Cause}
 use Rattle.call_context.specs.declared.shown.Item.TheVariants as items
-use Rattle.call_context.specs.Nodes.{frame_of, pc_of, IsLocation}
-use Rattle.call_context.specs.Single.{Single}
+use Rattle.call_context.specs.Nodes.{frame_of, pc_of, IsLocation, HasEntry}
+use Rattle.chip_numbers.specs.Single.{Single}
 use Rattle.chip_law.specs.Analysis.{AreFormed}
 use Rattle.chip_law.specs.declared.chip.Work.{Work}
-use Rattle.chip_law.specs.Laws.{IsLawful, IsTold, HasEntry, Lands, Resumes, location_of}
+use Rattle.chip_law.specs.Laws.{IsLawful, IsTold, Lands, Resumes, location_of}
 use Rattle.chip_law.specs.Outcome.{Leaving}
 use Rattle.chip_law.specs.Outcome.Outcome.{Next, Wild}
 use Rattle.choosing.specs.Outcome.Outcome.{Next as Onward, Wild as Leaves}

@@ -4,9 +4,9 @@ use Rattle.call_context.specs.declared.node.Frame.{Frame}
 use Rattle.call_context.specs.declared.node.Frame.TheVariants.{Base, Irq}
 use Rattle.call_context.specs.declared.node.Node.{Node}
 use Rattle.call_context.specs.declared.node.Node.TheVariants.{At}
-use Rattle.chip_law.specs.Laws.{HasEntry}
+use Rattle.call_context.specs.Nodes.{HasEntry}
 use Rattle.choosing.specs.Gives.{Gives}
-use Rattle.ihex_read.specs.Image.{IsByte}
+use Rattle.image.specs.Image.{IsByte}
 use Rattle.value_set.specs.declared.form.Form.{Form}
 use Rattle.value_set.specs.Form.{Has, IsNormal}
 use Rattle.value_set.specs.Joining.{is_in}

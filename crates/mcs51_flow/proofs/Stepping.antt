@@ -5,11 +5,11 @@ use Rattle.call_context.specs.declared.node.Frame.{Frame}
 use Rattle.call_context.specs.declared.node.Frame.TheVariants.{Base, Irq}
 use Rattle.call_context.specs.declared.shown.Cause.{Cause}
 use Rattle.call_context.specs.declared.shown.Cause.TheVariants.{Fetch, Targets}
-use Rattle.call_context.specs.Single.Single.{Instr as RanOne}
+use Rattle.chip_numbers.specs.Single.Single.{Instr as RanOne}
 use Rattle.chip_law.specs.Laws.{IsTold}
 use Rattle.choosing.specs.Outcome.Outcome.{Wild as Leaves}
-use Rattle.ihex_read.specs.Kept.{IsReadUnder}
-use Rattle.ihex_read.specs.declared.rule_set.Rules.TheVariants.{Mcs51}
+use Rattle.image.specs.Kept.{IsReadUnder}
+use Rattle.image.specs.declared.rule_set.Rules.TheVariants.{Mcs51}
 use Rattle.value_set.specs.Summing.{count_of}
 use Rattle.mcs51_decode.specs.declared.instr.Instr.{Instr}
 use Rattle.mcs51_decode.specs.declared.refusal.NoInstr.{NoInstr}

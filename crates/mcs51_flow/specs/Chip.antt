@@ -15,8 +15,8 @@ use Rattle.call_context.specs.declared.shown.Set.TheVariants.{B}
 use Rattle.call_context.specs.Nodes.{frame_of}
 use Rattle.chip_law.specs.declared.chip.Work.{Work}
 use Rattle.chip_law.specs.Analysis.{Analysis}
-use Rattle.ihex_read.specs.Kept.{IsReadUnder}
-use Rattle.ihex_read.specs.declared.rule_set.Rules.TheVariants.{Mcs51}
+use Rattle.image.specs.Kept.{IsReadUnder}
+use Rattle.image.specs.declared.rule_set.Rules.TheVariants.{Mcs51}
 use Rattle.value_set.specs.Joining.{is_in}
 use Rattle.value_set.specs.Summing.{count_of}
 use Rattle.mcs51_decode.specs.declared.instr.Instr.{Instr}

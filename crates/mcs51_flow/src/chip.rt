@@ -4,8 +4,8 @@ ghost use Rattle.std.specs.Prelude.{◌≡◌, [], ◌++◌, ◌≤◌, ◌<◌,
 ghost use Rattle.std.specs.Option.{option_copied};
 ghost use Rattle.call_context.specs.Nodes.{frame_of as the_frame};
 ghost use Rattle.call_context.specs.declared.shown.Item.TheVariants as items;
-ghost use Rattle.ihex_read.specs.Kept.{IsReadUnder};
-ghost use Rattle.ihex_read.specs.declared.rule_set.Rules.{Rules};
+ghost use Rattle.image.specs.Kept.{IsReadUnder};
+ghost use Rattle.image.specs.declared.rule_set.Rules.{Rules};
 ghost use Rattle.value_set.specs.Joining.{is_in};
 ghost use Rattle.mcs51_decode.specs.Encoding.{bytes_of};
 ghost use Rattle.mcs51_decode.specs.Fitting.{IsInstr};
@@ -27,16 +27,16 @@ use analysis_limits::Limits;
 use arrayvec::ArrayString;
 use call_context::{Calls, Cause, Frame, InstrBytes, Item, Node, Sequence, Unit};
 use chip_law::{Chip, ChipText, InstrText, Work};
-use ihex_read::Image;
+use image::Image;
 use mcs51_control::goes_back;
 use mcs51_decode::{Instr, decode, encode};
 use mcs51_resume::resume;
 use mcs51_running::{Ran, Way, run};
 use mcs51_state::State;
+use no_memory::Memory;
 use std::alloc::Global;
 use std::marker::Model;
 use value_set::members_are_below;
-use vsa_io::Memory;
 
 /// What is known of a state, with its RAM as a list of cells.
 type Abs = State<CellList>;

@@ -13,8 +13,8 @@ use call_context::{Calls, Frame, Item, Node, Sequence, Set};
 use chip_law::Work;
 use mcs51_entry::{Coming, add_entry_items, comings, entered, entries_hold, frame_of, handler_of};
 use mcs51_state::State;
+use no_memory::Memory;
 use std::alloc::Global;
-use vsa_io::Memory;
 
 /// The handler of an interrupt, with what it knows.
 fn entry_post(

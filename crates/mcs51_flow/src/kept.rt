@@ -4,9 +4,9 @@ ghost use Rattle.std.specs.Prelude.{◌≡◌, IfOk};
 
 use abs_memory::CellList;
 use mcs51_state::State;
+use no_memory::Memory;
 use std::alloc::Global;
 use std::marker::Model;
-use vsa_io::Memory;
 
 /// What is known of a state, behind a pointer: posts and tables move no more than that.
 #[derive(Drop)]

@@ -1,7 +1,7 @@
 //! What an analysis is set to.
 
 use analysis_limits::Limits;
-use ihex_read::Image;
+use image::Image;
 
 /// A program, and the limits of its analysis.
 #[derive(Drop)]

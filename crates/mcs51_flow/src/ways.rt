@@ -9,13 +9,13 @@ use crate::kept::Kept;
 use crate::labels::{CallEffect, calls_by};
 use abs_memory::CellList;
 use call_context::{Calls, Cause, Frame, Item, Node, Sequence};
-use ihex_read::Image;
+use image::Image;
 use mcs51_running::Way;
 use mcs51_state::State;
+use no_memory::Memory;
 use std::alloc::Global;
 use std::marker::Model;
 use value_set::{Vs16, sets_have_members};
-use vsa_io::Memory;
 
 /// The edges, the posts and the opens of an instruction.
 #[derive(Drop)]

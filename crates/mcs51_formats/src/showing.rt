@@ -7,7 +7,7 @@ use call_context::{Item, Sequence};
 use entry_value::Cells;
 use mcs51_operands::{access, addresses_of, show_address};
 use mcs51_state::{Addresses, State};
-use vsa_io::Memory;
+use no_memory::Memory;
 
 /// Adds the accesses to an operand that is read. Behind an error the items are of no use.
 pub fn show_read<M: Cells>(

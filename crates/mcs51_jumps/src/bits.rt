@@ -12,9 +12,9 @@ use mcs51_operands::{bit_addresses, read_byte};
 use mcs51_results::{byte_with_bit, status_with_bit};
 use mcs51_state::State;
 use mcs51_stores::{set_status, write_byte};
+use no_memory::Memory;
 use std::alloc::Global;
 use value_bits::Tri;
-use vsa_io::Memory;
 
 /// What is known where a bit is set, or is clear, if that can be.
 fn where_bit<M: Cells>(

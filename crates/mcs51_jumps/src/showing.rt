@@ -10,7 +10,7 @@ use mcs51_decode::{BitTest, Comparison, Counter};
 use mcs51_formats::{show_read, show_update, show_update_at};
 use mcs51_operands::{access, bit_addresses};
 use mcs51_state::State;
-use vsa_io::Memory;
+use no_memory::Memory;
 
 /// Adds the read of JB and JNB. Behind an error the items are of no use.
 fn show_test(accesses: &mut Sequence<Item>, pc: u16, bit: u8) -> Result<(), Memory>

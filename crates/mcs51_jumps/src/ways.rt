@@ -12,10 +12,10 @@ use mcs51_operands::{
 };
 use mcs51_state::{Addresses, Compared, State};
 use mcs51_stores::write_byte;
+use no_memory::Memory;
 use std::alloc::Global;
 use std::marker::Model;
 use value_set::Vs8;
-use vsa_io::Memory;
 
 /// What is known behind a jump, where that can be.
 #[derive(Drop)]

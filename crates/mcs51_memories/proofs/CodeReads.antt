@@ -3,11 +3,11 @@ use Rattle.std.proofs.Common.{◌≡◌, ℕ, ◌+◌, ◌*◌, ◌%◌, Bool, t
 use Rattle.std.proofs.lemmas.List.Elements.{All-get_or}
 use Rattle.std.proofs.lemmas.List.{get_or_past}
 use borrow.Author.Tests.{ltb-true, ltb-false}
-use Rattle.ihex_read.specs.Image.{IsByte as IsImageByte, byte_at}
+use Rattle.image.specs.Image.{IsByte as IsImageByte, byte_at}
 use Rattle.call_context.specs.declared.shown.Item.TheVariants.{Access}
 use Rattle.call_context.specs.declared.shown.Set.TheVariants.{W}
-use Rattle.call_context.specs.declared.shown.Space.TheVariants.{Code}
-use Rattle.call_context.specs.Single.{Shows}
+use Rattle.chip_numbers.specs.declared.space.Space.TheVariants.{Code}
+use Rattle.call_context.specs.Showing.{Shows}
 use Rattle.choosing.specs.Gives.{Gives}
 use Rattle.value_bits.specs.Sets.{pair_set}
 use Rattle.value_set.specs.declared.form.Form.{Form}

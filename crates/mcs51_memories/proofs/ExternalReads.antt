@@ -2,8 +2,8 @@
 use Rattle.std.proofs.Common.{◌≡◌, ℕ, ◌+◌, ◌*◌, ◌<◌, ◌++◌, Bool, true, false, Option, List, [], ◌∷◌, refl, sym, subst, arith}
 use Rattle.call_context.specs.declared.shown.Item.TheVariants.{Access}
 use Rattle.call_context.specs.declared.shown.Set.TheVariants.{W}
-use Rattle.call_context.specs.declared.shown.Space.TheVariants.{Xram}
-use Rattle.call_context.specs.Single.{Shows}
+use Rattle.chip_numbers.specs.declared.space.Space.TheVariants.{Xram}
+use Rattle.call_context.specs.Showing.{Shows}
 use Rattle.choosing.specs.Gives.{Gives, weaken}
 use Rattle.value_set.specs.Form.{Has}
 use Rattle.mcs51_decode.specs.declared.instr.External.{External}

@@ -1,11 +1,11 @@
 -- What MOVC makes of what is known of a state (Intel, MCS-51 Programmer's Guide and Instruction Set: MOVC). It reads the program,
 -- of which an image has some bytes; any other one is any.
 use Rattle.std.specs.Prelude.{ℕ, nat_lt, if◌then◌else◌, false, Option, None, Some, List, [], ◌∷◌, length}
-use Rattle.ihex_read.specs.Image.{byte_at}
+use Rattle.image.specs.Image.{byte_at}
 use Rattle.call_context.specs.declared.shown.Item.{Item}
 use Rattle.call_context.specs.declared.shown.Item.TheVariants.{Access}
 use Rattle.call_context.specs.declared.shown.Set.TheVariants.{W}
-use Rattle.call_context.specs.declared.shown.Space.TheVariants.{Code}
+use Rattle.chip_numbers.specs.declared.space.Space.TheVariants.{Code}
 use Rattle.value_bits.specs.Sets.{pair_set}
 use Rattle.value_set.specs.declared.form.Form.{Form}
 use Rattle.value_set.specs.Form.{members}

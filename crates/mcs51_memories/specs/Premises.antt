@@ -1,12 +1,12 @@
 -- What the laws of this crate rest on: laws of sets, of operands and reads, of results, of writes and the stack, and of formats.
 use Rattle.std.specs.Prelude.{◌≡◌, ℕ, ◌+◌, ◌-◌, ◌*◌, ◌/◌, ◌%◌, ◌<◌, ◌==◌, Bool, true, Option, option_map, List, [], ◌∷◌, ◌++◌, length}
-use Rattle.ihex_read.specs.Image.{byte_at}
+use Rattle.image.specs.Image.{byte_at}
 use Rattle.call_context.specs.declared.shown.Item.{Item}
 use Rattle.choosing.specs.Asking.{IsOption}
 use Rattle.choosing.specs.Gives.{Gives}
 use Rattle.entry_value.specs.declared.byte.Byte.{Byte}
 use Rattle.entry_value.specs.Words.{HoldsOfByte, Suspended}
-use Rattle.value_bits.specs.Numbers.{word_of}
+use Rattle.chip_numbers.specs.Numbers.{word_of}
 use Rattle.value_bits.specs.Sets.{pair_set}
 use Rattle.value_set.specs.declared.form.Form.{Form}
 use Rattle.value_set.specs.Form.{Has, Includes, IsNormal, make}

@@ -6,14 +6,14 @@ ghost use Rattle.mcs51_memories.specs.Codes as codes;
 
 use call_context::{Item, Sequence, Set, Space};
 use entry_value::{Byte, Cells};
-use ihex_read::Image;
+use image::Image;
 use mcs51_control::jump_targets;
 use mcs51_decode::CodeBase;
 use mcs51_state::State;
 use mcs51_stores::set_accumulator;
+use no_memory::Memory;
 use value_bits::w16;
 use value_set::{Vs8, Vs16};
-use vsa_io::Memory;
 
 /// The byte of the program at an address.
 fn code_set(image: &Image, at: u16) -> Vs8

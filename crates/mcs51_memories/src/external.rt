@@ -9,9 +9,9 @@ use mcs51_decode::{External, Working};
 use mcs51_operands::{pointed_addresses, show_pointer};
 use mcs51_state::State;
 use mcs51_stores::set_accumulator;
+use no_memory::Memory;
 use value_bits::w16;
 use value_set::{Vs8, Vs16};
-use vsa_io::Memory;
 
 /// MOVX to the accumulator.
 #[tactic(auto, unfolding(crate::specs::Externals::external_loaded))]

@@ -1,7 +1,7 @@
 //! What holds of instructions that reach other memories or write two registers.
 
 ghost use Rattle.std.specs.Prelude.{◌<◌, ℕ, All, Bool, [], false, List, Option, true};
-ghost use Rattle.ihex_read.specs.Image.{IsByte as IsImageByte};
+ghost use Rattle.image.specs.Image.{IsByte as IsImageByte};
 ghost use Rattle.choosing.specs.Gives.{Gives};
 ghost use Rattle.mcs51_decode.specs.declared.instr.CodeBase.{CodeBase as ACodeBase};
 ghost use Rattle.mcs51_decode.specs.declared.instr.External.{External as AnExternal};

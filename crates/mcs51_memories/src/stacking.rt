@@ -9,8 +9,8 @@ use entry_value::{Byte, Cells};
 use mcs51_operands::{access, direct_addresses, read_byte};
 use mcs51_state::{Addresses, State};
 use mcs51_stores::{pop_byte, push_byte, stack_top, write_byte};
+use no_memory::Memory;
 use value_set::Vs8;
-use vsa_io::Memory;
 
 /// The direct address of SP.
 const SP: u8 = 0x81;

@@ -10,9 +10,9 @@ use mcs51_operands::{addresses_of, direct_addresses, read_byte, working_addresse
 use mcs51_results::{Operand, decreased, increased, masked_made, masked_status};
 use mcs51_state::State;
 use mcs51_stores::{set_accumulator, set_status, write_byte};
+use no_memory::Memory;
 use value_bits::w8;
 use value_set::Vs8;
-use vsa_io::Memory;
 
 /// PSW, as a direct byte.
 const PSW: u8 = 0xD0;

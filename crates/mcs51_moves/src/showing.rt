@@ -9,7 +9,7 @@ use mcs51_decode::Working;
 use mcs51_formats::show_read;
 use mcs51_operands::{access, direct_addresses, show_pointer, working_addresses};
 use mcs51_state::State;
-use vsa_io::Memory;
+use no_memory::Memory;
 
 /// Adds the accesses of MOV to a direct byte. Behind an error the items are of no use.
 pub fn show_move_to_direct<M: Cells>(

@@ -1,7 +1,7 @@
 -- The accesses to operands are shown.
 use Rattle.std.proofs.Common.{ℕ, Bool, false, Option, [], ◌∷◌, refl, sym, subst, inl, inr}
 use Rattle.call_context.specs.declared.shown.Item.{Item}
-use Rattle.call_context.specs.Single.{Shows}
+use Rattle.call_context.specs.Showing.{Shows}
 use Rattle.value_set.specs.Form.{Has}
 use Rattle.value_set.specs.Summing.{single}
 use Rattle.mcs51_decode.specs.declared.instr.Memory.{Memory}

@@ -3,8 +3,8 @@ use Rattle.std.specs.Prelude.{ℕ, Bool, false, List, [], ◌∷◌, Contains}
 use Rattle.call_context.specs.declared.shown.Item.{Item}
 use Rattle.call_context.specs.declared.shown.Item.TheVariants.{Access}
 use Rattle.call_context.specs.declared.shown.Set.TheVariants.{B}
-use Rattle.call_context.specs.declared.shown.Space.TheVariants.{Ram, Sfr}
-use Rattle.call_context.specs.Single.{AreShowing}
+use Rattle.chip_numbers.specs.declared.space.Space.TheVariants.{Ram, Sfr}
+use Rattle.call_context.specs.Showing.{AreShowing}
 use Rattle.value_set.specs.Summing.{single}
 use Rattle.mcs51_decode.specs.declared.instr.Memory.{Memory}
 use Rattle.mcs51_decode.specs.declared.instr.Memory.TheVariants.{Direct, Working as InWorking}

@@ -8,8 +8,8 @@ use call_context::{Item, Sequence, Set, Space};
 use entry_value::Cells;
 use mcs51_decode::{Working, number_of_pointer};
 use mcs51_state::{Addresses, State};
+use no_memory::Memory;
 use value_set::Vs8;
-use vsa_io::Memory;
 
 /// The access of an instruction at an address to a byte at one of some addresses.
 pub fn access(pc: u16, write: bool, addresses: &Addresses) -> Item

@@ -15,7 +15,7 @@ use Rattle.value_bits.specs.declared.tri.Top.TheVariants.{Low, Put}
 use Rattle.value_bits.specs.declared.tri.Tri.{Tri}
 use Rattle.value_bits.specs.declared.tri.Tri.TheVariants.{Either}
 use Rattle.value_bits.specs.Bits.{IsBit, logic_of}
-use Rattle.value_bits.specs.Numbers.{shifted_right, shifted_left, exchanged, decimal_adjusted, adjusted_carry}
+use Rattle.chip_numbers.specs.Numbers.{shifted_right, shifted_left, exchanged, decimal_adjusted, adjusted_carry}
 use Rattle.value_bits.specs.Sets.{chosen}
 use Rattle.mcs51_decode.specs.declared.instr.Operation.{Operation}
 use Rattle.mcs51_decode.specs.declared.instr.Operation.TheVariants.{Add, Addc, Orl, Anl, Xrl, Subb}

@@ -4,7 +4,7 @@ use Rattle.entry_value.specs.declared.byte.Byte.{Byte}
 use Rattle.entry_value.specs.Words.{Suspended, HoldsOfByte}
 use Rattle.value_set.specs.Form.{IsNormal}
 use Rattle.value_set.specs.Summing.{add, single, sub}
-use Rattle.value_bits.specs.Numbers.{word_of}
+use Rattle.chip_numbers.specs.Numbers.{word_of}
 use Rattle.value_bits.specs.Sets.{low_set, high_set, pair_set}
 use Rattle.mcs51_chip.specs.declared.state.ChipState.{ChipState}
 use Rattle.mcs51_chip.specs.Registers.{data_pointer, with_data_pointer}

@@ -15,7 +15,7 @@ use Rattle.value_bits.specs.declared.tri.Tri.{Tri}
 use Rattle.value_bits.specs.Bits.{IsBit, Agrees, known_bits, from_bits, logic_of}
 use Rattle.value_bits.specs.Flags.{IsFlag, agreed}
 use Rattle.value_bits.specs.Lefts.{IsLowest, left_set}
-use Rattle.value_bits.specs.Numbers.{shifted_left, shifted_right, exchanged, low_byte, high_byte, word_of, decimal_adjusted}
+use Rattle.chip_numbers.specs.Numbers.{shifted_left, shifted_right, exchanged, low_byte, high_byte, word_of, decimal_adjusted}
 use Rattle.value_bits.specs.Sets.{IsTop, logic_set, shift_set, exchange_set, low_set, high_set, pair_set, decimal_adjust_set}
 
 pub record Premises : Type 0 where

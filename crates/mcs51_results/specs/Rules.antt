@@ -4,7 +4,7 @@ use Rattle.std.specs.Prelude.{◌≡◌, ℕ, ◌+◌, ◌-◌, ◌*◌, ◌/◌
 use Rattle.std.proofs.Common.{arith, refl}
 use Rattle.std.proofs.Math.Nat.{mod-lt}
 use Rattle.value_set.specs.Operations.{StaysBelow}
-use Rattle.value_bits.specs.Numbers.{adjusted_carry}
+use Rattle.chip_numbers.specs.Numbers.{adjusted_carry}
 use Rattle.mcs51_chip.specs.Arithmetic.{carries, borrows, differ}
 use Rattle.mcs51_chip.specs.Registers.{parity}
 use Rattle.mcs51_results.specs.declared.combining.NumberRule.{NumberRule}

@@ -1,7 +1,7 @@
 //! What is known of the flags that operations set.
 
 ghost use Rattle.std.specs.Prelude.{◌≡◌, ◌<◌};
-ghost use Rattle.value_bits.specs.Numbers as numbers;
+ghost use Rattle.chip_numbers.specs.Numbers as numbers;
 ghost use Rattle.value_bits.specs.Sets.{chosen};
 ghost use Rattle.mcs51_chip.specs.Arithmetic as arithmetic;
 ghost use Rattle.mcs51_chip.specs.Registers as registers;

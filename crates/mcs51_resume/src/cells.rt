@@ -14,10 +14,10 @@ use crate::bytes::{masked_by, place_byte};
 use entry_value::{Byte, Cell, Cells, Word, bytes_stay_bytes};
 use irq_frames::{Places, Ranges, resume_cells as resume_by_words};
 use mcs51_state::State;
+use no_memory::Memory;
 use std::alloc::Global;
 use value_bits::w16;
 use value_set::{Vs8, Vs16};
-use vsa_io::Memory;
 
 /// No place is asked for where a handler left no cells.
 struct NoPlaces {}

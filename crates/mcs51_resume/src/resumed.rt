@@ -10,9 +10,9 @@ use crate::status::resume_status;
 use entry_value::Cells;
 use irq_frames::Ranges;
 use mcs51_state::State;
+use no_memory::Memory;
 use std::alloc::Global;
 use value_set::Vs8;
-use vsa_io::Memory;
 
 /// What may be touched in the state that goes on: in an interrupt's frame what either handler touched, else nothing.
 fn touched(alloc: Global, framed: bool, at: &Ranges, exit: &Ranges) -> Result<Ranges, Memory>

@@ -4,7 +4,7 @@ use Rattle.std.specs.Prelude.{All}
 use Rattle.call_context.specs.declared.shown.Item.{Item}
 use Rattle.choosing.specs.Asking.{Asking}
 use Rattle.choosing.specs.Gives.{Gives, answer_gives, weaken}
-use Rattle.ihex_read.specs.Image.{IsByte as IsImageByte}
+use Rattle.image.specs.Image.{IsByte as IsImageByte}
 use Rattle.value_set.specs.Form.{Has}
 use Rattle.value_set.specs.Summing.{single}
 use Rattle.mcs51_decode.specs.declared.instr.Instr.{Instr}

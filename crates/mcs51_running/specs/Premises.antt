@@ -1,6 +1,6 @@
 -- What the law of instructions rests on: the laws of the crates that have their parts.
 use Rattle.std.specs.Prelude.{All, Bool, List, Option, [], false, true, ℕ, ◌<◌}
-use Rattle.ihex_read.specs.Image.{IsByte as IsImageByte}
+use Rattle.image.specs.Image.{IsByte as IsImageByte}
 use Rattle.choosing.specs.Gives.{Gives}
 use Rattle.value_set.specs.Form.{Has, IsNormal}
 use Rattle.value_set.specs.Summing.{single}

@@ -18,7 +18,7 @@ use mcs51_moves::{
 };
 use mcs51_state::State;
 use mcs51_stores::push_address;
-use vsa_io::Memory;
+use no_memory::Memory;
 
 /// Changes what is known as an instruction does that is no conditional jump, by the following address. Behind an error the state
 /// is of no use.

@@ -2,7 +2,7 @@
 
 ghost use Rattle.std.specs.Prelude.{ℕ, All, Bool, List, Option};
 ghost use Rattle.choosing.specs.Gives.{Gives};
-ghost use Rattle.ihex_read.specs.Image.{IsByte as IsImageByte};
+ghost use Rattle.image.specs.Image.{IsByte as IsImageByte};
 ghost use Rattle.mcs51_decode.specs.declared.instr.Instr.{Instr as AnInstr};
 ghost use Rattle.mcs51_decode.specs.Fitting.{IsInstr};
 ghost use Rattle.mcs51_decode.specs.Targets.{following};

@@ -17,9 +17,9 @@ use mcs51_jumps::{
     ways_on_bit, ways_on_condition,
 };
 use mcs51_state::State;
+use no_memory::Memory;
 use std::alloc::Global;
 use value_set::Vs16;
-use vsa_io::Memory;
 
 /// The target that the bytes of a jump or a call at an address name.
 fn named_target(pc: u16, instr: &Instr) -> u16

@@ -13,7 +13,7 @@ use mcs51_memories::{show_code, show_external, show_pop, show_push};
 use mcs51_moves::{show_move_from_direct, show_move_to_direct};
 use mcs51_operands::{access, bit_addresses, direct_addresses};
 use mcs51_state::State;
-use vsa_io::Memory;
+use no_memory::Memory;
 
 /// Adds the accesses of an instruction that is no conditional jump, by the following address. Behind an error the items are of no
 /// use.

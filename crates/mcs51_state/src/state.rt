@@ -13,11 +13,11 @@ use crate::status::Status;
 use call_context::Frame;
 use entry_value::{Byte, Cells};
 use irq_frames::Ranges;
+use no_memory::Memory;
 use std::alloc::Global;
 use std::marker::Model;
 use value_bits::Tri;
 use value_set::Vs8;
-use vsa_io::Memory;
 
 /// What is known of a state of the MCS-51, over any representation of the cells of its RAM.
 #[derive(Drop)]

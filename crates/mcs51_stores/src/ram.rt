@@ -8,9 +8,9 @@ ghost use Rattle.mcs51_stores.specs.Writing as writing;
 use entry_value::{Byte, Cells, Word, bytes_stay_bytes};
 use irq_frames::Ranges;
 use mcs51_state::{CarryFact, Compared, LinearFact, State};
+use no_memory::Memory;
 use value_bits::w16;
 use value_set::{Form, Progression, Vs8};
-use vsa_io::Memory;
 
 /// A fact of the accumulator, unless its byte of RAM may be written.
 fn linear_beside(at: &Vs8, fact: Option<LinearFact>) -> Option<LinearFact>

@@ -8,8 +8,8 @@ ghost use Rattle.mcs51_stores.specs.Stack as stack;
 use crate::ram::write_ram;
 use entry_value::{Byte, Cells};
 use mcs51_state::{Addresses, State};
+use no_memory::Memory;
 use value_set::Vs8;
-use vsa_io::Memory;
 
 /// Where the top byte of the stack stands.
 pub fn stack_top<M: Cells>(state: &State<M>) -> Addresses

@@ -8,7 +8,7 @@ use crate::registers::{write_accumulator, write_register};
 use entry_value::{Byte, Cells};
 use mcs51_chip::sfr_at;
 use mcs51_state::{Addresses, State};
-use vsa_io::Memory;
+use no_memory::Memory;
 
 /// Writes a byte where an operand may stand. In an interrupt's frame bytes of RAM that may be written are touched. Behind an
 /// error the state is of no use.

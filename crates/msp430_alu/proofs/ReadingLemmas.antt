@@ -9,7 +9,7 @@ use Rattle.msp430_alu.proofs.Members.{in_none, in_cons}
 use Rattle.entry_value.specs.declared.word.Word.{Word}
 use Rattle.entry_value.specs.Cells.{AreCells, StandsUnder, unknown, number_at, read}
 use Rattle.entry_value.specs.Words.{Suspended, HoldsOfWord}
-use Rattle.ihex_read.specs.Image.{byte_at, IsByte}
+use Rattle.image.specs.Image.{byte_at, IsByte}
 use Rattle.value_set.specs.declared.form.Form.{Form}
 use Rattle.value_set.specs.Form.{Has, IsNormal, members}
 use Rattle.value_set.specs.Joining.{join}

@@ -1,6 +1,5 @@
 -- The law of instructions with one operand, along their stages.
-use Rattle.std.proofs.Common.{◌≡◌, ℕ, ◌%◌, ◌<◌, Bool, false, Option, None, List, get_or, refl, sym, ◌∙◌, subst, arith}
-use Rattle.std.proofs.Common.{get_or-set_same}
+use Rattle.std.proofs.Common.{◌≡◌, ℕ, ◌%◌, ◌<◌, Bool, false, Option, None, List, get_or, refl, sym, ◌∙◌, subst, arith, get_or-set_same}
 use Rattle.std.specs.Option.{option_map}
 use Rattle.std.proofs.lemmas.Bool.{and_parts, false≢true}
 use Rattle.value_set.specs.Summing.{single}

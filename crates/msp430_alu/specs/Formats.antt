@@ -1,10 +1,11 @@
 -- What the formats of instructions make of what is known of a state: the two operands, the one operand, PUSH and CALL.
 use Rattle.std.specs.Prelude.{◌≡◌, ℕ, ◌+◌, ◌-◌, ◌%◌, ◌==◌, if◌then◌else◌, Bool, true, false, Option, None, Some, option_map, List, [], ◌∷◌, ◌++◌, slice_index, slice_index_or, Contains}
-use Rattle.call_context.specs.Single.{Single, AreShowing}
+use Rattle.call_context.specs.Showing.{AreShowing}
+use Rattle.chip_numbers.specs.Single.{Single}
 use Rattle.call_context.specs.declared.shown.Item.{Item}
 use Rattle.call_context.specs.declared.shown.Item.TheVariants.{Access}
 use Rattle.call_context.specs.declared.shown.Set.TheVariants.{W}
-use Rattle.call_context.specs.declared.shown.Space.TheVariants.{Mem}
+use Rattle.chip_numbers.specs.declared.space.Space.TheVariants.{Mem}
 use Rattle.entry_value.specs.declared.word.Entry.{Entry}
 use Rattle.entry_value.specs.declared.word.Word.{Word}
 use Rattle.entry_value.specs.Words.{entry_and, entry_or}
@@ -32,9 +33,8 @@ use Rattle.msp430_chip.specs.declared.device.Device.{Device}
 use Rattle.msp430_chip.specs.Arithmetic.{writes_result, reads_destination}
 use Rattle.msp430_chip.specs.Memory.{aligned, program_hit, size_of}
 use Rattle.msp430_decode.specs.Operands.{constant_value}
-use Rattle.msp430_chip.specs.Step.{reads_counter, is_formed_by_stack}
+use Rattle.msp430_chip.specs.Step.{reads_counter, is_formed_by_stack, Left}
 use Rattle.msp430_chip.specs.declared.state.ChipState.{ChipState}
-use Rattle.msp430_chip.specs.Step.{Left}
 use Rattle.msp430_state.specs.Forms.{IsKnown}
 use Rattle.msp430_state.specs.Holding.{HoldsOf, HoldsOfParts}
 use Rattle.msp430_state.specs.Known.{Known}

@@ -1,7 +1,7 @@
 -- Memory in what is known of a state: what may be read, and what is known behind a store.
 use Rattle.std.specs.Prelude.{◌≡◌, ℕ, ◌+◌, ◌-◌, ◌*◌, ◌%◌, ◌<◌, ◌≤◌, ◌||◌, nat_lt, nat_le, if◌then◌else◌, Bool, Option, None, Some, List, [], ◌∷◌, length, All}
 use Prim.Native.Nat.{min, max}
-use Rattle.ihex_read.specs.Image.{byte_at, IsByte}
+use Rattle.image.specs.Image.{byte_at, IsByte}
 use Rattle.entry_value.specs.declared.word.Word.{Word}
 use Rattle.entry_value.specs.Cells.{unknown, read, write_any}
 use Rattle.value_set.specs.declared.form.Form.{Form}

@@ -9,7 +9,7 @@ use Rattle.value_bits.specs.declared.tri.Logic.{Logic}
 use Rattle.value_bits.specs.declared.tri.Logic.TheVariants.{And}
 use Rattle.value_bits.specs.declared.tri.Tri.{Tri}
 use Rattle.value_bits.specs.Bits.{IsBit, Agrees, from_bits, logic_of}
-use Rattle.value_bits.specs.Numbers.{low_byte, word_of}
+use Rattle.chip_numbers.specs.Numbers.{low_byte, word_of}
 use Rattle.value_bits.specs.Sets.{low_set, pair_set, logic_set}
 use Rattle.entry_value.specs.declared.cells.Cell.{Cell}
 use Rattle.entry_value.specs.Cells.{CellMap, AreCells, StandsUnder, number_at, read, write_any, written}

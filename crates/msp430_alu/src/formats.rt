@@ -19,9 +19,9 @@ use msp430_chip::Device;
 use msp430_decode::{Destination, Operation, Register, SingleOperation, Source, Width};
 use msp430_results::kept_word;
 use msp430_state::State;
+use no_memory::Memory;
 use value_bits::w16;
 use value_set::{Vs8, Vs16};
-use vsa_io::Memory;
 
 /// Whether an operation reads its destination.
 pub(crate) fn reads_destination(operation: Operation) -> bool

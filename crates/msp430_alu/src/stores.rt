@@ -11,8 +11,8 @@ use irq_frames::Ranges;
 use msp430_chip::Device;
 use msp430_decode::Width;
 use msp430_state::State;
+use no_memory::Memory;
 use value_set::{Form, Progression, Vs16};
-use vsa_io::Memory;
 
 /// Touches the part of a range that lies in RAM.
 fn touch(lo: u16, hi: u16, first: u16, last: u32, touched: &mut Ranges) -> Result<(), Memory>

@@ -28,11 +28,11 @@ use msp430_chip::Device;
 use msp430_decode::{Destination, Operation, SingleOperation, Source, Width};
 use msp430_results::{FlagBits, double_made, single_made, twice_made};
 use msp430_state::State;
+use no_memory::Memory;
 use std::alloc::Global;
 use std::marker::Model;
 use value_bits::Tri;
 use value_set::Vs16;
-use vsa_io::Memory;
 
 /// What an instruction makes of what is known of a state.
 #[derive(Drop)]

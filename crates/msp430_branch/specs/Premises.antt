@@ -6,7 +6,7 @@ use Rattle.value_set.specs.Cutting.{cut}
 use Rattle.value_set.specs.Form.{Has, Includes, IsNormal, above}
 use Rattle.value_set.specs.Joining.{is_within}
 use Rattle.value_set.specs.Summing.{single}
-use Rattle.value_bits.specs.Numbers.{low_byte, word_of}
+use Rattle.chip_numbers.specs.Numbers.{low_byte, word_of}
 use Rattle.value_bits.specs.Sets.{low_set, pair_set}
 
 pub record Premises : Type 0 where

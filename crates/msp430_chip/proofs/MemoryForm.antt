@@ -6,7 +6,7 @@ use Rattle.std.proofs.lemmas.Bool.Decides.{nat_tests}
 use Rattle.std.proofs.lemmas.List.Elements.{All-set, All-get_or}
 use Rattle.std.proofs.lemmas.List.{get_or_past}
 use borrow.Author.Tests.{ltb-true, ltb-false}
-use Rattle.ihex_read.specs.Image.{IsByte, byte_at}
+use Rattle.image.specs.Image.{IsByte, byte_at}
 use Rattle.msp430_decode.specs.declared.instr.Width.{Width}
 use Rattle.msp430_decode.specs.declared.instr.Width.TheVariants.{Word, Byte}
 use Rattle.msp430_chip.specs.declared.device.Device.{Device}

@@ -3,7 +3,7 @@ use Rattle.std.proofs.Common.{◌<◌, replicate, refl, arith}
 use Rattle.std.specs.Prelude.{All}
 use Rattle.std.proofs.lemmas.Grind.{common_steps}
 use Rattle.std.proofs.lemmas.List.Elements.{All-cons, All-replicate}
-use Rattle.ihex_read.specs.Image.{IsByte}
+use Rattle.image.specs.Image.{IsByte}
 use Rattle.msp430_chip.specs.declared.device.Device.{Device}
 use Rattle.msp430_chip.specs.State.{IsChipState, IsResetOf, first_state, image_word, ram_size, reset_address}
 use Rattle.msp430_chip.proofs.MemoryForm.{image_word_below}

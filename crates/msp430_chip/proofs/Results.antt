@@ -4,7 +4,7 @@ use Prim.Native.Nat.{zero, suc}
 use Rattle.std.specs.Int.{bit_at}
 use Rattle.std.proofs.Math.Nat.{pow-suc}
 use Rattle.std.proofs.lemmas.Nat.{and_le_l, or_lt, xor_lt}
-use Rattle.value_bits.specs.Numbers.{decimal_digits, decimal_sum, decimal_total, shifted_right}
+use Rattle.chip_numbers.specs.Numbers.{decimal_digits, decimal_sum, decimal_total, shifted_right}
 use Rattle.msp430_decode.specs.declared.instr.Width.{Width}
 use Rattle.msp430_decode.specs.declared.instr.Width.TheVariants.{Word, Byte}
 use Rattle.msp430_decode.specs.declared.instr.Source.{Source}

@@ -1,9 +1,9 @@
 -- The interrupts of the MSP430 (SLAU049, chapter 2, "Interrupts"): vector i, from 0 to 13, stands at FFE0h + 2 * i.
 use Rattle.std.specs.Prelude.{ℕ, ◌+◌, ◌*◌, ◌/◌, ◌%◌, ◌==◌, ◌&&◌, ◌||◌, not, if◌then◌else◌, Bool, true, false, Option, None, Some, List, [], ◌∷◌, slice_set}
 use Rattle.std.specs.List.{filter, range_with_len}
-use Rattle.ihex_read.specs.Image.{byte_at}
-use Rattle.call_context.specs.declared.shown.Space.TheVariants.{Mem}
-use Rattle.call_context.specs.Single.Single.{Access, Edge, Stack}
+use Rattle.image.specs.Image.{byte_at}
+use Rattle.chip_numbers.specs.declared.space.Space.TheVariants.{Mem}
+use Rattle.chip_numbers.specs.Single.Single.{Access, Edge, Stack}
 use Rattle.msp430_decode.specs.declared.instr.Width.TheVariants.{Word}
 use Rattle.msp430_chip.specs.declared.device.Device.{Device}
 use Rattle.msp430_chip.specs.declared.state.ChipState.{ChipState}

@@ -1,8 +1,8 @@
 -- What a step may lead to, as relations in which no choices stand: each point that is free is any number that it may be. A
 -- step of `Step.antt` by any choices leads to what these say (`steps_lead`), so that a proof of all steps needs no choices.
 use Rattle.std.specs.Prelude.{◌≡◌, ℕ, ◌+◌, ◌-◌, ◌*◌, ◌%◌, ◌<◌, ◌==◌, ◌&&◌, ◌||◌, Bool, true, false, None, Some, Err, List, ◌++◌, Contains, slice_index, slice_set}
-use Rattle.ihex_read.specs.Image.{byte_at}
-use Rattle.value_bits.specs.Numbers.{shifted_right, is_decimal, decimal_sum, decimal_carry}
+use Rattle.image.specs.Image.{byte_at}
+use Rattle.chip_numbers.specs.Numbers.{shifted_right, is_decimal, decimal_sum, decimal_carry}
 use Rattle.msp430_decode.specs.declared.instr.Width.{Width}
 use Rattle.msp430_decode.specs.declared.instr.Width.TheVariants.{Word, Byte}
 use Rattle.msp430_decode.specs.declared.instr.Source.{Source}

@@ -1,7 +1,7 @@
 -- The memory of the MSP430 (SLAU049, chapter 1, "Address Space"): one space of bytes, in which a word has its low byte at
 -- the even address. What is neither RAM nor program, peripherals among it, may read as any byte, and holds nothing.
 use Rattle.std.specs.Prelude.{ℕ, ◌+◌, ◌-◌, ◌*◌, ◌/◌, ◌%◌, ◌&&◌, nat_le, if◌then◌else◌, Bool, true, false, Option, None, Some, is_some, List, slice_index, slice_set}
-use Rattle.ihex_read.specs.Image.{byte_at}
+use Rattle.image.specs.Image.{byte_at}
 use Rattle.msp430_decode.specs.declared.instr.Width.{Width}
 use Rattle.msp430_decode.specs.declared.instr.Width.TheVariants.{Word, Byte}
 use Rattle.msp430_chip.specs.declared.device.Device.{Device}

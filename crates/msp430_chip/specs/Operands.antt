@@ -1,8 +1,8 @@
 -- The operands of an instruction (SLAU049, chapter 3, "Addressing Modes"). Addresses wrap at 16 bits.
 use Rattle.std.specs.Prelude.{ℕ, ◌+◌, ◌-◌, ◌*◌, ◌%◌, if◌then◌else◌, Bool, true, false, List, [], ◌∷◌, slice_index, slice_set}
-use Rattle.call_context.specs.declared.shown.Space.TheVariants.{Mem}
-use Rattle.call_context.specs.Single.{Single}
-use Rattle.call_context.specs.Single.Single.{Access}
+use Rattle.chip_numbers.specs.declared.space.Space.TheVariants.{Mem}
+use Rattle.chip_numbers.specs.Single.{Single}
+use Rattle.chip_numbers.specs.Single.Single.{Access}
 use Rattle.msp430_decode.specs.declared.instr.Register.{Register}
 use Rattle.msp430_decode.specs.declared.instr.Register.TheVariants.{Pc, Sp, Sr, R3}
 use Rattle.msp430_decode.specs.declared.instr.Width.{Width}

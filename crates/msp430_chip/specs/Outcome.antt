@@ -1,6 +1,6 @@
 -- What a step leads to.
 use Rattle.std.specs.Prelude.{ℕ, Option, None, Some, List}
-use Rattle.call_context.specs.Single.{Single}
+use Rattle.chip_numbers.specs.Single.{Single}
 use Rattle.choosing.specs.Outcome.{Outcome as OutcomeBy}
 use Rattle.choosing.specs.Outcome.Outcome.{Next, Wild as Leaves}
 use Rattle.msp430_chip.specs.declared.state.Wild.{Wild}

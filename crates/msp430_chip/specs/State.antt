@@ -1,6 +1,6 @@
 -- Single states of the MSP430 (SLAU049, chapter 3, "CPU Registers"; chapter 2, "System Reset and Initialization").
 use Rattle.std.specs.Prelude.{◌≡◌, ℕ, ◌+◌, ◌-◌, ◌*◌, ◌/◌, ◌%◌, ◌<◌, ◌==◌, Bool, false, Option, None, Some, ◌∷◌, length, replicate, slice_index, All}
-use Rattle.ihex_read.specs.Image.{byte_at}
+use Rattle.image.specs.Image.{byte_at}
 use Rattle.msp430_chip.specs.declared.device.Device.{Device}
 use Rattle.msp430_chip.specs.declared.state.ChipState.{ChipState}
 

@@ -2,9 +2,9 @@
 -- this order: which interrupt comes, if any; which of two orders or addresses; free bytes as they are read, the low one
 -- first; the bits of SR that nothing holds; a free high byte or result; free flags.
 use Rattle.std.specs.Prelude.{◌≡◌, ℕ, ◌+◌, ◌-◌, ◌*◌, ◌/◌, ◌%◌, ◌==◌, ◌&&◌, ◌||◌, not, nat_lt, if◌then◌else◌, Bool, true, false, Option, None, Some, Result, Ok, Err, List, [], ◌∷◌, ◌++◌, length, slice_index, slice_set}
-use Rattle.call_context.specs.declared.shown.Space.TheVariants.{Mem}
-use Rattle.call_context.specs.Single.{Single}
-use Rattle.call_context.specs.Single.Single.{Instr as Ran, Edge, Access, Stack}
+use Rattle.chip_numbers.specs.declared.space.Space.TheVariants.{Mem}
+use Rattle.chip_numbers.specs.Single.{Single}
+use Rattle.chip_numbers.specs.Single.Single.{Instr as Ran, Edge, Access, Stack}
 use Rattle.msp430_decode.specs.declared.instr.Register.TheVariants.{Pc, Sp}
 use Rattle.msp430_decode.specs.declared.instr.Width.{Width}
 use Rattle.msp430_decode.specs.declared.instr.Width.TheVariants.{Word, Byte}

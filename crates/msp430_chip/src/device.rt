@@ -2,9 +2,9 @@
 
 ghost use Rattle.std.specs.Prelude.{◌≡◌, IfOk};
 
-use ihex_read::Image;
+use image::Image;
+use no_memory::Memory;
 use std::alloc::Global;
-use vsa_io::Memory;
 
 /// An MSP430 with a program in its memory and RAM from its lowest to its highest address, which are even and odd.
 #[derive(Drop)]

@@ -1,8 +1,8 @@
 //! What holds of all steps.
 
 ghost use Rattle.std.specs.Prelude.{◌≡◌, ◌++◌, ◌-◌, ◌<◌, ◌≤◌, ℕ, All, IsSome, List, Some, length, slice_index};
-ghost use Rattle.ihex_read.specs.Image.{IsByte};
-ghost use Rattle.call_context.specs.Single.{Single};
+ghost use Rattle.image.specs.Image.{IsByte};
+ghost use Rattle.chip_numbers.specs.Single.{Single};
 ghost use Rattle.msp430_decode.specs.declared.instr.Instr.{Instr as AnInstr};
 ghost use Rattle.msp430_decode.specs.declared.instr.Register.{Register as ARegister};
 ghost use Rattle.msp430_decode.specs.declared.refusal.NoInstr.TheVariants.{Excluded, OffImage};

@@ -1,6 +1,6 @@
 ghost use Rattle.std.specs.Prelude.{◌≡◌, ◌≤◌, ◌%◌, IfOk, length};
 
-use ihex_read::Image;
+use image::Image;
 use msp430_decode::{
     Condition, Constant, Destination, Instr, NoInstr, Operation, Register, SingleOperation, Source,
     Width, decode, encode, from_bytes,

@@ -2,7 +2,7 @@
 
 ghost use Rattle.std.specs.Prelude.{◌≡◌, ◌<◌, IfOk, length};
 
-use ihex_read::Image;
+use image::Image;
 use msp430_chip::{Device, Ram};
 use std::alloc::{AllocError, Global};
 use std::test::Fail;

@@ -3,7 +3,7 @@ use Rattle.std.proofs.Common.{◌≡◌, ℕ, suc, ◌+◌, ◌*◌, ◌/◌, �
 use Rattle.std.proofs.lemmas.Bool.Decides.{nat_tests}
 use Rattle.std.proofs.lemmas.List.Elements.{All-get_or}
 use Rattle.std.specs.List.{flat_map}
-use Rattle.ihex_read.specs.Image.{IsByte}
+use Rattle.image.specs.Image.{IsByte}
 use Rattle.msp430_decode.specs.declared.refusal.NoInstr.{NoInstr}
 use Rattle.msp430_decode.specs.declared.refusal.NoInstr.TheVariants.{OffImage}
 use Rattle.msp430_decode.specs.declared.instr.Instr.{Instr}

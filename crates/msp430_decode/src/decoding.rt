@@ -11,7 +11,7 @@ ghost use Rattle.msp430_decode.specs.Decoding.{word_upward, extension_upward, de
 use crate::fields::{instr_from, is_no_instruction};
 use crate::instr::Instr;
 use crate::refusal::NoInstr;
-use ihex_read::Image;
+use image::Image;
 
 /// The word that stands so many bytes upward from an address.
 fn word_at(image: &Image, pc: u16, offset: u16) -> Result<u16, NoInstr>

@@ -1,7 +1,7 @@
 //! What holds of all bytes, words and images.
 
 ghost use Rattle.std.specs.Prelude.{◌≡◌, ◌<◌, ◌+◌, ◌*◌, ◌++◌, ◌∷◌, ℕ, All, List, Option, Result, Ok, Some, None, length, true, false};
-ghost use Rattle.ihex_read.specs.Image.{IsByte};
+ghost use Rattle.image.specs.Image.{IsByte};
 ghost use Rattle.msp430_decode.specs.declared.instr.Instr.{Instr};
 ghost use Rattle.msp430_decode.specs.declared.refusal.NoInstr.{NoInstr};
 ghost use Rattle.msp430_decode.specs.Table.{Row, IsInstr, bytes_of, length_of};

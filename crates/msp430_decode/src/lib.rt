@@ -34,7 +34,7 @@ mod refusal;
 
 pub use decoding::{decode, from_bytes};
 pub use encoding::{encode, offset_target};
-pub use ihex_read::Image;
+pub use image::Image;
 pub use instr::{
     Condition, Constant, Destination, Instr, Operation, Register, SingleOperation, Source, Width,
 };

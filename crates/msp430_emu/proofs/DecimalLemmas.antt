@@ -3,7 +3,7 @@ use Rattle.std.proofs.Common.{◌≡◌, ℕ, ◌+◌, ◌-◌, ◌*◌, ◌/◌
 use Prim.Native.Nat.{zero, suc}
 use Rattle.std.proofs.Math.Nat.{pow-suc}
 use Rattle.std.proofs.lemmas.Bool.Decides.{nat_tests}
-use Rattle.value_bits.specs.Numbers.{is_decimal, decimal_value, decimal_digits, decimal_sum, decimal_total, decimal_carry}
+use Rattle.chip_numbers.specs.Numbers.{is_decimal, decimal_value, decimal_digits, decimal_sum, decimal_total, decimal_carry}
 
 pub decimal_none : (x : ℕ) → is_decimal 0 x ≡ true
 unfolding is_decimal

@@ -1,8 +1,8 @@
 -- What a step of the emulator computes before it writes anything, and what that stands for.
 use Rattle.std.specs.Prelude.{ℕ, ◌%◌, Option, None, Some, List, [], ◌∷◌, ◌++◌}
-use Rattle.call_context.specs.declared.shown.Space.TheVariants.{Mem}
-use Rattle.call_context.specs.Single.{Single}
-use Rattle.call_context.specs.Single.Single.{Access as Accessed}
+use Rattle.chip_numbers.specs.declared.space.Space.TheVariants.{Mem}
+use Rattle.chip_numbers.specs.Single.{Single}
+use Rattle.chip_numbers.specs.Single.Single.{Access as Accessed}
 use Rattle.msp430_decode.specs.declared.instr.Destination.{Destination}
 use Rattle.msp430_decode.specs.declared.instr.Instr.{Instr}
 use Rattle.msp430_decode.specs.declared.instr.Instr.TheVariants.{Double}

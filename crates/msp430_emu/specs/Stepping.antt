@@ -1,8 +1,8 @@
 -- What a step of the machine says of the chip.
 use Rattle.std.specs.Prelude.{◌≡◌, ◌≤◌, ℕ, Option, None, Some, List, map}
-use Rattle.call_context.specs.Single.{Single}
-use Rattle.ihex_read.specs.declared.rule_set.Rules.{Rules}
-use Rattle.ihex_read.specs.declared.rule_set.Rules.TheVariants.{Msp430, Mcs51}
+use Rattle.chip_numbers.specs.Single.{Single}
+use Rattle.image.specs.declared.rule_set.Rules.{Rules}
+use Rattle.image.specs.declared.rule_set.Rules.TheVariants.{Msp430, Mcs51}
 use Rattle.msp430_chip.specs.declared.device.Device.{Device}
 use Rattle.msp430_chip.specs.declared.state.ChipState.{ChipState}
 use Rattle.msp430_chip.specs.Outcome.{Outcome}

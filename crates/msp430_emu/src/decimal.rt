@@ -1,7 +1,7 @@
 //! DADD: numbers whose hexadecimal digits are read as decimal ones.
 
 ghost use Rattle.std.specs.Prelude.{◌≡◌, ◌==◌, ◌+◌, ◌*◌, ◌^◌, ◌<◌, ◌≤◌, IfSome, true};
-ghost use Rattle.value_bits.specs.Numbers as numbers;
+ghost use Rattle.chip_numbers.specs.Numbers as numbers;
 ghost use Rattle.msp430_chip.specs.Arithmetic as arithmetic;
 ghost use Rattle.choosing.specs.Choosing.{asked};
 

@@ -2,7 +2,7 @@
 
 ghost use Rattle.std.specs.Prelude.{◌≡◌, ◌+◌, ◌<◌, All, IfSome, true};
 ghost use Rattle.std.specs.List.{filter, range_with_len};
-ghost use Rattle.ihex_read.specs.Image.{byte_at};
+ghost use Rattle.image.specs.Image.{byte_at};
 ghost use Rattle.msp430_decode.specs.declared.instr.Width.TheVariants as widths;
 ghost use Rattle.msp430_chip.specs.Interrupts as interrupts;
 ghost use Rattle.msp430_chip.specs.State as states;
@@ -14,7 +14,7 @@ use crate::effect::{Access, Accesses, Plan, Store};
 use crate::memory::{Layout, even};
 use arrayvec::ArrayVec;
 use choosing::Unused;
-use ihex_read::Image;
+use image::Image;
 use msp430_chip::ChipState;
 use msp430_decode::Width;
 

@@ -10,10 +10,10 @@ use crate::state::Machine;
 use crate::step::advance;
 use crate::stepped::Stepped;
 use choosing::Choices;
-use ihex_read::{Image, Rules};
+use image::{Image, Rules};
 use msp430_chip::{ChipState, Ram, one_front};
+use no_memory::Memory;
 use std::alloc::Global;
-use vsa_io::Memory;
 
 impl Machine {
     /// A machine under the rules of an MSP430, behind a reset. All that a reset leaves open is 0.

@@ -7,7 +7,7 @@ ghost use Rattle.msp430_chip.specs.State as state;
 ghost use Rattle.choosing.specs.Choosing.{asked};
 
 use choosing::Unused;
-use ihex_read::Image;
+use image::Image;
 use msp430_chip::Ram;
 use msp430_decode::Width;
 use std::marker::Model;

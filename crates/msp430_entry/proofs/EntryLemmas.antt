@@ -1,7 +1,6 @@
 -- What is known where the handler begins holds of the state that the entry leaves, over the one that it suspends.
 use Prim.Native.Nat.{zero, suc}
-use Rattle.std.proofs.Common.{◌≡◌, ℕ, ◌+◌, ◌-◌, ◌*◌, ◌/◌, ◌%◌, ◌<◌, ◌≤◌, Bool, true, false, Option, Some, None, List, [], ◌∷◌, length, get_or, set, refl, sym, ap, ◌∙◌, subst, arith, Contains}
-use Rattle.std.proofs.Common.{get_or-set_same, get_or-set_other}
+use Rattle.std.proofs.Common.{◌≡◌, ℕ, ◌+◌, ◌-◌, ◌*◌, ◌/◌, ◌%◌, ◌<◌, ◌≤◌, Bool, true, false, Option, Some, None, List, [], ◌∷◌, length, get_or, set, refl, sym, ap, ◌∙◌, subst, arith, Contains, get_or-set_same, get_or-set_other}
 use Rattle.std.specs.Prelude.{bit_and, bit_or}
 use Rattle.std.specs.List.{slice_index_or}
 use Rattle.std.specs.Int.Bits.{or_zero_r}
@@ -9,7 +8,7 @@ use Rattle.std.proofs.lemmas.List.{length-set}
 use Rattle.std.proofs.lemmas.List.Elements.{All-get_or}
 use Rattle.std.proofs.lemmas.Nat.{and_le_l, and_mod}
 use Rattle.std.proofs.lemmas.Nat.Bits.{and_pow}
-use Rattle.call_context.specs.Single.{Single}
+use Rattle.chip_numbers.specs.Single.{Single}
 use Rattle.call_context.specs.declared.node.Node.TheVariants.{At}
 use Rattle.choosing.specs.Outcome.Outcome.{Next}
 use Rattle.entry_value.specs.Words.{HoldsOfWord}

@@ -1,12 +1,13 @@
 -- What an entry does is shown, and a store that hits the program is at one of the addresses of its slots.
 use Rattle.std.proofs.Common.{◌≡◌, ℕ, ◌+◌, ◌%◌, ◌<◌, Bool, Option, Some, None, List, [], ◌∷◌, refl, subst, inl, inr, arith, Contains}
 use Rattle.std.specs.Prelude.{◌⊎◌, true}
-use Rattle.call_context.specs.Single.{Single, AreShowing, Shows}
-use Rattle.call_context.specs.Single.Single.{Access, Edge}
+use Rattle.call_context.specs.Showing.{AreShowing, Shows}
+use Rattle.chip_numbers.specs.Single.{Single}
+use Rattle.chip_numbers.specs.Single.Single.{Access, Edge}
 use Rattle.call_context.specs.declared.shown.Item.{Item}
 use Rattle.call_context.specs.declared.shown.Item.TheVariants as shown_items
 use Rattle.call_context.specs.declared.shown.Set.TheVariants.{W}
-use Rattle.call_context.specs.declared.shown.Space.TheVariants.{Mem}
+use Rattle.chip_numbers.specs.declared.space.Space.TheVariants.{Mem}
 use Rattle.value_set.specs.declared.form.Form.{Form}
 use Rattle.value_set.specs.Form.{Has}
 use Rattle.msp430_decode.specs.declared.instr.Width.TheVariants.{Word as Words}

@@ -2,14 +2,14 @@
 use Rattle.std.specs.Prelude.{ℕ, ◌+◌, ◌%◌, ◌||◌, if◌then◌else◌, Bool, true, false, Option, None, Some, List, [], ◌∷◌, Contains, map}
 use Prim.Native.Nat.{suc}
 use Rattle.std.specs.List.{filter, flat_map, range_with_len, slice_index_or}
-use Rattle.call_context.specs.Single.{Single}
-use Rattle.call_context.specs.Single.Single.{Access, Edge}
+use Rattle.chip_numbers.specs.Single.{Single}
+use Rattle.chip_numbers.specs.Single.Single.{Access, Edge}
 use Rattle.call_context.specs.declared.node.Frame.{Frame}
 use Rattle.call_context.specs.declared.node.Frame.TheVariants.{Irq}
 use Rattle.call_context.specs.declared.shown.Item.{Item}
 use Rattle.call_context.specs.declared.shown.Item.TheVariants as items
 use Rattle.call_context.specs.declared.shown.Set.TheVariants.{W}
-use Rattle.call_context.specs.declared.shown.Space.TheVariants.{Mem}
+use Rattle.chip_numbers.specs.declared.space.Space.TheVariants.{Mem}
 use Rattle.entry_value.specs.declared.word.Entry.{Entry}
 use Rattle.entry_value.specs.declared.word.Word.{Word}
 use Rattle.irq_frames.specs.Unrelated.{without_relations}

@@ -4,20 +4,20 @@ ghost use Rattle.std.specs.Prelude.{◌≡◌, ◌+◌, ◌<◌, ◌++◌, if◌
 ghost use Rattle.std.specs.List.{flat_map, slice_index_or};
 ghost use Rattle.value_bits.specs.declared.tri.Tri.TheVariants.{Either};
 ghost use Rattle.value_set.specs.declared.form.Form.TheVariants as the_form;
-ghost use Rattle.ihex_read.specs.Image.{byte_at};
+ghost use Rattle.image.specs.Image.{byte_at};
 ghost use Rattle.msp430_chip.specs.Interrupts as interrupts;
 ghost use Rattle.msp430_chip.specs.State as states;
 ghost use Rattle.msp430_entry.specs.Entry as entry;
 
 use call_context::{Frame, Sequence};
 use entry_value::Cells;
-use ihex_read::Image;
+use image::Image;
 use msp430_chip::Device;
 use msp430_state::State;
+use no_memory::Memory;
 use std::alloc::Global;
 use value_bits::Tri;
 use value_set::{Form, Vs16};
-use vsa_io::Memory;
 
 /// An interrupt that may come.
 #[derive(Clone, Copy, Debug, PartialEq, Eq)]

@@ -9,10 +9,10 @@ use msp430_alu::{register_word, store};
 use msp430_chip::Device;
 use msp430_decode::{Register, Width};
 use msp430_state::{State, Status};
+use no_memory::Memory;
 use std::alloc::Global;
 use value_bits::Tri;
 use value_set::Vs16;
-use vsa_io::Memory;
 
 /// Where PC is pushed: at SP - 2.
 pub fn counter_slot(sp: &Vs16) -> Vs16

@@ -6,10 +6,10 @@ ghost use Rattle.msp430_entry.specs.Entry as entry;
 use entry_value::{Cells, Entry, Word};
 use irq_frames::{Ranges, unrelated};
 use msp430_state::{State, Status};
+use no_memory::Memory;
 use std::alloc::Global;
 use value_bits::Tri;
 use value_set::Vs16;
-use vsa_io::Memory;
 
 /// The relation of a place to itself: all of what it holds.
 fn itself(place: u16) -> Entry

@@ -1,7 +1,7 @@
 //! What holds of the entry of an interrupt over what is known of a state.
 
 ghost use Rattle.std.specs.Prelude.{◌≡◌, ◌⊎◌, ℕ, ◌+◌, ◌%◌, ◌<◌, Bool, true, Option, Some, List, [], Contains};
-ghost use Rattle.call_context.specs.Single.{Single};
+ghost use Rattle.chip_numbers.specs.Single.{Single};
 ghost use Rattle.call_context.specs.declared.node.Node.TheVariants.{At};
 ghost use Rattle.choosing.specs.Outcome.Outcome.{Next};
 ghost use Rattle.msp430_decode.specs.declared.instr.Width.TheVariants.{Word};

@@ -3,15 +3,15 @@
 ghost use Rattle.std.specs.Prelude.{◌≡◌, ◌<◌, ◌++◌, OnOk, true};
 ghost use Rattle.call_context.specs.declared.shown.Item.TheVariants.{Access};
 ghost use Rattle.call_context.specs.declared.shown.Set.TheVariants.{W};
-ghost use Rattle.call_context.specs.declared.shown.Space.TheVariants.{Mem};
+ghost use Rattle.chip_numbers.specs.declared.space.Space.TheVariants.{Mem};
 ghost use Rattle.msp430_entry.specs.Entry as entry;
 
 use crate::coming::{Coming, handler_of};
 use crate::entering::{counter_slot, status_slot};
 use call_context::{Item, Sequence, Set, Space};
 use msp430_chip::Device;
+use no_memory::Memory;
 use value_set::Vs16;
-use vsa_io::Memory;
 
 /// The push of a word at one of some addresses.
 fn pushed(pc: u16, at: Vs16) -> Item

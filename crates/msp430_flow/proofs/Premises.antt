@@ -1,8 +1,8 @@
 -- The laws that those of the chip rest on.
 use Rattle.std.specs.Prelude.{◌≡◌, ℕ, ◌+◌, ◌%◌, ◌<◌, ◌≤◌, ◌⊎◌, ◌++◌, Bool, false, true, Option, None, Some, Result, Ok, List, [], length, slice_index, All, Contains}
-use Rattle.call_context.specs.Single.{Single}
+use Rattle.chip_numbers.specs.Single.{Single}
 use Rattle.call_context.specs.declared.node.Frame.{Frame}
-use Rattle.chip_law.specs.Laws.{HasEntry}
+use Rattle.call_context.specs.Nodes.{HasEntry}
 use Rattle.msp430_decode.specs.declared.instr.Instr.TheVariants.{ReturnFromInterrupt}
 use Rattle.msp430_decode.specs.declared.instr.Source.TheVariants as source
 use Rattle.msp430_chip.specs.Interrupts.{coming, entry, first_hit, handler_of, may_come}
@@ -14,7 +14,7 @@ use Rattle.msp430_return.specs.Return.{goes_back, left_of_return, return_accesse
 use Rattle.value_set.specs.Joining.{is_in}
 use Rattle.choosing.specs.Gives.{Gives}
 use Rattle.choosing.specs.Outcome.Outcome.{Next}
-use Rattle.ihex_read.specs.Image.{IsByte}
+use Rattle.image.specs.Image.{IsByte}
 use Rattle.value_set.specs.declared.form.Form.{Form}
 use Rattle.value_set.specs.Form.{Has, IsNormal}
 use Rattle.value_set.specs.Remainders.{HasRemainder}

@@ -7,8 +7,8 @@ use Rattle.call_context.specs.declared.node.Frame.{Frame}
 use Rattle.call_context.specs.declared.node.Frame.TheVariants.{Base, Irq}
 use Rattle.call_context.specs.declared.shown.Cause.{Cause}
 use Rattle.call_context.specs.declared.shown.Cause.TheVariants.{Fetch, Store, Targets}
-use Rattle.call_context.specs.Single.{Single}
-use Rattle.call_context.specs.Single.Single.{Instr as Ran, Edge as Went, Stack as Stood}
+use Rattle.chip_numbers.specs.Single.{Single}
+use Rattle.chip_numbers.specs.Single.Single.{Instr as Ran, Edge as Went, Stack as Stood}
 use Rattle.chip_law.specs.declared.chip.Work.{Work}
 use Rattle.chip_law.specs.Laws.{IsTold, Tells}
 use Rattle.chip_law.specs.Outcome.{Leaving}

@@ -16,9 +16,8 @@ use Rattle.call_context.specs.declared.shown.Set.TheVariants.{W}
 use Rattle.call_context.specs.Nodes.{frame_of}
 use Rattle.chip_law.specs.declared.chip.Work.{Work}
 use Rattle.chip_law.specs.Analysis.{Analysis}
-use Rattle.ihex_read.specs.ImageText.{IsRamRange}
-use Rattle.ihex_read.specs.Kept.{IsReadUnder}
-use Rattle.ihex_read.specs.declared.rule_set.Rules.TheVariants.{Msp430}
+use Rattle.image.specs.Kept.{IsRamRange, IsReadUnder}
+use Rattle.image.specs.declared.rule_set.Rules.TheVariants.{Msp430}
 use Rattle.value_set.specs.Form.{Has}
 use Rattle.value_set.specs.Joining.{is_in}
 use Rattle.value_set.specs.Summing.{count_of}

@@ -3,9 +3,8 @@
 ghost use Rattle.std.specs.Prelude.{◌≡◌, [], ◌∷◌, ◌++◌, ◌≤◌, IfOk, IfSome, OnOk, slice_index_or};
 ghost use Rattle.std.specs.Option.{option_copied};
 ghost use Rattle.call_context.specs.Nodes.{frame_of as the_frame};
-ghost use Rattle.ihex_read.specs.ImageText.{IsRamRange};
-ghost use Rattle.ihex_read.specs.Kept.{IsReadUnder};
-ghost use Rattle.ihex_read.specs.declared.rule_set.Rules.{Rules};
+ghost use Rattle.image.specs.Kept.{IsRamRange, IsReadUnder};
+ghost use Rattle.image.specs.declared.rule_set.Rules.{Rules};
 ghost use Rattle.msp430_chip.specs.State.{reset_address};
 ghost use Rattle.value_set.specs.Joining.{is_in};
 ghost use Rattle.msp430_decode.specs.Table.{IsInstr, bytes_of};
@@ -29,17 +28,17 @@ use analysis_limits::Limits;
 use arrayvec::ArrayString;
 use call_context::{Calls, Cause, Frame, InstrBytes, Item, Node, Sequence, Unit};
 use chip_law::{Chip, ChipText, InstrText, Work};
-use ihex_read::Image;
+use image::Image;
 use msp430_alu::Worked;
 use msp430_chip::Device;
 use msp430_decode::{Instr, decode, encode};
 use msp430_resume::resume;
 use msp430_state::{FlagFact, State};
+use no_memory::Memory;
 use std::alloc::Global;
 use std::marker::Model;
 use value_bits::Tri;
 use value_set::Vs16;
-use vsa_io::Memory;
 
 /// What is known of a state, with its RAM as a list of cells.
 type Abs = State<CellList>;

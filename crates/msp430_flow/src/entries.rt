@@ -20,9 +20,9 @@ use msp430_entry::{
     status_slot,
 };
 use msp430_state::State;
+use no_memory::Memory;
 use std::alloc::Global;
 use value_set::Vs16;
-use vsa_io::Memory;
 
 /// Adds the open of a store that may write a byte of the program.
 pub fn add_store_open(

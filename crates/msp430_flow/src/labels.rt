@@ -4,7 +4,7 @@ ghost use Rattle.std.specs.Prelude.{◌≡◌, ◌≤◌};
 ghost use Rattle.msp430_flow.specs.Labels as labels;
 
 use call_context::{Calls, pop_call, push_call};
-use ihex_read::Image;
+use image::Image;
 use msp430_decode::{
     Destination, Instr, Operation, Register, SingleOperation, Source, Width, decode,
 };

@@ -4,7 +4,7 @@ ghost use Rattle.std.specs.Prelude.{◌≡◌, ◌++◌, ◌+◌, ◌<◌, ◌*�
 ghost use Rattle.msp430_decode.specs.Decoding.{decoded};
 ghost use Rattle.msp430_flow.specs.Marks.{mark, marks_by, constant_of as the_constant, in_width, is_comparison, marks_with, marks_in, marks_found, marks_from, marks_of as the_marks};
 
-use ihex_read::Image;
+use image::Image;
 use msp430_chip::Device;
 use msp430_decode::{Instr, Operation, Source, Width, decode};
 use std::alloc::{AllocError, Global};

@@ -14,9 +14,9 @@ use msp430_decode::{Destination, Instr, Operation, Register, SingleOperation, So
 use msp430_return::{goes_back, return_from_interrupt};
 use msp430_state::{FlagFact, State};
 use msp430_status::{single_status, status};
+use no_memory::Memory;
 use std::alloc::Global;
 use value_set::Vs16;
-use vsa_io::Memory;
 
 /// The width of what an instruction stores; PUSH and CALL store words.
 pub fn stored_width(instr: &Instr) -> Width

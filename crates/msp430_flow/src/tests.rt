@@ -1,7 +1,7 @@
 //! Marks.
 
 use crate::marks::marks_of;
-use ihex_read::Image;
+use image::Image;
 use msp430_chip::Device;
 use std::alloc::{AllocError, Global};
 use std::test::Fail;

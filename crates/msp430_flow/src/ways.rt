@@ -12,14 +12,14 @@ use crate::kept::Kept;
 use crate::labels::{CallEffect, calls_by};
 use abs_memory::CellList;
 use call_context::{Calls, Frame, Item, Node, Sequence};
-use ihex_read::Image;
+use image::Image;
 use msp430_branch::cut;
 use msp430_decode::{Condition, Instr, offset_target};
 use msp430_state::State;
+use no_memory::Memory;
 use std::alloc::Global;
 use std::marker::Model;
 use value_set::{Vs16, sets_have_members};
-use vsa_io::Memory;
 
 /// The edges and the posts of an instruction.
 #[derive(Drop)]

@@ -2,7 +2,7 @@
 use Rattle.std.proofs.Common.{◌≡◌, ℕ, ◌+◌, ◌-◌, ◌*◌, ◌/◌, ◌%◌, ◌^◌, ◌≤◌, ◌&&◌, ltb, true, refl, arith}
 use Prim.Native.Nat.{zero, suc}
 use Rattle.std.proofs.Math.Nat.{pow-suc}
-use Rattle.value_bits.specs.Numbers.{is_decimal, decimal_value, decimal_digits}
+use Rattle.chip_numbers.specs.Numbers.{is_decimal, decimal_value, decimal_digits}
 
 pub is_decimal_step : (digits x : ℕ) → 1 ≤ digits → is_decimal digits x ≡ (ltb (x % 16) 10 && is_decimal (digits - 1) (x / 16))
 unfolding is_decimal

@@ -21,7 +21,7 @@ use Rattle.value_bits.specs.declared.tri.Tri.{Tri}
 use Rattle.value_bits.specs.declared.tri.Tri.TheVariants.{Zero, One, Either}
 use Rattle.value_bits.specs.Bits.{IsBit, Agrees, known_bits, from_bits, logic_of, tri_and, tri_not}
 use Rattle.value_bits.specs.Flags.{IsFlag}
-use Rattle.value_bits.specs.Numbers.{shifted_right, exchanged, sign_extended, is_decimal, decimal_sum, decimal_carry}
+use Rattle.chip_numbers.specs.Numbers.{shifted_right, exchanged, sign_extended, is_decimal, decimal_sum, decimal_carry}
 use Rattle.value_bits.specs.Sets.{IsTop, chosen, logic_set, shift_set, sign_extend_set, are_decimal, decimal_add_set}
 use Rattle.msp430_decode.specs.declared.instr.Width.{Width}
 use Rattle.msp430_decode.specs.declared.instr.Width.TheVariants.{Word, Byte}
@@ -33,7 +33,7 @@ use Rattle.msp430_chip.specs.declared.place.Flags.{Flags}
 use Rattle.msp430_chip.specs.Arithmetic.{Made, modulus, digits_of, top_place, is_negative, complement, flags_of, made, overflows, sum, logic, exclusive}
 use Rattle.msp430_chip.specs.Leading.{MayMake, MayMakeDecimal, MayMakeSingle}
 use Rattle.msp430_chip.specs.Leading.MayMakeDecimal.{Decimal, NotDecimal}
-use Rattle.msp430_state.specs.Pointwise.{each_with}
+use Rattle.value_bits.specs.Pointwise.{each_with}
 use Rattle.msp430_results.specs.FlagSets.{IsResult, AreFlags, HoldsOfMade, bits_of, shown_flags, shown_logic, flags_or, free_overflow, no_flags}
 use Rattle.msp430_results.specs.Premises.{Premises}
 use Rattle.msp430_results.specs.Results.{flags_in, add_carry, sub_carry, sum_made, twice_flags, logic_made, clear_answer, clear_set, decimal_flags, decimal_made, double_made, rotated_flags, halved_flags, single_made, HasWidth}

@@ -9,7 +9,7 @@ use Rattle.value_bits.specs.declared.tri.Top.{Top}
 use Rattle.value_bits.specs.declared.tri.Tri.{Tri}
 use Rattle.value_bits.specs.Bits.{IsBit, Agrees, known_bits, from_bits, logic_of}
 use Rattle.value_bits.specs.Flags.{IsFlag, agreed}
-use Rattle.value_bits.specs.Numbers.{shifted_right, exchanged, sign_extended, is_decimal, decimal_sum}
+use Rattle.chip_numbers.specs.Numbers.{shifted_right, exchanged, sign_extended, is_decimal, decimal_sum}
 use Rattle.value_bits.specs.Sets.{IsTop, logic_set, shift_set, exchange_set, sign_extend_set, decimal_add_set}
 
 pub record Premises : Type 0 where

@@ -11,7 +11,7 @@ use Rattle.value_bits.specs.declared.tri.Top.TheVariants.{Sign, Put}
 use Rattle.value_bits.specs.declared.tri.Tri.{Tri}
 use Rattle.value_bits.specs.declared.tri.Tri.TheVariants.{Zero, One, Either}
 use Rattle.value_bits.specs.Bits.{known_bits, from_bits, tri_and, tri_not}
-use Rattle.value_bits.specs.Numbers.{shifted_right, decimal_sum, decimal_carry, sign_extended}
+use Rattle.chip_numbers.specs.Numbers.{shifted_right, decimal_sum, decimal_carry, sign_extended}
 use Rattle.value_bits.specs.Sets.{chosen, combine_or, logic_set, shift_set, exchange_set, sign_extend_set, are_decimal, decimal_add_set}
 use Rattle.msp430_decode.specs.declared.instr.Width.{Width}
 use Rattle.msp430_decode.specs.declared.instr.Width.TheVariants.{Byte}
@@ -21,7 +21,7 @@ use Rattle.msp430_decode.specs.declared.instr.SingleOperation.{SingleOperation}
 use Rattle.msp430_decode.specs.declared.instr.SingleOperation.TheVariants.{Rrc, Swpb, Rra, Sxt, Push, Call}
 use Rattle.msp430_chip.specs.declared.place.Flags.{Flags}
 use Rattle.msp430_chip.specs.Arithmetic.{Made, modulus, digits_of, top_place, complement, flags_of, sum, logic, exclusive}
-use Rattle.msp430_state.specs.Pointwise.{each_with}
+use Rattle.value_bits.specs.Pointwise.{each_with}
 use Rattle.msp430_results.specs.FlagSets.{MadeSet, bits_of, shown_flags, shown_logic, all_agree, flags_or, free_overflow, no_flags}
 
 -- THE FLAGS OF NUMBERS

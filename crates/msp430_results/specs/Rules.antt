@@ -3,7 +3,7 @@ use Rattle.std.specs.Prelude.{ℕ, Bool, bit_and}
 use Rattle.std.proofs.Common.{arith}
 use Rattle.std.proofs.lemmas.Nat.{and_le_l}
 use Rattle.value_set.specs.Operations.{StaysBelow}
-use Rattle.value_bits.specs.Numbers.{sign_extended}
+use Rattle.chip_numbers.specs.Numbers.{sign_extended}
 use Rattle.msp430_decode.specs.declared.instr.Width.{Width}
 use Rattle.msp430_chip.specs.declared.place.Flags.{Flags}
 use Rattle.msp430_chip.specs.Arithmetic.{modulus, complement, sum, logic, exclusive}

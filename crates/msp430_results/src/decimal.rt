@@ -1,7 +1,7 @@
 //! Decimal numbers: each hexadecimal digit is read as a decimal one.
 
 ghost use Rattle.std.specs.Prelude.{◌≡◌, ◌^◌, ◌<◌, ◌≤◌};
-ghost use Rattle.value_bits.specs.Numbers as numbers;
+ghost use Rattle.chip_numbers.specs.Numbers as numbers;
 ghost use Rattle.msp430_chip.specs.Arithmetic as arithmetic;
 
 use msp430_decode::Width;

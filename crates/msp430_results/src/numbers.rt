@@ -2,7 +2,7 @@
 
 ghost use Rattle.std.specs.Prelude.{◌≡◌, ◌+◌, ◌==◌, ◌%◌, ◌^◌, ◌<◌, ◌≤◌, false};
 ghost use Rattle.std.specs.Int.{bit_at};
-ghost use Rattle.value_bits.specs.Numbers as numbers;
+ghost use Rattle.chip_numbers.specs.Numbers as numbers;
 ghost use Rattle.msp430_chip.specs.Arithmetic as arithmetic;
 ghost use Rattle.msp430_results.specs.Results as results;
 

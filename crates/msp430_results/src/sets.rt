@@ -11,7 +11,7 @@ ghost use Rattle.value_bits.specs.Sets as sets;
 ghost use Rattle.msp430_decode.specs.declared.instr.Width.TheVariants.{Word};
 ghost use Rattle.msp430_decode.specs.declared.instr.Width.{Width as AWidth};
 ghost use Rattle.msp430_chip.specs.Arithmetic.{modulus, top_place, digits_of};
-ghost use Rattle.msp430_state.specs.Pointwise.{each_with};
+ghost use Rattle.value_bits.specs.Pointwise.{each_with};
 ghost use Rattle.msp430_results.specs.FlagSets as flag_sets;
 ghost use Rattle.msp430_results.specs.Results as results;
 

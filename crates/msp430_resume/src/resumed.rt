@@ -8,9 +8,9 @@ use crate::status::{resume_fact, resume_status};
 use entry_value::Cells;
 use irq_frames::{Ranges, resume_cells};
 use msp430_state::State;
+use no_memory::Memory;
 use std::alloc::Global;
 use value_set::Vs16;
-use vsa_io::Memory;
 
 /// What may be touched in the state that goes on: in an interrupt's frame what either handler touched, else nothing.
 fn touched(alloc: Global, framed: bool, at: &Ranges, exit: &Ranges) -> Result<Ranges, Memory>

@@ -7,7 +7,7 @@ use Rattle.std.proofs.lemmas.List.Elements.{All-get_or}
 use Rattle.std.proofs.lemmas.Nat.{and_mask}
 use Rattle.call_context.specs.declared.node.Frame.{Frame}
 use Rattle.call_context.specs.declared.node.Frame.TheVariants.{Base, Irq}
-use Rattle.chip_law.specs.Laws.{HasEntry}
+use Rattle.call_context.specs.Nodes.{HasEntry}
 use Rattle.entry_value.specs.declared.word.Entry.{Entry}
 use Rattle.entry_value.specs.Words.{IsFromEntry, Reads}
 use Rattle.value_set.specs.Form.{Has}

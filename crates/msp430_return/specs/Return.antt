@@ -1,14 +1,14 @@
 -- What RETI makes of what is known of a state, and where it goes back to the state that an interrupt suspended (SLAU049,
 -- chapter 2, "Return From Interrupt").
 use Rattle.std.specs.Prelude.{ℕ, ◌+◌, ◌%◌, ◌==◌, ◌&&◌, if◌then◌else◌, Bool, false, Option, None, Some, List, [], ◌∷◌, bit_and, bit_or, take, slice_set}
-use Rattle.call_context.specs.Single.{Single}
-use Rattle.call_context.specs.Single.Single.{Access as Touched}
+use Rattle.chip_numbers.specs.Single.{Single}
+use Rattle.chip_numbers.specs.Single.Single.{Access as Touched}
 use Rattle.call_context.specs.declared.node.Frame.{Frame}
 use Rattle.call_context.specs.declared.node.Frame.TheVariants.{Base, Irq}
 use Rattle.call_context.specs.declared.shown.Item.{Item}
 use Rattle.call_context.specs.declared.shown.Item.TheVariants.{Access}
 use Rattle.call_context.specs.declared.shown.Set.TheVariants.{W}
-use Rattle.call_context.specs.declared.shown.Space.TheVariants.{Mem}
+use Rattle.chip_numbers.specs.declared.space.Space.TheVariants.{Mem}
 use Rattle.entry_value.specs.declared.word.Entry.{Entry}
 use Rattle.entry_value.specs.declared.word.Word.{Word}
 use Rattle.value_set.specs.declared.form.Form.{Form}

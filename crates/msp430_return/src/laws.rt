@@ -2,7 +2,7 @@
 
 ghost use Rattle.std.specs.Prelude.{◌≡◌, ℕ, Bool, true, Option};
 ghost use Rattle.call_context.specs.declared.node.Frame.{Frame as AFrame};
-ghost use Rattle.chip_law.specs.Laws.{HasEntry};
+ghost use Rattle.call_context.specs.Nodes.{HasEntry};
 ghost use Rattle.value_set.specs.Form.{IsNormal};
 ghost use Rattle.value_set.specs.Remainders.{HasRemainder};
 ghost use Rattle.msp430_decode.specs.declared.instr.Instr.TheVariants.{ReturnFromInterrupt};

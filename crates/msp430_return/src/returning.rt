@@ -3,7 +3,7 @@
 ghost use Rattle.std.specs.Prelude.{◌≡◌, ℕ, ◌+◌, ◌≤◌, false, IfOk};
 ghost use Rattle.call_context.specs.declared.shown.Item.TheVariants as the_item;
 ghost use Rattle.call_context.specs.declared.shown.Set.TheVariants.{W};
-ghost use Rattle.call_context.specs.declared.shown.Space.TheVariants.{Mem};
+ghost use Rattle.chip_numbers.specs.declared.space.Space.TheVariants.{Mem};
 ghost use Rattle.value_set.specs.Form.{Has};
 ghost use Rattle.value_set.specs.Summing.{add, single};
 ghost use Rattle.msp430_decode.specs.declared.instr.Width.TheVariants.{Word as Words};
@@ -17,10 +17,10 @@ use msp430_alu::{Worked, located, read_known};
 use msp430_chip::Device;
 use msp430_decode::Width;
 use msp430_state::{State, Status};
+use no_memory::Memory;
 use std::alloc::Global;
 use value_bits::{Tri, w16};
 use value_set::Vs16;
-use vsa_io::Memory;
 
 /// The bytes of a word at an even address stand below 65536.
 fn word_fits(at: &Vs16)

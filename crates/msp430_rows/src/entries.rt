@@ -5,7 +5,7 @@ ghost use Rattle.std.specs.Prelude.{◌≡◌, ◌≤◌, IfOk};
 use abs_memory::CellList;
 use call_context::{Frame, Item, Sequence, Set, Space};
 use entry_value::{Cells, Entry, Word};
-use ihex_read::Image;
+use image::Image;
 use msp430_chip::Device;
 use msp430_decode::Width;
 use msp430_entry::{Coming, add_entry_items, comings, entered, frame_of, handler_of};

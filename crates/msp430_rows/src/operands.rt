@@ -2,7 +2,7 @@
 
 use abs_memory::CellList;
 use entry_value::{Cells, Word};
-use ihex_read::Image;
+use image::Image;
 use msp430_alu::{
     Reach, counter_set, located, put_register, read_known, register_word, set_flag_bits,
     source_reach,

@@ -3,7 +3,7 @@
 use abs_memory::CellList;
 use call_context::{Frame, Item, Set, Space};
 use entry_value::{Cells, Entry, Word};
-use ihex_read::Image;
+use image::Image;
 use msp430_chip::Device;
 use msp430_return::{goes_back, return_from_interrupt};
 use msp430_state::State;

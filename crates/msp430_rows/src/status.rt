@@ -3,7 +3,7 @@
 use abs_memory::CellList;
 use call_context::{Item, Set, Space};
 use entry_value::{Cells, Entry, Word};
-use ihex_read::Image;
+use image::Image;
 use msp430_alu::{Worked, register_word};
 use msp430_chip::Device;
 use msp430_decode::{Constant, Operation, Register, SingleOperation, Source, Width};

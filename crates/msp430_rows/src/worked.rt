@@ -6,7 +6,7 @@ ghost use Rattle.msp430_results.specs.Results.{HasWidth};
 use abs_memory::CellList;
 use call_context::{Item, Set, Space};
 use entry_value::{Cells, Word};
-use ihex_read::Image;
+use image::Image;
 use msp430_alu::{Worked, double, push, put_register, register_word, single};
 use msp430_chip::Device;
 use msp430_decode::{Destination, Operation, Register, SingleOperation, Source, Width};

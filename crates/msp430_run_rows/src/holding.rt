@@ -8,7 +8,7 @@ use crate::refusing::{is_refusal, is_refused};
 use arrayvec::ArrayVec;
 use call_context::Item;
 use hex_digits::{bytes, word};
-use ihex_read::{Image, Rules};
+use image::{Image, Rules};
 use msp430_emu::{Choices, Machine, Stepped};
 use std::alloc::{AllocError, Global};
 

@@ -4,7 +4,7 @@ ghost use Rattle.std.specs.Prelude.{◌≡◌, IfOk, length};
 
 use choosing::Choices;
 use hex_digits::{bytes, word};
-use ihex_read::Image;
+use image::Image;
 use std::alloc::{AllocError, Global};
 
 /// The choices of a row, four digits each.

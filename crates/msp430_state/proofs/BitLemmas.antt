@@ -5,7 +5,7 @@ use Rattle.value_bits.specs.declared.tri.Tri.{Tri}
 use Rattle.value_bits.specs.declared.tri.Tri.TheVariants.{Zero, One, Either}
 use Rattle.value_bits.specs.Bits.{IsBit, Agrees}
 use Rattle.value_bits.specs.Flags.{IsFlag}
-use Rattle.msp430_state.specs.Pointwise.{each_passes}
+use Rattle.value_bits.specs.Pointwise.{each_passes}
 use Rattle.msp430_state.specs.Status.{common_bit, is_bit_within}
 
 pub bit_itself : (a : Tri) → is_bit_within a a ≡ true

@@ -11,7 +11,7 @@ use Rattle.value_set.specs.Widening.{widen}
 use Rattle.msp430_state.specs.Facts.{is_fact_within}
 use Rattle.msp430_state.specs.Forms.{IsWord, IsKnown}
 use Rattle.msp430_state.specs.Known.{Known, even_words, top_known, all_touched, known_joined, known_widened, known_within}
-use Rattle.msp430_state.specs.Pointwise.{each_passes}
+use Rattle.value_bits.specs.Pointwise.{each_passes}
 use Rattle.msp430_state.specs.Premises.{AreMarks, Premises}
 use Rattle.irq_frames.specs.Ranges.{AreRanges, ranges_within}
 use Rattle.msp430_state.specs.Status.{common_bit, is_bit_within}

@@ -3,7 +3,7 @@ use Rattle.std.proofs.Common.{◌≡◌, ℕ, zero, suc, ◌<◌, ◌≤◌, ◌
 use Rattle.std.proofs.lemmas.Bool.{and_from, and_parts, and_left, and_right}
 use Rattle.std.proofs.lemmas.List.{append-nil, drop_all, take_all}
 use Rattle.std.proofs.lemmas.List.Elements.{All-nil, All-cons, All-head, All-tail}
-use Rattle.msp430_state.specs.Pointwise.{each_with, each_passes}
+use Rattle.value_bits.specs.Pointwise.{each_with, each_passes}
 
 -- behind the last place nothing is left
 pub all_made : {A : Type 0} (f : A → A → A) (n i : ℕ) (xs held new made : List A) → n ≤ i → length xs ≡ n → length held ≡ n

@@ -5,8 +5,7 @@ use Rattle.call_context.specs.declared.node.Frame.{Frame}
 use Rattle.call_context.specs.declared.node.Frame.TheVariants.{Base, Irq}
 use Rattle.call_context.specs.declared.node.Node.{Node}
 use Rattle.call_context.specs.declared.node.Node.TheVariants.{At, Exit}
-use Rattle.call_context.specs.Nodes.{frame_of}
-use Rattle.chip_law.specs.Laws.{HasEntry}
+use Rattle.call_context.specs.Nodes.{frame_of, HasEntry}
 use Rattle.entry_value.specs.declared.cells.Cell.{Cell}
 use Rattle.entry_value.specs.declared.word.Entry.{Entry}
 use Rattle.entry_value.specs.declared.word.Word.{Word}

@@ -17,7 +17,7 @@ use Rattle.value_set.specs.Widening.{widen}
 use Rattle.msp430_state.specs.declared.fact.FlagFact.{FlagFact}
 use Rattle.msp430_state.specs.declared.status.Status.{Status}
 use Rattle.msp430_state.specs.Facts.{common_fact, is_fact_within}
-use Rattle.msp430_state.specs.Pointwise.{each_with, each_passes}
+use Rattle.value_bits.specs.Pointwise.{each_with, each_passes}
 use Rattle.irq_frames.specs.Ranges.{ranges_within, united}
 use Rattle.msp430_state.specs.Status.{common_bit, is_bit_within, status_joined, status_within, status_of}
 

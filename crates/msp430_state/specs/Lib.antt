@@ -1,4 +1,3 @@
-pub mod Pointwise
 pub mod Status
 pub mod Facts
 pub mod Known

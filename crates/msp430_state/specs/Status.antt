@@ -4,7 +4,7 @@ use Rattle.entry_value.specs.Words.{common_entry, is_entry_within}
 use Rattle.value_bits.specs.declared.tri.Tri.{Tri}
 use Rattle.value_bits.specs.declared.tri.Tri.TheVariants.{Zero, One, Either}
 use Rattle.msp430_state.specs.declared.status.Status.{Status}
-use Rattle.msp430_state.specs.Pointwise.{each_with, each_passes}
+use Rattle.value_bits.specs.Pointwise.{each_with, each_passes}
 
 -- a bit is known where it is known and equal in both
 abbrev pub common_bit : Tri → Tri → Tri

@@ -10,11 +10,11 @@ use crate::words::{are_within, copy_all, join_all, unknown, widen_all};
 use call_context::Frame;
 use entry_value::{Cells, Word};
 use irq_frames::Ranges;
+use no_memory::Memory;
 use std::alloc::Global;
 use std::marker::Model;
 use value_bits::Tri;
 use value_set::Vs16;
-use vsa_io::Memory;
 
 /// What is known of a state of the MSP430, over any representation of the cells of its RAM.
 #[derive(Drop)]

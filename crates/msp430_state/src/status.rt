@@ -1,7 +1,7 @@
 //! What is known of bits.
 
 ghost use Rattle.std.specs.Prelude.{◌≡◌};
-ghost use Rattle.msp430_state.specs.Pointwise.{each_with, each_passes};
+ghost use Rattle.value_bits.specs.Pointwise.{each_with, each_passes};
 ghost use Rattle.entry_value.specs.Words.{is_entry_within as is_relation_within};
 ghost use Rattle.msp430_state.specs.Status as the_status;
 

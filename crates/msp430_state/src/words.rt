@@ -3,7 +3,7 @@
 ghost use Rattle.std.specs.Prelude.{◌≡◌};
 ghost use Rattle.entry_value.specs.Cells as the_cells;
 ghost use Rattle.entry_value.specs.Words.{word_join, word_widen, word_within};
-ghost use Rattle.msp430_state.specs.Pointwise.{each_with, each_passes};
+ghost use Rattle.value_bits.specs.Pointwise.{each_with, each_passes};
 
 use entry_value::Word;
 use value_set::Vs16;

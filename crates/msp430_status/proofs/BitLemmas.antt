@@ -14,7 +14,7 @@ use Rattle.msp430_decode.specs.declared.instr.Operation.TheVariants as operation
 use Rattle.msp430_decode.specs.declared.instr.Width.{Width}
 use Rattle.msp430_decode.specs.declared.instr.Width.TheVariants.{Word as Words, Byte}
 use Rattle.msp430_chip.specs.Arithmetic.{complement, modulus, reads_destination, sets_flags}
-use Rattle.msp430_state.specs.Pointwise.{each_with}
+use Rattle.value_bits.specs.Pointwise.{each_with}
 use Rattle.msp430_status.specs.Status.{bit_behind, free_bits, moved_bits}
 
 -- the lowest bits of a number, as far as the list goes

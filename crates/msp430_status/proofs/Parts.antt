@@ -1,6 +1,5 @@
 -- What holds of registers and RAM behind a write to SR.
-use Rattle.std.proofs.Common.{◌≡◌, ℕ, ◌<◌, ◌≢◌, Option, None, List, length, get_or, set, sym, ap, ◌∙◌, subst, arith}
-use Rattle.std.proofs.Common.{get_or-set_same, get_or-set_other}
+use Rattle.std.proofs.Common.{◌≡◌, ℕ, ◌<◌, ◌≢◌, Option, None, List, length, get_or, set, sym, ap, ◌∙◌, subst, arith, get_or-set_same, get_or-set_other}
 use Rattle.std.specs.Option.{option_map}
 use Rattle.std.proofs.lemmas.List.{set-get_or}
 use Rattle.entry_value.specs.Words.{HoldsOfWord}

@@ -1,13 +1,12 @@
 -- The law of instructions with two operands and the destination SR.
-use Rattle.std.proofs.Common.{◌≡◌, ℕ, suc, zero, ◌+◌, ◌-◌, ◌*◌, ◌%◌, ◌<◌, ◌++◌, ◌&&◌, Bool, true, false, Option, None, Some, List, [], length, get_or, refl, sym, ap, ◌∙◌, subst, inl, inr, arith}
-use Rattle.std.proofs.Common.{get_or-set_same, get_or-set_other}
+use Rattle.std.proofs.Common.{◌≡◌, ℕ, suc, zero, ◌+◌, ◌-◌, ◌*◌, ◌%◌, ◌<◌, ◌++◌, ◌&&◌, Bool, true, false, Option, None, Some, List, [], length, get_or, refl, sym, ap, ◌∙◌, subst, inl, inr, arith, get_or-set_same, get_or-set_other}
 use Rattle.std.specs.Prelude.{bit_and, bit_or, All}
 use Rattle.std.proofs.lemmas.Bool.{cases_Bool, cases_lt, cond_both, cond-false, cond-true, false≢true}
 use Rattle.std.proofs.lemmas.List.{get_or_past, length-set, length-take-le, append-nil, set-get_or}
 use Rattle.std.proofs.lemmas.List.Elements.{All-get_or}
 use Rattle.std.proofs.lemmas.List.FromFn.{length-map-range_with_len}
 use Rattle.std.proofs.lemmas.Option.{same_Some}
-use Rattle.ihex_read.specs.Image.{byte_at, IsByte}
+use Rattle.image.specs.Image.{byte_at, IsByte}
 use Rattle.entry_value.specs.declared.word.Word.{Word}
 use Rattle.value_set.specs.Form.{IsNormal}
 use Rattle.value_set.specs.Remainders.{HasRemainder}

@@ -5,7 +5,7 @@ use Rattle.std.proofs.lemmas.List.{length-append}
 use Rattle.value_bits.specs.declared.tri.Tri.{Tri}
 use Rattle.value_bits.specs.declared.tri.Tri.TheVariants.{Either}
 use Rattle.value_bits.specs.Bits.{IsBit, Agrees}
-use Rattle.value_bits.specs.Numbers.{exchanged}
+use Rattle.chip_numbers.specs.Numbers.{exchanged}
 use Rattle.msp430_status.specs.Status.{swapped_bits}
 use Rattle.msp430_status.proofs.BitLemmas.{bit_small}
 

@@ -20,7 +20,7 @@ use Rattle.msp430_chip.specs.declared.device.Device.{Device}
 use Rattle.msp430_chip.specs.Arithmetic.{sets_flags}
 use Rattle.msp430_results.specs.Words.{values_of, written_word}
 use Rattle.msp430_state.specs.Known.{Known}
-use Rattle.msp430_state.specs.Pointwise.{each_with}
+use Rattle.value_bits.specs.Pointwise.{each_with}
 use Rattle.msp430_alu.specs.Formats.{Worked, access_of}
 use Rattle.msp430_alu.specs.Operands.{source_reach, grown_known, operand_word}
 

@@ -3,7 +3,7 @@
 ghost use Rattle.std.specs.Prelude.{◌≡◌};
 ghost use Rattle.value_bits.specs.Bits as known;
 ghost use Rattle.msp430_chip.specs.Arithmetic as arithmetic;
-ghost use Rattle.msp430_state.specs.Pointwise.{each_with};
+ghost use Rattle.value_bits.specs.Pointwise.{each_with};
 ghost use Rattle.msp430_status.specs.Status as status;
 
 use msp430_decode::{Operation, SingleOperation, Width};

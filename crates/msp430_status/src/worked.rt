@@ -13,10 +13,10 @@ use msp430_chip::Device;
 use msp430_decode::{Operation, Register, SingleOperation, Source, Width};
 use msp430_results::kept_word;
 use msp430_state::{State, Status};
+use no_memory::Memory;
 use std::alloc::Global;
 use value_bits::{Tri, w16};
 use value_set::Vs16;
-use vsa_io::Memory;
 
 /// What is known of the lowest nine bits of a word. A byte has the high byte 0.
 fn lowest_bits(width: Width, word: &Word) -> [Tri; 9]

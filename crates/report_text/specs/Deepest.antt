@@ -7,7 +7,7 @@ use Rattle.value_set.specs.Form.{Has}
 use Rattle.call_context.specs.declared.shown.Set.TheVariants.{B, W}
 use Rattle.call_context.specs.declared.shown.Item.{Item}
 use Rattle.call_context.specs.declared.shown.Item.TheVariants.{Instr, Edge, Access, Stack}
-use Rattle.chip_law.specs.Digits.{hex}
+use Rattle.hex_digits.specs.Digits.{hex}
 use Rattle.report_text.specs.declared.deepest.Deepest.{Deepest}
 use Rattle.report_text.specs.declared.deepest.Deepest.TheVariants.{Least, Greatest}
 

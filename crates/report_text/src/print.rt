@@ -7,9 +7,10 @@ ghost use Rattle.vsa_io.specs.Stream.{AppendsPrefix, HasRisen, appended};
 
 use crate::report::report_of;
 use chip_law::ChipText;
+use no_memory::Memory;
 use round_core::Book;
 use std::alloc::Global;
-use vsa_io::{Memory, Sink, write_all};
+use vsa_io::{Sink, write_all};
 
 /// Why a report isn't printed.
 #[derive(Clone, Copy, Debug, PartialEq, Eq)]

@@ -13,11 +13,12 @@ ghost use Rattle.chip_law.specs.Line.{item_line_of, open_line_of};
 
 use crate::deepest::{Deepest, deepest_of};
 use call_context::{Cause, Item};
-use chip_law::{ChipText, Work, hex_byte, hex_word, item_line, open_line};
+use chip_law::{ChipText, Work, item_line, open_line};
+use hex_digits::{hex_byte, hex_word};
+use no_memory::Memory;
 use round_core::Book;
 use std::alloc::{AllocError, Global};
 use std::collections::BTreeSet;
-use vsa_io::Memory;
 
 /// The text of a report, and whether it is closed.
 #[derive(Drop)]

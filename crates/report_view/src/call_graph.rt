@@ -5,10 +5,10 @@ use crate::graph::{boxes_of, close, open_graph};
 use crate::markup::Markup;
 use crate::program::Program;
 use crate::ways::Way;
+use no_memory::Memory;
 use report_lines::Report;
 use std::alloc::Global;
 use std::collections::BTreeSet;
-use vsa_io::Memory;
 
 /// The graph of calls: a box for each function, and an arrow for each that another one calls or goes on in. Interrupts have
 /// arrows from the functions in which they come.

@@ -5,10 +5,10 @@ ghost use Rattle.std.specs.Prelude.{◌≤◌};
 use crate::depth::Depths;
 use crate::markup::Markup;
 use crate::view::Shown;
+use no_memory::Memory;
 use report_lines::Report;
 use std::alloc::Global;
 use std::collections::BTreeSet;
-use vsa_io::Memory;
 
 /// The parts of the lines of a letter, each once, from their byte `from` on, which is behind the letter and its space.
 fn parts_of<'a>(

@@ -3,10 +3,10 @@
 use crate::depth::Depths;
 use crate::program::{Program, Site};
 use crate::ways::{Flow, Way, behind, flow_of};
+use no_memory::Memory;
 use report_lines::Report;
 use std::alloc::Global;
 use std::collections::{BTreeMap, BTreeSet};
-use vsa_io::Memory;
 
 /// How control comes to a function.
 #[derive(Clone, Copy, Debug, PartialEq, Eq)]

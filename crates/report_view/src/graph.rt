@@ -3,10 +3,10 @@
 use crate::markup::Markup;
 use crate::program::{Program, Site};
 use crate::ways::Way;
+use no_memory::Memory;
 use report_lines::{Cause, Report};
 use std::alloc::Global;
 use std::collections::BTreeMap;
-use vsa_io::Memory;
 
 /// The graph of a report: a box for each straight stretch, with a row for each address, and an arrow for each edge that
 /// leaves a stretch.

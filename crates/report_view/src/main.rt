@@ -26,11 +26,12 @@ mod ways;
 use crate::ask::{Ask, ask_of};
 use crate::given::given_instead;
 use crate::view::{ViewError, view};
+use no_memory::Memory;
 use report_lines::{Refusal, Why};
 use std::alloc::Global;
 use std::process::ExitCode;
 use std::{env, io};
-use vsa_io::{Memory, Source, StdinSource, StdoutSink, write_all};
+use vsa_io::{Source, StdinSource, StdoutSink, write_all};
 
 /// How a run ends.
 #[derive(Clone, Copy)]

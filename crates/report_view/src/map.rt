@@ -2,10 +2,10 @@
 
 use crate::depth::Depths;
 use hex_digits::{byte, word};
-use ihex_read::Image;
+use image::Image;
+use no_memory::Memory;
 use report_lines::{Access, Form, Instr, Line, Report, Set, Space};
 use std::alloc::Global;
-use vsa_io::Memory;
 
 /// What a byte is used for. Later ones go before earlier ones where a byte has several uses.
 #[derive(Clone, Copy, Debug, PartialEq, Eq)]

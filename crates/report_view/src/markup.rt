@@ -5,8 +5,8 @@ ghost use Rattle.hex_digits.specs.Digits.{hex};
 ghost use Rattle.report_view.specs.Escape.{escape, escape_byte};
 
 use hex_digits::{hex_byte, hex_word};
+use no_memory::Memory;
 use std::alloc::Global;
-use vsa_io::Memory;
 
 /// A text with marks, as HTML and Graphviz read it.
 #[derive(Drop)]

@@ -2,10 +2,10 @@
 
 use crate::depth::Depths;
 use crate::functions::{Functions, Kind};
+use no_memory::Memory;
 use report_lines::{Access, Line, Report, Set, Space};
 use std::alloc::Global;
 use std::collections::{BTreeMap, BTreeSet};
-use vsa_io::Memory;
 
 /// Who accesses some addresses.
 #[derive(Drop)]

@@ -13,10 +13,10 @@ use crate::program::{Link, Program, Site};
 use crate::sets::write_set;
 use crate::style::{COLUMNS, FETCH_ADVICE, HEAD, NOTES, STORE_ADVICE, STYLE, TARGETS_ADVICE};
 use crate::ways::{Way, behind};
-use ihex_read::Image;
+use image::Image;
+use no_memory::Memory;
 use report_lines::{Access, Cause, Kind, Line, Report};
 use std::alloc::Global;
-use vsa_io::Memory;
 
 /// The page of a report, whose text this is, and of its image, where that is there.
 pub fn page_of(

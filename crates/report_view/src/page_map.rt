@@ -3,9 +3,9 @@
 use crate::map::{Map, Part, USES, Use};
 use crate::markup::Markup;
 use crate::page::count;
+use no_memory::Memory;
 use report_lines::Space;
 use std::alloc::Global;
-use vsa_io::Memory;
 
 /// How many unused bytes end an area.
 const GAP: usize = 64;

@@ -8,11 +8,11 @@ use crate::page::{count, link};
 use crate::program::Program;
 use crate::sets::write_set;
 use crate::ways::Way;
-use ihex_read::Image;
+use image::Image;
+use no_memory::Memory;
 use report_lines::{Line, Report, Space};
 use std::alloc::Global;
 use std::collections::BTreeMap;
-use vsa_io::Memory;
 
 /// The functions with their stack, and the way to the deepest place.
 pub fn functions_table(

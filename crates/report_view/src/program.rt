@@ -1,11 +1,11 @@
 //! The lines of a report by address.
 
 use crate::ways::{Flow, Way, behind, flow_of, told_way};
+use no_memory::Memory;
 use report_lines::{Access, Cause, Edge, Instr, Line, Report, Set};
 use std::alloc::Global;
 use std::collections::btree_map::Entry;
 use std::collections::{BTreeMap, BTreeSet};
-use vsa_io::Memory;
 
 /// The other end of an edge, and how control goes along it.
 #[derive(Clone, Copy, Debug, PartialEq, Eq)]

@@ -2,8 +2,8 @@
 
 use crate::markup::Markup;
 use hex_digits::{byte, word};
+use no_memory::Memory;
 use report_lines::{Form, Set, Width};
-use vsa_io::Memory;
 
 /// Writes a number with the digits of a width.
 fn number(page: &mut Markup, value: u16, width: Option<Width>) -> Result<(), Memory> {

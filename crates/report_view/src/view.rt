@@ -7,10 +7,11 @@ use crate::graph::graph_of;
 use crate::map::foreign_instr;
 use crate::markup::Markup;
 use crate::page::page_of;
-use ihex_read::{HexError, Image, MOST_BYTES, Reader, Rules, Tail};
+use ihex_read::{HexError, MOST_BYTES, Reader, Tail};
+use image::{Image, Rules};
+use no_memory::Memory;
 use report_lines::{ReadError, Refusal, read};
 use std::alloc::Global;
-use vsa_io::Memory;
 
 /// Why a report isn't shown.
 #[derive(Clone, Copy, Debug, PartialEq, Eq)]

@@ -7,9 +7,8 @@ use Rattle.round_core.proofs.SameLaws.{same_node-refl}
 use Rattle.round_core.specs.declared.event.Event.{Event}
 use Rattle.round_core.specs.declared.event.Event.TheVariants.{Claim, Post, GiveBack}
 use Rattle.chip_law.specs.Analysis.{Analysis, AreFormed, KeepsForm, IsOrdered}
-use Rattle.round_core.proofs.RiseLaws.{PostsAreFormed}
+use Rattle.round_core.proofs.RiseLaws.{PostsAreFormed, AreUnder, AreUnder-all_raised, IsUnder-all_raised, all_raised-under}
 use Rattle.round_core.proofs.HeldLaws.{held_at-here}
-use Rattle.round_core.proofs.RiseLaws.{AreUnder, AreUnder-all_raised, IsUnder-all_raised, all_raised-under}
 use Rattle.round_core.proofs.EntryLaws.{out_at-all, done_at-all, all-with_done, up_to-unless_risen}
 use Rattle.round_core.proofs.ReplayLaws.{IsSteady, IsWellDone, after-claim, after-post, after-give_back, inputs_of-unit}
 use Rattle.round_core.proofs.FormLaws.{posts-formed, IsInForm, IsInForm-after, IsInForm-opening}

@@ -8,10 +8,10 @@ use crate::event::Event;
 use crate::parts::Parts;
 use call_context::{Node, Unit};
 use chip_law::{Chip, Work};
+use no_memory::Memory;
 use std::alloc::Global;
 use std::marker::Model;
 use std::snapshot::Snapshot;
-use vsa_io::Memory;
 
 /// The nodes of an analysis with their states, the last works of its units, and what happened to them. Contracts see
 /// the chip's program with options, and the journal: all else is what its replay gives.

@@ -6,8 +6,8 @@ ghost use Rattle.round_core.specs.Agenda.{IsIn, KeepsCandidates};
 ghost use Rattle.round_core.specs.Returns.{HasReturnsTo, HasReturnsFrom};
 
 use crate::place::Place;
+use no_memory::Memory;
 use std::collections::BTreeSet;
-use vsa_io::Memory;
 
 /// Adds a candidate.
 pub fn add_candidate(candidates: &mut BTreeSet<Place>, place: Place) -> Result<(), Memory>

@@ -12,8 +12,8 @@ use crate::nodes::Nodes;
 use crate::ticket::{Claimed, Ticket};
 use call_context::{Node, Unit};
 use chip_law::Chip;
+use no_memory::Memory;
 use std::alloc::Global;
-use vsa_io::Memory;
 
 /// A copy of the state of a node.
 fn copy_of<C: Chip>(

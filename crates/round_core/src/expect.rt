@@ -16,8 +16,8 @@ use crate::place::Place;
 use crate::places::Places;
 use crate::works::Works;
 use call_context::{Frame, Node, Unit};
+use no_memory::Memory;
 use std::collections::BTreeSet;
-use vsa_io::Memory;
 
 /// Adds the returns to a node from the exits of frames.
 fn add_returns(

@@ -11,9 +11,9 @@ use crate::table::Table;
 use crate::versions::Versions;
 use call_context::{Node, Unit, equal_nodes_are_one};
 use indexmap::IndexMap;
+use no_memory::Memory;
 use std::alloc::Global;
 use std::marker::Model;
-use vsa_io::Memory;
 
 /// Nodes with their states and how often those rose, in the order of first posts.
 #[derive(Drop)]

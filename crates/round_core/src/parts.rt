@@ -23,8 +23,8 @@ use crate::versions::Versions;
 use crate::works::Works;
 use call_context::{Frame, Node, Unit};
 use chip_law::Work;
+use no_memory::Memory;
 use std::alloc::Global;
-use vsa_io::Memory;
 
 /// The nodes with their states, the last works of units, the units that are out with the journal, and the units that
 /// may be claimable.

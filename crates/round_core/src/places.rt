@@ -6,9 +6,9 @@ ghost use Rattle.round_core.specs.Agenda.{IsIn, places_in, seen, KeepsPlaces};
 
 use call_context::{Frame, equal_nodes_are_one};
 use indexmap::IndexMap;
+use no_memory::Memory;
 use std::alloc::Global;
 use std::marker::Model;
-use vsa_io::Memory;
 
 /// Places of nodes, kept for a frame.
 #[derive(Drop)]

@@ -14,7 +14,7 @@ use crate::parts::Parts;
 use crate::raise::all_raised;
 use crate::ticket::Done;
 use chip_law::Chip;
-use vsa_io::Memory;
+use no_memory::Memory;
 
 /// All that may fail of a post, for want of memory alone. It changes nothing that the parts stand for, and answers
 /// the nodes that the post raises.

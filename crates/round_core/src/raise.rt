@@ -8,8 +8,8 @@ ghost use Rattle.round_core.specs.Shown.{AreDistinct};
 use crate::nodes::Nodes;
 use call_context::Node;
 use chip_law::Chip;
+use no_memory::Memory;
 use std::alloc::Global;
-use vsa_io::Memory;
 
 /// How often a state rises to joins, and then to widenings to marks and to classes. The next rise gives top.
 const JOINS: u32 = 15;

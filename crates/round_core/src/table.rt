@@ -8,10 +8,10 @@ ghost use Rattle.round_core.specs.Rows.{mark_part, value_part, with_entry};
 
 use crate::reserved::push_reserved;
 use indexmap::IndexMap;
+use no_memory::Memory;
 use std::alloc::Global;
 use std::hash::Hash;
 use std::marker::Model;
-use vsa_io::Memory;
 
 /// Keys with their values and marks, in the order in which the keys came.
 #[derive(Drop)]

@@ -9,9 +9,9 @@ use crate::place::Place;
 use crate::reserved::push_reserved;
 use call_context::{Unit, equal_nodes_are_one};
 use indexmap::IndexMap;
+use no_memory::Memory;
 use std::alloc::Global;
 use std::marker::Model;
-use vsa_io::Memory;
 
 /// The units that are out with their places, the places that were given back since the last claim, and all that
 /// happened. There is room for what the end of each unit that is out adds.

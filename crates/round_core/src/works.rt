@@ -12,9 +12,9 @@ use crate::table::Table;
 use crate::versions::Versions;
 use call_context::{Frame, Node, Unit, equal_nodes_are_one};
 use chip_law::Work;
+use no_memory::Memory;
 use std::alloc::Global;
 use std::marker::Model;
-use vsa_io::Memory;
 
 /// Units with their last works and the versions of their inputs, in the order in which they were first done.
 #[derive(Drop)]

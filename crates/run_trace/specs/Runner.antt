@@ -1,6 +1,6 @@
 -- How a chip runs, as a trace sees it.
 use Rattle.std.specs.Prelude.{◌≡◌, ℕ, Option, None, Some, List, map}
-use Rattle.call_context.specs.Single.{Single}
+use Rattle.chip_numbers.specs.Single.{Single}
 use Rattle.call_context.specs.declared.shown.Item.{Item}
 use Rattle.choosing.specs.Outcome.{Outcome}
 use Rattle.choosing.specs.Outcome.Outcome.{Next, Wild as Leaves}

@@ -2,8 +2,8 @@
 use Rattle.std.specs.Prelude.{ℕ, zero, suc, ◌+◌, Option, None, Some, List, ◌++◌, codes}
 use Rattle.std.specs.Fmt.{decimal}
 use Rattle.std.specs.List.{flat_map}
-use Rattle.call_context.specs.Single.{Single}
-use Rattle.chip_law.specs.Digits.{hex}
+use Rattle.chip_numbers.specs.Single.{Single}
+use Rattle.hex_digits.specs.Digits.{hex}
 use Rattle.chip_law.specs.Line.{item_line_of}
 use Rattle.choosing.specs.Outcome.{Outcome}
 use Rattle.choosing.specs.Outcome.Outcome.{Next, Wild as Leaves}

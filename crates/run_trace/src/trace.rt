@@ -8,10 +8,11 @@ ghost use Rattle.run_trace.specs.Trace.{end_line, need_line, run_of, wild_line};
 
 use crate::emulator::{Emulator, Ran};
 use call_context::Item;
-use chip_law::{InstrText, hex_word, put_item};
+use chip_law::{InstrText, put_item};
 use choosing::Choices;
+use hex_digits::hex_word;
+use no_memory::Memory;
 use std::alloc::{AllocError, Global};
-use vsa_io::Memory;
 
 /// How a run ended.
 #[derive(Clone, Copy, Debug, PartialEq, Eq)]

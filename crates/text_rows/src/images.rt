@@ -1,7 +1,8 @@
 ghost use Rattle.std.specs.Prelude.{◌≤◌, length};
-ghost use Rattle.ihex_read.specs.ImageText.{IsRamRange};
+ghost use Rattle.image.specs.Kept.{IsRamRange};
 
-use ihex_read::{HexError, HexFault, Image, MOST_BYTES, Reader, Rules, Tail};
+use ihex_read::{HexError, HexFault, MOST_BYTES, Reader, Tail};
+use image::{Image, Rules};
 use std::alloc::Global;
 use std::test::Fail;
 

@@ -1,10 +1,11 @@
 //! Streams run on their happy paths, and where they fail.
+use no_memory::Memory;
 use std::alloc::{AllocError, Global};
 use std::process::Abort;
 use std::test::Fail;
 use vsa_io::{
-    CleanSink, CleanSource, Failed, MemSink, MemSource, Memory, Sink, Source, StdinSource,
-    StdoutSink, write_all,
+    CleanSink, CleanSource, Failed, MemSink, MemSource, Sink, Source, StdinSource, StdoutSink,
+    write_all,
 };
 
 /// Reads once into a buffer of five bytes, and looks at what came.

@@ -10,10 +10,10 @@ use crate::journaled::Journaled;
 use crate::seat::{Seat, Turn};
 use crate::steps::{part, pass_turn, take_in, wait_turn};
 use atomic_table::Table;
+use no_memory::Memory;
 use std::alloc::Global;
 use std::snapshot::Snapshot;
 use std::sync::Wait;
-use vsa_io::Memory;
 
 /// A value that threads use in turns, and the one history of all turns.
 #[derive(Drop)]

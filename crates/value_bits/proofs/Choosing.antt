@@ -12,7 +12,7 @@ use Rattle.value_bits.specs.declared.tri.Lowest.{Lowest}
 use Rattle.value_bits.specs.declared.tri.Lowest.TheVariants.{High, Given}
 use Rattle.value_bits.specs.declared.tri.Top.{Top}
 use Rattle.value_bits.specs.declared.tri.Top.TheVariants.{Sign, Low, Put}
-use Rattle.value_bits.specs.Numbers.{shifted_left, shifted_right}
+use Rattle.chip_numbers.specs.Numbers.{shifted_left, shifted_right}
 use Rattle.value_bits.specs.Bits.{IsBit}
 use Rattle.value_bits.proofs.Moves.{bit_small}
 use Rattle.value_bits.specs.Sets.{chosen, combine_or, IsTop, IsOneTop, top_carry, shift_answer}

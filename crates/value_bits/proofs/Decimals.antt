@@ -2,7 +2,7 @@
 use Rattle.std.proofs.Common.{◌≡◌, ℕ, ◌+◌, ◌-◌, ◌*◌, ◌/◌, ◌%◌, ◌^◌, ◌<◌, ◌≤◌, Bool, ◌&&◌, cond, ltb, true, false, IsTrue, refl, ◌∙◌, ap, arith}
 use Prim.Native.Nat.{zero, suc}
 use Rattle.std.proofs.Math.Nat.{pow-suc}
-use Rattle.value_bits.specs.Numbers.{is_decimal, decimal_value, decimal_digits, decimal_sum}
+use Rattle.chip_numbers.specs.Numbers.{is_decimal, decimal_value, decimal_digits, decimal_sum}
 use Rattle.std.specs.Prelude.{◌↔◌}
 use Rattle.value_set.specs.declared.form.Form.{Form}
 use Rattle.value_set.specs.Form.{members, Has}

@@ -1,6 +1,6 @@
 -- Rows of the definitions: sums of decimal numbers, and the two examples of DA in the MCS-51 instruction set.
 use Rattle.std.proofs.Common.{◌≡◌, true, false, refl}
-use Rattle.value_bits.specs.Numbers.{decimal_value, decimal_digits, decimal_sum, decimal_carry, decimal_adjusted, adjusted_carry}
+use Rattle.chip_numbers.specs.Numbers.{decimal_value, decimal_digits, decimal_sum, decimal_carry, decimal_adjusted, adjusted_carry}
 
 sum_without_carry : decimal_sum 4 0x1234 0x5678 0 ≡ 0x6912
 unfolding decimal_value decimal_digits

@@ -17,7 +17,7 @@ use Rattle.value_bits.specs.declared.tri.Top.TheVariants.{Sign, Low, Put}
 use Rattle.value_bits.specs.declared.tri.Logic.{Logic}
 use Rattle.value_bits.specs.declared.tri.Lowest.{Lowest}
 use Rattle.value_bits.specs.declared.tri.Lowest.TheVariants.{High, Given}
-use Rattle.value_bits.specs.Numbers.{shifted_left, shifted_right, exchanged, sign_extended, low_byte, high_byte, word_of, is_decimal, decimal_sum, decimal_total, decimal_adjusted}
+use Rattle.chip_numbers.specs.Numbers.{shifted_left, shifted_right, exchanged, sign_extended, low_byte, high_byte, word_of, is_decimal, decimal_sum, decimal_total, decimal_adjusted}
 use Rattle.value_bits.specs.Bits.{IsBit, Agrees, known_bit, known_bits, filled, least, greatest, numbers, unknown_count, lowest_unknown, from_bits, logic_of, tri_logic}
 use Rattle.value_bits.specs.Sets.{chosen, any, combine_or, logic_bits, logic_set, IsTop, top_answer, shift_answer, top_carry, top_bit, shift_bits, shift_set, exchange_set, sign_extend_set, low_set, high_set, words, pair_set, are_decimal, decimal_add_set, decimal_adjust_set}
 use Rattle.value_bits.specs.Lefts.{IsLowest, lowest_answer, left_answer, lowest_carry, left_bits, left_set}

@@ -2,16 +2,15 @@
 use Rattle.std.proofs.Common.{◌≡◌, ℕ, ◌+◌, ◌-◌, ◌*◌, ◌<◌, ◌≤◌, List, [], ◌∷◌, ◌++◌, map, length, take, drop, get_or, refl, sym, ◌∙◌, ap, arith, append-nil}
 use Rattle.std.specs.List.{Contains}
 use Rattle.std.proofs.lemmas.Bool.{le-leb, lt-leb}
-use Rattle.std.proofs.lemmas.List.{take_more}
+use Rattle.std.proofs.lemmas.List.{take_more, length-map, length-append, length-take-le, length-drop}
 use Rattle.std.proofs.lemmas.Grind.{flat_map-append}
-use Rattle.std.proofs.lemmas.List.{length-map, length-append, length-take-le, length-drop}
 use Rattle.std.proofs.Math.Seq.{take-length}
 use Rattle.std.proofs.lemmas.Nat.{mul-le}
 use Rattle.value_set.specs.declared.form.Form.{Form}
 use Rattle.value_set.specs.Form.{members, gather, set_of, put}
 use Rattle.value_set.specs.Summing.{single}
 use Rattle.value_bits.specs.declared.tri.Tri.{Tri}
-use Rattle.value_bits.specs.Numbers.{low_byte, high_byte, word_of}
+use Rattle.chip_numbers.specs.Numbers.{low_byte, high_byte, word_of}
 use Rattle.value_bits.specs.Bits.{known_bits, from_bits}
 use Rattle.value_bits.specs.Sets.{low_set, high_set, words, pair_set}
 use Rattle.value_bits.proofs.Within.{in_from_Contains, Contains_from_in, in_map, in_flat_map}

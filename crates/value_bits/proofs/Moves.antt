@@ -12,7 +12,7 @@ use Rattle.value_bits.specs.declared.tri.Top.{Top}
 use Rattle.value_bits.specs.declared.tri.Top.TheVariants.{Sign, Low, Put}
 use Rattle.value_bits.specs.declared.tri.Lowest.{Lowest}
 use Rattle.value_bits.specs.declared.tri.Lowest.TheVariants.{High, Given}
-use Rattle.value_bits.specs.Numbers.{shifted_left, shifted_right, exchanged, sign_extended, low_byte, high_byte, word_of}
+use Rattle.chip_numbers.specs.Numbers.{shifted_left, shifted_right, exchanged, sign_extended, low_byte, high_byte, word_of}
 use Rattle.value_bits.specs.Bits.{IsBit, Agrees}
 use Rattle.value_bits.specs.Sets.{IsTop, top_bit, shift_bits}
 use Rattle.value_bits.specs.Lefts.{IsLowest, lowest_bit, left_bits}

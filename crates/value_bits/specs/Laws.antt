@@ -16,7 +16,7 @@ use Rattle.value_bits.specs.declared.tri.Logic.TheVariants.{And}
 use Rattle.value_bits.specs.Bits.{IsBit, Agrees, known_bits, from_bits, known_flag, logic_of, may_be, tri_and, tri_not, tri_or, tri_xor}
 use Rattle.value_bits.specs.Flags.{IsFlag, agreed}
 use Rattle.value_bits.specs.Lefts.{IsLowest, left_set}
-use Rattle.value_bits.specs.Numbers.{shifted_left, shifted_right, exchanged, sign_extended, low_byte, high_byte, word_of, is_decimal, decimal_sum, decimal_adjusted}
+use Rattle.chip_numbers.specs.Numbers.{shifted_left, shifted_right, exchanged, sign_extended, low_byte, high_byte, word_of, is_decimal, decimal_sum, decimal_adjusted}
 use Rattle.value_bits.specs.Sets.{IsTop, chosen, logic_set, shift_set, exchange_set, sign_extend_set, low_set, high_set, pair_set, decimal_add_set, decimal_adjust_set}
 
 pub record BitLaws : Type 0 where

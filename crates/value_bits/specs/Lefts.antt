@@ -7,7 +7,7 @@ use Rattle.value_bits.specs.declared.tri.Tri.{Tri}
 use Rattle.value_bits.specs.declared.tri.Tri.TheVariants.{Zero, One, Either}
 use Rattle.value_bits.specs.declared.tri.Lowest.{Lowest}
 use Rattle.value_bits.specs.declared.tri.Lowest.TheVariants.{High, Given}
-use Rattle.value_bits.specs.Numbers.{shifted_left}
+use Rattle.chip_numbers.specs.Numbers.{shifted_left}
 use Rattle.value_bits.specs.Bits.{IsBit, known_bits, from_bits}
 use Rattle.value_bits.specs.Sets.{chosen, combine_or}
 

@@ -1,4 +1,4 @@
-pub mod Numbers
+pub mod Pointwise
 pub mod Bits
 pub mod Sets
 pub mod Staying

@@ -11,7 +11,7 @@ use Rattle.value_bits.specs.declared.tri.Tri.TheVariants.{Zero, One, Either}
 use Rattle.value_bits.specs.declared.tri.Top.{Top}
 use Rattle.value_bits.specs.declared.tri.Top.TheVariants.{Sign, Low, Put}
 use Rattle.value_bits.specs.declared.tri.Logic.{Logic}
-use Rattle.value_bits.specs.Numbers.{shifted_right, exchanged, sign_extended, low_byte, high_byte, word_of, is_decimal, decimal_sum, decimal_adjusted}
+use Rattle.chip_numbers.specs.Numbers.{shifted_right, exchanged, sign_extended, low_byte, high_byte, word_of, is_decimal, decimal_sum, decimal_adjusted}
 use Rattle.value_bits.specs.Bits.{IsBit, choices, known_bit, known_bits, from_bits, logic_of, tri_logic}
 
 -- what an unknown bit may be, as a set

@@ -12,7 +12,7 @@ use Rattle.value_bits.specs.declared.tri.Lowest.{Lowest}
 use Rattle.value_bits.specs.declared.tri.Lowest.TheVariants.{High, Given}
 use Rattle.value_bits.specs.declared.tri.Logic.{Logic}
 use Rattle.value_bits.specs.declared.tri.Logic.TheVariants.{And, Or, Xor}
-use Rattle.value_bits.specs.Numbers.{exchanged, sign_extended, decimal_digits, decimal_sum, decimal_adjusted, high_adjusted, low_adjusted, decimal_total}
+use Rattle.chip_numbers.specs.Numbers.{exchanged, sign_extended, decimal_digits, decimal_sum, decimal_adjusted, high_adjusted, low_adjusted, decimal_total}
 use Rattle.value_bits.specs.Bits.{logic_of}
 use Rattle.value_bits.specs.Sets.{shift_answer, top_answer}
 use Rattle.value_bits.specs.Lefts.{left_answer, lowest_answer}

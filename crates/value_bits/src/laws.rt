@@ -11,7 +11,7 @@ ghost use Rattle.value_bits.specs.declared.tri.Top.{Top as ATop};
 ghost use Rattle.value_bits.specs.declared.tri.Lowest.{Lowest as ALowest};
 ghost use Rattle.value_bits.specs.declared.tri.Logic.{Logic as ALogic};
 ghost use Rattle.value_bits.specs.declared.tri.Logic.TheVariants.{And};
-ghost use Rattle.value_bits.specs.Numbers.{shifted_left, shifted_right, exchanged, sign_extended, low_byte, high_byte, word_of, is_decimal, decimal_sum, decimal_adjusted};
+ghost use Rattle.chip_numbers.specs.Numbers.{shifted_left, shifted_right, exchanged, sign_extended, low_byte, high_byte, word_of, is_decimal, decimal_sum, decimal_adjusted};
 ghost use Rattle.value_bits.specs.Bits.{IsBit, Agrees, known_bits, from_bits, logic_of};
 ghost use Rattle.value_bits.specs.Sets.{IsTop, logic_set, shift_set, exchange_set, sign_extend_set, low_set, high_set, pair_set, decimal_add_set, decimal_adjust_set};
 ghost use Rattle.value_bits.specs.Flags.{IsFlag, agreed};

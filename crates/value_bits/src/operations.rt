@@ -1,7 +1,7 @@
 //! The operations on numbers, as sets combine them.
 
 ghost use Rattle.std.specs.Prelude.{◌≡◌, ◌+◌, ◌*◌, ◌^◌, ◌<◌, ◌≤◌};
-ghost use Rattle.value_bits.specs.Numbers as numbers;
+ghost use Rattle.chip_numbers.specs.Numbers as numbers;
 ghost use Rattle.value_bits.specs.Sets as sets;
 ghost use Rattle.value_bits.specs.Lefts as lefts;
 
@@ -131,7 +131,7 @@ pub struct Exchange {
 }
 
 impl Operation for Exchange {
-    ghost use Rattle.value_bits.specs.Numbers.{exchanged};
+    ghost use Rattle.chip_numbers.specs.Numbers.{exchanged};
     ghost use Rattle.value_bits.specs.Staying.{exchange_stays};
 
     ghost modulus = { λ operation. operation.n * operation.n };
@@ -158,7 +158,7 @@ fn exchanged(n: u16, x: u16) -> u16
 pub struct SignExtension;
 
 impl Operation for SignExtension {
-    ghost use Rattle.value_bits.specs.Numbers.{sign_extended};
+    ghost use Rattle.chip_numbers.specs.Numbers.{sign_extended};
     ghost use Rattle.value_bits.specs.Staying.{sign_stays};
 
     ghost modulus = { λ operation. 65536 };
@@ -179,7 +179,7 @@ pub struct DecimalSum {
 }
 
 impl Operation for DecimalSum {
-    ghost use Rattle.value_bits.specs.Numbers.{decimal_sum};
+    ghost use Rattle.chip_numbers.specs.Numbers.{decimal_sum};
     ghost use Rattle.value_bits.specs.Staying.{decimal_stays};
 
     ghost modulus = { λ operation. 16 ^ operation.digits };
@@ -198,7 +198,7 @@ impl Operation for DecimalSum {
 pub struct DecimalAdjustment;
 
 impl Operation for DecimalAdjustment {
-    ghost use Rattle.value_bits.specs.Numbers.{decimal_adjusted};
+    ghost use Rattle.chip_numbers.specs.Numbers.{decimal_adjusted};
     ghost use Rattle.value_bits.specs.Staying.{adjust_stays};
 
     ghost modulus = { λ operation. 256 };

@@ -5,7 +5,7 @@ ghost use Rattle.value_set.specs.Form.{Has, IsNormal, members};
 ghost use Rattle.value_set.specs.Summing.{single};
 ghost use Rattle.value_bits.specs.Bits as known;
 ghost use Rattle.value_bits.specs.Bits.{Agrees, IsBit, logic_of};
-ghost use Rattle.value_bits.specs.Numbers.{shifted_right, exchanged, sign_extended, low_byte, high_byte, word_of, is_decimal, decimal_sum};
+ghost use Rattle.chip_numbers.specs.Numbers.{shifted_right, exchanged, sign_extended, low_byte, high_byte, word_of, is_decimal, decimal_sum};
 ghost use Rattle.value_bits.specs.Sets.{IsTop, IsOneTop};
 ghost use Rattle.value_bits.specs.Sets as sets;
 ghost use Rattle.value_bits.specs.Flags.{IsFlag};

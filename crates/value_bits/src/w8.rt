@@ -5,7 +5,7 @@ ghost use Rattle.value_set.specs.Form.{Has, IsNormal};
 ghost use Rattle.value_set.specs.Summing.{single};
 ghost use Rattle.value_bits.specs.Bits as known;
 ghost use Rattle.value_bits.specs.Bits.{Agrees, IsBit, logic_of};
-ghost use Rattle.value_bits.specs.Numbers.{shifted_left, shifted_right, exchanged, is_decimal, decimal_sum, decimal_adjusted};
+ghost use Rattle.chip_numbers.specs.Numbers.{shifted_left, shifted_right, exchanged, is_decimal, decimal_sum, decimal_adjusted};
 ghost use Rattle.value_bits.specs.Sets.{IsTop, IsOneTop};
 ghost use Rattle.value_bits.specs.Sets as sets;
 ghost use Rattle.value_bits.specs.Flags.{IsFlag};

@@ -1,9 +1,8 @@
 -- Widening holds both sets, in the one form.
 use Rattle.std.proofs.Common.{◌≡◌, ℕ, ◌+◌, ◌-◌, ◌*◌, ◌%◌, ◌/◌, ◌<◌, ◌≤◌, Bool, true, false, List, [], ◌∷◌, length, refl, sym, ◌∙◌, ap, subst, inl, inr, arith, eqb, Option, Some, None}
 use Prim.Native.Nat.{◌∣◌}
-use Rattle.std.specs.Prelude.{◌||◌, unwrap_or, option_map, nat_le}
+use Rattle.std.specs.Prelude.{◌||◌, unwrap_or, option_map, nat_le, map}
 use Rattle.std.specs.List.{fold, All}
-use Rattle.std.specs.Prelude.{map}
 use Rattle.std.proofs.lemmas.List.Elements.{All-head, All-tail}
 use Rattle.std.proofs.lemmas.List.{length-map}
 use Rattle.std.proofs.lemmas.Bool.{cases_lt, cases_eq, cases_Bool, eqb-true, eqb-false, eq-eqb, ne_eqb, lt-leb, le-leb, lt-ltb, le-ltb, or_parts, or_left, or_right, or_from, leb-false}

@@ -7,7 +7,7 @@ ghost use Rattle.value_set.specs.Form.{Fits, IsNormal, IsNormalRun};
 ghost use Rattle.value_set.specs.Cutting as cuts;
 
 use crate::circle::above;
-use crate::few::Few;
+use crate::few::{Few, LONGEST};
 use crate::form::{Form, Progression};
 use crate::gathering::make;
 use crate::joining::join;
@@ -79,7 +79,7 @@ fn behind_turn(modulus: u32, number: u32) -> u32
 }
 
 /// The numbers of a list in the window.
-fn cut_list(modulus: u32, values: &Few, low: u32, len: u32) -> Few
+fn cut_list(modulus: u32, values: &Few<LONGEST>, low: u32, len: u32) -> Few<LONGEST>
     requires small { modulus ≤ 65536 }
     requires normal { IsNormal modulus (Form.Values values.now) }
     requires low_below { low < modulus }
@@ -108,7 +108,7 @@ pub fn cut(modulus: u32, set: &Form, low: u32, len: u32) -> Option<Form>
     }
 }
 
-fn list_or_none(values: &Few) -> Option<Form>
+fn list_or_none(values: &Few<LONGEST>) -> Option<Form>
     ensures { result ≡ cuts.list_or_none values.now }
 {
     if values.is_empty() {

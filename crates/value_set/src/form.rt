@@ -2,7 +2,7 @@
 
 ghost use Rattle.std.specs.Prelude.{◌≡◌, ◌↔◌, IsTrue};
 
-use crate::few::Few;
+use crate::few::{Few, LONGEST};
 
 /// The numbers `base + i * stride`, taken modulo the modulus of the width, for each `i` below `count`.
 #[derive(Clone, Copy, Debug, PartialEq, Eq, Hash)]
@@ -19,7 +19,7 @@ pub struct Progression {
 #[derive(Clone, Copy, Debug, PartialEq, Eq, Hash)]
 pub enum Form {
     /// Ascending numbers, 1 to 16 of them.
-    Values(Few),
+    Values(Few<LONGEST>),
     /// A run of at least 17 numbers.
     Run(Progression),
 }

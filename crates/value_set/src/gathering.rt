@@ -1,7 +1,6 @@
 //! Sets from numbers: lists where they are few, else runs that they are drawn from.
 
-ghost use Rattle.std.specs.Prelude.{◌≡◌, ℕ, ◌+◌, ◌-◌, ◌*◌, ◌/◌, ◌%◌, ◌<◌, ◌≤◌, [], ◌∷◌, length, take};
-ghost use Rattle.std.specs.Prelude.{List, All, IsTrue, map, slice_index};
+ghost use Rattle.std.specs.Prelude.{◌≡◌, ℕ, ◌+◌, ◌-◌, ◌*◌, ◌/◌, ◌%◌, ◌<◌, ◌≤◌, [], ◌∷◌, length, take, List, All, IsTrue, map, slice_index};
 ghost use Rattle.value_set.specs.Form as forms;
 ghost use Rattle.value_set.specs.Form.{Ascends, Fits, IsNormal, IsSpan};
 
@@ -164,7 +163,7 @@ pub fn make(modulus: u32, base: u32, stride: u32, count: u32) -> Form
 }
 
 /// The numbers of a short run in ascending order.
-fn few_steps(modulus: u32, base: u32, stride: u32, count: u32) -> Few
+fn few_steps(modulus: u32, base: u32, stride: u32, count: u32) -> Few<LONGEST>
     requires small { modulus ≤ 65536 }
     requires base_small { base < 131072 }
     requires few { count ≤ 16 }

@@ -8,7 +8,7 @@ ghost use Rattle.value_set.specs.Merging.{HasRun};
 
 use crate::circle::{above, reach};
 use crate::divisor::greatest_common_divisor;
-use crate::few::Few;
+use crate::few::{Few, LONGEST};
 use crate::form::{Form, Progression, Stretch, same};
 use crate::gathering::{hull, make, steps_to};
 use crate::member::inside;
@@ -106,7 +106,7 @@ pub fn join_spans(modulus: u32, first: &Progression, second: &Progression) -> Fo
 }
 
 /// The join of two lists: all members where they are few together, which where one is within the other are that list.
-fn join_lists(modulus: u32, first: &Few, second: &Few) -> Form
+fn join_lists(modulus: u32, first: &Few<LONGEST>, second: &Few<LONGEST>) -> Form
     requires small { modulus ≤ 65536 }
     requires first_normal { IsNormal modulus (Form.Values first.now) }
     requires second_normal { IsNormal modulus (Form.Values second.now) }

@@ -30,7 +30,7 @@ pub fn gather_long<N: Number>(modulus: u32, list: &[N]) -> Form
 }
 
 /// The numbers of a list in ascending order, where they are few.
-fn few_of<N: Number>(list: &[N]) -> Option<Few>
+fn few_of<N: Number>(list: &[N]) -> Option<Few<LONGEST>>
     ensures few { IfSome result (λ few. length few ≤ 16 × (few ≡ ascending (map N.number list.now))) }
     ensures many { IsNone result → 16 < length (ascending (map N.number list.now)) }
 {

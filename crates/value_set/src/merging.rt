@@ -30,7 +30,7 @@ pub fn list_within(smaller: &[u16], larger: &[u16]) -> bool
 }
 
 /// Adds numbers at the end, where there is room for all of them.
-fn with_all(few: Few, numbers: &[u16]) -> Option<Few>
+fn with_all(few: Few<LONGEST>, numbers: &[u16]) -> Option<Few<LONGEST>>
     requires { length few ≤ 16 }
     ensures { result ≡ merging.if_few (few ++ numbers.now) }
 {
@@ -45,7 +45,7 @@ fn with_all(few: Few, numbers: &[u16]) -> Option<Few>
 }
 
 /// Two ascending lists together, where they are few.
-pub fn few_together(first: &[u16], second: &[u16]) -> Option<Few>
+pub fn few_together(first: &[u16], second: &[u16]) -> Option<Few<LONGEST>>
     requires first_ascends { Ascends 0 65536 first.now }
     requires second_ascends { Ascends 0 65536 second.now }
     ensures { result ≡ joins.few_together first.now second.now }

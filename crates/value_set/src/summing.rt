@@ -8,7 +8,7 @@ ghost use Rattle.value_set.specs.Summing as sums;
 use crate::circle::reach;
 use crate::combining::{Operation, combine};
 use crate::divisor::greatest_common_divisor;
-use crate::few::Few;
+use crate::few::{Few, LONGEST};
 use crate::form::{Form, Progression};
 use crate::gathering::{ROOM, make, put, set_of, steps_to};
 use crate::joining::{class, span};
@@ -144,7 +144,7 @@ pub fn twice(modulus: u32, set: &Form) -> Form
     }
 }
 
-fn twice_list(modulus: u32, list: &Few) -> Form
+fn twice_list(modulus: u32, list: &Few<LONGEST>) -> Form
     requires small { modulus ≤ 65536 }
     requires normal { IsNormal modulus (Form.Values list.now) }
     ensures { result ≡ sums.twice modulus (Form.Values list.now) }

@@ -6,9 +6,9 @@ ghost use Rattle.irq_frames.specs.Ranges.{AreRanges};
 ghost use Rattle.value_text.specs.Ranges as fields;
 
 use irq_frames::Ranges;
+use no_memory::Memory;
 use std::alloc::{AllocError, Global};
 use text_fields::{Field, cut, number, push_list_or_mark, push_number, read_list_or_mark};
-use vsa_io::Memory;
 
 /// A range as a field, with addresses of so many digits.
 #[derive(Clone, Copy)]

@@ -89,7 +89,7 @@ fn ascends(low: u32, values: &[u16]) -> bool
 }
 
 /// Ascending numbers, at most 16.
-fn read_values(text: &[u8], digits: u8) -> Option<Few>
+fn read_values(text: &[u8], digits: u8) -> Option<Few<16>>
     requires { IsWidth digits }
     ensures { result ≡ (fields.list_field digits).value text.now }
 {
@@ -166,7 +166,7 @@ fn words_of(form: &Form) -> Vs16
 }
 
 /// The numbers of a list, as bytes.
-fn bytes_in(values: &Few) -> ArrayVec<u8, 16>
+fn bytes_in(values: &Few<16>) -> ArrayVec<u8, 16>
     requires few { length values.now ≤ 16 }
     requires ascends { Ascends 0 256 values.now }
     ensures { result.items ≡ values.now }

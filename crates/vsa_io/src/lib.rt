@@ -31,6 +31,7 @@ mod stream;
 
 pub use memory_sinks::{CleanSink, MemSink};
 pub use memory_sources::{CleanSource, MemSource};
-pub use refusal::{Failed, Memory};
+pub use no_memory::Memory;
+pub use refusal::Failed;
 pub use standard::{StdinSource, StdoutSink};
 pub use stream::{Sink, Source, write_all};

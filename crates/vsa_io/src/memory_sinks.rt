@@ -5,8 +5,9 @@ ghost use Rattle.vsa_io.specs.Count.{one_more};
 ghost use Rattle.vsa_io.specs.Fakes.{count_of, is_failing, is_full_for};
 ghost use Rattle.vsa_io.specs.Stream.{HasRisen, appended};
 
-use crate::refusal::{Failed, Memory};
+use crate::refusal::Failed;
 use crate::stream::Sink;
+use no_memory::Memory;
 use std::alloc::Global;
 use std::marker::Model;
 

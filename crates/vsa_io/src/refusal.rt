@@ -1,23 +1,5 @@
-//! The refusals that every crate knows: a fault of a stream, and want of memory.
-
-use std::alloc::{AllocError, AllocFailed};
+//! The fault of a stream.
 
 /// A source or a sink answered a fault of its own.
 #[derive(Clone, Copy, Debug, PartialEq, Eq)]
 pub struct Failed;
-
-/// An allocation was refused. It is the one answer that no contract ties to a cause.
-#[derive(Clone, Copy, Debug, PartialEq, Eq)]
-pub struct Memory;
-
-impl From<AllocError> for Memory {
-    fn from(_error: AllocError) -> Memory {
-        Memory
-    }
-}
-
-impl<T: Drop> From<AllocFailed<T>> for Memory {
-    fn from(_error: AllocFailed<T>) -> Memory {
-        Memory
-    }
-}

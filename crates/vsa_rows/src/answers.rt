@@ -2,7 +2,7 @@
 
 use crate::code::EvenCode;
 use disassembly::disassembly_of;
-use ihex_read::Image;
+use image::Image;
 use std::alloc::{AllocError, Global};
 use std::process::Abort;
 use std::sync::Wait;

@@ -3,7 +3,7 @@
 ghost use Rattle.vsa_top.specs.Msp430.{msp430_reads};
 
 use disassembly::{Code, Line};
-use ihex_read::Image;
+use image::Image;
 use msp430_decode::{decode, encode, one_of_three};
 use msp430_text::text;
 

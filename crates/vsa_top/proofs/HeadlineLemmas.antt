@@ -5,15 +5,13 @@ use Rattle.std.specs.Prelude.{◌⊎◌, IfSome, length}
 use Rattle.std.proofs.lemmas.List.{append-nil, take_all}
 use Rattle.std.proofs.lemmas.Option.{same_Some}
 use Rattle.image_gen.specs.Made.{made_image}
-use Rattle.image_gen.specs.declared.chip_name.ChipName.{ChipName}
-use Rattle.image_gen.specs.declared.chip_name.ChipName.TheVariants as made
 use Rattle.made_programs.specs.Chips.{rules_of as made_rules}
 use Rattle.ihex_read.specs.declared.fault.HexFault.{HexFault}
-use Rattle.ihex_read.specs.declared.rule_set.Rules.{Rules}
-use Rattle.ihex_read.specs.declared.rule_set.Tail.{Tail}
-use Rattle.ihex_read.specs.declared.rule_set.Tail.TheVariants.{Blank, Second}
-use Rattle.ihex_read.specs.ImageText.{Denotes, FirstFault, IsRamRange}
-use Rattle.ihex_read.specs.Kept.{IsReadUnder}
+use Rattle.image.specs.declared.rule_set.Rules.{Rules}
+use Rattle.ihex_read.specs.declared.tail.Tail.{Tail}
+use Rattle.ihex_read.specs.declared.tail.Tail.TheVariants.{Blank, Second}
+use Rattle.ihex_read.specs.ImageText.{Denotes, FirstFault}
+use Rattle.image.specs.Kept.{IsRamRange, IsReadUnder}
 use Rattle.ihex_read.specs.Lines as texts
 use Rattle.ihex_read.specs.Reading.{HasEnded}
 use Rattle.vsa_io.specs.Stream.{appended}
@@ -46,8 +44,8 @@ use Rattle.vsa_top.specs.Answer.IsRun.{ran, refused, longer}
 use Rattle.vsa_top.specs.Answer.IsWritten.{whole, cut}
 use Rattle.vsa_top.specs.Headline.{CoversRunsOf, ReportsOn, ShowsSitesOf}
 use Rattle.vsa_top.specs.Input.{text_limit, front_of, input_of, tail_of, AreTexts, Gives, InputGives, IsBad, IsTooLong, IsImageOf}
-use Rattle.vsa_top.specs.declared.words.Chip.{Chip}
-use Rattle.vsa_top.specs.declared.words.Chip.TheVariants as chip
+use Rattle.image.specs.declared.chip_name.ChipName.{ChipName}
+use Rattle.image.specs.declared.chip_name.ChipName.TheVariants as chip
 use Rattle.vsa_top.specs.declared.words.Ram.{Ram}
 use Rattle.vsa_top.specs.declared.words.Reading.{Reading}
 use Rattle.vsa_top.specs.declared.words.Reading.TheVariants.{Analyse, Disasm, Run, Gen}
@@ -221,7 +219,7 @@ analysis_ends : (task : Task) (is_closed : Bool) → Ends (Analyse task) (status
 analysis_ends task true = closed task
 analysis_ends task false = left_open task
 
-summary_ends : (chip : Chip) (number : ℕ) (is_closed : Bool) → Ends (Gen chip number) (status_of_analysis is_closed)
+summary_ends : (chip : ChipName) (number : ℕ) (is_closed : Bool) → Ends (Gen chip number) (status_of_analysis is_closed)
 summary_ends chip number true = summed chip number
 summary_ends chip number false = summed_open chip number
 
@@ -386,14 +384,14 @@ abbrev HaveSizes : Type 0
 HaveSizes = (chip : ChipName) (number : ℕ) → number ≤ 2000 → length (made_image chip number) ≤ text_limit
 
 -- each made text gives an image, so its summary is told
-pub made_lem : HaveNotBoth → EndedStay → EndedAreFaultless → HaveImages → HaveSizes → (chip : Chip) (number : ℕ) (answered : Status) (input before after : Option (List ℕ)) (journal : List Event)
+pub made_lem : HaveNotBoth → EndedStay → EndedAreFaultless → HaveImages → HaveSizes → (chip : ChipName) (number : ℕ) (answered : Status) (input before after : Option (List ℕ)) (journal : List Event)
     → number ≤ 2000 → Answers (Gen chip number) answered input before after journal → (answered ≡ ReadFault → ⊥) → (answered ≡ WriteFault → ⊥)
     → Ends (Gen chip number) answered ⊎ (answered ≡ Memory)
 made_lem both ended faultless images sizes chip.Msp430 number answered input before after journal few answers no_read no_write =
-    let denotes = images made.Msp430 number few in
-    complete_lem both ended faultless (Gen chip.Msp430 number) answered input before after journal (made_image made.Msp430 number) denotes.0 [] answers refl
-    ((record { fits = sizes made.Msp430 number few; denoted = denotes.1 }), refl) no_read no_write
+    let denotes = images chip.Msp430 number few in
+    complete_lem both ended faultless (Gen chip.Msp430 number) answered input before after journal (made_image chip.Msp430 number) denotes.0 [] answers refl
+    ((record { fits = sizes chip.Msp430 number few; denoted = denotes.1 }), refl) no_read no_write
 made_lem both ended faultless images sizes chip.Mcs51 number answered input before after journal few answers no_read no_write =
-    let denotes = images made.Mcs51 number few in
-    complete_lem both ended faultless (Gen chip.Mcs51 number) answered input before after journal (made_image made.Mcs51 number) denotes.0 [] answers refl
-    ((record { fits = sizes made.Mcs51 number few; denoted = denotes.1 }), refl) no_read no_write
+    let denotes = images chip.Mcs51 number few in
+    complete_lem both ended faultless (Gen chip.Mcs51 number) answered input before after journal (made_image chip.Mcs51 number) denotes.0 [] answers refl
+    ((record { fits = sizes chip.Mcs51 number few; denoted = denotes.1 }), refl) no_read no_write

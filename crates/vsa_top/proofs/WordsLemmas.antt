@@ -7,12 +7,12 @@ use Rattle.std.specs.Prelude.{IfNone, IfSome, MatchOption, map, option_map, code
 use Rattle.std.specs.List.{IsFirstAndRest}
 use Rattle.std.specs.declared.string.String.{String}
 use Rattle.std.specs.declared.alloc.Global.{Global}
-use Rattle.ihex_read.specs.declared.rule_set.Rules.TheVariants as rules
+use Rattle.image.specs.declared.rule_set.Rules.TheVariants as rules
 use Rattle.hex.specs.Hex.{hex_digit_value}
-use Rattle.ihex_read.specs.ImageText.{IsRamRange}
-use Rattle.ihex_read.specs.declared.rule_set.Rules.{Rules}
-use Rattle.vsa_top.specs.declared.words.Chip.{Chip}
-use Rattle.vsa_top.specs.declared.words.Chip.TheVariants as chip
+use Rattle.image.specs.Kept.{IsRamRange}
+use Rattle.image.specs.declared.rule_set.Rules.{Rules}
+use Rattle.image.specs.declared.chip_name.ChipName.{ChipName}
+use Rattle.image.specs.declared.chip_name.ChipName.TheVariants as chip
 use Rattle.vsa_top.specs.declared.words.Mode.{Mode}
 use Rattle.vsa_top.specs.declared.words.Mode.TheVariants as mode
 use Rattle.vsa_top.specs.declared.words.Options.{Options}
@@ -164,7 +164,7 @@ one_mode mode.Gen mode.Disasm h = absurd (cc h)
 one_mode mode.Gen mode.Run h = absurd (run_or_gen (sym h))
 one_mode mode.Gen mode.Gen h = refl
 
-one_chip : (a b : Chip) → chip_word a ≡ chip_word b → a ≡ b
+one_chip : (a b : ChipName) → chip_word a ≡ chip_word b → a ≡ b
 one_chip chip.Msp430 chip.Msp430 h = refl
 one_chip chip.Mcs51 chip.Mcs51 h = refl
 one_chip chip.Msp430 chip.Mcs51 h = absurd (cc h)
@@ -173,21 +173,21 @@ one_chip chip.Mcs51 chip.Msp430 h = absurd (cc h)
 abbrev pub IsModeOf : Option (List ℕ) → Option Mode → Type 0
 IsModeOf text found = MatchOption found ((mode : Mode) → text ≡ Some (mode_word mode) → ⊥) (λ mode. text ≡ Some (mode_word mode))
 
-abbrev pub IsChipOf : Option (List ℕ) → Option Chip → Type 0
-IsChipOf text found = MatchOption found ((chip : Chip) → text ≡ Some (chip_word chip) → ⊥) (λ chip. text ≡ Some (chip_word chip))
+abbrev pub IsChipOf : Option (List ℕ) → Option ChipName → Type 0
+IsChipOf text found = MatchOption found ((chip : ChipName) → text ≡ Some (chip_word chip) → ⊥) (λ chip. text ≡ Some (chip_word chip))
 
 abbrev pub Texts : List (String Global) → List (List ℕ)
 Texts words = map string_bytes words
 
 -- what was found of the words that the command takes
-pub record IsFound (words : List (String Global)) (mode : Option Mode) (chip : Option Chip) (options : Option Options) : Type 0 where
+pub record IsFound (words : List (String Global)) (mode : Option Mode) (chip : Option ChipName) (options : Option Options) : Type 0 where
   pub taken : AreTaken (Texts words)
   pub mode_is : IsModeOf (given (Texts words) (codes "mode")) mode
   pub chip_is : IsChipOf (given (Texts words) (codes "chip")) chip
   pub said : IsSaidBy (given (Texts words)) options
 
 -- what the texts say that the command gives
-pub found_by : (words : List (String Global)) (f : Found) (first second : Option (List ℕ)) (mode : Option Mode) (chip : Option Chip)
+pub found_by : (words : List (String Global)) (f : Found) (first second : Option (List ℕ)) (mode : Option Mode) (chip : Option ChipName)
     (options : Option Options) → AreTaken (Texts words) × (rows_of f ≡ matches_of command (Texts words))
     → first ≡ first_value f (codes "mode") → second ≡ first_value f (codes "chip")
     → IsModeOf first mode → IsChipOf second chip → IsSaidBy (first_value f) options → IsFound words mode chip options
@@ -199,7 +199,7 @@ found_by words f first second mode chip options matched is named mode_is chip_is
       said = said_like (first_value f) (given (Texts words)) (λ id. text id (first_value f id) refl) options said;
     }
 
-found_reads : (words : List (String Global)) (mode : Mode) (chip : Chip) (options : Options) (reading : Option Reading)
+found_reads : (words : List (String Global)) (mode : Mode) (chip : ChipName) (options : Options) (reading : Option Reading)
     → IsFound words (Some mode) (Some chip) (Some options) → reading ≡ asked mode chip options → IfSome reading (Reads words)
 found_reads words mode chip options None found same = tt
 found_reads words mode chip options (Some reading) found same = record {
@@ -213,7 +213,7 @@ found_reads words mode chip options (Some reading) found same = record {
   is = sym same;
 }
 
-pub reads_found : (words : List (String Global)) (mode : Option Mode) (chip : Option Chip) (options : Option Options) (reading : Option Reading)
+pub reads_found : (words : List (String Global)) (mode : Option Mode) (chip : Option ChipName) (options : Option Options) (reading : Option Reading)
     → IsFound words mode chip options → reading ≡ reading_with mode chip options → IfSome reading (Reads words)
 reads_found words None chip options reading found same = rw same tt
 reads_found words (Some mode) None options reading found same = rw same tt
@@ -221,13 +221,13 @@ reads_found words (Some mode) (Some chip) None reading found same = rw same tt
 reads_found words (Some mode) (Some chip) (Some options) reading found same = found_reads words mode chip options reading found same
 
 -- the one reading that there may be
-asked_alone : (words : List (String Global)) (mode : Mode) (chip : Chip) (options : Options) (other : Reading)
+asked_alone : (words : List (String Global)) (mode : Mode) (chip : ChipName) (options : Options) (other : Reading)
     → IsFound words (Some mode) (Some chip) (Some options) → Reads words other → asked mode chip options ≡ Some other
 asked_alone words mode chip options other found reads =
     let modes : mode ≡ reads.mode = one_mode mode reads.mode (one_some (mode_word mode) (mode_word reads.mode) (sym found.mode_is ∙ reads.mode_is)) in
     let chips : chip ≡ reads.chip = one_chip chip reads.chip (one_some (chip_word chip) (chip_word reads.chip) (sym found.chip_is ∙ reads.chip_is)) in
     let same : options ≡ reads.options = say_one (given (Texts words)) options reads.options found.said reads.say in
-    ap₂ (λ (m : Mode) (c : Chip). asked m c options) modes chips ∙ ap (asked reads.mode reads.chip) same ∙ reads.is
+    ap₂ (λ (m : Mode) (c : ChipName). asked m c options) modes chips ∙ ap (asked reads.mode reads.chip) same ∙ reads.is
 
 -- no other reading is there than the one that was found
 abbrev pub IsAlone : List (String Global) → Option Reading → Type 0
@@ -238,7 +238,7 @@ alone_by : (words : List (String Global)) (found : Option Reading) → ((other :
 alone_by words None only = (tt, λ reading reads. absurd (cc (only reading reads)))
 alone_by words (Some reading) only = (λ other reads. one_some other reading (sym (only other reads)), tt)
 
-pub reads_alone : (words : List (String Global)) (mode : Option Mode) (chip : Option Chip) (options : Option Options) (reading : Option Reading)
+pub reads_alone : (words : List (String Global)) (mode : Option Mode) (chip : Option ChipName) (options : Option Options) (reading : Option Reading)
     → IsFound words mode chip options → reading ≡ reading_with mode chip options → IsAlone words reading
 reads_alone words None chip options reading found same =
     rw same (tt, λ reading reads. found.mode_is reads.mode reads.mode_is)
@@ -294,7 +294,7 @@ abbrev RangeIn : Option Target → Type 0
 RangeIn None = Unit {0}
 RangeIn (Some target) = IsRam (target_rules target)
 
-target_range : (chip : Chip) (ram : Option Ram) → RangeOf ram → RangeIn (target_by chip ram)
+target_range : (chip : ChipName) (ram : Option Ram) → RangeOf ram → RangeIn (target_by chip ram)
 target_range chip.Msp430 ram held = range_or_usual ram held
 target_range chip.Mcs51 None held = (tt, tt)
 target_range chip.Mcs51 (Some ram) held = tt
@@ -338,15 +338,15 @@ run_range (Some target) steps held = (held, tt)
 abbrev CountOf : Option ℕ → Type 0
 CountOf number = IfSome number (λ n. (1 ≤ n) × (n ≤ 2000))
 
-usual_range : (chip : Chip) → IsRam (target_rules (usual_target chip))
+usual_range : (chip : ChipName) → IsRam (target_rules (usual_target chip))
 usual_range chip.Msp430 = range_or_usual None tt
 usual_range chip.Mcs51 = (tt, tt)
 
-making_range : (chip : Chip) (number : Option ℕ) → CountOf number → RangeOfReading (making_of chip number)
+making_range : (chip : ChipName) (number : Option ℕ) → CountOf number → RangeOfReading (making_of chip number)
 making_range chip None held = tt
 making_range chip (Some number) held = (usual_range chip, held)
 
-asked_range : (mode : Mode) (chip : Chip) (o : Options) → RangeOf o.ram → CallsOf o.calls → WorkersOf o.workers → CountOf o.number → RangeOfReading (asked mode chip o)
+asked_range : (mode : Mode) (chip : ChipName) (o : Options) → RangeOf o.ram → CallsOf o.calls → WorkersOf o.workers → CountOf o.number → RangeOfReading (asked mode chip o)
 asked_range mode.Analyse chip o range few some count = unsaid_range o.steps _ (unsaid_range o.number _ (analysis_range (target_by chip o.ram) o (target_range chip o.ram range) few some))
 asked_range mode.Disasm chip o range few some count =
     untasked_range o _ (unsaid_range o.steps _ (unsaid_range o.number _ (disassembly_range (target_by chip o.ram) (target_range chip o.ram range))))

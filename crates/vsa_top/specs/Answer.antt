@@ -25,7 +25,7 @@ use Rattle.vsa_top.specs.Summary.{summary}
 use Rattle.vsa_top.specs.Mcs51.{mcs51_reads, mcs51_run}
 use Rattle.vsa_top.specs.Msp430.{msp430_reads, msp430_run}
 use Rattle.vsa_top.specs.Words.{rules_of, device_of, mcs51_setting, msp430_setting, usual_task}
-use Rattle.vsa_top.specs.declared.words.Chip.{Chip}
+use Rattle.image.specs.declared.chip_name.ChipName.{ChipName}
 use Rattle.vsa_top.specs.declared.outcome.Status.{Status}
 use Rattle.vsa_top.specs.declared.outcome.Status.TheVariants as status
 use Rattle.vsa_top.specs.declared.words.Reading.{Reading}
@@ -100,7 +100,7 @@ abbrev pub IsAnalysedBy : Task → List (Option ℕ) → Status → List ℕ →
 IsAnalysedBy task image replied text journal = IsAnalysedOn task.target task.limits task.workers image replied text journal
 
 -- the reply to the image of a made program: the summary of its report
-abbrev pub IsSummed : Chip → (number : ℕ) → List (Option ℕ) → Status → List ℕ → List Event → Type 0
+abbrev pub IsSummed : ChipName → (number : ℕ) → List (Option ℕ) → Status → List ℕ → List Event → Type 0
 IsSummed chip number image replied text journal =
     (report : List ℕ) × IsAnalysedBy (usual_task chip) image replied report journal × (text ≡ summary chip number report)
 
@@ -157,11 +157,11 @@ pub data Ends : Reading → Status → Type 0 where
   went_wild : (target : Target) (steps : ℕ) → Ends (Run target steps) status.Wild
   lacked_a_choice : (target : Target) (steps : ℕ) → Ends (Run target steps) status.NeedChoice
   refused_script : (target : Target) (steps : ℕ) → Ends (Run target steps) status.BadCert
-  summed : (chip : Chip) (number : ℕ) → Ends (Gen chip number) status.Done
-  summed_open : (chip : Chip) (number : ℕ) → Ends (Gen chip number) status.Open
+  summed : (chip : ChipName) (number : ℕ) → Ends (Gen chip number) status.Done
+  summed_open : (chip : ChipName) (number : ℕ) → Ends (Gen chip number) status.Open
   script_too_long : (target : Target) (steps : ℕ) → Ends (Run target steps) status.TooLong
 
 -- what is analysed: the image of the input, or a made program
 pub data Analyses : Reading → Type 0 where
   of_input : (task : Task) → Analyses (Analyse task)
-  of_made : (chip : Chip) (number : ℕ) → Analyses (Gen chip number)
+  of_made : (chip : ChipName) (number : ℕ) → Analyses (Gen chip number)

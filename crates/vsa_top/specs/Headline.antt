@@ -1,7 +1,7 @@
 -- What a report says of every run of the chip whose image the input denotes.
 use Rattle.std.specs.Prelude.{◌≡◌, ℕ, Option, Some, List}
 use Rattle.analysis_limits.specs.declared.limits.Limits.{Limits}
-use Rattle.ihex_read.specs.declared.rule_set.Tail.TheVariants.{Blank}
+use Rattle.ihex_read.specs.declared.tail.Tail.TheVariants.{Blank}
 use Rattle.ihex_read.specs.ImageText.{Denotes}
 use Rattle.ihex_read.specs.Lines as texts
 use Rattle.vsa_io.specs.Stream.{appended}

@@ -1,21 +1,19 @@
 -- What an input gives: an image, perhaps with a second text behind it, or why it gives none.
 use Rattle.std.specs.Prelude.{◌≡◌, ◌⊎◌, ℕ, ◌≤◌, ◌<◌, Option, None, Some, IfSome, List, [], ◌++◌, length, take}
 use Rattle.image_gen.specs.Made.{made_image}
-use Rattle.image_gen.specs.declared.chip_name.ChipName.{ChipName}
-use Rattle.image_gen.specs.declared.chip_name.ChipName.TheVariants as made
 use Rattle.ihex_read.specs.declared.fault.HexFault.{HexFault}
 use Rattle.ihex_read.specs.declared.fault.HexError.{HexError}
 use Rattle.ihex_read.specs.declared.fault.HexError.TheVariants as hex_error
-use Rattle.ihex_read.specs.declared.rule_set.Rules.{Rules}
-use Rattle.ihex_read.specs.declared.rule_set.Tail.{Tail}
-use Rattle.ihex_read.specs.declared.rule_set.Tail.TheVariants.{Blank, Second}
+use Rattle.image.specs.declared.rule_set.Rules.{Rules}
+use Rattle.ihex_read.specs.declared.tail.Tail.{Tail}
+use Rattle.ihex_read.specs.declared.tail.Tail.TheVariants.{Blank, Second}
 use Rattle.ihex_read.specs.ImageText.{Denotes, FirstFault}
 use Rattle.ihex_read.specs.Lines.{lines_of}
 use Rattle.ihex_read.specs.Reading.{feeds_of, FaultsWithin, HasEnded}
 use Rattle.vsa_top.specs.declared.input.InputError.{InputError}
 use Rattle.vsa_top.specs.declared.input.InputError.TheVariants.{Failed, Memory, Bad, TooLong}
-use Rattle.vsa_top.specs.declared.words.Chip.{Chip}
-use Rattle.vsa_top.specs.declared.words.Chip.TheVariants as chip
+use Rattle.image.specs.declared.chip_name.ChipName.{ChipName}
+use Rattle.image.specs.declared.chip_name.ChipName.TheVariants as chip
 use Rattle.vsa_top.specs.declared.words.Reading.{Reading}
 use Rattle.vsa_top.specs.declared.words.Reading.TheVariants.{Analyse, Disasm, Run, Gen}
 
@@ -26,13 +24,9 @@ tail_of (Disasm target) = Blank
 tail_of (Run target steps) = Second
 tail_of (Gen chip number) = Blank
 
-abbrev pub made_chip : Chip → ChipName
-made_chip chip.Msp430 = made.Msp430
-made_chip chip.Mcs51 = made.Mcs51
-
 -- the text whose image is asked for: the input, or the text of a made program
 abbrev pub input_of : Reading → Option (List ℕ) → Option (List ℕ)
-input_of (Gen chip number) input = Some (made_image (made_chip chip) number)
+input_of (Gen chip number) input = Some (made_image chip number)
 input_of (Analyse task) input = input
 input_of (Disasm target) input = input
 input_of (Run target steps) input = input

@@ -1,7 +1,7 @@
 -- What is told of a made program in place of its report.
 use Rattle.std.specs.Prelude.{ℕ, ◌==◌, ◌&&◌, Bool, false, if◌then◌else◌, List, [], ◌∷◌, ◌++◌, count_by, flat_map, codes}
 use Rattle.std.specs.Fmt.{decimal}
-use Rattle.vsa_top.specs.declared.words.Chip.{Chip}
+use Rattle.image.specs.declared.chip_name.ChipName.{ChipName}
 use Rattle.vsa_top.specs.Words.{chip_word}
 
 -- the first line of a text, with its line feed
@@ -32,6 +32,6 @@ abbrev pub count_lines : (letters report : List ℕ) → List ℕ
 count_lines letters report = flat_map (λ letter. count_line letter (lines_with letter report)) letters
 
 -- what is made, the report's first line, the numbers of its E, I, M, O and S lines, and its T line, which is its last one
-abbrev pub summary : Chip → (number : ℕ) → List ℕ → List ℕ
+abbrev pub summary : ChipName → (number : ℕ) → List ℕ → List ℕ
 summary chip number report = codes "GEN " ++ chip_word chip ++ codes " " ++ decimal number ++ codes "\n" ++ first_line report
     ++ count_lines (codes "EIMOS") report ++ from_line 84 false report

@@ -5,15 +5,15 @@ use Rattle.std.specs.declared.alloc.Global.{Global}
 use Rattle.std.specs.Borrow.{Bor}
 use Rattle.analysis_limits.specs.declared.limits.Limits.{Limits}
 use Rattle.hex.specs.Hex.{hex_digit_value}
-use Rattle.ihex_read.specs.declared.rule_set.Rules.{Rules}
-use Rattle.ihex_read.specs.declared.rule_set.Rules.TheVariants as rules
-use Rattle.ihex_read.specs.ImageText.{IsRamRange}
+use Rattle.image.specs.declared.rule_set.Rules.{Rules}
+use Rattle.image.specs.declared.rule_set.Rules.TheVariants as rules
+use Rattle.image.specs.Kept.{IsRamRange}
 use Rattle.msp430_chip.specs.declared.device.Device.{Device}
 use Rattle.mcs51_flow.specs.declared.setting.Setting.{Setting as Mcs51Setting}
 use Rattle.msp430_flow.specs.declared.setting.Setting.{Setting as Msp430Setting}
 use Rattle.vsa_top.specs.Command.{AreTaken, given}
-use Rattle.vsa_top.specs.declared.words.Chip.{Chip}
-use Rattle.vsa_top.specs.declared.words.Chip.TheVariants as chip
+use Rattle.image.specs.declared.chip_name.ChipName.{ChipName}
+use Rattle.image.specs.declared.chip_name.ChipName.TheVariants as chip
 use Rattle.vsa_top.specs.declared.words.Mode.{Mode}
 use Rattle.vsa_top.specs.declared.words.Mode.TheVariants as mode
 use Rattle.vsa_top.specs.declared.words.Options.{Options}
@@ -29,7 +29,7 @@ abbrev pub usual : Ram
 usual = record { lo = 512; hi = 2559 }
 
 -- a chip with the usual RAM
-abbrev pub usual_target : Chip → Target
+abbrev pub usual_target : ChipName → Target
 usual_target chip.Msp430 = Msp430 usual
 usual_target chip.Mcs51 = Mcs51
 
@@ -62,7 +62,7 @@ abbrev pub usual_limits : Limits
 usual_limits = record { calls = 6; targets = 64 }
 
 -- how a made program is analysed: with the usual RAM and limits, by one worker
-abbrev pub usual_task : Chip → Task
+abbrev pub usual_task : ChipName → Task
 usual_task chip = record { target = usual_target chip; limits = usual_limits; workers = 1 }
 
 abbrev pub msp430_setting : Ram → Limits → List (Option ℕ) → Msp430Setting
@@ -147,7 +147,7 @@ mode_word mode.Run = codes "run"
 mode_word mode.Gen = codes "gen"
 
 -- the word of a chip
-abbrev pub chip_word : Chip → List ℕ
+abbrev pub chip_word : ChipName → List ℕ
 chip_word chip.Msp430 = codes "msp430"
 chip_word chip.Mcs51 = codes "mcs51"
 
@@ -156,7 +156,7 @@ or_else None other = other
 or_else (Some said) other = said
 
 -- the chip with what is said of its RAM: of the MCS-51 nothing is said
-abbrev pub target_by : Chip → Option Ram → Option Target
+abbrev pub target_by : ChipName → Option Ram → Option Target
 target_by chip.Msp430 said = Some (Msp430 (or_else said usual))
 target_by chip.Mcs51 None = Some Mcs51
 target_by chip.Mcs51 (Some ram) = None
@@ -178,7 +178,7 @@ abbrev pub analysis_by : Option Target → Options → Option Reading
 analysis_by None o = None
 analysis_by (Some target) o = Some (Analyse (task_of target o))
 
-abbrev pub making_of : Chip → (number : Option ℕ) → Option Reading
+abbrev pub making_of : ChipName → (number : Option ℕ) → Option Reading
 making_of chip None = None
 making_of chip (Some number) = Some (Gen chip number)
 
@@ -196,7 +196,7 @@ untasked o asked = unsaid o.calls (unsaid o.targets (unsaid o.workers asked))
 
 -- What a mode, a chip and options ask. An analysis alone has limits and workers, and a run alone has steps. A made program
 -- needs its number, and has the usual RAM and limits.
-abbrev pub asked : Mode → Chip → Options → Option Reading
+abbrev pub asked : Mode → ChipName → Options → Option Reading
 asked mode.Analyse chip o = unsaid o.steps (unsaid o.number (analysis_by (target_by chip o.ram) o))
 asked mode.Disasm chip o = untasked o (unsaid o.steps (unsaid o.number (disassembly_of (target_by chip o.ram))))
 asked mode.Run chip o = untasked o (unsaid o.number (run_by (target_by chip o.ram) o.steps))
@@ -213,7 +213,7 @@ IsBounded (Run target steps) = Unit {0}
 pub record Reads (words : List (String Global)) (reading : Reading) : Type 0 where
   pub taken : AreTaken (map string_bytes words)
   pub mode : Mode
-  pub chip : Chip
+  pub chip : ChipName
   pub options : Options
   pub mode_is : given (map string_bytes words) (codes "mode") ≡ Some (mode_word mode)
   pub chip_is : given (map string_bytes words) (codes "chip") ≡ Some (chip_word chip)
@@ -225,7 +225,7 @@ abbrev pub text_of : Option (Bor (List ℕ)) → Option (List ℕ)
 text_of = option_map (λ text. text.now)
 
 -- what a mode, a chip and options ask, where all are there
-abbrev pub reading_with : Option Mode → Option Chip → Option Options → Option Reading
+abbrev pub reading_with : Option Mode → Option ChipName → Option Options → Option Reading
 reading_with (Some mode) (Some chip) (Some options) = asked mode chip options
 reading_with (Some mode) (Some chip) None = None
 reading_with (Some mode) None options = None

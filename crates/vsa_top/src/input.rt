@@ -1,18 +1,19 @@
 //! Reading the image text of a source.
 
 ghost use Rattle.std.specs.Prelude.{◌≡◌, ◌≢◌, ◌+◌, ◌++◌, ◌<◌, ◌≤◌, ◌↔◌, ℕ, List, [], None, Some, IsTrue, length, take, IfOk, IfErr, OnOk, IfSome};
-ghost use Rattle.ihex_read.specs.ImageText.{IsRamRange};
-ghost use Rattle.ihex_read.specs.Kept.{IsReadUnder};
-ghost use Rattle.ihex_read.specs.declared.rule_set.Tail.TheVariants.{Second};
+ghost use Rattle.image.specs.Kept.{IsRamRange, IsReadUnder};
+ghost use Rattle.ihex_read.specs.declared.tail.Tail.TheVariants.{Second};
 ghost use Rattle.ihex_read.specs.Reading.{HasEnded};
 ghost use Rattle.vsa_io.specs.Stream.{HasRisen};
 ghost use Rattle.vsa_top.specs.Input.{InputGives, LacksImage, begun_with};
 
 use ihex_read::{
-    HexError, HexFault, Image, MOST_BYTES, Reader, Rules, Tail, ended_texts_stay, whole_faults_stay,
+    HexError, HexFault, MOST_BYTES, Reader, Tail, ended_texts_stay, whole_faults_stay,
 };
+use image::{Image, Rules};
+use no_memory::Memory;
 use std::alloc::{AllocError, Global};
-use vsa_io::{Failed, Memory, Source};
+use vsa_io::{Failed, Source};
 
 /// Why an input gives no image.
 #[derive(Clone, Copy, Debug, PartialEq, Eq)]

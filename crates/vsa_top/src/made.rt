@@ -1,48 +1,39 @@
 //! The reply to what words ask, of an input or of a made program.
 
 ghost use Rattle.std.specs.Prelude.{◌≡◌, ◌≢◌, ◌≤◌, IfOk, IfErr, OnOk, Some};
-ghost use Rattle.ihex_read.specs.ImageText.{IsRamRange};
+ghost use Rattle.image.specs.Kept.{IsRamRange};
 ghost use Rattle.image_gen.specs.Made.{made_image};
 ghost use Rattle.vsa_io.specs.Stream.{HasRisen};
 ghost use Rattle.vsa_top.specs.Answer.{IsReply, TellsNoFault};
-ghost use Rattle.vsa_top.specs.Input.{input_of, made_chip};
+ghost use Rattle.vsa_top.specs.Input.{input_of};
 ghost use Rattle.vsa_top.specs.Words.{IsBounded, rules_of};
 ghost use Rattle.vsa_top.specs.declared.words.Reading.TheVariants.{Gen};
 
 use crate::reply::{NoReply, Reply, input_reply};
-use crate::words::{Chip, Reading};
-use image_gen::{ChipName, MOST, make};
+use crate::words::Reading;
+use image::ChipName;
+use image_gen::{MOST, make};
 use std::alloc::Global;
 use std::sync::Wait;
 use std::thread::Threads;
 use vsa_io::{CleanSource, Source};
 use worker_rounds::Gate;
 
-/// The chip of a made program.
-fn name_of(chip: Chip) -> ChipName
-    ensures { result ≡ made_chip chip }
-{
-    match chip {
-        Chip::Msp430 => ChipName::Msp430,
-        Chip::Mcs51 => ChipName::Mcs51,
-    }
-}
-
 /// The reply to a made program of so many functions.
 fn made_reply<R: Threads + Wait + Sync, G: Gate + Sync>(
     rt: &R,
     alloc: Global,
-    chip: Chip,
+    chip: ChipName,
     number: u32,
     gate: &G,
 ) -> Result<Reply, NoReply>
     requires least { 1 ≤ number }
     requires most { number ≤ MOST }
     ensures no_fault { IfOk result (λ reply. TellsNoFault reply.status) }
-    ensures reply { IfOk result (λ reply. IsReply (Gen chip number) (Some (made_image (made_chip chip) number)) reply.status reply.text.items reply.journal.items) }
+    ensures reply { IfOk result (λ reply. IsReply (Gen chip number) (Some (made_image chip number)) reply.status reply.text.items reply.journal.items) }
     ensures unread { IfErr result (λ error. error ≢ NoReply.ReadFault) }
 {
-    let text = make(alloc, name_of(chip), number)?;
+    let text = make(alloc, chip, number)?;
     let mut source = CleanSource::new(text, 4096);
     input_reply(rt, alloc, Reading::Gen { chip, number }, &mut source, gate)
 }

@@ -6,7 +6,7 @@ ghost use Rattle.vsa_top.specs.Mcs51.{mcs51_reads, mcs51_runner};
 
 use choosing::Choices;
 use disassembly::{Code, Line};
-use ihex_read::Image;
+use image::Image;
 use mcs51_chip::ChipState;
 use mcs51_decode::{NoInstr, decode, encode, one_of_three};
 use mcs51_emu::{Machine, Stepped};

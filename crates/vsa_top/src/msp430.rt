@@ -6,15 +6,15 @@ ghost use Rattle.vsa_top.specs.Msp430.{msp430_reads, msp430_runner};
 
 use choosing::Choices;
 use disassembly::{Code, Line};
-use ihex_read::{Image, Rules};
+use image::{Image, Rules};
 use msp430_chip::{ChipState, Device, Wild};
 use msp430_decode::{decode, encode, one_of_three};
 use msp430_emu::{Machine, Stepped};
 use msp430_text::text;
+use no_memory::Memory;
 use run_trace::{Emulator, Ran};
 use std::alloc::Global;
 use std::marker::Model;
-use vsa_io::Memory;
 
 /// The MSP430's instructions stand at even addresses.
 pub struct Msp430Code;

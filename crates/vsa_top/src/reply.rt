@@ -1,8 +1,7 @@
 //! What is answered to an input, before any of it is written.
 
 ghost use Rattle.std.specs.Prelude.{◌≡◌, ◌≢◌, ◌≤◌, ℕ, [], IfOk, IfErr, OnOk};
-ghost use Rattle.ihex_read.specs.ImageText.{IsRamRange};
-ghost use Rattle.ihex_read.specs.Kept.{IsReadUnder};
+ghost use Rattle.image.specs.Kept.{IsRamRange, IsReadUnder};
 ghost use Rattle.vsa_io.specs.Stream.{HasRisen};
 ghost use Rattle.run_trace.specs.Trace.{run_of};
 ghost use Rattle.vsa_top.specs.Answer.{IsAnalysed, IsAnalysedBy, IsAnalysis, IsImageReply, IsListing, IsReply, IsRun, IsSummed, TellsNoFault, bad_line as the_bad_line, no_line as the_no_line, run_under, status_of_analysis, status_of_end};
@@ -16,20 +15,22 @@ use crate::msp430::{Msp430Code, Msp430Run};
 use crate::outcome::Status;
 use crate::script::{ScriptRefusal, script_in};
 use crate::summary::summary_of;
-use crate::words::{Chip as ChipWord, Reading, Target, Task};
+use crate::words::{Reading, Target, Task};
 use chip_law::{Chip, ChipText, InstrText};
 use disassembly::disassembly_of;
-use ihex_read::{HexFault, Image};
+use ihex_read::HexFault;
+use image::{ChipName, Image};
 use mcs51_flow::{Mcs51Chip, Mcs51Text};
 use msp430_chip::Device;
 use msp430_flow::{Msp430Chip, Msp430Text};
+use no_memory::Memory;
 use report_text::report_of;
 use round_core::{Book, Event};
 use run_trace::{Emulator, End, trace_of};
 use std::alloc::{AllocError, Global};
 use std::sync::Wait;
 use std::thread::Threads;
-use vsa_io::{Memory, Source};
+use vsa_io::Source;
 use worker_crew::fixpoint;
 use worker_rounds::{Gate, fixpoint_alone};
 
@@ -305,7 +306,7 @@ fn analysis_reply<R: Threads + Wait + Sync, G: Gate + Sync>(
 fn made_image_reply<R: Threads + Wait + Sync, G: Gate + Sync>(
     rt: &R,
     alloc: Global,
-    chip: ChipWord,
+    chip: ChipName,
     number: u32,
     image: Image,
     gate: &G,

@@ -3,7 +3,8 @@
 ghost use Rattle.std.specs.Prelude.{◌≡◌, ◌==◌, ◌++◌, false, IfOk, OnOk, count_by};
 ghost use Rattle.vsa_top.specs.Summary.{count_line, first_line as the_first_line, from_line as the_text_from, initials as the_initials, summary};
 
-use crate::words::Chip;
+use crate::words::word_of;
+use image::ChipName;
 use std::alloc::{AllocError, Global};
 
 /// The first line of a text, with its line feed.
@@ -75,7 +76,7 @@ fn push_count(text: &mut Vec<u8>, letter: u8, count: u64) -> Result<(), AllocErr
 /// What is told of a report of a made program of `number` functions.
 pub fn summary_of(
     alloc: Global,
-    chip: Chip,
+    chip: ChipName,
     number: u32,
     report: &[u8],
 ) -> Result<Vec<u8>, AllocError>
@@ -84,7 +85,7 @@ pub fn summary_of(
     let letters = initials(alloc, report)?;
     let mut text = Vec::new(alloc);
     text.extend_from_slice(b"GEN ")?;
-    text.extend_from_slice(chip.word().as_bytes())?;
+    text.extend_from_slice(word_of(chip).as_bytes())?;
     text.push(b' ')?;
     let digits = number.to_string(alloc)?;
     text.extend_from_slice(digits.as_str().as_bytes())?;

@@ -2,9 +2,9 @@
 
 ghost use Rattle.std.specs.Prelude.{◌≡◌, ◌≢◌, [], ◌≤◌, ℕ, List, Option, Some, ◌⊎◌};
 ghost use Rattle.vsa_io.specs.Stream.{HasRisen, AppendsPrefix, appended};
-ghost use Rattle.ihex_read.specs.ImageText.{IsRamRange};
+ghost use Rattle.image.specs.Kept.{IsRamRange};
 ghost use Rattle.vsa_top.specs.Headline.{CoversRunsOf, ReportsOn, ShowsSitesOf};
-ghost use Rattle.vsa_top.specs.declared.words.Chip.{Chip as AChip};
+ghost use Rattle.image.specs.declared.chip_name.ChipName.{ChipName as AChip};
 ghost use Rattle.vsa_top.specs.declared.words.Reading.TheVariants.{Analyse, Gen};
 ghost use Rattle.vsa_top.specs.declared.words.Reading.{Reading as AReading};
 ghost use Rattle.vsa_top.specs.declared.words.Task.{Task as ATask};

@@ -2,10 +2,10 @@
 
 ghost use Rattle.std.specs.Prelude.{◌≡◌, ◌<◌, ◌≤◌, ◌↔◌, ℕ, Option, IfNone, IfOk, IfSome, IsTrue, MatchOption, Some};
 ghost use Rattle.hex.specs.Hex.{hex_digit_value};
-ghost use Rattle.ihex_read.specs.ImageText.{IsRamRange};
-ghost use Rattle.ihex_read.specs.declared.rule_set.Rules.TheVariants.{Msp430};
+ghost use Rattle.image.specs.Kept.{IsRamRange};
+ghost use Rattle.image.specs.declared.rule_set.Rules.TheVariants.{Msp430};
 ghost use Rattle.vsa_top.specs.Input.{tail_of};
-ghost use Rattle.vsa_top.specs.declared.words.Chip.{Chip as AChip};
+ghost use Rattle.image.specs.declared.chip_name.ChipName.{ChipName as AChip};
 ghost use Rattle.vsa_top.specs.declared.words.Mode.{Mode as AMode};
 ghost use Rattle.vsa_top.specs.declared.words.Options.{Options as AOptions};
 ghost use Rattle.vsa_top.specs.declared.words.Ram.{Ram as ARam};
@@ -17,7 +17,8 @@ ghost use Rattle.vsa_top.specs.declared.words.Mode.TheVariants as the_mode;
 use crate::command::matches_of;
 use analysis_limits::Limits;
 use clap::ArgMatches;
-use ihex_read::{Rules, Tail};
+use ihex_read::Tail;
+use image::{ChipName, Rules};
 use image_gen::MOST;
 use std::alloc::{AllocError, Global};
 
@@ -34,22 +35,13 @@ pub enum Mode {
     Gen,
 }
 
-/// The chip whose image it is.
-#[derive(Clone, Copy, Debug, PartialEq, Eq)]
-pub enum Chip {
-    Msp430,
-    Mcs51,
-}
-
-impl Chip {
-    /// The word of a chip.
-    pub fn word(self) -> &'static str
-        ensures { result.now ≡ chip_word self }
-    {
-        match self {
-            Chip::Msp430 => "msp430",
-            Chip::Mcs51 => "mcs51",
-        }
+/// The word of a chip.
+pub fn word_of(chip: ChipName) -> &'static str
+    ensures { result.now ≡ chip_word chip }
+{
+    match chip {
+        ChipName::Msp430 => "msp430",
+        ChipName::Mcs51 => "mcs51",
     }
 }
 
@@ -100,12 +92,12 @@ pub enum Target {
 
 impl Target {
     /// A chip with the usual RAM.
-    pub fn usual(chip: Chip) -> Target
+    pub fn usual(chip: ChipName) -> Target
         ensures { result ≡ usual_target chip }
     {
         match chip {
-            Chip::Msp430 => Target::Msp430 { ram: Ram::USUAL },
-            Chip::Mcs51 => Target::Mcs51,
+            ChipName::Msp430 => Target::Msp430 { ram: Ram::USUAL },
+            ChipName::Mcs51 => Target::Mcs51,
         }
     }
 
@@ -135,7 +127,7 @@ pub struct Task {
 
 impl Task {
     /// How a made program is analysed: with the usual RAM and limits, by one worker.
-    pub fn usual(chip: Chip) -> Task
+    pub fn usual(chip: ChipName) -> Task
         ensures { result ≡ usual_task chip }
     {
         Task {
@@ -154,7 +146,7 @@ pub enum Reading {
     /// At most so many steps, which are at most 1,000,000.
     Run { target: Target, steps: u32 },
     /// The analysis of a made program with so many functions, 1 to 2000, and the usual RAM and limits.
-    Gen { chip: Chip, number: u32 },
+    Gen { chip: ChipName, number: u32 },
 }
 
 impl Reading {
@@ -295,14 +287,14 @@ fn mode_of(text: Option<&str>) -> Option<Mode>
 }
 
 /// The chip of a text, where it is there.
-fn chip_of(text: Option<&str>) -> Option<Chip>
+fn chip_of(text: Option<&str>) -> Option<ChipName>
     ensures { MatchOption result ((chip : AChip) → ¬ (text_of text.entry ≡ Some (chip_word chip))) (λ chip. text_of text.entry ≡ Some (chip_word chip)) }
 {
     let text = text?;
     if text == "msp430" {
-        Some(Chip::Msp430)
+        Some(ChipName::Msp430)
     } else if text == "mcs51" {
-        Some(Chip::Mcs51)
+        Some(ChipName::Mcs51)
     } else {
         None
     }
@@ -359,15 +351,15 @@ fn options_of(matches: &ArgMatches<'_>) -> Option<Options>
 }
 
 /// The chip with its RAM, where the words say nothing of another chip's.
-fn target_by(chip: Chip, ram: Option<Ram>) -> Option<Target>
+fn target_by(chip: ChipName, ram: Option<Ram>) -> Option<Target>
     ensures { result ≡ the_target_by chip ram }
 {
     match (chip, ram) {
-        (Chip::Msp430, said) => Some(Target::Msp430 {
+        (ChipName::Msp430, said) => Some(Target::Msp430 {
             ram: said.unwrap_or(Ram::USUAL),
         }),
-        (Chip::Mcs51, None) => Some(Target::Mcs51),
-        (Chip::Mcs51, Some(_)) => None,
+        (ChipName::Mcs51, None) => Some(Target::Mcs51),
+        (ChipName::Mcs51, Some(_)) => None,
     }
 }
 
@@ -393,7 +385,7 @@ fn task_of(target: Target, options: Options) -> Task
 }
 
 /// The analysis of a chip.
-fn analysis_by(chip: Chip, options: Options) -> Option<Reading>
+fn analysis_by(chip: ChipName, options: Options) -> Option<Reading>
     ensures { result ≡ asked the_mode.Analyse chip options }
 {
     match (options.steps, options.number) {
@@ -405,7 +397,7 @@ fn analysis_by(chip: Chip, options: Options) -> Option<Reading>
 }
 
 /// The disassembly of a chip.
-fn disassembly_by(chip: Chip, options: Options) -> Option<Reading>
+fn disassembly_by(chip: ChipName, options: Options) -> Option<Reading>
     ensures { result ≡ asked the_mode.Disasm chip options }
 {
     match (
@@ -423,7 +415,7 @@ fn disassembly_by(chip: Chip, options: Options) -> Option<Reading>
 }
 
 /// The run of a chip.
-fn run_by(chip: Chip, options: Options) -> Option<Reading>
+fn run_by(chip: ChipName, options: Options) -> Option<Reading>
     ensures { result ≡ asked the_mode.Run chip options }
 {
     match (
@@ -441,7 +433,7 @@ fn run_by(chip: Chip, options: Options) -> Option<Reading>
 }
 
 /// The made program of a chip.
-fn making_by(chip: Chip, options: Options) -> Option<Reading>
+fn making_by(chip: ChipName, options: Options) -> Option<Reading>
     ensures { result ≡ asked the_mode.Gen chip options }
 {
     match (
@@ -460,7 +452,7 @@ fn making_by(chip: Chip, options: Options) -> Option<Reading>
 }
 
 /// What a mode, a chip and options ask, where the mode takes the chip and the options.
-fn reading_by(mode: Mode, chip: Chip, options: Options) -> Option<Reading>
+fn reading_by(mode: Mode, chip: ChipName, options: Options) -> Option<Reading>
     ensures { result ≡ asked mode chip options }
 {
     match mode {
@@ -472,7 +464,11 @@ fn reading_by(mode: Mode, chip: Chip, options: Options) -> Option<Reading>
 }
 
 /// The reading of a mode, a chip and options, where all three are there.
-fn reading_with(mode: Option<Mode>, chip: Option<Chip>, options: Option<Options>) -> Option<Reading>
+fn reading_with(
+    mode: Option<Mode>,
+    chip: Option<ChipName>,
+    options: Option<Options>,
+) -> Option<Reading>
     ensures { result ≡ all_three mode chip options }
 {
     let (mode, chip, options) = (mode?, chip?, options?);

@@ -12,11 +12,11 @@ use crate::worker::work;
 use chip_law::Chip;
 use crossbeam_utils::sync::EventCount;
 use fact_table::{FactTable, Seat, Turns};
+use no_memory::Memory;
 use round_core::Book;
 use std::alloc::Global;
 use std::sync::Wait;
 use std::thread::{Threads, join};
-use vsa_io::Memory;
 use worker_rounds::Gate;
 
 /// Works at the seat, and lets so many helpers work beside it, each in a thread of its own. Where a thread can't be

@@ -9,10 +9,10 @@ ghost use Rattle.worker_crew.specs.Turns.{Finishes, IsReady, Works};
 use chip_law::Chip;
 use crossbeam_utils::sync::EventCount;
 use fact_table::{Seat, Turns, claim_at, give_back_at, post_and_claim_at};
+use no_memory::Memory;
 use round_core::{Claimed, Done, Ticket};
 use std::alloc::Global;
 use std::sync::Wait;
-use vsa_io::Memory;
 use worker_rounds::Gate;
 
 /// Posts the work of a ticket, and claims the next unit in the same turn. Where memory runs out at the post, its unit is

@@ -8,9 +8,9 @@ ghost use Rattle.worker_rounds.specs.Turns.{AreTurns};
 ghost use Rattle.call_context.specs.declared.node.Unit.{Unit as AUnit};
 
 use chip_law::Chip;
+use no_memory::Memory;
 use round_core::{Book, Claimed, Done, turns_bring_home};
 use std::alloc::Global;
-use vsa_io::Memory;
 
 /// Claims a unit, works on it and posts the work. True says that the book is finished, and nothing was done.
 fn turn<C: Chip>(alloc: Global, chip: &C, book: &mut Book<C>) -> Result<bool, Memory>

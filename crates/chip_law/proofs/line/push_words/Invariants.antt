@@ -1,6 +1,6 @@
 use Rattle.std.proofs.Common.{◌≡◌, ◌++◌, ◌∷◌, take}
 use Rattle.std.specs.List.{flat_map}
-use Rattle.chip_law.specs.Digits.{hex}
+use Rattle.hex_digits.specs.Digits.{hex}
 use Rattle.chip_law.proofs.line.push_words.Given as goal
 
 abbrev pub invariant-loop-word : goal.invariant-loop-word

@@ -1,6 +1,6 @@
 use Rattle.std.proofs.Common.{◌≡◌, ◌++◌, take, drop, map, length}
 use Rattle.value_bits.specs.Bits.{tri_and, tri_not}
-use Rattle.msp430_state.specs.Pointwise.{each_with}
+use Rattle.value_bits.specs.Pointwise.{each_with}
 use Rattle.msp430_results.proofs.sets.clear.Given as goal
 
 abbrev pub invariant-loop-place : goal.invariant-loop-place

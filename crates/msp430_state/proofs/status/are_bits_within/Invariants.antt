@@ -1,5 +1,5 @@
 use Rattle.std.proofs.Common.{◌≡◌, drop}
-use Rattle.msp430_state.specs.Pointwise.{each_passes}
+use Rattle.value_bits.specs.Pointwise.{each_passes}
 use Rattle.msp430_state.specs.Status.{is_bit_within}
 use Rattle.msp430_state.proofs.status.are_bits_within.Given as goal
 

@@ -1,6 +1,6 @@
 use Rattle.std.proofs.Common.{◌≡◌, ◌++◌, take, drop, length}
 use Rattle.msp430_state.specs.Status.{common_bit}
-use Rattle.msp430_state.specs.Pointwise.{each_with}
+use Rattle.value_bits.specs.Pointwise.{each_with}
 use Rattle.msp430_state.proofs.status.common_bits.Given as goal
 
 abbrev pub invariant-loop-i : goal.invariant-loop-i

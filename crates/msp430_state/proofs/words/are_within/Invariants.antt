@@ -1,6 +1,6 @@
 use Rattle.std.proofs.Common.{◌≡◌, drop}
 use Rattle.entry_value.specs.Words.{word_within}
-use Rattle.msp430_state.specs.Pointwise.{each_passes}
+use Rattle.value_bits.specs.Pointwise.{each_passes}
 use Rattle.msp430_state.proofs.words.are_within.Given as goal
 
 abbrev pub invariant-loop-i : goal.invariant-loop-i

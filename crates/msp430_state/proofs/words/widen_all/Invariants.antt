@@ -1,6 +1,6 @@
 use Rattle.std.proofs.Common.{◌≡◌, ◌++◌, take, drop, length}
 use Rattle.entry_value.specs.Words.{word_widen}
-use Rattle.msp430_state.specs.Pointwise.{each_with}
+use Rattle.value_bits.specs.Pointwise.{each_with}
 use Rattle.msp430_state.proofs.words.widen_all.Given as goal
 
 abbrev pub invariant-loop-i : goal.invariant-loop-i

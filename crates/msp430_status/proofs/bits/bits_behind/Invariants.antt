@@ -1,5 +1,5 @@
 use Rattle.std.proofs.Common.{◌≡◌, ◌++◌, take, drop, length}
-use Rattle.msp430_state.specs.Pointwise.{each_with}
+use Rattle.value_bits.specs.Pointwise.{each_with}
 use Rattle.msp430_status.specs.Status.{bit_behind}
 use Rattle.msp430_status.proofs.bits.bits_behind.Given as goal
 

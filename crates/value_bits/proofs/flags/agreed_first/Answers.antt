@@ -8,7 +8,7 @@ agreed_second-requires-clause-second_few g c = (few_each (count_of c.args.modulu
     (some_of c.args.modulus c.args.first.now c.requires.first_normal) (some_of c.args.modulus c.args.second.now c.requires.second_normal) c.requires.carries_some).1
 
 pub agreed_second-requires-clause-xs_below : goal.agreed_second-requires-clause-xs_below
-agreed_second-requires-clause-xs_below g c = (listed_values c.args.modulus c.args.first.now c.in-Values.values c.as_slice.result.now c.requires.first_normal c.in-Values.is c.as_slice.ensures).1
+agreed_second-requires-clause-xs_below g c = (listed_values c.args.modulus c.args.first.now c.in-Values.values c.as_slice.result.now c.requires.first_normal c.in-Values.is c.as_slice.ensures.numbers).1
 
 pub stepped-values-requires-clause-few : goal.stepped-values-requires-clause-few
 stepped-values-requires-clause-few g c =

@@ -1,7 +1,7 @@
 use Rattle.std.proofs.Common.{subst, sym, ◌∙◌}
 use Rattle.value_set.specs.Form.{Has}
 use Rattle.value_set.specs.declared.form.Form.{Form}
-use Rattle.value_bits.specs.Numbers.{decimal_sum, decimal_total}
+use Rattle.chip_numbers.specs.Numbers.{decimal_sum, decimal_total}
 use Rattle.value_bits.specs.Staying.{digits_below}
 use Rattle.value_bits.proofs.Choosing.{chosen_has}
 use Rattle.value_bits.proofs.Decimals.{decimal_unclear, decimal_unclear_second, decimal_many, decimal_few}

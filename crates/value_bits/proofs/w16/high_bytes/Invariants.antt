@@ -1,6 +1,6 @@
 use Rattle.std.proofs.Common.{◌≡◌, map, take}
 use Rattle.value_set.specs.Form.{members}
-use Rattle.value_bits.specs.Numbers.{high_byte}
+use Rattle.chip_numbers.specs.Numbers.{high_byte}
 use Rattle.value_bits.proofs.w16.high_bytes.Given as goal
 
 abbrev pub invariant-loop-place : goal.invariant-loop-place

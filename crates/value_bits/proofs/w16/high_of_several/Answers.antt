@@ -3,7 +3,7 @@ use Rattle.std.proofs.lemmas.List.FromFn.{length-map-range_with_len}
 use Rattle.value_set.specs.Form.{members, gather}
 use Rattle.value_set.specs.declared.form.Form.{Form}
 use Rattle.value_bits.specs.declared.tri.Tri.{Tri}
-use Rattle.value_bits.specs.Numbers.{high_byte}
+use Rattle.chip_numbers.specs.Numbers.{high_byte}
 use Rattle.value_bits.specs.Bits.{Agrees, from_bits, known_bit, known_bits}
 use Rattle.value_bits.proofs.Halves.{high_few, high_many, gathered_one, drop_whole}
 use Rattle.value_bits.proofs.Known.{known_agrees}

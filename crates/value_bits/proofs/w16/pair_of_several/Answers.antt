@@ -5,7 +5,7 @@ use Rattle.std.proofs.lemmas.List.FromFn.{length-map-range_with_len}
 use Rattle.value_set.specs.Form.{members, gather}
 use Rattle.value_set.specs.declared.form.Form.{Form}
 use Rattle.value_bits.specs.declared.tri.Tri.{Tri}
-use Rattle.value_bits.specs.Numbers.{word_of}
+use Rattle.chip_numbers.specs.Numbers.{word_of}
 use Rattle.value_bits.specs.Bits.{Agrees, from_bits, known_bit, known_bits}
 use Rattle.value_bits.specs.Sets.{words}
 use Rattle.value_bits.proofs.Halves.{pair_few, pair_many, gathered_one, words_have, words_some}

@@ -1,6 +1,6 @@
 use Rattle.std.proofs.Common.{◌≡◌, ◌++◌, map, take}
 use Rattle.value_set.specs.Form.{members}
-use Rattle.value_bits.specs.Numbers.{word_of}
+use Rattle.chip_numbers.specs.Numbers.{word_of}
 use Rattle.value_bits.proofs.w16.push_words.Given as goal
 
 abbrev pub invariant-loop-place : goal.invariant-loop-place

@@ -4,7 +4,7 @@ use Rattle.value_set.specs.Form.{Has}
 use Rattle.value_set.specs.declared.form.Form.{Form}
 use Rattle.value_set.specs.Summing.{single}
 use Rattle.value_bits.specs.declared.tri.Tri.{Tri}
-use Rattle.value_bits.specs.Numbers.{shifted_right}
+use Rattle.chip_numbers.specs.Numbers.{shifted_right}
 use Rattle.value_bits.specs.Bits.{Agrees, from_bits, known_bit, known_bits}
 use Rattle.value_bits.specs.Sets.{shift_answer, shift_bits, shift_set, top_carry}
 use Rattle.value_bits.proofs.Choosing.{choose_few, choose_many, single_has, shift_has, one_top}

@@ -5,7 +5,7 @@ use Rattle.value_set.specs.declared.form.Form.{Form}
 use Rattle.value_set.specs.Summing.{single}
 use Rattle.value_bits.specs.declared.tri.Tri.{Tri}
 use Rattle.value_bits.specs.declared.tri.Tri.TheVariants.{Either}
-use Rattle.value_bits.specs.Numbers.{sign_extended}
+use Rattle.chip_numbers.specs.Numbers.{sign_extended}
 use Rattle.value_bits.specs.Bits.{Agrees, from_bits, known_bit, known_bits}
 use Rattle.value_bits.specs.Sets.{sign_extend_set}
 use Rattle.value_bits.proofs.Choosing.{choose_few, choose_many, single_has}

@@ -1,6 +1,6 @@
 use Rattle.std.proofs.Common.{ℕ, ◌++◌, List, length, map, take, ap, sym, ◌∙◌, arith}
 use Rattle.value_set.specs.Form.{members}
-use Rattle.value_bits.specs.Numbers.{word_of}
+use Rattle.chip_numbers.specs.Numbers.{word_of}
 use Rattle.value_bits.specs.Sets.{words}
 use Rattle.value_bits.proofs.Halves.{words_more, words_room}
 use Rattle.value_bits.proofs.w16.words_of.Goals as goal

@@ -1,7 +1,7 @@
 use Rattle.std.proofs.Common.{◌≡◌, true, take}
 use Rattle.std.specs.List.{list_all}
 use Rattle.value_set.specs.Form.{members}
-use Rattle.value_bits.specs.Numbers.{is_decimal}
+use Rattle.chip_numbers.specs.Numbers.{is_decimal}
 use Rattle.value_bits.proofs.w8.are_decimal.Given as goal
 
 abbrev pub invariant-loop-place : goal.invariant-loop-place

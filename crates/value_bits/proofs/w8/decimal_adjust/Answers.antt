@@ -1,7 +1,7 @@
 use Rattle.std.proofs.Common.{subst, sym, ◌∙◌}
 use Rattle.value_set.specs.Form.{Has}
 use Rattle.value_set.specs.declared.form.Form.{Form}
-use Rattle.value_bits.specs.Numbers.{decimal_adjusted}
+use Rattle.chip_numbers.specs.Numbers.{decimal_adjusted}
 use Rattle.value_bits.specs.Staying.{adjusted_below}
 use Rattle.value_bits.specs.Sets.{any, chosen, decimal_adjust_set}
 use Rattle.value_bits.proofs.Choosing.{chosen_has, choose_few, choose_many}

@@ -16,4 +16,4 @@ returns-in-Run-clause-below c = nth_below c.args.modulus c.args.place c.nth_of_r
 
 pub returns-in-Values-clause-below : goal.returns-in-Values-clause-below
 returns-in-Values-clause-below c = nth_below c.args.modulus c.args.place _ c.args.set.now c.requires.normal c.requires.there
-    (listed_nth c.args.modulus c.args.place c.args.set.now c.in-Values.values c.as_slice.result.now c.in-Values.is c.as_slice.ensures)
+    (listed_nth c.args.modulus c.args.place c.args.set.now c.in-Values.values c.as_slice.result.now c.in-Values.is c.as_slice.ensures.numbers)

@@ -38,7 +38,7 @@ returns-then-ascends c =
     c.loop-first.invariant.1 (λ full. absurd (omega (arith, full, c.if-len-eq-LONGEST-2.false, c.len-2.ensures.length))) c.push-2.ensures
     (c.loop-first.invariant.0
     ∙ list_last (hex_number c.args.digits) 44 c.loop-first.values c.push-2.new.self c.loop-first.rest.now c.in-Some-number-2.value c.in_default.ensures.parts c.in-Some-number-2.ensures.value c.push-2.ensures)
-    c.as_slice.ensures (sym c.ascends.ensures ∙ c.if-ascends.true)
+    c.as_slice.ensures.numbers (sym c.ascends.ensures ∙ c.if-ascends.true)
 
 pub returns-else-ascends : goal.returns-else-ascends
 returns-else-ascends c =
@@ -46,4 +46,4 @@ returns-else-ascends c =
     c.loop-first.invariant.1 (λ full. absurd (omega (arith, full, c.if-len-eq-LONGEST-2.false, c.len-2.ensures.length))) c.push-2.ensures
     (c.loop-first.invariant.0
     ∙ list_last (hex_number c.args.digits) 44 c.loop-first.values c.push-2.new.self c.loop-first.rest.now c.in-Some-number-2.value c.in_default.ensures.parts c.in-Some-number-2.ensures.value c.push-2.ensures)
-    c.as_slice.ensures (sym c.ascends.ensures ∙ c.if-ascends.false)
+    c.as_slice.ensures.numbers (sym c.ascends.ensures ∙ c.if-ascends.false)

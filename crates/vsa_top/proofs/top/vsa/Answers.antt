@@ -1,5 +1,5 @@
 use Rattle.std.proofs.Common.{◌≡◌, None, refl, sym, subst, inr}
-use Rattle.ihex_read.specs.ImageText.{IsRamRange}
+use Rattle.image.specs.Kept.{IsRamRange}
 use Rattle.vsa_top.specs.Answer.{Answers}
 use Rattle.vsa_top.specs.Answer.Answers.{unreplied}
 use Rattle.vsa_top.specs.Words.{EndsInMemory, IsBounded, Reads, rules_of}

@@ -2,7 +2,7 @@ use Rattle.std.proofs.Common.{ℕ, ◌≡◌, inl, inr, List, length, refl, ap, 
 use Rattle.std.specs.Prelude.{Option, None, Some, replicate}
 use Rattle.std.proofs.lemmas.Bool.{cases_lt}
 use Rattle.std.proofs.lemmas.List.{get_or-replicate, get_or_past, length-replicate}
-use Rattle.ihex_read.specs.Image.{byte_at}
+use Rattle.image.specs.Image.{byte_at}
 use Rattle.ihex_read.proofs.MadeLemmas.{made_nothing}
 use Rattle.ihex_read.proofs.loading.Loader.new.Goals as goal
 

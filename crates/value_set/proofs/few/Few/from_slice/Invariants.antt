@@ -2,4 +2,4 @@ use Rattle.std.proofs.Common.{◌≡◌, take}
 use Rattle.value_set.proofs.few.Few.from_slice.Given as goal
 
 abbrev pub invariant-loop-value : goal.invariant-loop-value
-invariant-loop-value l = l.all ≡ take l.value-index l.values
+invariant-loop-value g l = l.few ≡ take l.value-index l.list

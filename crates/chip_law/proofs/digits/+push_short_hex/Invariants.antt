@@ -1,4 +1,0 @@
-use Rattle.chip_law.proofs.digits.+push_short_hex.Given as goal
-
-abbrev pub decreases-push_short_hex : goal.decreases-push_short_hex
-decreases-push_short_hex l = l.value

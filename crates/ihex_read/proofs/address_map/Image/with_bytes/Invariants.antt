@@ -1,9 +1,0 @@
-use Rattle.std.proofs.Common.{◌≡◌, drop, length}
-use Rattle.ihex_read.specs.Image.{placed}
-use Rattle.ihex_read.proofs.address_map.Image.with_bytes.Given as goal
-
-abbrev pub invariant-loop-byte : goal.invariant-loop-byte
-invariant-loop-byte l = record {
-  rest : placed l.at (drop l.byte-index l.bytes) l.places.items ≡ placed l.fn.at l.bytes l.initial.places.items;
-  size : length l.places.items ≡ 65536;
-}

@@ -1,0 +1,10 @@
+//! A memory image of a program: which byte, if any, stands at each of the 65,536 addresses, and the rules of a chip for it.
+#![tactic(auto)]
+
+mod address_map;
+mod chip_name;
+mod rule_set;
+
+pub use address_map::Image;
+pub use chip_name::ChipName;
+pub use rule_set::Rules;
