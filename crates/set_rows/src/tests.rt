@@ -79,6 +79,26 @@ fn long_lists(rt: HostRuntime) -> Result<(), Fail> {
     Ok(())
 }
 
+/// Lists below 100h are the same as bytes and as words. A run past the turn is gathered anew.
+#[test]
+fn bytes_and_words(rt: HostRuntime) -> Result<(), Fail> {
+    let bytes = Vs8::gather([0x02, 0x80, 0xFF].as_slice()).ok_or("bytes")?;
+    let words = Vs16::gather([0x02, 0x80, 0xFF].as_slice()).ok_or("words")?;
+    assert_eq!(rt; Vs16::from_bytes(&bytes), words);
+    assert_eq!(rt; words.as_bytes(), Some(bytes));
+    assert_eq!(rt; Vs16::one(0x0100).as_bytes(), None);
+    assert_eq!(rt; run16(0x0000, 1, 0x20)?.as_bytes(), None);
+    assert_eq!(rt;
+        Vs16::from_bytes(&run8(0x10, 2, 0x20)?),
+        run16(0x0010, 2, 0x20)?
+    );
+    assert_eq!(rt;
+        Vs16::from_bytes(&run8(0xF8, 1, 0x18)?),
+        run16(0x0000, 1, 0x100)?
+    );
+    Ok(())
+}
+
 /// Answers the first number.
 struct First {
     modulus: u32,

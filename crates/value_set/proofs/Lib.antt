@@ -20,3 +20,4 @@ pub mod Remainders
 pub mod Formulas
 pub mod Bounds
 pub mod Tests
+pub mod BytesAsWords

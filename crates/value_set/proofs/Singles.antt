@@ -1,5 +1,5 @@
 -- Of one number with one number there is one result.
-use Rattle.std.proofs.Common.{◌≡◌, ℕ, ◌+◌, ◌-◌, ◌%◌, [], ◌∷◌, refl, ◌∙◌, arith}
+use Rattle.std.proofs.Common.{◌≡◌, ℕ, ◌+◌, ◌-◌, ◌%◌, [], ◌∷◌, refl, sym, ◌∙◌, arith}
 use Rattle.value_set.specs.declared.form.Form.{Form}
 use Rattle.value_set.specs.Form.{put, gather}
 use Rattle.value_set.specs.Summing.{single, combine, sum_answer, difference_answer, add, sub, twice}
@@ -22,3 +22,7 @@ sub_one m a b x y h k = rw (h, k) (sub-few m (single x) (single y) (omega arith)
 
 pub twice_one : (m : ℕ) (a : Form) (x : ℕ) → a ≡ single x → twice m a ≡ single ((x + x) % m)
 twice_one m a x h = rw h (twice-list m (x ∷ []) ∙ gather_one m ((x + x) % m))
+
+pub one_result : (m : ℕ) (answer : ℕ → ℕ → ℕ → ℕ) (a b c result : Form) (x y z value : ℕ) → result ≡ single value → value ≡ answer x y z
+    → a ≡ single x → b ≡ single y → c ≡ single z → result ≡ combine m answer a b c
+one_result m answer a b c result x y z value is same h k l = rw is (rw same (sym (combine_one m answer a b c x y z h k l)))

@@ -11,3 +11,4 @@ pub mod Remainders
 pub mod Widening
 pub mod Cutting
 pub mod Summing
+pub mod Widths

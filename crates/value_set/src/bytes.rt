@@ -40,6 +40,14 @@ impl Model for Vs8 {
 }
 
 impl Vs8 {
+    /// The set that is written in a form.
+    pub(crate) fn from_form(form: Form) -> Self
+        requires { IsNormal 256 form }
+        ensures { result ≡ form }
+    {
+        Vs8 { form }
+    }
+
     /// The set of one number.
     pub fn one(value: u8) -> Self
         ensures value { result ≡ single value }

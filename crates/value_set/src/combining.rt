@@ -1,6 +1,6 @@
 //! All results of an operation on the members of sets.
 
-ghost use Rattle.std.specs.Prelude.{◌≡◌, ℕ, ◌+◌, ◌*◌, ◌<◌, ◌≤◌, length, map};
+ghost use Rattle.std.specs.Prelude.{◌≡◌, ℕ, ◌+◌, ◌*◌, ◌<◌, ◌≤◌, IfSome, length, map};
 ghost use Rattle.std.specs.List.{flat_map};
 ghost use Rattle.value_set.specs.Form as forms;
 ghost use Rattle.value_set.specs.Form.{Ascends, IsNormal, members};
@@ -10,6 +10,7 @@ ghost use Rattle.value_set.specs.Summing as sums;
 use crate::form::Form;
 use crate::gathering::{ROOM, put, set_of};
 use crate::member::{count, nth};
+use crate::summing::single;
 use arrayvec::ArrayVec;
 
 /// An operation on two numbers and a carry below a modulus. One that has no carry is combined with the set of 0.
@@ -31,6 +32,41 @@ pub trait Operation {
 
 /// The set of all results, of at most 256 combinations.
 pub fn combine<O: Operation>(
+    modulus: u32,
+    operation: &O,
+    first: &Form,
+    second: &Form,
+    carry: &Form,
+) -> Form
+    requires small { modulus ≤ 65536 }
+    requires first_normal { IsNormal modulus first.now }
+    requires second_normal { IsNormal modulus second.now }
+    requires carry_normal { IsNormal modulus carry.now }
+    requires width { O.modulus operation.now ≡ modulus }
+    requires few { length (members modulus first.now) * (length (members modulus second.now) * length (members modulus carry.now)) ≤ 256 }
+    ensures { result ≡ sums.combine modulus (O.answer operation.now) first.now second.now carry.now }
+{
+    match (alone(first), alone(second), alone(carry)) {
+        (Some(x), Some(y), Some(z)) => single(operation.apply(x, y, z)),
+        _ => combine_several(modulus, operation, first, second, carry),
+    }
+}
+
+/// The number of a set of one.
+fn alone(set: &Form) -> Option<u16>
+    ensures { IfSome result (λ v. set.now ≡ sums.single v) }
+{
+    match set {
+        Form::Values(values) => match values.as_slice() {
+            [value] => Some(*value),
+            _ => None,
+        },
+        Form::Run(_) => None,
+    }
+}
+
+/// The set of all results, of sets that may have several members.
+fn combine_several<O: Operation>(
     modulus: u32,
     operation: &O,
     first: &Form,

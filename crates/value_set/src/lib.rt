@@ -20,6 +20,7 @@ mod number;
 mod sets;
 mod summing;
 mod widening;
+mod widths;
 mod words;
 
 pub use bytes::Vs8;

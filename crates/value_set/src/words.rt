@@ -1,6 +1,6 @@
 //! Sets of 16-bit numbers.
 
-ghost use Rattle.std.specs.Prelude.{◌≡◌, ℕ, ◌+◌, ◌-◌, ◌*◌, ◌%◌, ◌<◌, ◌≤◌, ◌↔◌, IsTrue, IsNone, IfSome, All, length, slice_index};
+ghost use Rattle.std.specs.Prelude.{◌≡◌, ℕ, ◌+◌, ◌-◌, ◌*◌, ◌%◌, ◌<◌, ◌≤◌, ◌↔◌, IsTrue, IsNone, IsSome, IfSome, All, length, slice_index};
 ghost use Rattle.std.specs.List.{Contains};
 ghost use Rattle.value_set.specs.Form as forms;
 ghost use Rattle.value_set.specs.Form.{Has, Includes, IsNormal, above, members};
@@ -10,10 +10,12 @@ ghost use Rattle.value_set.specs.Widening as widens;
 ghost use Rattle.value_set.specs.Cutting as cuts;
 ghost use Rattle.value_set.specs.Summing as sums;
 ghost use Rattle.value_set.specs.Summing.{single};
+ghost use Rattle.value_set.specs.Widths.{IsByteList};
 
+use crate::bytes::Vs8;
 use crate::combining::Operation;
 use crate::form::Form;
-use crate::{member, sets, summing};
+use crate::{member, sets, summing, widths};
 use std::marker::Model;
 
 /// How many 16-bit numbers there are.
@@ -84,6 +86,30 @@ impl Vs16 {
     {
         match sets::run(MODULUS, base, stride, count) {
             Some(form) => Some(Vs16 { form }),
+            None => None,
+        }
+    }
+
+    /// The bytes of a set gathered as words with the high byte 0. A list of bytes is the same list of words.
+    pub fn from_bytes(bytes: &Vs8) -> Self
+        ensures value { result ≡ forms.gather 65536 (members 256 bytes.now) }
+        ensures normal { IsNormal 65536 result }
+        ensures holds { (v : ℕ) → Has 256 bytes.now v → Has 65536 result v }
+        ensures listed { length (members 256 bytes.now) ≤ 16 → result ≡ bytes.now }
+    {
+        Vs16 {
+            form: widths::as_words(&bytes.form()),
+        }
+    }
+
+    /// The same numbers as bytes, where the set is a list of numbers below 256.
+    pub fn as_bytes(&self) -> Option<Vs8>
+        ensures listed { IsSome result ↔ IsByteList self.now }
+        ensures value { IfSome result (λ set. set ≡ self.now) }
+        ensures normal { IfSome result (λ set. IsNormal 256 set) }
+    {
+        match widths::as_bytes(&self.form) {
+            Some(form) => Some(Vs8::from_form(form)),
             None => None,
         }
     }
