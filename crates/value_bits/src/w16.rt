@@ -149,6 +149,9 @@ fn low_of_several(a: &Vs16) -> Vs8
     ensures holds { (x : ℕ) → Has 65536 a.now x → Has 256 result (low_byte x) }
     ensures alone { (x : ℕ) → a.now ≡ single x → result ≡ single (low_byte x) }
 {
+    if let Some(same) = a.as_bytes() {
+        return same;
+    }
     if a.count() <= 256 {
         return bytes::gathered(low_bytes(a).as_slice());
     }
@@ -214,6 +217,7 @@ pub fn pair(low: &Vs8, high: &Vs8) -> Vs16
 {
     match (bytes::alone(low), bytes::alone(high)) {
         (Some(x), Some(y)) => Vs16::one(x as u16 + y as u16 * 256),
+        (None, Some(0)) => Vs16::from_bytes(low),
         _ => pair_of_several(low, high),
     }
 }

@@ -63,3 +63,7 @@ last_greatest m n last xs a is low v there =
 
 pub last_there : (xs : List ℕ) → 1 ≤ length xs → Contains xs (get_or xs (length xs - 1) 0)
 last_there xs some = Contains-get_or xs (length xs - 1) 0 (omega arith)
+
+pub bytes_gathered : (set : Form) → IsNormal 65536 set → IsByteList set → set ≡ gather 256 (members 65536 set)
+bytes_gathered (Values xs) normal below = sym (gather_same 256 xs (bytes_normal (Values xs) normal below))
+bytes_gathered (Run p) normal below = absurd below

@@ -48,6 +48,7 @@ pub fn as_bytes(words: &Form) -> Option<Form>
     requires { IsNormal 65536 words.now }
     ensures listed { IsSome result ↔ IsByteList words.now }
     ensures value { IfSome result (λ set. set ≡ words.now) }
+    ensures gathered { IfSome result (λ set. set ≡ forms.gather 256 (members 65536 words.now)) }
     ensures normal { IfSome result (λ set. IsNormal 256 set) }
 {
     if is_byte_list(words) {

@@ -106,6 +106,7 @@ impl Vs16 {
     pub fn as_bytes(&self) -> Option<Vs8>
         ensures listed { IsSome result ↔ IsByteList self.now }
         ensures value { IfSome result (λ set. set ≡ self.now) }
+        ensures gathered { IfSome result (λ set. set ≡ forms.gather 256 (members 65536 self.now)) }
         ensures normal { IfSome result (λ set. IsNormal 256 set) }
     {
         match widths::as_bytes(&self.form) {
