@@ -1,19 +1,22 @@
 -- Sets of bytes and of words, made of one another.
-use Rattle.std.proofs.Common.{◌≡◌, ℕ, ◌+◌, ◌-◌, ◌*◌, ◌<◌, ◌≤◌, List, [], ◌∷◌, ◌++◌, map, length, take, drop, get_or, refl, sym, ◌∙◌, ap, arith, append-nil}
+use Rattle.std.proofs.Common.{◌≡◌, ℕ, ◌+◌, ◌-◌, ◌*◌, ◌%◌, ◌<◌, ◌≤◌, List, [], ◌∷◌, ◌++◌, map, length, take, drop, get_or, refl, sym, ◌∙◌, ap, subst, inl, inr, arith, append-nil}
 use Rattle.std.specs.List.{Contains}
 use Rattle.std.proofs.lemmas.Bool.{le-leb, lt-leb}
 use Rattle.std.proofs.lemmas.List.{take_more, length-map, length-append, length-take-le, length-drop}
 use Rattle.std.proofs.lemmas.Grind.{flat_map-append}
 use Rattle.std.proofs.Math.Seq.{take-length}
 use Rattle.std.proofs.lemmas.Nat.{mul-le}
+use Rattle.std.proofs.Math.Nat.{mod-eq_of_lt}
 use Rattle.value_set.specs.declared.form.Form.{Form}
-use Rattle.value_set.specs.Form.{members, gather, set_of, put}
+use Rattle.value_set.specs.declared.form.Form.TheVariants.{Values, Run}
+use Rattle.value_set.specs.Form.{Has, members, gather, set_of, put}
+use Rattle.value_set.specs.Widths.{IsByteList}
 use Rattle.value_set.specs.Summing.{single}
 use Rattle.value_bits.specs.declared.tri.Tri.{Tri}
 use Rattle.chip_numbers.specs.Numbers.{low_byte, high_byte, word_of}
 use Rattle.value_bits.specs.Bits.{known_bits, from_bits}
 use Rattle.value_bits.specs.Sets.{low_set, high_set, words, pair_set}
-use Rattle.value_bits.proofs.Within.{in_from_Contains, Contains_from_in, in_map, in_flat_map}
+use Rattle.value_bits.proofs.Within.{IsIn, in_from_Contains, Contains_from_in, in_map, in_flat_map}
 
 pub gathered_one : (m v : ℕ) → gather m (v ∷ []) ≡ single v
 unfolding set_of put
@@ -89,3 +92,26 @@ words_some lows highs h k = let long = length-words lows highs in let some : 1 *
 -- all bits from a place on
 pub drop_whole : (k : ℕ) (bits : List Tri) → take (length bits - k) (drop k bits) ≡ drop k bits
 drop_whole k bits = ap (λ (n : ℕ). take n (drop k bits)) (sym (length-drop k bits)) ∙ take-length (drop k bits)
+
+-- with the high byte 0 alone, the words are the bytes
+words_zero : (lows : List ℕ) → words lows (0 ∷ []) ≡ lows
+words_zero [] = refl
+words_zero (x ∷ xs) = let same : x + 0 * 256 ≡ x = omega arith in rw same (ap (λ (ys : List ℕ). x ∷ ys) (words_zero xs))
+
+pub words_of_bytes : (lows : List ℕ) (high : Form) → high ≡ single 0 → lows ≡ words lows (members 256 high)
+words_of_bytes lows high is = rw is (sym (words_zero lows))
+
+low_bytes_same : (xs : List ℕ) → ((v : ℕ) → IsIn v xs → v < 256) → map low_byte xs ≡ xs
+low_bytes_same [] below = refl
+low_bytes_same (x ∷ xs) below =
+    let same : x % 256 ≡ x = mod-eq_of_lt (below x (inl refl)) in
+    rw same (ap (λ (ys : List ℕ). x ∷ ys) (low_bytes_same xs (λ v i. below v (inr i))))
+
+-- bytes are their own low bytes
+pub bytes_same : (set : Form) → IsByteList set → map low_byte (members 65536 set) ≡ members 65536 set
+bytes_same (Values xs) below = low_bytes_same xs (λ v i. below v (Contains_from_in xs v i))
+bytes_same (Run p) below = absurd below
+
+pub byte_low : (set same : Form) (x : ℕ) → same ≡ set → IsByteList set → Has 65536 set x → Has 256 same (low_byte x)
+byte_low (Values xs) same x is below there = rw is (subst (λ (n : ℕ). Contains xs n) (sym (mod-eq_of_lt (below x there))) there)
+byte_low (Run p) same x is below there = absurd below

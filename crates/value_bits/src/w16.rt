@@ -1,6 +1,7 @@
 //! Known bits of sets of 16-bit numbers, and bitwise and decimal operations on them.
 
 ghost use Rattle.std.specs.Prelude.{◌≡◌, ℕ, ◌+◌, ◌*◌, ◌<◌, ◌≤◌, ◌++◌, ◌&&◌, ◌==◌, nat_le, IsTrue, IsFalse, length, map, bit_and, bit_or, bit_xor};
+ghost use Rattle.value_set.specs.Form as forms;
 ghost use Rattle.value_set.specs.Form.{Has, IsNormal, members};
 ghost use Rattle.value_set.specs.Summing.{single};
 ghost use Rattle.value_bits.specs.Bits as known;
@@ -149,13 +150,24 @@ fn low_of_several(a: &Vs16) -> Vs8
     ensures holds { (x : ℕ) → Has 65536 a.now x → Has 256 result (low_byte x) }
     ensures alone { (x : ℕ) → a.now ≡ single x → result ≡ single (low_byte x) }
 {
-    if let Some(same) = a.as_bytes() {
-        return same;
-    }
     if a.count() <= 256 {
-        return bytes::gathered(low_bytes(a).as_slice());
+        return low_of_few(a);
     }
     bytes::with_bits(&known_bits(16, &a.form()).as_slice()[..8])
+}
+
+/// The low byte of each of at most 256 members. A list below 100h stays as it is.
+fn low_of_few(a: &Vs16) -> Vs8
+    requires some { 1 ≤ length (members 65536 a.now) }
+    requires few { length (members 65536 a.now) ≤ 256 }
+    ensures value { result ≡ forms.gather 256 (map low_byte (members 65536 a.now)) }
+    ensures normal { IsNormal 256 result }
+    ensures holds { (x : ℕ) → Has 65536 a.now x → Has 256 result (low_byte x) }
+{
+    match a.as_bytes() {
+        Some(same) => same,
+        None => bytes::gathered(low_bytes(a).as_slice()),
+    }
 }
 
 /// The low bytes of the members, one after another.
@@ -217,7 +229,6 @@ pub fn pair(low: &Vs8, high: &Vs8) -> Vs16
 {
     match (bytes::alone(low), bytes::alone(high)) {
         (Some(x), Some(y)) => Vs16::one(x as u16 + y as u16 * 256),
-        (None, Some(0)) => Vs16::from_bytes(low),
         _ => pair_of_several(low, high),
     }
 }
@@ -230,10 +241,25 @@ fn pair_of_several(low: &Vs8, high: &Vs8) -> Vs16
     ensures alone { (x y : ℕ) → low.now ≡ single x → high.now ≡ single y → result ≡ single (word_of x y) }
 {
     if low.count() * high.count() <= 256 {
-        return gathered(words_of(low, high).as_slice());
+        return pair_of_few(low, high);
     }
     let lows = known_bits(8, &low.form());
     with_bits(joined(lows.as_slice(), known_bits(8, &high.form()).as_slice()).as_slice())
+}
+
+/// The words of at most 256 combinations. Bytes with the high byte 0 stay as they are.
+fn pair_of_few(low: &Vs8, high: &Vs8) -> Vs16
+    requires low_some { 1 ≤ length (members 256 low.now) }
+    requires high_some { 1 ≤ length (members 256 high.now) }
+    requires few { length (members 256 low.now) * length (members 256 high.now) ≤ 256 }
+    ensures value { result ≡ forms.gather 65536 (sets.words (members 256 low.now) (members 256 high.now)) }
+    ensures normal { IsNormal 65536 result }
+    ensures holds { (x y : ℕ) → Has 256 low.now x → Has 256 high.now y → Has 65536 result (word_of x y) }
+{
+    match bytes::alone(high) {
+        Some(0) => Vs16::from_bytes(low),
+        _ => gathered(words_of(low, high).as_slice()),
+    }
 }
 
 /// The words of the members, one after another.
