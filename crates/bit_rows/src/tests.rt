@@ -174,6 +174,28 @@ fn known_bits(rt: HostRuntime) -> Result<(), Fail> {
     Ok(())
 }
 
+/// Bytes below 100h are their own low bytes, and their own words with the high byte 0.
+#[test]
+fn bytes_as_words(rt: HostRuntime) -> Result<(), Fail> {
+    let bytes = list8([0x02, 0x80, 0xFF].as_slice())?;
+    let words = list16([0x02, 0x80, 0xFF].as_slice())?;
+    assert_eq!(rt; w16::low(&words), bytes);
+    assert_eq!(rt; w16::pair(&bytes, &Vs8::one(0)), words);
+    assert_eq!(rt;
+        w16::pair(&bytes, &Vs8::one(1)),
+        list16([0x0102, 0x0180, 0x01FF].as_slice())?
+    );
+    assert_eq!(rt;
+        w16::low(&list16([0x02, 0x0102, 0x0280].as_slice())?),
+        list8([0x02, 0x80].as_slice())?
+    );
+    assert_eq!(rt;
+        w16::pair(&run8(0x10, 2, 0x20)?, &Vs8::one(0)),
+        run16(0x0010, 2, 0x20)?
+    );
+    Ok(())
+}
+
 /// More than 256 combinations.
 #[test]
 fn large_sets(rt: HostRuntime) -> Result<(), Fail> {

@@ -16,3 +16,4 @@ pub mod Singly
 pub mod LowPairs
 pub mod EndsOfSets
 pub mod Sharing
+pub mod OneWalk

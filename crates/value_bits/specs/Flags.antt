@@ -25,6 +25,10 @@ each_has wanted flag xs ys zs = list_all (λ x. list_all (λ y. list_all (λ z. 
 abbrev pub known : Bool → Tri
 known flag = if flag then One else Zero
 
+-- a flag that may be known
+abbrev pub known_where : (is_known flag : Bool) → Tri
+known_where is_known flag = if is_known then known flag else Either
+
 -- known where all agree
 abbrev pub agreed_of : (ℕ → ℕ → ℕ → Bool) → (xs ys zs : List ℕ) → Tri
 agreed_of flag xs ys zs = if each_has true flag xs ys zs then One else if each_has false flag xs ys zs then Zero else Either

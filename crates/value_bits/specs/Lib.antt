@@ -6,3 +6,4 @@ pub mod Laws
 pub mod Flags
 pub mod Lefts
 pub mod Order
+pub mod AllFlags

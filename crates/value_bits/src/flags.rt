@@ -113,6 +113,30 @@ fn agreed_second<F: Flag>(modulus: u32, flag: &F, xs: &[u16], second: &Form, car
     }
 }
 
+/// The members of a set of at most 256, in order.
+pub fn listed(modulus: u32, set: &Form) -> ArrayVec<u16, MOST>
+    requires small { modulus ≤ 65536 }
+    requires normal { IsNormal modulus set.now }
+    requires few { count_of modulus set.now ≤ 256 }
+    ensures { result.items ≡ members modulus set.now }
+{
+    match set {
+        Form::Values(values) => copied(values.as_slice()),
+        Form::Run(run) => stepped(modulus, run),
+    }
+}
+
+fn copied(values: &[u16]) -> ArrayVec<u16, MOST>
+    requires { length values.now ≤ 256 }
+    ensures { result.items ≡ values.now }
+{
+    let mut all = ArrayVec::new();
+    for value in values {
+        all.push(*value);
+    }
+    all
+}
+
 /// The members of a run, one after another.
 fn stepped(modulus: u32, run: &Progression) -> ArrayVec<u16, MOST>
     requires small { modulus ≤ 65536 }
@@ -149,13 +173,14 @@ fn agreed_of<F: Flag>(modulus: u32, flag: &F, xs: &[u16], ys: &[u16], carries: &
 }
 
 /// Whether there is one combination.
-fn is_alone(xs: &[u16], ys: &[u16], carries: &[u16]) -> bool
+pub fn is_alone(xs: &[u16], ys: &[u16], carries: &[u16]) -> bool
     ensures { IsTrue result ↔ (length xs.now ≡ 1) × (length ys.now ≡ 1) × (length carries.now ≡ 1) }
 {
     xs.len() == 1 && ys.len() == 1 && carries.len() == 1
 }
 
-fn known(flag: bool) -> Tri
+/// A flag that is known.
+pub fn known(flag: bool) -> Tri
     ensures { result ≡ flags.known flag }
 {
     if flag { Tri::One } else { Tri::Zero }

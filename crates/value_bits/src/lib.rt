@@ -9,7 +9,8 @@
 //! - Of at most 256 combinations of members, with an unknown carry counted as two, a call gathers all results.
 //! - Of more, a bit of the result is known where the known bits of the operands decide it, and the result is the set of
 //!   the numbers with such bits.
-//! - A flag over at most 256 combinations is known where all agree, and else unknown.
+//! - A flag over at most 256 combinations is known where all agree, and else unknown. Up to four flags are told by one
+//!   walk, which ends where none can be known.
 //! - A decimal operation of more than 256 combinations gives any number, and so does a decimal sum where a member has a
 //!   digit above 9.
 //!
@@ -17,6 +18,7 @@
 //! of one number it is that one result. No call takes memory, and each takes at most a fixed number of steps.
 #![tactic(auto)]
 
+mod all_flags;
 mod bytes;
 mod decimal;
 mod flags;
@@ -30,6 +32,7 @@ pub mod w16;
 pub mod w8;
 mod words;
 
+pub use all_flags::{AllFlags, FourFlags, FourKnown};
 pub use flags::Flag;
 pub use laws::{
     bit_laws, bits_hold, decimals_hold, evens_stay, flags_agree, halves_hold, left_shifts_hold,

@@ -11,13 +11,15 @@ ghost use Rattle.value_bits.specs.Sets.{IsTop, IsOneTop};
 ghost use Rattle.value_bits.specs.Sets as sets;
 ghost use Rattle.value_bits.specs.Flags.{IsFlag};
 ghost use Rattle.value_bits.specs.Flags as flag_sets;
+ghost use Rattle.value_bits.specs.AllFlags.{Place, known_at};
 
+use crate::all_flags::{AllFlags, FourKnown};
 use crate::flags::Flag;
 use crate::knowing::{exchanged_bits, extended_bits, joined, known_bits, logic_bits, shift_bits};
 use crate::operations::{Bitwise, DecimalSum, Exchange, Shift, SignExtension};
 use crate::tri::{Logic, Top, Tri};
 use crate::words::{chosen, gathered, is_few, top_carry, with_bits};
-use crate::{bytes, decimal, flags, order, words};
+use crate::{all_flags, bytes, decimal, flags, order, words};
 use arrayvec::ArrayVec;
 use value_set::{Vs8, Vs16};
 
@@ -295,6 +297,19 @@ pub fn agreed<F: Flag>(flag: &F, a: &Vs16, b: &Vs16, carry: Tri) -> Tri
         return Tri::Either;
     }
     flags::agreed_few(65536, flag, &a.form(), &b.form(), carry)
+}
+
+/// What is known of each of the flags, up to four, that an operation sets over each member of a set with each of another
+/// and a carry. Each is what [`agreed`] tells of it, and each combination is worked out once.
+pub fn all_agreed<F: AllFlags>(operation: &F, a: &Vs16, b: &Vs16, carry: Tri) -> FourKnown
+    requires { F.modulus operation.now ≡ 65536 }
+    ensures value { (place : Place) → known_at place result ≡ flag_sets.agreed 65536 (F.value operation.now place) a.now b.now (sets.chosen carry) }
+    ensures holds { (place : Place) (x y bit : ℕ) → Has 65536 a.now x → Has 65536 b.now y → IsBit carry bit → IsFlag (known_at place result) (F.value operation.now place x y bit) }
+{
+    if !flags::are_few(a.count(), b.count(), carry) {
+        return all_flags::none_known();
+    }
+    all_flags::all_agreed_few(65536, operation, &a.form(), &b.form(), carry)
 }
 
 /// What is known of whether a number of a set is at least one of another, as the carry of a comparison tells. It is known

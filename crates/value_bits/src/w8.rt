@@ -10,15 +10,17 @@ ghost use Rattle.value_bits.specs.Sets.{IsTop, IsOneTop};
 ghost use Rattle.value_bits.specs.Sets as sets;
 ghost use Rattle.value_bits.specs.Flags.{IsFlag};
 ghost use Rattle.value_bits.specs.Flags as flag_sets;
+ghost use Rattle.value_bits.specs.AllFlags.{Place, known_at};
 ghost use Rattle.value_bits.specs.Lefts.{IsLowest, IsOneLowest};
 ghost use Rattle.value_bits.specs.Lefts as lefts;
 
+use crate::all_flags::{AllFlags, FourKnown};
 use crate::bytes::{chosen, is_few, lowest_carry, top_carry, with_bits};
 use crate::flags::Flag;
 use crate::knowing::{exchanged_bits, known_bits, left_bits, logic_bits, shift_bits};
 use crate::operations::{Bitwise, DecimalAdjustment, DecimalSum, Exchange, LeftShift, Shift};
 use crate::tri::{Logic, Lowest, Top, Tri};
-use crate::{decimal, flags, order};
+use crate::{all_flags, decimal, flags, order};
 use value_set::Vs8;
 
 /// How many bits a number has.
@@ -142,6 +144,19 @@ pub fn agreed<F: Flag>(flag: &F, a: &Vs8, b: &Vs8, carry: Tri) -> Tri
         return Tri::Either;
     }
     flags::agreed_few(256, flag, &a.form(), &b.form(), carry)
+}
+
+/// What is known of each of the flags, up to four, that an operation sets over each member of a set with each of another
+/// and a carry. Each is what [`agreed`] tells of it, and each combination is worked out once.
+pub fn all_agreed<F: AllFlags>(operation: &F, a: &Vs8, b: &Vs8, carry: Tri) -> FourKnown
+    requires { F.modulus operation.now ≡ 256 }
+    ensures value { (place : Place) → known_at place result ≡ flag_sets.agreed 256 (F.value operation.now place) a.now b.now (sets.chosen carry) }
+    ensures holds { (place : Place) (x y bit : ℕ) → Has 256 a.now x → Has 256 b.now y → IsBit carry bit → IsFlag (known_at place result) (F.value operation.now place x y bit) }
+{
+    if !flags::are_few(a.count(), b.count(), carry) {
+        return all_flags::none_known();
+    }
+    all_flags::all_agreed_few(256, operation, &a.form(), &b.form(), carry)
 }
 
 /// What is known of whether a number of a set is at least one of another, as the carry of a comparison tells. It is known

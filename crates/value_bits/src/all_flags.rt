@@ -1,0 +1,263 @@
+//! All flags that an operation sets, over all combinations of members, by one walk.
+
+ghost use Rattle.std.specs.Prelude.{◌≡◌, ℕ, ◌*◌, ◌<◌, ◌≤◌, ◌&&◌, IsTrue, Bool, false, All, length};
+ghost use Rattle.std.specs.List.{list_all};
+ghost use Rattle.value_set.specs.Form.{IsNormal, members};
+ghost use Rattle.value_set.specs.Summing.{count_of};
+ghost use Rattle.value_bits.specs.AllFlags.{Place, flag_at, known_at};
+ghost use Rattle.value_bits.specs.AllFlags.Place.{First, Second, Third, Fourth};
+ghost use Rattle.value_bits.specs.Bits.{choices};
+ghost use Rattle.value_bits.specs.Sets.{chosen};
+ghost use Rattle.value_bits.specs.Flags as flags;
+
+use crate::flags::{is_alone, known, listed};
+use crate::tri::Tri;
+use value_set::Form;
+
+/// Four flags of one combination.
+#[derive(Clone, Copy, Debug, PartialEq, Eq)]
+pub struct FourFlags {
+    pub first: bool,
+    pub second: bool,
+    pub third: bool,
+    pub fourth: bool,
+}
+
+/// What is known of four flags.
+#[derive(Clone, Copy, Debug, PartialEq, Eq)]
+pub struct FourKnown {
+    pub first: Tri,
+    pub second: Tri,
+    pub third: Tri,
+    pub fourth: Tri,
+}
+
+/// The flags, up to four, that an operation on two numbers and a carry below a modulus sets.
+pub trait AllFlags {
+    ghost modulus: { Self → ℕ };
+
+    ghost value: { Self → Place → ℕ → ℕ → ℕ → Bool };
+
+    /// Which of the flags the operation sets. A place without a flag has always the same answer.
+    fn are_set(&self, x: u16, y: u16, carry: u16) -> FourFlags
+        requires x_below { x < modulus self.now }
+        requires y_below { y < modulus self.now }
+        requires carry_below { carry < modulus self.now }
+        ensures first { result.first ≡ value self.now First x y carry }
+        ensures second { result.second ≡ value self.now Second x y carry }
+        ensures third { result.third ≡ value self.now Third x y carry }
+        ensures fourth { result.fourth ≡ value self.now Fourth x y carry };
+}
+
+/// What is known of each flag over at most 256 combinations of members: known where all agree.
+pub fn all_agreed_few<F: AllFlags>(
+    modulus: u32,
+    operation: &F,
+    first: &Form,
+    second: &Form,
+    carry: Tri,
+) -> FourKnown
+    requires small { modulus ≤ 65536 }
+    requires wide { 2 ≤ modulus }
+    requires first_normal { IsNormal modulus first.now }
+    requires second_normal { IsNormal modulus second.now }
+    requires width { F.modulus operation.now ≡ modulus }
+    requires few { count_of modulus first.now * (count_of modulus second.now * length (choices carry)) ≤ 256 }
+    ensures { (place : Place) → known_at place result ≡ flags.agreed modulus (F.value operation.now place) first.now second.now (chosen carry) }
+{
+    match carry {
+        Tri::Zero => all_agreed_listed(modulus, operation, first, second, [0].as_slice()),
+        Tri::One => all_agreed_listed(modulus, operation, first, second, [1].as_slice()),
+        Tri::Either => all_agreed_listed(modulus, operation, first, second, [0, 1].as_slice()),
+    }
+}
+
+/// None of the flags is known.
+pub fn none_known() -> FourKnown
+    ensures { (place : Place) → known_at place result ≡ Tri.Either }
+{
+    FourKnown {
+        first: Tri::Either,
+        second: Tri::Either,
+        third: Tri::Either,
+        fourth: Tri::Either,
+    }
+}
+
+/// Lists the members once.
+fn all_agreed_listed<F: AllFlags>(
+    modulus: u32,
+    operation: &F,
+    first: &Form,
+    second: &Form,
+    carries: &[u16],
+) -> FourKnown
+    requires small { modulus ≤ 65536 }
+    requires first_normal { IsNormal modulus first.now }
+    requires second_normal { IsNormal modulus second.now }
+    requires width { F.modulus operation.now ≡ modulus }
+    requires carries_below { All (λ n. n < modulus) carries.now }
+    requires carries_some { 1 ≤ length carries.now }
+    requires few { count_of modulus first.now * (count_of modulus second.now * length carries.now) ≤ 256 }
+    ensures { (place : Place) → known_at place result ≡ flags.agreed_of (F.value operation.now place) (members modulus first.now) (members modulus second.now) carries.now }
+{
+    let xs = listed(modulus, first);
+    let ys = listed(modulus, second);
+    all_agreed_of(modulus, operation, xs.as_slice(), ys.as_slice(), carries)
+}
+
+/// Each is known where all agree.
+fn all_agreed_of<F: AllFlags>(
+    modulus: u32,
+    operation: &F,
+    xs: &[u16],
+    ys: &[u16],
+    carries: &[u16],
+) -> FourKnown
+    requires width { F.modulus operation.now ≡ modulus }
+    requires xs_below { All (λ n. n < modulus) xs.now }
+    requires xs_some { 1 ≤ length xs.now }
+    requires ys_below { All (λ n. n < modulus) ys.now }
+    requires ys_some { 1 ≤ length ys.now }
+    requires carries_below { All (λ n. n < modulus) carries.now }
+    requires carries_some { 1 ≤ length carries.now }
+    ensures { (place : Place) → known_at place result ≡ flags.agreed_of (F.value operation.now place) xs.now ys.now carries.now }
+{
+    let wanted = flags_of(modulus, operation, xs[0], ys[0], carries[0]);
+    let all = FourFlags {
+        first: true,
+        second: true,
+        third: true,
+        fourth: true,
+    };
+    if is_alone(xs, ys, carries) {
+        return told(wanted, all);
+    }
+    told(
+        wanted,
+        carries_keep(modulus, wanted, all, operation, xs, ys, carries),
+    )
+}
+
+/// The flags of one combination.
+fn flags_of<F: AllFlags>(modulus: u32, operation: &F, x: u16, y: u16, carry: u16) -> FourFlags
+    requires width { F.modulus operation.now ≡ modulus }
+    requires x_below { x < modulus }
+    requires y_below { y < modulus }
+    requires carry_below { carry < modulus }
+    ensures { (place : Place) → flag_at place result ≡ F.value operation.now place x y carry }
+{
+    operation.are_set(x, y, carry)
+}
+
+/// What is known of flags of which some have one value for all combinations.
+fn told(wanted: FourFlags, all: FourFlags) -> FourKnown
+    ensures { (place : Place) → known_at place result ≡ flags.known_where (flag_at place all) (flag_at place wanted) }
+{
+    FourKnown {
+        first: known_where(all.first, wanted.first),
+        second: known_where(all.second, wanted.second),
+        third: known_where(all.third, wanted.third),
+        fourth: known_where(all.fourth, wanted.fourth),
+    }
+}
+
+fn known_where(is_known: bool, flag: bool) -> Tri
+    ensures { result ≡ flags.known_where is_known flag }
+{
+    if is_known { known(flag) } else { Tri::Either }
+}
+
+/// Which flags still have their values behind one more combination.
+fn still(wanted: FourFlags, held: FourFlags, now: FourFlags) -> FourFlags
+    ensures { (place : Place) → flag_at place result ≡ (flag_at place held && flags.has_value (flag_at place wanted) (flag_at place now)) }
+{
+    FourFlags {
+        first: held.first && wanted.first == now.first,
+        second: held.second && wanted.second == now.second,
+        third: held.third && wanted.third == now.third,
+        fourth: held.fourth && wanted.fourth == now.fourth,
+    }
+}
+
+fn is_none(held: FourFlags) -> bool
+    ensures { IsTrue result → (place : Place) → flag_at place held ≡ false }
+{
+    !held.first && !held.second && !held.third && !held.fourth
+}
+
+/// Which flags keep their values for each combination. The carries come first, since there are fewest of them.
+fn carries_keep<F: AllFlags>(
+    modulus: u32,
+    wanted: FourFlags,
+    held: FourFlags,
+    operation: &F,
+    xs: &[u16],
+    ys: &[u16],
+    carries: &[u16],
+) -> FourFlags
+    requires width { F.modulus operation.now ≡ modulus }
+    requires xs_below { All (λ n. n < modulus) xs.now }
+    requires ys_below { All (λ n. n < modulus) ys.now }
+    requires carries_below { All (λ n. n < modulus) carries.now }
+    ensures { (place : Place) → flag_at place result ≡ (flag_at place held && list_all (λ z. list_all (λ x. list_all (λ y. flags.has_value (flag_at place wanted) (F.value operation.now place x y z)) ys.now) xs.now) carries.now) }
+{
+    let mut left = held;
+    for carry in carries {
+        if is_none(left) {
+            return left;
+        }
+        left = rows_keep(modulus, wanted, left, operation, xs, ys, *carry);
+    }
+    left
+}
+
+fn rows_keep<F: AllFlags>(
+    modulus: u32,
+    wanted: FourFlags,
+    held: FourFlags,
+    operation: &F,
+    xs: &[u16],
+    ys: &[u16],
+    carry: u16,
+) -> FourFlags
+    requires width { F.modulus operation.now ≡ modulus }
+    requires xs_below { All (λ n. n < modulus) xs.now }
+    requires ys_below { All (λ n. n < modulus) ys.now }
+    requires carry_below { carry < modulus }
+    ensures { (place : Place) → flag_at place result ≡ (flag_at place held && list_all (λ x. list_all (λ y. flags.has_value (flag_at place wanted) (F.value operation.now place x y carry)) ys.now) xs.now) }
+{
+    let mut left = held;
+    for x in xs {
+        if is_none(left) {
+            return left;
+        }
+        left = row_keeps(modulus, wanted, left, operation, *x, ys, carry);
+    }
+    left
+}
+
+fn row_keeps<F: AllFlags>(
+    modulus: u32,
+    wanted: FourFlags,
+    held: FourFlags,
+    operation: &F,
+    x: u16,
+    ys: &[u16],
+    carry: u16,
+) -> FourFlags
+    requires width { F.modulus operation.now ≡ modulus }
+    requires x_below { x < modulus }
+    requires ys_below { All (λ n. n < modulus) ys.now }
+    requires carry_below { carry < modulus }
+    ensures { (place : Place) → flag_at place result ≡ (flag_at place held && list_all (λ y. flags.has_value (flag_at place wanted) (F.value operation.now place x y carry)) ys.now) }
+{
+    let mut left = held;
+    for y in ys {
+        if is_none(left) {
+            return left;
+        }
+        left = still(wanted, left, flags_of(modulus, operation, x, *y, carry));
+    }
+    left
+}
