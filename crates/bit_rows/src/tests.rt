@@ -1,7 +1,7 @@
 //! Rows of the manuals and rows worked by hand from their rules.
 
 use std::test::Fail;
-use value_bits::{Lowest, Top, Tri, w8, w16};
+use value_bits::{AllFlags, FourFlags, FourKnown, Lowest, Top, Tri, w8, w16};
 use value_set::{Vs8, Vs16};
 
 fn run8(base: u8, stride: u8, count: u32) -> Result<Vs8, Fail> {
@@ -192,6 +192,76 @@ fn bytes_as_words(rt: HostRuntime) -> Result<(), Fail> {
     assert_eq!(rt;
         w16::pair(&run8(0x10, 2, 0x20)?, &Vs8::one(0)),
         run16(0x0010, 2, 0x20)?
+    );
+    Ok(())
+}
+
+/// Carry, zero, sign and the lowest bit of the sum of two bytes and a carry.
+struct SumFlags;
+
+impl AllFlags for SumFlags {
+    ghost use Rattle.std.specs.Prelude.{◌+◌, ◌%◌, ◌==◌, nat_le};
+    ghost use Rattle.value_bits.specs.AllFlags.{flag_at};
+
+    ghost modulus = { λ operation. 256 };
+
+    ghost value = { λ operation place x y carry. flag_at place (record {
+      first = nat_le 256 (x + y + carry);
+      second = (x + y + carry) % 256 == 0;
+      third = nat_le 128 ((x + y + carry) % 256);
+      fourth = (x + y + carry) % 2 == 1;
+    }) };
+
+    fn are_set(&self, x: u16, y: u16, carry: u16) -> FourFlags {
+        let sum = x + y + carry;
+        FourFlags {
+            first: 256 <= sum,
+            second: sum % 256 == 0,
+            third: 128 <= sum % 256,
+            fourth: sum % 2 == 1,
+        }
+    }
+}
+
+#[test]
+fn all_flags_at_once(rt: HostRuntime) -> Result<(), Fail> {
+    let low = list8([0x01, 0x03].as_slice())?;
+    let high = list8([0x7D, 0xFD].as_slice())?;
+    assert_eq!(rt;
+        w8::all_agreed(&SumFlags, &Vs8::one(0x01), &Vs8::one(0xFF), Tri::Zero),
+        FourKnown {
+            first: Tri::One,
+            second: Tri::One,
+            third: Tri::Zero,
+            fourth: Tri::Zero,
+        }
+    );
+    assert_eq!(rt;
+        w8::all_agreed(&SumFlags, &low, &Vs8::one(0x10), Tri::Either),
+        FourKnown {
+            first: Tri::Zero,
+            second: Tri::Zero,
+            third: Tri::Zero,
+            fourth: Tri::Either,
+        }
+    );
+    assert_eq!(rt;
+        w8::all_agreed(&SumFlags, &low, &high, Tri::One),
+        FourKnown {
+            first: Tri::Either,
+            second: Tri::Zero,
+            third: Tri::Either,
+            fourth: Tri::One,
+        }
+    );
+    assert_eq!(rt;
+        w8::all_agreed(&SumFlags, &Vs8::any(), &low, Tri::Zero),
+        FourKnown {
+            first: Tri::Either,
+            second: Tri::Either,
+            third: Tri::Either,
+            fourth: Tri::Either,
+        }
     );
     Ok(())
 }
