@@ -1,6 +1,6 @@
 -- What is read of lines is the table that they denote, or their first fault.
-use Rattle.std.proofs.Common.{◌≡◌, ℕ, zero, suc, ◌+◌, ◌<◌, ◌≤◌, refl, sym, ap, ap₂, ◌∙◌, subst, true, false, ◌⊎◌, inl, inr, arith, Bool, Option, None, Some, Ok, Err, Result, List, [], ◌∷◌, ◌++◌, append_assoc, length, length-append, map}
-use Rattle.std.specs.Prelude.{◌==◌, ◌&&◌}
+use Rattle.std.proofs.Common.{◌≡◌, ℕ, suc, ◌+◌, refl, sym, ap, ap₂, ◌∙◌, subst, true, false, ◌⊎◌, inl, inr, arith, Some, Ok, Err, List, [], ◌∷◌, ◌++◌, append_assoc, length, length-append, map}
+use Rattle.std.specs.Prelude.{◌&&◌}
 use Rattle.std.specs.Str.{bytes_eq}
 use Rattle.std.specs.declared.cmp.Ordering.{Ordering}
 use Rattle.std.specs.declared.cmp.Ordering.TheVariants.{Less, Equal, Greater}
@@ -8,15 +8,15 @@ use Rattle.std.specs.Cmp.Lexicographic.{slice_cmp}
 use Rattle.std.specs.Ordering.{nat_cmp}
 use Rattle.std.proofs.lemmas.Bool.{cases_Bool, and_parts, cond-true, cond-false, false≢true}
 use Rattle.std.proofs.lemmas.List.{append-nil, map-append}
-use Rattle.std.proofs.lemmas.Option.{none-some, some_pair_parts, same_Some}
+use Rattle.std.proofs.lemmas.Option.{none-some}
 use Rattle.std.proofs.lemmas.Slice.Eq.{bytes_eq-Decides}
 use Rattle.call_context.specs.declared.node.Node.{Node}
 use Rattle.text_fields.specs.Spelling.{Spelling, IsExact}
 use Rattle.node_fields.specs.Nodes.{row_field, row_is_exact, row_text, row_value}
 use Rattle.call_context.specs.declared.node.Node.TheVariants.{At, Exit}
 use Rattle.cert_text.specs.declared.fault.LineFault.{LineFault}
-use Rattle.cert_text.specs.declared.fault.LineFault.TheVariants.{Syntax, Order}
-use Rattle.cert_text.specs.Certificate.{StateTexts, AreTexts, node_text, first_line, last_line, line_of, Precedes, Ascends, last_node, Begins, Completes, DenotesTable, IsNoNode, IsOutOfOrder, IsFaultyBehind, IsFaulty, FaultAt, EndsBadly, FirstBadLine}
+use Rattle.cert_text.specs.declared.fault.LineFault.TheVariants.{Syntax}
+use Rattle.cert_text.specs.Certificate.{StateTexts, AreTexts, node_text, first_line, last_line, line_of, Precedes, Ascends, last_node, Begins, Completes, DenotesTable, IsFaultyBehind, IsFaulty, FaultAt, EndsBadly, FirstBadLine}
 use Rattle.cert_text.specs.Reading.{is_less, or_else, entry_of, Progress, at_first, with_entry, entry_step, line_step, with_progress, lines_read, is_empty, finish, table_of}
 use Rattle.cert_text.proofs.TextLemmas.{cases_Option, cases_Result, err-ok, ok-err, same_Ok, same_Err, one_more}
 

@@ -1,17 +1,17 @@
 -- The first fault of lines is found.
-use Rattle.std.proofs.Common.{◌≡◌, ℕ, suc, ◌+◌, refl, sym, ap, ap₂, ◌∙◌, subst, true, false, ◌⊎◌, inl, inr, arith, Bool, Option, None, Some, Ok, Err, Result, List, [], ◌∷◌, ◌++◌, append_assoc, length, map}
-use Rattle.std.specs.Prelude.{◌==◌, ◌&&◌}
+use Rattle.std.proofs.Common.{◌≡◌, ℕ, suc, ◌+◌, refl, sym, ap, ap₂, ◌∙◌, true, false, ◌⊎◌, inl, inr, arith, None, Some, Ok, Err, List, [], ◌∷◌, length}
+use Rattle.std.specs.Prelude.{◌&&◌}
 use Rattle.std.specs.Str.{bytes_eq}
 use Rattle.std.specs.declared.cmp.Ordering.{Ordering}
-use Rattle.std.specs.declared.cmp.Ordering.TheVariants.{Less, Equal, Greater}
+use Rattle.std.specs.declared.cmp.Ordering.TheVariants.{Less}
 use Rattle.std.specs.Cmp.Lexicographic.{slice_cmp}
 use Rattle.std.specs.Ordering.{nat_cmp}
-use Rattle.std.proofs.lemmas.Bool.{cases_Bool, cond-true, cond-false, false≢true}
+use Rattle.std.proofs.lemmas.Bool.{cases_Bool, cond-true, cond-false}
 use Rattle.call_context.specs.declared.node.Node.{Node}
 use Rattle.cert_text.specs.declared.fault.LineFault.{LineFault}
 use Rattle.cert_text.specs.declared.fault.LineFault.TheVariants.{Syntax, Order}
-use Rattle.cert_text.specs.Certificate.{StateTexts, AreTexts, node_text, first_line, last_line, line_of, last_node, Begins, Completes, IsFaultyBehind, IsFaulty, FaultAt, EndsBadly, FirstBadLine}
-use Rattle.cert_text.specs.Reading.{is_less, or_else, entry_of, Progress, at_first, with_entry, entry_step, line_step, with_progress, lines_read, is_empty, finish, table_of}
+use Rattle.cert_text.specs.Certificate.{StateTexts, AreTexts, node_text, first_line, last_line, last_node, Begins, Completes, IsFaultyBehind, IsFaulty, FaultAt, FirstBadLine}
+use Rattle.cert_text.specs.Reading.{is_less, or_else, entry_of, Progress, at_first, with_entry, line_step, with_progress, lines_read, is_empty, finish, table_of}
 use Rattle.cert_text.proofs.CertLemmas.{begins_read, bytes_are, completes_read, entry_again, entry_takes, less_is, no_node_ends, step_entry}
 use Rattle.cert_text.proofs.TextLemmas.{cases_Option, reads_on}
 

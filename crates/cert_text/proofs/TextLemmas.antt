@@ -5,13 +5,12 @@ use Rattle.std.proofs.lemmas.Bool.{cases_Bool}
 use Rattle.std.proofs.lemmas.Bool.Decides.{nat_tests}
 use Rattle.std.proofs.lemmas.List.{append-nil, length-map, take-append-drop}
 use Rattle.std.proofs.Math.Seq.{take-suc}
-use Rattle.call_context.specs.declared.node.Node.{Node}
 use Rattle.cert_text.specs.declared.fault.LineFault.{LineFault}
-use Rattle.cert_text.specs.declared.fault.LineFault.TheVariants.{Syntax, Order}
+use Rattle.cert_text.specs.declared.fault.LineFault.TheVariants.{Syntax}
 use Rattle.cert_text.specs.declared.fault.ReadError.{ReadError}
 use Rattle.cert_text.specs.declared.fault.ReadError.TheVariants.{Bad, Memory}
 use Rattle.cert_text.specs.Certificate.{StateTexts}
-use Rattle.cert_text.specs.Reading.{Progress, at_first, line_step, with_progress, lines_read, joined, with_line, split_behind, whole_lines, rest_of, is_empty, finish, table_of, HasNoFeed, AreLines, HasRead, IsFaultyFront, TellsLine, TellsFront, TellsWhole}
+use Rattle.cert_text.specs.Reading.{Progress, at_first, line_step, with_progress, lines_read, joined, with_line, split_behind, whole_lines, rest_of, finish, table_of, HasNoFeed, AreLines, HasRead, IsFaultyFront, TellsLine, TellsFront}
 
 pub joined_more : (whole : List (List ℕ)) (begun more : List ℕ) → joined whole (begun ++ more) ≡ joined whole begun ++ more
 joined_more [] begun more = refl

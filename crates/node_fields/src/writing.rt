@@ -1,17 +1,15 @@
 //! The texts of nodes.
 
-ghost use Rattle.std.specs.Prelude.{◌≡◌, ◌<◌, ◌≤◌, ◌++◌, OnOk};
+ghost use Rattle.std.specs.Prelude.{◌≡◌, ◌++◌, OnOk};
 ghost use Rattle.node_fields.specs.Decimals as decimals;
 ghost use Rattle.node_fields.specs.Nodes as fields;
-ghost use Rattle.node_fields.specs.Nodes.{IsFrameText, IsNodeText};
 
 use call_context::{Frame, Node};
 use std::alloc::AllocError;
 use text_fields::{Field, number, push_list_or_mark, push_number};
 
-/// Adds a number below 100 in decimal.
+/// Adds a number in decimal, as `decimal_text` has it below 100.
 fn push_decimal(out: &mut Vec<u8>, number: u8) -> Result<(), AllocError>
-    requires { number < 100 }
     ensures { OnOk result (out.new.items ≡ out.old.items ++ decimals.decimal_text number) }
 {
     if number >= 10 {
@@ -36,7 +34,6 @@ fn push_sp(out: &mut Vec<u8>, sp: Option<u16>, digits: u8) -> Result<(), AllocEr
 
 /// Adds a frame.
 fn push_frame(out: &mut Vec<u8>, frame: &Frame, digits: u8) -> Result<(), AllocError>
-    requires { IsFrameText digits frame.now }
     ensures { OnOk result (out.new.items ≡ out.old.items ++ (fields.frame_field digits).text frame.now) }
 {
     match frame {
@@ -81,7 +78,6 @@ fn push_calls(out: &mut Vec<u8>, sites: &[u16]) -> Result<(), AllocError>
 
 /// Adds a node behind its letter and a space. A stack pointer has so many digits.
 pub fn push_node(out: &mut Vec<u8>, node: &Node, digits: u8) -> Result<(), AllocError>
-    requires { IsNodeText digits node.now }
     ensures { OnOk result (out.new.items ≡ out.old.items ++ (fields.node_field digits).text node.now) }
 {
     match node {

@@ -1,4 +1,4 @@
-use Rattle.std.proofs.Common.{refl, inl, [], length}
+use Rattle.std.proofs.Common.{refl, inl, []}
 use Rattle.cert_text.specs.Reading.{at_first}
 use Rattle.cert_text.proofs.CertLemmas.{bad_found, denoted_once, denoted_read, refused_faulty, table_denoted}
 use Rattle.cert_text.proofs.FaultLemmas.{bad_read, fault_read}

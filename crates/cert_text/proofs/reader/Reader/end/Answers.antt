@@ -1,4 +1,4 @@
-use Rattle.std.proofs.Common.{◌≡◌, ◌<◌, ◌≤◌, ◌+◌, length, map, sym, ap, ◌∙◌, arith, true, false, Ok, Err}
+use Rattle.std.proofs.Common.{◌≡◌, ◌≤◌, ◌+◌, length, map, sym, ap, ◌∙◌, arith, true, Ok, Err}
 use Rattle.std.proofs.lemmas.Bool.Decides.{nat_tests}
 use Rattle.cert_text.specs.declared.fault.LineFault.TheVariants.{Syntax}
 use Rattle.cert_text.proofs.TextLemmas.{as_it_stands, count_lines, finish_ended, finish_more, finish_open, lines_fit}

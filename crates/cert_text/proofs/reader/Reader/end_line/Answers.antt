@@ -1,4 +1,4 @@
-use Rattle.std.proofs.Common.{◌≡◌, ◌≤◌, ◌+◌, refl, map, length, arith}
+use Rattle.std.proofs.Common.{refl, map, arith}
 use Rattle.std.proofs.lemmas.List.{map-append}
 use Rattle.cert_text.proofs.TextLemmas.{count_lines, joined_feed, lines_fit, read_feed, tells_feed, none_refused}
 use Rattle.cert_text.proofs.reader.Reader.end_line.Goals as goal

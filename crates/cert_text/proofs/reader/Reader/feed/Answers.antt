@@ -1,6 +1,6 @@
 use Rattle.std.proofs.Common.{refl}
 use Rattle.std.proofs.lemmas.List.{append-nil}
-use Rattle.cert_text.proofs.TextLemmas.{none_refused, piece_step, tells_piece}
+use Rattle.cert_text.proofs.TextLemmas.{none_refused, tells_piece}
 use Rattle.cert_text.proofs.reader.Reader.feed.Goals as goal
 
 pub loop-i-init : goal.loop-i-init
