@@ -14,15 +14,18 @@ behind_many sites rest (Some xs) many e =
     rw (lt-leb (length (sites ++ xs)) 8 (omega (arith, many, form.0, length-append sites xs))) refl
 
 -- more than eight sites
-pub too_many : (sites text rest : List ℕ) → length sites ≡ 8 → (listed (hex_number 4) 44).value text ≡ option_map (λ more. sites ++ more) ((listed (hex_number 4) 44).value rest)
+pub too_many : (sites text rest : List ℕ) → length sites ≡ 8
+    → (listed (hex_number 4) 44).value text ≡ option_map (λ more. sites ++ more) ((listed (hex_number 4) 44).value rest)
     → None ≡ some_calls text
 too_many sites text rest many so_far =
-    sym (ap (option_and_then (λ xs. if nat_le (length xs) 8 then Some xs else None)) so_far ∙ behind_many sites rest ((listed (hex_number 4) 44).value rest) many refl)
+    sym (ap (option_and_then (λ xs. if nat_le (length xs) 8 then Some xs else None)) so_far
+    ∙ behind_many sites rest ((listed (hex_number 4) 44).value rest) many refl)
 
 pub no_sites : (text : List ℕ) → (listed (hex_number 4) 44).value text ≡ None → None ≡ some_calls text
 no_sites text none = sym (ap (option_and_then (λ xs. if nat_le (length xs) 8 then Some xs else None)) none)
 
-pub all_sites : (sites longer text : List ℕ) (site : ℕ) → length sites ≤ 8 → (length sites ≡ 8 → ⊥) → longer ≡ sites ++ site ∷ [] → (listed (hex_number 4) 44).value text ≡ Some longer
+pub all_sites : (sites longer text : List ℕ) (site : ℕ) → length sites ≤ 8 → (length sites ≡ 8 → ⊥) → longer ≡ sites ++ site ∷ []
+    → (listed (hex_number 4) 44).value text ≡ Some longer
     → Some longer ≡ some_calls text
 all_sites sites longer text site few other pushed is =
     let long : length longer ≡ length sites + 1 = ap length pushed ∙ omega (arith, length-append sites (site ∷ [])) in

@@ -80,7 +80,8 @@ decimal_back n small = elim (cases_lt n 10) [
 decimal_only : (text : List ℕ) (n : ℕ) → decimal_of text ≡ Some n → (n < 100) × (decimal_text n ≡ text)
 decimal_only [] n e = absurd (none-some n e)
 decimal_only (a ∷ []) n e = test_only (is_decimal a) (a - 48) n e (λ passes same. one_only a n passes same)
-decimal_only (a ∷ b ∷ []) n e = test_only (nat_lt 48 a && (nat_le a 57 && is_decimal b)) ((a - 48) * 10 + (b - 48)) n e (λ passes same. two_only a b n passes same)
+decimal_only (a ∷ b ∷ []) n e = test_only (nat_lt 48 a && (nat_le a 57 && is_decimal b)) ((a - 48) * 10 + (b - 48)) n e
+    (λ passes same. two_only a b n passes same)
 decimal_only (a ∷ b ∷ c ∷ text) n e = absurd (none-some n e)
 
 pub decimal_is_exact : IsExact decimal_field

@@ -97,7 +97,8 @@ exit_in digits text = option_map (λ parts. node_of (inr parts)) ((exit_field di
 
 -- N for a location and X for an exit, and then the node
 abbrev pub node_field : (digits : ℕ) → Spelling Node
-node_field digits = restated (told_by (either_front (codes "N ") (location_field digits) (codes "X ") (exit_field digits)) node_of node_parts) (IsNodeText digits)
+node_field digits = restated (told_by (either_front (codes "N ") (location_field digits) (codes "X ") (exit_field digits)) node_of node_parts)
+    (IsNodeText digits)
 
 -- ROWS
 
@@ -142,7 +143,9 @@ split_row digits line = split_behind digits (behind (codes "N ") line) (behind (
 -- LAWS
 
 sp_is_exact : (digits : ℕ) → IsExact (sp_field digits)
-sp_is_exact digits = or_mark_is_exact (hex_number digits) (codes "-") (λ n small. byte_differs 45 (hex digits n) (codes "-") true refl (λ has. true≢false (sym has ∙ number_avoids digits 45 refl n small))) (hex_number_is_exact digits)
+sp_is_exact digits = or_mark_is_exact (hex_number digits) (codes "-")
+    (λ n small. byte_differs 45 (hex digits n) (codes "-") true refl (λ has. true≢false (sym has ∙ number_avoids digits 45 refl n small)))
+    (hex_number_is_exact digits)
 
 sp_avoids : (digits at : ℕ) → is_digit at ≡ false → (45 == at) ≡ false → Avoids (sp_field digits) at
 sp_avoids digits at no_digit no_dash = or_mark_avoids (hex_number digits) (codes "-") at (rw no_dash refl) (number_avoids digits at no_digit)
@@ -185,7 +188,8 @@ frame_avoids_space digits =
     (or_mark_avoids (irq_field digits) (codes "base") 32 refl
     (named_avoids (beside 64 decimal_field (entry_field digits)) (codes "irq") 32 refl
     (beside_avoids 64 32 decimal_field (entry_field digits) refl (decimal_avoids 32 refl)
-    (beside_avoids 46 32 (sp_field digits) level_field refl (sp_avoids digits 32 refl refl) (passing_avoids decimal_field (λ level. nat_lt level 10) 32 (decimal_avoids 32 refl)))))))
+    (beside_avoids 46 32 (sp_field digits) level_field refl (sp_avoids digits 32 refl refl)
+    (passing_avoids decimal_field (λ level. nat_lt level 10) 32 (decimal_avoids 32 refl)))))))
 
 calls_is_exact : IsExact calls_field
 calls_is_exact =
@@ -195,7 +199,8 @@ calls_is_exact =
     (hex_number_is_exact 4) (number_avoids 4 44 refl))
 
 calls_avoid : (at : ℕ) → is_digit at ≡ false → (44 == at) ≡ false → Avoids calls_field at
-calls_avoid at no_digit no_comma = passing_avoids (listed_or_mark (hex_number 4) 44 []) (λ sites. nat_le (length sites) 8) at (listed_or_mark_avoids (hex_number 4) 44 [] at no_comma refl (number_avoids 4 at no_digit))
+calls_avoid at no_digit no_comma = passing_avoids (listed_or_mark (hex_number 4) 44 []) (λ sites. nat_le (length sites) 8) at
+    (listed_or_mark_avoids (hex_number 4) 44 [] at no_comma refl (number_avoids 4 at no_digit))
 
 location_is_exact : (digits : ℕ) → IsExact (location_field digits)
 location_is_exact digits =
@@ -217,11 +222,13 @@ node_back : (digits : ℕ) (parts : NodeParts) → node_parts (node_of parts) �
 node_back digits (inl parts) = refl
 node_back digits (inr parts) = refl
 
-node_narrow : (digits : ℕ) (node : Node) → IsNodeText digits node → (told_by (either_front (codes "N ") (location_field digits) (codes "X ") (exit_field digits)) node_of node_parts).Form node
+node_narrow : (digits : ℕ) (node : Node) → IsNodeText digits node
+    → (told_by (either_front (codes "N ") (location_field digits) (codes "X ") (exit_field digits)) node_of node_parts).Form node
 node_narrow digits (At pc calls frame) form = ((form.0, ((form.1, le-leb (length calls) 8 form.2), form.3)), refl)
 node_narrow digits (Exit pc frame) form = ((form.0, form.1), refl)
 
-node_wide : (digits : ℕ) (node : Node) → (told_by (either_front (codes "N ") (location_field digits) (codes "X ") (exit_field digits)) node_of node_parts).Form node → IsNodeText digits node
+node_wide : (digits : ℕ) (node : Node) → (told_by (either_front (codes "N ") (location_field digits) (codes "X ")
+    (exit_field digits)) node_of node_parts).Form node → IsNodeText digits node
 node_wide digits (At pc calls frame) form = (form.0.0, form.0.1.0.0, leb-true (length calls) 8 form.0.1.0.1, form.0.1.1)
 node_wide digits (Exit pc frame) form = (form.0.0, form.0.1)
 
@@ -229,18 +236,21 @@ pub node_is_exact : (digits : ℕ) → IsExact (node_field digits)
 node_is_exact digits =
     restated_is_exact (told_by (either_front (codes "N ") (location_field digits) (codes "X ") (exit_field digits)) node_of node_parts) (IsNodeText digits)
     (told_by_is_exact (either_front (codes "N ") (location_field digits) (codes "X ") (exit_field digits)) node_of node_parts
-    (either_front_is_exact (codes "N ") (location_field digits) (codes "X ") (exit_field digits) (location_is_exact digits) (exit_is_exact digits) refl) (λ parts form. node_back digits parts))
+    (either_front_is_exact (codes "N ") (location_field digits) (codes "X ") (exit_field digits) (location_is_exact digits) (exit_is_exact digits) refl)
+    (λ parts form. node_back digits parts))
     (node_narrow digits) (node_wide digits)
 
 row_back : {A : Type 0} (digits : ℕ) (state : Node → Spelling A) (parts : RowParts A) → row_parts (row_of parts) ≡ parts
 row_back digits state (inl parts) = refl
 row_back digits state (inr parts) = refl
 
-row_narrow : {A : Type 0} (digits : ℕ) (state : Node → Spelling A) (node : Node) (a : A) → HasRowForm digits state (node, a) → (told_by (parts_field digits state) row_of row_parts).Form (node, a)
+row_narrow : {A : Type 0} (digits : ℕ) (state : Node → Spelling A) (node : Node) (a : A) → HasRowForm digits state (node, a)
+    → (told_by (parts_field digits state) row_of row_parts).Form (node, a)
 row_narrow digits state (At pc calls frame) a form = (((form.0.0, ((form.0.1, le-leb (length calls) 8 form.0.2), form.0.3)), form.1), refl)
 row_narrow digits state (Exit pc frame) a form = (((form.0.0, form.0.1), form.1), refl)
 
-row_wide : {A : Type 0} (digits : ℕ) (state : Node → Spelling A) (node : Node) (a : A) → (told_by (parts_field digits state) row_of row_parts).Form (node, a) → HasRowForm digits state (node, a)
+row_wide : {A : Type 0} (digits : ℕ) (state : Node → Spelling A) (node : Node) (a : A) → (told_by (parts_field digits state) row_of row_parts).Form (node, a)
+    → HasRowForm digits state (node, a)
 row_wide digits state (At pc calls frame) a form = ((form.0.0.0, form.0.0.1.0.0, leb-true (length calls) 8 form.0.0.1.0.1, form.0.0.1.1), form.0.1)
 row_wide digits state (Exit pc frame) a form = ((form.0.0.0, form.0.0.1), form.0.1)
 
@@ -251,8 +261,10 @@ row_is_exact digits state h =
     (either_front_is_exact
     (codes "N ") (beside_by 32 (location_field digits) (λ parts. state (node_of (inl parts))))
     (codes "X ") (beside_by 32 (exit_field digits) (λ parts. state (node_of (inr parts))))
-    (beside_by_is_exact 32 (location_field digits) (λ parts. state (node_of (inl parts))) (location_is_exact digits) (λ parts form. h (node_of (inl parts))) (location_avoids_space digits))
-    (beside_by_is_exact 32 (exit_field digits) (λ parts. state (node_of (inr parts))) (exit_is_exact digits) (λ parts form. h (node_of (inr parts))) (exit_avoids_space digits)) refl)
+    (beside_by_is_exact 32 (location_field digits) (λ parts. state (node_of (inl parts))) (location_is_exact digits) (λ parts form. h (node_of (inl parts)))
+    (location_avoids_space digits))
+    (beside_by_is_exact 32 (exit_field digits) (λ parts. state (node_of (inr parts))) (exit_is_exact digits) (λ parts form. h (node_of (inr parts)))
+    (exit_avoids_space digits)) refl)
     (λ parts form. row_back digits state parts))
     (λ row form. row_narrow digits state row.0 row.1 form) (λ row form. row_wide digits state row.0 row.1 form)
 
@@ -262,33 +274,42 @@ state_read : {P A : Type 0} (to : P → Node) (into : P × A → RowParts A) →
 state_read to into same p None = refl
 state_read to into same p (Some a) = ap Some (same p a)
 
-place_read : {P A : Type 0} (state : Node → Spelling A) (to : P → Node) (into : P × A → RowParts A) → ((p : P) (a : A) → row_of (into (p, a)) ≡ (to p, a)) → (text : List ℕ) (place : Option P)
+place_read : {P A : Type 0} (state : Node → Spelling A) (to : P → Node) (into : P × A → RowParts A) → ((p : P) (a : A) → row_of (into (p, a)) ≡ (to p, a))
+    → (text : List ℕ) (place : Option P)
     → option_map row_of (option_map into (option_and_then (λ p. option_map (λ a. (p, a)) ((state (to p)).value text)) place))
-    ≡ option_and_then (λ (split : Node × List ℕ). option_map (λ a. (split.0, a)) ((state split.0).value split.1)) (option_map (λ node. (node, text)) (option_map to place))
+    ≡ option_and_then (λ (split : Node × List ℕ). option_map (λ a. (split.0, a)) ((state split.0).value split.1))
+    (option_map (λ node. (node, text)) (option_map to place))
 place_read state to into same text None = refl
 place_read state to into same text (Some p) = state_read to into same p ((state (to p)).value text)
 
-cut_read : {P A : Type 0} (state : Node → Spelling A) (value : List ℕ → Option P) (to : P → Node) (into : P × A → RowParts A) → ((p : P) (a : A) → row_of (into (p, a)) ≡ (to p, a)) → (cut : Option (List ℕ × List ℕ))
-    → option_map row_of (option_map into (option_and_then (λ (parts : List ℕ × List ℕ). option_and_then (λ p. option_map (λ a. (p, a)) ((state (to p)).value parts.1)) (value parts.0)) cut))
-    ≡ option_and_then (λ (split : Node × List ℕ). option_map (λ a. (split.0, a)) ((state split.0).value split.1)) (option_and_then (λ (parts : List ℕ × List ℕ). option_map (λ node. (node, parts.1)) (option_map to (value parts.0))) cut)
+cut_read : {P A : Type 0} (state : Node → Spelling A) (value : List ℕ → Option P) (to : P → Node) (into : P × A → RowParts A)
+    → ((p : P) (a : A) → row_of (into (p, a)) ≡ (to p, a)) → (cut : Option (List ℕ × List ℕ))
+    → option_map row_of (option_map into (option_and_then
+    (λ (parts : List ℕ × List ℕ). option_and_then (λ p. option_map (λ a. (p, a)) ((state (to p)).value parts.1)) (value parts.0)) cut))
+    ≡ option_and_then (λ (split : Node × List ℕ). option_map (λ a. (split.0, a)) ((state split.0).value split.1))
+    (option_and_then (λ (parts : List ℕ × List ℕ). option_map (λ node. (node, parts.1)) (option_map to (value parts.0))) cut)
 cut_read state value to into same None = refl
 cut_read state value to into same (Some parts) = place_read state to into same parts.1 (value parts.0)
 
 sides_read : {A : Type 0} (digits : ℕ) (state : Node → Spelling A) (first other : Option (List ℕ))
-    → option_map row_of (front_value (beside_by 32 (location_field digits) (λ parts. state (node_of (inl parts)))).value (beside_by 32 (exit_field digits) (λ parts. state (node_of (inr parts)))).value first other)
+    → option_map row_of (front_value (beside_by 32 (location_field digits) (λ parts. state (node_of (inl parts)))).value
+    (beside_by 32 (exit_field digits) (λ parts. state (node_of (inr parts)))).value first other)
     ≡ option_and_then (λ (split : Node × List ℕ). option_map (λ a. (split.0, a)) ((state split.0).value split.1)) (split_behind digits first other)
 sides_read digits state (Some rest) other = cut_read state (location_field digits).value (λ parts. node_of (inl parts)) inl (λ p a. refl) (cut_at 32 rest)
 sides_read digits state None None = refl
 sides_read digits state None (Some rest) = cut_read state (exit_field digits).value (λ parts. node_of (inr parts)) inr (λ p a. refl) (cut_at 32 rest)
 
 pub row_value : {A : Type 0} (digits : ℕ) (state : Node → Spelling A) (line : List ℕ)
-    → (row_field digits state).value line ≡ option_and_then (λ (split : Node × List ℕ). option_map (λ a. (split.0, a)) ((state split.0).value split.1)) (split_row digits line)
+    → (row_field digits state).value line ≡ option_and_then (λ (split : Node × List ℕ). option_map (λ a. (split.0, a)) ((state split.0).value split.1))
+    (split_row digits line)
 row_value digits state line = sides_read digits state (behind (codes "N ") line) (behind (codes "X ") line)
 
-row_text_of : {A : Type 0} (digits : ℕ) (state : Node → Spelling A) (node : Node) (a : A) → (row_field digits state).text (node, a) ≡ (node_field digits).text node ++ 32 ∷ (state node).text a
+row_text_of : {A : Type 0} (digits : ℕ) (state : Node → Spelling A) (node : Node) (a : A)
+    → (row_field digits state).text (node, a) ≡ (node_field digits).text node ++ 32 ∷ (state node).text a
 row_text_of digits state (At pc calls frame) a = refl
 row_text_of digits state (Exit pc frame) a = refl
 
 -- the text of a row is that of its node, a space, and what is written of the node
-pub row_text : {A : Type 0} (digits : ℕ) (state : Node → Spelling A) (row : Node × A) → (row_field digits state).text row ≡ (node_field digits).text row.0 ++ 32 ∷ (state row.0).text row.1
+pub row_text : {A : Type 0} (digits : ℕ) (state : Node → Spelling A) (row : Node × A)
+    → (row_field digits state).text row ≡ (node_field digits).text row.0 ++ 32 ∷ (state row.0).text row.1
 row_text digits state row = row_text_of digits state row.0 row.1

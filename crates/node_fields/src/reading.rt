@@ -145,7 +145,8 @@ pub fn read_exit(text: &[u8], digits: u8) -> Option<Node>
 /// The node in front of the first space of a text, and the text behind it.
 fn split_location(row: &[u8], digits: u8) -> Option<(Node, &[u8])>
     requires { digits ≤ 4 }
-    ensures { option_map (λ x. (x.0, x.1.now)) result ≡ fields.split_in (fields.location_in digits) row.now }
+    ensures { option_map (λ x. (x.0, x.1.now)) result
+        ≡ fields.split_in (fields.location_in digits) row.now }
 {
     let (node, text) = cut(row, b' ')?;
     let Some(node) = read_location(node, digits) else {
@@ -157,7 +158,8 @@ fn split_location(row: &[u8], digits: u8) -> Option<(Node, &[u8])>
 /// The same of an exit.
 fn split_exit(row: &[u8], digits: u8) -> Option<(Node, &[u8])>
     requires { digits ≤ 4 }
-    ensures { option_map (λ x. (x.0, x.1.now)) result ≡ fields.split_in (fields.exit_in digits) row.now }
+    ensures { option_map (λ x. (x.0, x.1.now)) result
+        ≡ fields.split_in (fields.exit_in digits) row.now }
 {
     let (node, text) = cut(row, b' ')?;
     let Some(node) = read_exit(node, digits) else {

@@ -34,7 +34,8 @@ fn push_sp(out: &mut Vec<u8>, sp: Option<u16>, digits: u8) -> Result<(), AllocEr
 
 /// Adds a frame.
 fn push_frame(out: &mut Vec<u8>, frame: &Frame, digits: u8) -> Result<(), AllocError>
-    ensures { OnOk result (out.new.items ≡ out.old.items ++ (fields.frame_field digits).text frame.now) }
+    ensures { OnOk result (out.new.items ≡ out.old.items
+        ++ (fields.frame_field digits).text frame.now) }
 {
     match frame {
         Frame::Base => out.extend_from_slice(b"base"),
@@ -78,7 +79,8 @@ fn push_calls(out: &mut Vec<u8>, sites: &[u16]) -> Result<(), AllocError>
 
 /// Adds a node behind its letter and a space. A stack pointer has so many digits.
 pub fn push_node(out: &mut Vec<u8>, node: &Node, digits: u8) -> Result<(), AllocError>
-    ensures { OnOk result (out.new.items ≡ out.old.items ++ (fields.node_field digits).text node.now) }
+    ensures { OnOk result (out.new.items ≡ out.old.items
+        ++ (fields.node_field digits).text node.now) }
 {
     match node {
         Node::At(pc, calls, frame) => {

@@ -223,11 +223,14 @@ marked_back s mark h other (Some a) form = rw (other a form, h.back a form) refl
 
 marked_only : {A : Type 0} (s : Spelling A) (mark : List ℕ) → IsExact s → (text : List ℕ) (a : Option A) (is_mark : Bool) → bytes_eq text mark ≡ is_mark
     → (if is_mark then Some None else option_map Some (s.value text)) ≡ Some a → IfForm s.Form a × (marked_text s.text mark a ≡ text)
-marked_only s mark h text a true is e = subst (λ q. IfForm s.Form q × (marked_text s.text mark q ≡ text)) (same_Some None a e) (tt, sym (same_bytes text mark is))
-marked_only s mark h text a false is e = map_only Some (s.value text) a e (λ b found same. subst (λ q. IfForm s.Form q × (marked_text s.text mark q ≡ text)) same (h.only text b found))
+marked_only s mark h text a true is e = subst (λ q. IfForm s.Form q × (marked_text s.text mark q ≡ text)) (same_Some None a e)
+    (tt, sym (same_bytes text mark is))
+marked_only s mark h text a false is e = map_only Some (s.value text) a e
+    (λ b found same. subst (λ q. IfForm s.Form q × (marked_text s.text mark q ≡ text)) same (h.only text b found))
 
 -- no text is the mark
-pub or_mark_is_exact : {A : Type 0} (s : Spelling A) (mark : List ℕ) → ((a : A) → s.Form a → bytes_eq (s.text a) mark ≡ false) → IsExact s → IsExact (or_mark s mark)
+pub or_mark_is_exact : {A : Type 0} (s : Spelling A) (mark : List ℕ) → ((a : A) → s.Form a → bytes_eq (s.text a) mark ≡ false) → IsExact s
+    → IsExact (or_mark s mark)
 or_mark_is_exact s mark other h = record {
   back = marked_back s mark h other;
   only = λ text a e. marked_only s mark h text a (bytes_eq text mark) refl e;
@@ -241,7 +244,8 @@ longer_differs text mark long = other_bytes text (mark ∷ []) (λ e. absurd (om
 pub byte_differs : (at : ℕ) (text mark : List ℕ) (in_mark : Bool) → has_byte at mark ≡ in_mark → (has_byte at text ≡ in_mark → ⊥) → bytes_eq text mark ≡ false
 byte_differs at text mark in_mark is other = other_bytes text mark (λ e. other (ap (has_byte at) e ∙ is))
 
-marked_avoids : {A : Type 0} (s : Spelling A) (mark : List ℕ) (at : ℕ) → has_byte at mark ≡ false → Avoids s at → (a : Option A) → IfForm s.Form a → has_byte at (marked_text s.text mark a) ≡ false
+marked_avoids : {A : Type 0} (s : Spelling A) (mark : List ℕ) (at : ℕ) → has_byte at mark ≡ false → Avoids s at → (a : Option A) → IfForm s.Form a
+    → has_byte at (marked_text s.text mark a) ≡ false
 marked_avoids s mark at none h None form = none
 marked_avoids s mark at none h (Some a) form = h a form
 
@@ -264,46 +268,56 @@ cut_none at (b ∷ text) none = elim (cases_Bool (b == at)) [
   | inr other ↦ rw (other, cut_none at text (rw other at none)) refl
 ]
 
-pub cut_only : (at : ℕ) (text : List ℕ) (parts : List ℕ × List ℕ) → cut_at at text ≡ Some parts → (parts.0 ++ at ∷ parts.1 ≡ text) × (has_byte at parts.0 ≡ false)
+pub cut_only : (at : ℕ) (text : List ℕ) (parts : List ℕ × List ℕ) → cut_at at text ≡ Some parts
+    → (parts.0 ++ at ∷ parts.1 ≡ text) × (has_byte at parts.0 ≡ false)
 cut_only at [] parts e = absurd (none-some parts e)
 cut_only at (b ∷ text) parts e = elim (cases_Bool (b == at)) [
-  | inl same ↦ subst (λ (p : List ℕ × List ℕ). (p.0 ++ at ∷ p.1 ≡ b ∷ text) × (has_byte at p.0 ≡ false)) (same_Some ([], text) parts (rw same at e)) (ap (λ c. c ∷ text) (sym (eqb-true b at same)), refl)
+  | inl same ↦ subst (λ (p : List ℕ × List ℕ). (p.0 ++ at ∷ p.1 ≡ b ∷ text) × (has_byte at p.0 ≡ false)) (same_Some ([], text) parts (rw same at e))
+      (ap (λ c. c ∷ text) (sym (eqb-true b at same)), refl)
   | inr other ↦ map_only _ (cut_at at text) parts (rw other at e) (λ before found is.
       let one = cut_only at text before found in
       subst (λ (p : List ℕ × List ℕ). (p.0 ++ at ∷ p.1 ≡ b ∷ text) × (has_byte at p.0 ≡ false)) is (ap (λ (t : List ℕ). b ∷ t) one.0, rw other one.1))
 ]
 
-pub beside_by_is_exact : {A B : Type 0} (at : ℕ) (s : Spelling A) (t : A → Spelling B) → IsExact s → ((a : A) → s.Form a → IsExact (t a)) → Avoids s at → IsExact (beside_by at s t)
+pub beside_by_is_exact : {A B : Type 0} (at : ℕ) (s : Spelling A) (t : A → Spelling B) → IsExact s → ((a : A) → s.Form a → IsExact (t a)) → Avoids s at
+    → IsExact (beside_by at s t)
 beside_by_is_exact at s t h k apart = record {
   back = λ p form. rw (cut_back at (s.text p.0) ((t p.0).text p.1) (apart p.0 form.0), h.back p.0 form.0, (k p.0 form.0).back p.1 form.1) refl;
-  only = λ text p e. then_only _ (cut_at at text) p e (λ parts is rest. then_only _ (s.value parts.0) p rest (λ a first more. map_only _ ((t a).value parts.1) p more (λ b second same.
+  only = λ text p e. then_only _ (cut_at at text) p e
+      (λ parts is rest. then_only _ (s.value parts.0) p rest (λ a first more. map_only _ ((t a).value parts.1) p more (λ b second same.
       let one = h.only parts.0 a first in let two = (k a one.0).only parts.1 b second in let cuts = cut_only at text parts is in
-      subst (λ q. (s.Form q.0 × (t q.0).Form q.1) × (s.text q.0 ++ at ∷ (t q.0).text q.1 ≡ text)) same ((one.0, two.0), ap₂ (λ x y. x ++ at ∷ y) one.1 two.1 ∙ cuts.0))));
+      subst (λ q. (s.Form q.0 × (t q.0).Form q.1) × (s.text q.0 ++ at ∷ (t q.0).text q.1 ≡ text)) same
+      ((one.0, two.0), ap₂ (λ x y. x ++ at ∷ y) one.1 two.1 ∙ cuts.0))));
 }
 
 pub beside_is_exact : {A B : Type 0} (at : ℕ) (s : Spelling A) (t : Spelling B) → IsExact s → IsExact t → Avoids s at → IsExact (beside at s t)
 beside_is_exact at s t h k apart = beside_by_is_exact at s (λ a. t) h (λ a form. k) apart
 
-pub beside_by_avoids : {A B : Type 0} (between at : ℕ) (s : Spelling A) (t : A → Spelling B) → (between == at) ≡ false → Avoids s at → ((a : A) → s.Form a → Avoids (t a) at) → Avoids (beside_by between s t) at
+pub beside_by_avoids : {A B : Type 0} (between at : ℕ) (s : Spelling A) (t : A → Spelling B) → (between == at) ≡ false → Avoids s at
+    → ((a : A) → s.Form a → Avoids (t a) at) → Avoids (beside_by between s t) at
 beside_by_avoids between at s t other h k = λ p form. has_byte-between at between (s.text p.0) ((t p.0).text p.1) other (h p.0 form.0) (k p.0 form.0 p.1 form.1)
 
-pub beside_avoids : {A B : Type 0} (between at : ℕ) (s : Spelling A) (t : Spelling B) → (between == at) ≡ false → Avoids s at → Avoids t at → Avoids (beside between s t) at
+pub beside_avoids : {A B : Type 0} (between at : ℕ) (s : Spelling A) (t : Spelling B) → (between == at) ≡ false → Avoids s at → Avoids t at
+    → Avoids (beside between s t) at
 beside_avoids between at s t other h k = beside_by_avoids between at s (λ a. t) other h (λ a form. k)
 
 -- TAILS
 
-tailed_back : {A B : Type 0} (at : ℕ) (s : Spelling A) (t : Spelling B) → IsExact s → IsExact t → Avoids s at → (a : A) (b : Option B) → s.Form a → IfForm t.Form b
+tailed_back : {A B : Type 0} (at : ℕ) (s : Spelling A) (t : Spelling B) → IsExact s → IsExact t → Avoids s at → (a : A) (b : Option B) → s.Form a
+    → IfForm t.Form b
     → (with_tail at s t).value (tailed_text at s.text t.text a b) ≡ Some (a, b)
 tailed_back at s t h k apart a None form more = rw (cut_none at (s.text a) (apart a form), h.back a form) refl
 tailed_back at s t h k apart a (Some b) form more = rw (cut_back at (s.text a) (t.text b) (apart a form), h.back a form, k.back b more) refl
 
-tailed_only : {A B : Type 0} (at : ℕ) (s : Spelling A) (t : Spelling B) → IsExact s → IsExact t → (text : List ℕ) (p : A × Option B) (parts : Option (List ℕ × List ℕ)) → cut_at at text ≡ parts
+tailed_only : {A B : Type 0} (at : ℕ) (s : Spelling A) (t : Spelling B) → IsExact s → IsExact t
+    → (text : List ℕ) (p : A × Option B) (parts : Option (List ℕ × List ℕ)) → cut_at at text ≡ parts
     → tailed_value s.value t.value text parts ≡ Some p → (s.Form p.0 × IfForm t.Form p.1) × (tailed_text at s.text t.text p.0 p.1 ≡ text)
 tailed_only at s t h k text p None is e = map_only _ (s.value text) p e (λ a found same.
     let one = h.only text a found in subst (λ q. (s.Form q.0 × IfForm t.Form q.1) × (tailed_text at s.text t.text q.0 q.1 ≡ text)) same ((one.0, tt), one.1))
 tailed_only at s t h k text p (Some parts) is e = then_only _ (s.value parts.0) p e (λ a first more. map_only _ (t.value parts.1) p more (λ b second same.
     let one = h.only parts.0 a first in let two = k.only parts.1 b second in let cuts = cut_only at text parts is in
-    subst (λ q. (s.Form q.0 × IfForm t.Form q.1) × (tailed_text at s.text t.text q.0 q.1 ≡ text)) same ((one.0, two.0), ap₂ (λ x y. x ++ at ∷ y) one.1 two.1 ∙ cuts.0)))
+    subst (λ q. (s.Form q.0 × IfForm t.Form q.1) × (tailed_text at s.text t.text q.0 q.1 ≡ text)) same
+    ((one.0, two.0), ap₂ (λ x y. x ++ at ∷ y) one.1 two.1 ∙ cuts.0)))
 
 pub with_tail_is_exact : {A B : Type 0} (at : ℕ) (s : Spelling A) (t : Spelling B) → IsExact s → IsExact t → Avoids s at → IsExact (with_tail at s t)
 with_tail_is_exact at s t h k apart = record {
@@ -311,33 +325,40 @@ with_tail_is_exact at s t h k apart = record {
   only = λ text p e. tailed_only at s t h k text p (cut_at at text) refl e;
 }
 
-tailed_avoids : {A B : Type 0} (between at : ℕ) (s : Spelling A) (t : Spelling B) → (between == at) ≡ false → Avoids s at → Avoids t at → (a : A) (b : Option B) → s.Form a → IfForm t.Form b
+tailed_avoids : {A B : Type 0} (between at : ℕ) (s : Spelling A) (t : Spelling B) → (between == at) ≡ false → Avoids s at → Avoids t at
+    → (a : A) (b : Option B) → s.Form a → IfForm t.Form b
     → has_byte at (tailed_text between s.text t.text a b) ≡ false
 tailed_avoids between at s t other h k a None form more = h a form
 tailed_avoids between at s t other h k a (Some b) form more = has_byte-between at between (s.text a) (t.text b) other (h a form) (k b more)
 
-pub with_tail_avoids : {A B : Type 0} (between at : ℕ) (s : Spelling A) (t : Spelling B) → (between == at) ≡ false → Avoids s at → Avoids t at → Avoids (with_tail between s t) at
+pub with_tail_avoids : {A B : Type 0} (between at : ℕ) (s : Spelling A) (t : Spelling B) → (between == at) ≡ false → Avoids s at → Avoids t at
+    → Avoids (with_tail between s t) at
 with_tail_avoids between at s t other h k = λ p form. tailed_avoids between at s t other h k p.0 p.1 form.0 form.1
 
 -- ONE OF TWO
 
-either_back : {A B : Type 0} (at : ℕ) (s : Spelling A) (t : Spelling B) → IsExact s → IsExact t → ((a : A) → s.Form a → has_byte at (s.text a) ≡ true) → Avoids t at
+either_back : {A B : Type 0} (at : ℕ) (s : Spelling A) (t : Spelling B) → IsExact s → IsExact t → ((a : A) → s.Form a → has_byte at (s.text a) ≡ true)
+    → Avoids t at
     → (c : A ⊎ B) → OneForm s.Form t.Form c → (either at s t).value (one_text s.text t.text c) ≡ Some c
 either_back at s t h k has apart (inl a) form = rw (has a form, h.back a form) refl
 either_back at s t h k has apart (inr b) form = rw (apart b form, k.back b form) refl
 
 either_only : {A B : Type 0} (s : Spelling A) (t : Spelling B) → IsExact s → IsExact t → (text : List ℕ) (c : A ⊎ B) (has : Bool)
     → (if has then option_map inl (s.value text) else option_map inr (t.value text)) ≡ Some c → OneForm s.Form t.Form c × (one_text s.text t.text c ≡ text)
-either_only s t h k text c true e = map_only inl (s.value text) c e (λ a found same. subst (λ q. OneForm s.Form t.Form q × (one_text s.text t.text q ≡ text)) same (h.only text a found))
-either_only s t h k text c false e = map_only inr (t.value text) c e (λ b found same. subst (λ q. OneForm s.Form t.Form q × (one_text s.text t.text q ≡ text)) same (k.only text b found))
+either_only s t h k text c true e = map_only inl (s.value text) c e
+    (λ a found same. subst (λ q. OneForm s.Form t.Form q × (one_text s.text t.text q ≡ text)) same (h.only text a found))
+either_only s t h k text c false e = map_only inr (t.value text) c e
+    (λ b found same. subst (λ q. OneForm s.Form t.Form q × (one_text s.text t.text q ≡ text)) same (k.only text b found))
 
-pub either_is_exact : {A B : Type 0} (at : ℕ) (s : Spelling A) (t : Spelling B) → IsExact s → IsExact t → ((a : A) → s.Form a → has_byte at (s.text a) ≡ true) → Avoids t at → IsExact (either at s t)
+pub either_is_exact : {A B : Type 0} (at : ℕ) (s : Spelling A) (t : Spelling B) → IsExact s → IsExact t → ((a : A) → s.Form a → has_byte at (s.text a) ≡ true)
+    → Avoids t at → IsExact (either at s t)
 either_is_exact at s t h k has apart = record {
   back = either_back at s t h k has apart;
   only = λ text c e. either_only s t h k text c (has_byte at text) e;
 }
 
-one_avoids : {A B : Type 0} (at : ℕ) (s : Spelling A) (t : Spelling B) → Avoids s at → Avoids t at → (c : A ⊎ B) → OneForm s.Form t.Form c → has_byte at (one_text s.text t.text c) ≡ false
+one_avoids : {A B : Type 0} (at : ℕ) (s : Spelling A) (t : Spelling B) → Avoids s at → Avoids t at → (c : A ⊎ B) → OneForm s.Form t.Form c
+    → has_byte at (one_text s.text t.text c) ≡ false
 one_avoids at s t h k (inl a) form = h a form
 one_avoids at s t h k (inr b) form = k b form
 
@@ -358,39 +379,49 @@ front_back : {A B : Type 0} (name : List ℕ) (s : Spelling A) (other : List ℕ
 front_back name s other t h k apart (inl a) form = rw (behind_back name (s.text a), h.back a form) refl
 front_back name s other t h k apart (inr b) form = rw (behind_other name other (t.text b) apart, behind_back other (t.text b), k.back b form) refl
 
-front_only : {A B : Type 0} (name : List ℕ) (s : Spelling A) (other : List ℕ) (t : Spelling B) → IsExact s → IsExact t → (text : List ℕ) (c : A ⊎ B) (first : Option (List ℕ)) → behind name text ≡ first
+front_only : {A B : Type 0} (name : List ℕ) (s : Spelling A) (other : List ℕ) (t : Spelling B) → IsExact s → IsExact t
+    → (text : List ℕ) (c : A ⊎ B) (first : Option (List ℕ)) → behind name text ≡ first
     → front_value s.value t.value first (behind other text) ≡ Some c → OneForm s.Form t.Form c × ((either_front name s other t).text c ≡ text)
 front_only name s other t h k text c (Some rest) is e = map_only inl (s.value rest) c e (λ a found same.
     let one = h.only rest a found in
-    subst (λ q. OneForm s.Form t.Form q × ((either_front name s other t).text q ≡ text)) same (one.0, ap (λ (x : List ℕ). name ++ x) one.1 ∙ behind_only name text rest is))
-front_only name s other t h k text c None is e = map_only inr (option_and_then t.value (behind other text)) c e (λ b found same. then_only t.value (behind other text) b found (λ rest is_rest read.
+    subst (λ q. OneForm s.Form t.Form q × ((either_front name s other t).text q ≡ text)) same
+    (one.0, ap (λ (x : List ℕ). name ++ x) one.1 ∙ behind_only name text rest is))
+front_only name s other t h k text c None is e = map_only inr (option_and_then t.value (behind other text)) c e
+    (λ b found same. then_only t.value (behind other text) b found (λ rest is_rest read.
     let one = k.only rest b read in
-    subst (λ q. OneForm s.Form t.Form q × ((either_front name s other t).text q ≡ text)) same (one.0, ap (λ (x : List ℕ). other ++ x) one.1 ∙ behind_only other text rest is_rest)))
+    subst (λ q. OneForm s.Form t.Form q × ((either_front name s other t).text q ≡ text)) same
+    (one.0, ap (λ (x : List ℕ). other ++ x) one.1 ∙ behind_only other text rest is_rest)))
 
-pub either_front_is_exact : {A B : Type 0} (name : List ℕ) (s : Spelling A) (other : List ℕ) (t : Spelling B) → IsExact s → IsExact t → are_told_apart name other ≡ true → IsExact (either_front name s other t)
+pub either_front_is_exact : {A B : Type 0} (name : List ℕ) (s : Spelling A) (other : List ℕ) (t : Spelling B) → IsExact s → IsExact t
+    → are_told_apart name other ≡ true → IsExact (either_front name s other t)
 either_front_is_exact name s other t h k apart = record {
   back = front_back name s other t h k apart;
   only = λ text c e. front_only name s other t h k text c (behind name text) refl e;
 }
 
-pub either_front_avoids : {A B : Type 0} (name : List ℕ) (s : Spelling A) (other : List ℕ) (t : Spelling B) (at : ℕ) → has_byte at name ≡ false → has_byte at other ≡ false → Avoids s at → Avoids t at
+pub either_front_avoids : {A B : Type 0} (name : List ℕ) (s : Spelling A) (other : List ℕ) (t : Spelling B) (at : ℕ) → has_byte at name ≡ false
+    → has_byte at other ≡ false → Avoids s at → Avoids t at
     → Avoids (either_front name s other t) at
-either_front_avoids name s other t at none nor h k = one_avoids at (named s name) (named t other) (named_avoids s name at none h) (named_avoids t other at nor k)
+either_front_avoids name s other t at none nor h k = one_avoids at (named s name) (named t other) (named_avoids s name at none h)
+    (named_avoids t other at nor k)
 
 -- OTHER WORDS
 
-pub told_by_is_exact : {A B : Type 0} (s : Spelling A) (to : A → B) (from : B → A) → IsExact s → ((a : A) → s.Form a → from (to a) ≡ a) → IsExact (told_by s to from)
+pub told_by_is_exact : {A B : Type 0} (s : Spelling A) (to : A → B) (from : B → A) → IsExact s → ((a : A) → s.Form a → from (to a) ≡ a)
+    → IsExact (told_by s to from)
 told_by_is_exact s to from h there = record {
   back = λ b form. rw (h.back (from b) form.0, form.1) refl;
   only = λ text b e. map_only to (s.value text) b e (λ a found same.
       let one = h.only text a found in let again = there a one.0 in
-      subst (λ q. (s.Form (from q) × (to (from q) ≡ q)) × (s.text (from q) ≡ text)) same ((subst s.Form (sym again) one.0, ap to again), ap s.text again ∙ one.1));
+      subst (λ q. (s.Form (from q) × (to (from q) ≡ q)) × (s.text (from q) ≡ text)) same
+      ((subst s.Form (sym again) one.0, ap to again), ap s.text again ∙ one.1));
 }
 
 pub told_by_avoids : {A B : Type 0} (s : Spelling A) (to : A → B) (from : B → A) (at : ℕ) → Avoids s at → Avoids (told_by s to from) at
 told_by_avoids s to from at h = λ b form. h (from b) form.0
 
-pub restated_is_exact : {A : Type 0} (s : Spelling A) (Form : A → Type 0) → IsExact s → ((a : A) → Form a → s.Form a) → ((a : A) → s.Form a → Form a) → IsExact (restated s Form)
+pub restated_is_exact : {A : Type 0} (s : Spelling A) (Form : A → Type 0) → IsExact s → ((a : A) → Form a → s.Form a) → ((a : A) → s.Form a → Form a)
+    → IsExact (restated s Form)
 restated_is_exact s Form h narrow wide = record {
   back = λ a form. h.back a (narrow a form);
   only = λ text a e. let one = h.only text a e in (wide a one.0, one.1);
@@ -405,7 +436,8 @@ respelled_is_exact s text h same = record {
   only = λ t a e. let one = h.only t a e in (one.0, same a one.0 ∙ one.1);
 }
 
-pub respelled_avoids : {A : Type 0} (s : Spelling A) (text : A → List ℕ) (at : ℕ) → ((a : A) → s.Form a → text a ≡ s.text a) → Avoids s at → Avoids (respelled s text) at
+pub respelled_avoids : {A : Type 0} (s : Spelling A) (text : A → List ℕ) (at : ℕ) → ((a : A) → s.Form a → text a ≡ s.text a) → Avoids s at
+    → Avoids (respelled s text) at
 respelled_avoids s text at same h = λ a form. rw (same a form) (h a form)
 
 -- TABLES
@@ -417,19 +449,22 @@ differ_only a b e = elim (cases_Bool (bytes_eq a b)) [
 ]
 
 -- a value whose text is that of the first one, which no later one has, is the first one
-named_apart : {A : Type 0} (text : A → List ℕ) (x a : A) (xs : List A) → list_all (λ other. differ (text x) other) (map text xs) ≡ true → IsOneOf xs a → bytes_eq (text x) (text a) ≡ false
+named_apart : {A : Type 0} (text : A → List ℕ) (x a : A) (xs : List A) → list_all (λ other. differ (text x) other) (map text xs) ≡ true → IsOneOf xs a
+    → bytes_eq (text x) (text a) ≡ false
 named_apart text x a [] apart is = absurd is
 named_apart text x a (y ∷ xs) apart (inl same) = rw (← same) (differ_only (text x) (text y) (and_parts _ _ apart).0)
 named_apart text x a (y ∷ xs) apart (inr later) = named_apart text x a xs (and_parts _ _ apart).1 later
 
-find_back : {A : Type 0} (text : A → List ℕ) (values : List A) (a : A) → are_apart (map text values) ≡ true → IsOneOf values a → find (λ b. bytes_eq (text b) (text a)) values ≡ Some a
+find_back : {A : Type 0} (text : A → List ℕ) (values : List A) (a : A) → are_apart (map text values) ≡ true → IsOneOf values a
+    → find (λ b. bytes_eq (text b) (text a)) values ≡ Some a
 find_back text [] a apart is = absurd is
 find_back text (x ∷ xs) a apart (inl same) = rw (bytes_same (text x) (text a) (ap text same)) (ap Some same)
 find_back text (x ∷ xs) a apart (inr later) =
     let parts = and_parts _ _ apart in
     rw (named_apart text x a xs parts.0 later) (find_back text xs a parts.1 later)
 
-find_only : {A : Type 0} (text : A → List ℕ) (values : List A) (t : List ℕ) (a : A) → find (λ b. bytes_eq (text b) t) values ≡ Some a → IsOneOf values a × (text a ≡ t)
+find_only : {A : Type 0} (text : A → List ℕ) (values : List A) (t : List ℕ) (a : A) → find (λ b. bytes_eq (text b) t) values ≡ Some a
+    → IsOneOf values a × (text a ≡ t)
 find_only text [] t a e = absurd (none-some a e)
 find_only text (x ∷ xs) t a e = elim (cases_Bool (bytes_eq (text x) t)) [
   | inl same ↦ let is = same_Some x a (rw same at e) in (inl is, ap text (sym is) ∙ same_bytes (text x) t same)
@@ -447,7 +482,8 @@ abbrev pub none_has : ℕ → List (List ℕ) → Bool
 none_has at [] = true
 none_has at (text ∷ texts) = if has_byte at text then false else none_has at texts
 
-found_avoids : {A : Type 0} (text : A → List ℕ) (values : List A) (at : ℕ) → none_has at (map text values) ≡ true → (a : A) → IsOneOf values a → has_byte at (text a) ≡ false
+found_avoids : {A : Type 0} (text : A → List ℕ) (values : List A) (at : ℕ) → none_has at (map text values) ≡ true → (a : A) → IsOneOf values a
+    → has_byte at (text a) ≡ false
 found_avoids text [] at none a is = absurd is
 found_avoids text (x ∷ xs) at none a is = elim (cases_Bool (has_byte at (text x))) [
   | inl has ↦ absurd (false≢true (rw has at none))
@@ -458,7 +494,8 @@ pub one_of_avoids : {A : Type 0} (text : A → List ℕ) (values : List A) (at :
 one_of_avoids text values at none = λ a is. found_avoids text values at none a is
 
 -- the number of the first row isn't that of a later one, nor is its name
-row_apart : (row : ℕ × List ℕ) (rows : List (ℕ × List ℕ)) (n : ℕ) → list_all (λ other. if other.0 == row.0 then false else differ row.1 other.1) rows ≡ true → is_named rows n ≡ true
+row_apart : (row : ℕ × List ℕ) (rows : List (ℕ × List ℕ)) (n : ℕ) → list_all (λ other. if other.0 == row.0 then false else differ row.1 other.1) rows ≡ true
+    → is_named rows n ≡ true
     → ((row.0 == n) ≡ false) × (bytes_eq row.1 (name_in rows n) ≡ false)
 row_apart row [] n apart is = absurd (false≢true is)
 row_apart row (other ∷ rows) n apart is =
@@ -485,7 +522,8 @@ named_back (row ∷ rows) n apart is =
           rw (later, (row_apart row rows n parts.0 is_later).1) (named_back rows n parts.1 is_later)
     ]
 
-named_only : (rows : List (ℕ × List ℕ)) (text : List ℕ) (n : ℕ) → are_rows_apart rows ≡ true → number_in rows text ≡ Some n → (is_named rows n ≡ true) × (name_in rows n ≡ text)
+named_only : (rows : List (ℕ × List ℕ)) (text : List ℕ) (n : ℕ) → are_rows_apart rows ≡ true → number_in rows text ≡ Some n
+    → (is_named rows n ≡ true) × (name_in rows n ≡ text)
 named_only [] text n apart e = absurd (none-some n e)
 named_only (row ∷ rows) text n apart e =
     let parts = and_parts _ (are_rows_apart rows) apart in
@@ -502,7 +540,8 @@ one_named_is_exact rows apart = record {
   only = λ text n e. named_only rows text n apart e;
 }
 
-name_avoids : (rows : List (ℕ × List ℕ)) (at n : ℕ) → none_has at (map (λ row. row.1) rows) ≡ true → is_named rows n ≡ true → has_byte at (name_in rows n) ≡ false
+name_avoids : (rows : List (ℕ × List ℕ)) (at n : ℕ) → none_has at (map (λ row. row.1) rows) ≡ true → is_named rows n ≡ true
+    → has_byte at (name_in rows n) ≡ false
 name_avoids [] at n none is = refl
 name_avoids (row ∷ rows) at n none is = elim (cases_Bool (has_byte at row.1)) [
   | inl has ↦ absurd (false≢true (rw has at none))

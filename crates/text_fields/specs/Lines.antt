@@ -63,7 +63,8 @@ byte_cut b text other = rw other refl
 pub joined-lines_cut : (text : List ℕ) → joined (whole_lines text) (rest_of text) ≡ text
 joined-lines_cut [] = refl
 joined-lines_cut (b ∷ text) = elim (cases_Bool (b == 10)) [
-  | inl feed ↦ ap (λ (cut : List (List ℕ) × List ℕ). joined cut.0 cut.1) (feed_cut b text feed) ∙ ap₂ (λ (c : ℕ) (t : List ℕ). c ∷ t) (sym (eqb-true b 10 feed)) (joined-lines_cut text)
+  | inl feed ↦ ap (λ (cut : List (List ℕ) × List ℕ). joined cut.0 cut.1) (feed_cut b text feed)
+      ∙ ap₂ (λ (c : ℕ) (t : List ℕ). c ∷ t) (sym (eqb-true b 10 feed)) (joined-lines_cut text)
   | inr other ↦
       ap (λ (cut : List (List ℕ) × List ℕ). joined cut.0 cut.1) (byte_cut b text other)
       ∙ onto_joined b (whole_lines text) (rest_of text) ∙ ap (λ (t : List ℕ). b ∷ t) (joined-lines_cut text)
@@ -117,7 +118,8 @@ joined-rest (line ∷ lines) rest more = append_assoc line (10 ∷ joined lines 
 
 appended : {S F : Type 0} (step : S → List ℕ → Result S F) (count : ℕ) (front lines : List (List ℕ)) (first : Result S F)
     → ((state : S) → reading step (suc count) state (front ++ lines) ≡ read_on step (suc count + length front) lines (reading step (suc count) state front))
-    → counted count (λ next. reading step (suc count) next (front ++ lines)) first ≡ read_on step (suc count + length front) lines (counted count (λ next. reading step (suc count) next front) first)
+    → counted count (λ next. reading step (suc count) next (front ++ lines)) first
+    ≡ read_on step (suc count + length front) lines (counted count (λ next. reading step (suc count) next front) first)
 appended step count front lines (Ok state) rest = rest state
 appended step count front lines (Err fault) rest = refl
 

@@ -46,7 +46,12 @@ pub values_only : {A : Type 0} (s : Spelling A) → IsExact s → (texts : List 
 values_only s h [] xs e = subst (λ ys. AreRead s [] ys) (same_Some [] xs e) (record { long = refl; forms = tt; are = refl })
 values_only s h (text ∷ texts) xs e = then_only _ (s.value text) xs e (λ a first rest. map_only _ (values_of s.value texts) xs rest (λ more found same.
     let one = h.only text a first in let others = values_only s h texts more found in
-    subst (λ ys. AreRead s (text ∷ texts) ys) same (record { long = ap suc others.long; forms = (one.0, others.forms); are = ap₂ (λ (t : List ℕ) (ts : List (List ℕ)). t ∷ ts) one.1 others.are })))
+    subst (λ ys. AreRead s (text ∷ texts) ys) same (record {
+      long = ap suc others.long;
+      forms = (one.0, others.forms);
+      are = ap₂
+          (λ (t : List ℕ) (ts : List (List ℕ)). t ∷ ts) one.1 others.are;
+    })))
 
 pub split_none : (at : ℕ) (text : List ℕ) → has_byte at text ≡ false → slice_split (λ b. b == at) text ≡ text ∷ []
 split_none at [] none = refl
@@ -55,7 +60,8 @@ split_none at (b ∷ text) none = elim (cases_Bool (b == at)) [
   | inr other ↦ rw (other, split_none at text (rw other at none)) refl
 ]
 
-pub split_first : (at : ℕ) (front rest : List ℕ) → has_byte at front ≡ false → slice_split (λ b. b == at) (front ++ at ∷ rest) ≡ front ∷ slice_split (λ b. b == at) rest
+pub split_first : (at : ℕ) (front rest : List ℕ) → has_byte at front ≡ false
+    → slice_split (λ b. b == at) (front ++ at ∷ rest) ≡ front ∷ slice_split (λ b. b == at) rest
 split_first at [] rest none = rw (eq-eqb at at refl) refl
 split_first at (b ∷ front) rest none = elim (cases_Bool (b == at)) [
   | inl same ↦ absurd (false≢true (sym none ∙ rw same refl))
@@ -66,9 +72,11 @@ split_texts : {A : Type 0} (s : Spelling A) (at : ℕ) → Avoids s at → (x : 
     → slice_split (λ b. b == at) (join_with_byte at (map s.text (x ∷ xs))) ≡ map s.text (x ∷ xs)
 split_texts s at apart x [] forms = split_none at (s.text x) (apart x forms.0)
 split_texts s at apart x (y ∷ xs) forms =
-    split_first at (s.text x) (join_with_byte at (map s.text (y ∷ xs))) (apart x forms.0) ∙ ap (λ (ts : List (List ℕ)). s.text x ∷ ts) (split_texts s at apart y xs forms.1)
+    split_first at (s.text x) (join_with_byte at (map s.text (y ∷ xs))) (apart x forms.0)
+    ∙ ap (λ (ts : List (List ℕ)). s.text x ∷ ts) (split_texts s at apart y xs forms.1)
 
-listed_back : {A : Type 0} (s : Spelling A) (at : ℕ) → IsExact s → Avoids s at → (xs : List A) → (listed s at).Form xs → (listed s at).value ((listed s at).text xs) ≡ Some xs
+listed_back : {A : Type 0} (s : Spelling A) (at : ℕ) → IsExact s → Avoids s at → (xs : List A) → (listed s at).Form xs
+    → (listed s at).value ((listed s at).text xs) ≡ Some xs
 listed_back s at h apart [] form = absurd (omega (arith, form.0))
 listed_back s at h apart (x ∷ xs) form = rw (split_texts s at apart x xs form.1) (values_back s h (x ∷ xs) form.1)
 
@@ -80,24 +88,28 @@ listed_is_exact s at h apart = record {
       ((omega (arith, are.long, length-slice_split (λ b. b == at) text), are.forms), ap (join_with_byte at) are.are ∙ join_with_byte-slice_split at text);
 }
 
-listed_text_avoids : {A : Type 0} (s : Spelling A) (between at : ℕ) → (between == at) ≡ false → Avoids s at → (xs : List A) → AllByRecursion s.Form xs → has_byte at (join_with_byte between (map s.text xs)) ≡ false
+listed_text_avoids : {A : Type 0} (s : Spelling A) (between at : ℕ) → (between == at) ≡ false → Avoids s at → (xs : List A) → AllByRecursion s.Form xs
+    → has_byte at (join_with_byte between (map s.text xs)) ≡ false
 listed_text_avoids s between at other h [] forms = refl
 listed_text_avoids s between at other h (x ∷ []) forms = h x forms.0
 listed_text_avoids s between at other h (x ∷ y ∷ xs) forms =
-    has_byte-between at between (s.text x) (join_with_byte between (map s.text (y ∷ xs))) other (h x forms.0) (listed_text_avoids s between at other h (y ∷ xs) forms.1)
+    has_byte-between at between (s.text x) (join_with_byte between (map s.text (y ∷ xs))) other (h x forms.0)
+    (listed_text_avoids s between at other h (y ∷ xs) forms.1)
 
 pub listed_avoids : {A : Type 0} (s : Spelling A) (between at : ℕ) → (between == at) ≡ false → Avoids s at → Avoids (listed s between) at
 listed_avoids s between at other h = λ xs form. listed_text_avoids s between at other h xs form.1
 
 -- the text of a list is as long as that of its first value
-pub listed_longer : {A : Type 0} (s : Spelling A) (at least : ℕ) → ((x : A) → s.Form x → least ≤ length (s.text x)) → (xs : List A) → (listed s at).Form xs → least ≤ length ((listed s at).text xs)
+pub listed_longer : {A : Type 0} (s : Spelling A) (at least : ℕ) → ((x : A) → s.Form x → least ≤ length (s.text x)) → (xs : List A) → (listed s at).Form xs
+    → least ≤ length ((listed s at).text xs)
 listed_longer s at least h [] form = absurd (omega (arith, form.0))
 listed_longer s at least h (x ∷ []) form = h x form.1.0
 listed_longer s at least h (x ∷ y ∷ xs) form =
     omega (arith, h x form.1.0, length-append (s.text x) (at ∷ join_with_byte at (map s.text (y ∷ xs))))
 
 -- and it has each byte that each text has
-pub listed_has : {A : Type 0} (s : Spelling A) (between at : ℕ) → ((x : A) → s.Form x → has_byte at (s.text x) ≡ true) → (xs : List A) → (listed s between).Form xs
+pub listed_has : {A : Type 0} (s : Spelling A) (between at : ℕ) → ((x : A) → s.Form x → has_byte at (s.text x) ≡ true) → (xs : List A)
+    → (listed s between).Form xs
     → has_byte at ((listed s between).text xs) ≡ true
 listed_has s between at h [] form = absurd (omega (arith, form.0))
 listed_has s between at h (x ∷ []) form = h x form.1.0
@@ -128,27 +140,35 @@ alone None = refl
 alone (Some a) = refl
 
 -- the last value
-pub listed_last : {A : Type 0} (s : Spelling A) (at : ℕ) (text : List ℕ) → cut_at at text ≡ None → (listed s at).value text ≡ option_map (λ a. a ∷ []) (s.value text)
+pub listed_last : {A : Type 0} (s : Spelling A) (at : ℕ) (text : List ℕ) → cut_at at text ≡ None
+    → (listed s at).value text ≡ option_map (λ a. a ∷ []) (s.value text)
 listed_last s at text e = ap (values_of s.value) (split_none at text (uncut at text e)) ∙ alone (s.value text)
 
-with_more : {A : Type 0} (values : List A) (value : A) (more : Option (List A)) → option_map (λ xs. values ++ xs) (option_map (λ xs. value ∷ xs) more) ≡ option_map (λ xs. (values ++ value ∷ []) ++ xs) more
+with_more : {A : Type 0} (values : List A) (value : A) (more : Option (List A))
+    → option_map (λ xs. values ++ xs) (option_map (λ xs. value ∷ xs) more) ≡ option_map (λ xs. (values ++ value ∷ []) ++ xs) more
 with_more values value None = refl
 with_more values value (Some xs) = ap Some (sym (append_assoc values (value ∷ []) xs))
 
 -- one more value
-pub list_more : {A : Type 0} (s : Spelling A) (at : ℕ) (values longer : List A) (rest first behind : List ℕ) (value : A) → Some (first, behind) ≡ cut_at at rest → Some value ≡ s.value first
-    → longer ≡ values ++ value ∷ [] → option_map (λ more. values ++ more) ((listed s at).value rest) ≡ option_map (λ more. longer ++ more) ((listed s at).value behind)
+pub list_more : {A : Type 0} (s : Spelling A) (at : ℕ) (values longer : List A) (rest first behind : List ℕ) (value : A)
+    → Some (first, behind) ≡ cut_at at rest → Some value ≡ s.value first
+    → longer ≡ values ++ value ∷ [] → option_map (λ more. values ++ more) ((listed s at).value rest)
+    ≡ option_map (λ more. longer ++ more) ((listed s at).value behind)
 list_more s at values longer rest first behind value is read pushed =
-    ap (option_map (λ more. values ++ more)) (listed_more s at rest first behind (sym is) ∙ ap (option_and_then (λ a. option_map (λ more. a ∷ more) ((listed s at).value behind))) (sym read))
+    ap (option_map (λ more. values ++ more)) (listed_more s at rest first behind (sym is)
+    ∙ ap (option_and_then (λ a. option_map (λ more. a ∷ more) ((listed s at).value behind))) (sym read))
     ∙ with_more values value ((listed s at).value behind) ∙ ap (λ xs. option_map (λ more. xs ++ more) ((listed s at).value behind)) (sym pushed)
 
-pub list_bad : {A : Type 0} (s : Spelling A) (at : ℕ) (values : List A) (rest first behind : List ℕ) → Some (first, behind) ≡ cut_at at rest → None ≡ s.value first
+pub list_bad : {A : Type 0} (s : Spelling A) (at : ℕ) (values : List A) (rest first behind : List ℕ) → Some (first, behind) ≡ cut_at at rest
+    → None ≡ s.value first
     → option_map (λ more. values ++ more) ((listed s at).value rest) ≡ None
 list_bad s at values rest first behind is read =
-    ap (option_map (λ more. values ++ more)) (listed_more s at rest first behind (sym is) ∙ ap (option_and_then (λ a. option_map (λ more. a ∷ more) ((listed s at).value behind))) (sym read))
+    ap (option_map (λ more. values ++ more)) (listed_more s at rest first behind (sym is)
+    ∙ ap (option_and_then (λ a. option_map (λ more. a ∷ more) ((listed s at).value behind))) (sym read))
 
 -- the last value
-pub list_last : {A : Type 0} (s : Spelling A) (at : ℕ) (values longer : List A) (rest : List ℕ) (value : A) → None ≡ cut_at at rest → Some value ≡ s.value rest → longer ≡ values ++ value ∷ []
+pub list_last : {A : Type 0} (s : Spelling A) (at : ℕ) (values longer : List A) (rest : List ℕ) (value : A) → None ≡ cut_at at rest
+    → Some value ≡ s.value rest → longer ≡ values ++ value ∷ []
     → option_map (λ more. values ++ more) ((listed s at).value rest) ≡ Some longer
 list_last s at values longer rest value is read pushed =
     ap (option_map (λ more. values ++ more)) (listed_last s at rest (sym is) ∙ ap (option_map (λ a. a ∷ [])) (sym read)) ∙ ap Some (sym pushed)
@@ -186,7 +206,8 @@ row_joined text (x ∷ xs) [] e = absurd (omega (arith, ap length e))
 row_joined text (x ∷ xs) (b ∷ bytes) e = let parts = same_heads _ _ _ _ e in ap₂ (λ (s t : List ℕ). s ++ t) parts.0 (row_joined text xs bytes parts.1)
 
 row_only : {A : Type 0} (count : ℕ) (s : Spelling A) → IsExact s → (text : List ℕ) (xs : List A) (long : Bool) → (length text == count) ≡ long
-    → (if long then values_of s.value (map (λ b. b ∷ []) text) else None) ≡ Some xs → ((length xs ≡ count) × AllByRecursion s.Form xs) × (flat_map s.text xs ≡ text)
+    → (if long then values_of s.value (map (λ b. b ∷ []) text) else None) ≡ Some xs → ((length xs ≡ count) × AllByRecursion s.Form xs)
+    × (flat_map s.text xs ≡ text)
 row_only count s h text xs true long e =
     let are = values_only s h (map (λ b. b ∷ []) text) xs e in
     ((are.long ∙ length-map text (λ b. b ∷ []) ∙ eqb-true (length text) count long, are.forms), row_joined s.text xs text are.are)
@@ -232,23 +253,27 @@ some_back s at None form = refl
 some_back s at (Some []) form = absurd (omega (arith, form.0))
 some_back s at (Some (x ∷ xs)) form = refl
 
-some_narrow : {A : Type 0} (s : Spelling A) (at : ℕ) (xs : List A) → AllByRecursion s.Form xs → IfForm (listed s at).Form (none_or xs) × (all_of (none_or xs) ≡ xs)
+some_narrow : {A : Type 0} (s : Spelling A) (at : ℕ) (xs : List A) → AllByRecursion s.Form xs
+    → IfForm (listed s at).Form (none_or xs) × (all_of (none_or xs) ≡ xs)
 some_narrow s at [] forms = (tt, refl)
 some_narrow s at (x ∷ xs) forms = ((omega arith, forms), refl)
 
-some_wide : {A : Type 0} (s : Spelling A) (at : ℕ) (xs : List A) → IfForm (listed s at).Form (none_or xs) × (all_of (none_or xs) ≡ xs) → AllByRecursion s.Form xs
+some_wide : {A : Type 0} (s : Spelling A) (at : ℕ) (xs : List A) → IfForm (listed s at).Form (none_or xs) × (all_of (none_or xs) ≡ xs)
+    → AllByRecursion s.Form xs
 some_wide s at [] form = tt
 some_wide s at (x ∷ xs) form = form.0.1
 
 -- no list has the mark for its text
-pub listed_or_mark_is_exact : {A : Type 0} (s : Spelling A) (at : ℕ) (mark : List ℕ) → ((xs : List A) → (listed s at).Form xs → bytes_eq ((listed s at).text xs) mark ≡ false)
+pub listed_or_mark_is_exact : {A : Type 0} (s : Spelling A) (at : ℕ) (mark : List ℕ)
+    → ((xs : List A) → (listed s at).Form xs → bytes_eq ((listed s at).text xs) mark ≡ false)
     → IsExact s → Avoids s at → IsExact (listed_or_mark s at mark)
 listed_or_mark_is_exact s at mark other h apart =
     restated_is_exact (told_by (or_mark (listed s at) mark) all_of none_or) (AllByRecursion s.Form)
     (told_by_is_exact (or_mark (listed s at) mark) all_of none_or (or_mark_is_exact (listed s at) mark other (listed_is_exact s at h apart)) (some_back s at))
     (some_narrow s at) (some_wide s at)
 
-pub listed_or_mark_avoids : {A : Type 0} (s : Spelling A) (between : ℕ) (mark : List ℕ) (at : ℕ) → (between == at) ≡ false → has_byte at mark ≡ false → Avoids s at → Avoids (listed_or_mark s between mark) at
+pub listed_or_mark_avoids : {A : Type 0} (s : Spelling A) (between : ℕ) (mark : List ℕ) (at : ℕ) → (between == at) ≡ false → has_byte at mark ≡ false
+    → Avoids s at → Avoids (listed_or_mark s between mark) at
 listed_or_mark_avoids s between mark at other none h =
     restated_avoids (told_by (or_mark (listed s between) mark) all_of none_or) (AllByRecursion s.Form) at (some_narrow s between)
     (told_by_avoids (or_mark (listed s between) mark) all_of none_or at (or_mark_avoids (listed s between) mark at none (listed_avoids s between at other h)))

@@ -63,7 +63,8 @@ pub digit_back : (digit : ℕ) → digit < 16 → digit_of (hex_digit digit) ≡
 digit_back digit small = grind (arith, nat_tests)
 
 pub digit_only : (b digit : ℕ) → digit_of b ≡ Some digit → (digit < 16) × (hex_digit digit ≡ b)
-digit_only b digit e = test_only (is_digit b) (if nat_le b 57 then b - 48 else b - 55) digit e (λ passes same. (grind (arith, nat_tests, passes, same), grind (arith, nat_tests, passes, same)))
+digit_only b digit e = test_only (is_digit b) (if nat_le b 57 then b - 48 else b - 55) digit e
+    (λ passes same. (grind (arith, nat_tests, passes, same), grind (arith, nat_tests, passes, same)))
 
 abbrev with_digit : (high : ℕ) (b : ℕ) → Option ℕ
 with_digit high b = option_map (λ digit. high * 16 + digit) (digit_of b)
@@ -74,12 +75,14 @@ last_digit n (Some d) = refl
 
 each_digit : (n : ℕ) (front : List ℕ) (b : ℕ) (digit : Option ℕ)
     → ((m : ℕ) → digits_behind m (front ++ b ∷ []) ≡ option_and_then (λ high. with_digit high b) (digits_behind m front))
-    → option_and_then (λ d. digits_behind (n * 16 + d) (front ++ b ∷ [])) digit ≡ option_and_then (λ high. with_digit high b) (option_and_then (λ d. digits_behind (n * 16 + d) front) digit)
+    → option_and_then (λ d. digits_behind (n * 16 + d) (front ++ b ∷ [])) digit
+    ≡ option_and_then (λ high. with_digit high b) (option_and_then (λ d. digits_behind (n * 16 + d) front) digit)
 each_digit n front b None rest = refl
 each_digit n front b (Some d) rest = rest (n * 16 + d)
 
 -- the last digit
-pub digits_behind-last : (n : ℕ) (front : List ℕ) (b : ℕ) → digits_behind n (front ++ b ∷ []) ≡ option_and_then (λ high. with_digit high b) (digits_behind n front)
+pub digits_behind-last : (n : ℕ) (front : List ℕ) (b : ℕ) → digits_behind n (front ++ b ∷ [])
+    ≡ option_and_then (λ high. with_digit high b) (digits_behind n front)
 digits_behind-last n [] b = last_digit n (digit_of b)
 digits_behind-last n (c ∷ front) b = each_digit n front b (digit_of c) (λ m. digits_behind-last m front b)
 
@@ -101,7 +104,8 @@ last_byte : (text : List ℕ) (digits : ℕ) → length text ≡ suc digits → 
 last_byte [] digits long = absurd (omega arith)
 last_byte (b ∷ []) digits long = ([], b, refl, omega arith)
 last_byte (b ∷ c ∷ text) zero long = absurd (omega arith)
-last_byte (b ∷ c ∷ text) (suc digits) long = let (front, last, is, as_long) = last_byte (c ∷ text) digits (omega arith) in (b ∷ front, last, ap (λ (rest : List ℕ). b ∷ rest) is, omega arith)
+last_byte (b ∷ c ∷ text) (suc digits) long = let (front, last, is, as_long) = last_byte (c ∷ text) digits (omega arith) in
+    (b ∷ front, last, ap (λ (rest : List ℕ). b ∷ rest) is, omega arith)
 
 -- the digits of a number that gave it
 hex_only : (digits n : ℕ) (text : List ℕ) → length text ≡ digits → digits_behind 0 text ≡ Some n → (n < 16 ^ digits) × (hex digits n ≡ text)
@@ -118,7 +122,8 @@ hex_only (suc digits) n text long e =
     let two : n % 16 ≡ digit = omega (arith, same, below) in
     (omega (arith, bound, same, below, before.0), ap₂ (λ h d. hex digits h ++ hex_digit d ∷ []) one two ∙ ap₂ (λ h d. h ++ d ∷ []) before.1 below.1 ∙ sym is)))
 
-number_only : (digits n : ℕ) (text : List ℕ) (long : Bool) → (length text == digits) ≡ long → (if long then digits_behind 0 text else None) ≡ Some n → (n < 16 ^ digits) × (hex digits n ≡ text)
+number_only : (digits n : ℕ) (text : List ℕ) (long : Bool) → (length text == digits) ≡ long → (if long then digits_behind 0 text else None) ≡ Some n
+    → (n < 16 ^ digits) × (hex digits n ≡ text)
 number_only digits n text true long e = hex_only digits n text (eqb-true (length text) digits long) e
 number_only digits n text false long e = absurd (none-some n e)
 
@@ -135,7 +140,8 @@ digit_avoids at digit other small = grind (arith, nat_tests, other)
 hex_avoids : (digits at n : ℕ) → is_digit at ≡ false → has_byte at (hex digits n) ≡ false
 hex_avoids zero at n other = refl
 hex_avoids (suc digits) at n other =
-    has_byte-both at (hex digits (n / 16)) (hex_digit (n % 16) ∷ []) (hex_avoids digits at (n / 16) other) (rw (digit_avoids at (n % 16) other (omega arith)) refl)
+    has_byte-both at (hex digits (n / 16)) (hex_digit (n % 16) ∷ []) (hex_avoids digits at (n / 16) other)
+    (rw (digit_avoids at (n % 16) other (omega arith)) refl)
 
 pub number_avoids : (digits at : ℕ) → is_digit at ≡ false → Avoids (hex_number digits) at
 number_avoids digits at other = λ n small. hex_avoids digits at n other
@@ -177,7 +183,8 @@ short_begins : (bound n : ℕ) → n < bound → 1 ≤ n → begins_above_zero (
 short_begins zero n below some = absurd (omega arith)
 short_begins (suc bound) n below some = elim (cases_lt n 16) [
   | inl small ↦ let low : n % 16 ≡ n = omega (arith, small) in rw (short_hex_low n small, low) (begins_low n [] some small)
-  | inr long ↦ rw (short_hex_long n long) (begins_longer (short_hex (n / 16)) (hex_digit (n % 16) ∷ []) (short_begins bound (n / 16) (omega (arith, long)) (omega (arith, long))))
+  | inr long ↦ rw (short_hex_long n long) (begins_longer (short_hex (n / 16)) (hex_digit (n % 16) ∷ [])
+      (short_begins bound (n / 16) (omega (arith, long)) (omega (arith, long))))
 ]
 
 short_back : (bound n : ℕ) → n < bound → digits_behind 0 (short_hex n) ≡ Some n
@@ -186,7 +193,14 @@ short_back (suc bound) n below = elim (cases_lt n 16) [
   | inl small ↦ let low : n % 16 ≡ n = omega (arith, small) in rw (short_hex_low n small, low, digit_back n small) (ap Some (zero-add n))
   | inr long ↦
       let whole : n / 16 * 16 + n % 16 ≡ n = omega arith in
-      rw (short_hex_long n long, digits_behind-last 0 (short_hex (n / 16)) (hex_digit (n % 16)), short_back bound (n / 16) (omega (arith, long)), digit_back (n % 16) (omega arith), whole) refl
+      rw (
+        short_hex_long n long,
+        digits_behind-last 0 (short_hex (n / 16)) (hex_digit (n % 16)),
+        short_back bound (n / 16) (omega (arith, long)),
+        digit_back
+            (n % 16) (omega arith),
+        whole,
+      ) refl
 ]
 
 short_length : (most n : ℕ) → 1 ≤ n → n < 16 ^ most → length (short_hex n) ≤ most
@@ -200,7 +214,8 @@ short_length (suc most) n some small =
           rw (short_hex_long n long) (omega (arith, before, length-append (short_hex (n / 16)) (hex_digit (n % 16) ∷ [])))
     ]
 
-begins_front : (front : List ℕ) (b digits : ℕ) → length front ≡ digits → 1 ≤ digits → begins_above_zero (front ++ b ∷ []) ≡ true → begins_above_zero front ≡ true
+begins_front : (front : List ℕ) (b digits : ℕ) → length front ≡ digits → 1 ≤ digits → begins_above_zero (front ++ b ∷ []) ≡ true
+    → begins_above_zero front ≡ true
 begins_front [] b digits long some e = absurd (omega (arith, long))
 begins_front (c ∷ front) b digits long some e = e
 
@@ -250,7 +265,8 @@ short_read_only most n text false passes e = absurd (none-some n e)
 pub short_number_is_exact : (most : ℕ) → IsExact (short_number most)
 short_number_is_exact most = record {
   back = λ n form.
-      let passes = and_from _ (nat_le (length (short_hex n)) most) (short_begins (suc n) n (omega arith) form.0) (le-leb (length (short_hex n)) most (short_length most n form.0 form.1)) in
+      let passes = and_from _ (nat_le (length (short_hex n)) most) (short_begins (suc n) n (omega arith) form.0)
+      (le-leb (length (short_hex n)) most (short_length most n form.0 form.1)) in
       rw passes (short_back (suc n) n (omega arith));
   only = λ text n e. short_read_only most n text (begins_above_zero text && nat_le (length text) most) refl e;
 }
@@ -260,7 +276,8 @@ short_hex_avoids zero at n other below = absurd (omega arith)
 short_hex_avoids (suc bound) at n other below = elim (cases_lt n 16) [
   | inl low ↦ rw (short_hex_low n low, digit_avoids at (n % 16) other (omega arith)) refl
   | inr long ↦ rw (short_hex_long n long)
-      (has_byte-both at (short_hex (n / 16)) (hex_digit (n % 16) ∷ []) (short_hex_avoids bound at (n / 16) other (omega (arith, long))) (rw (digit_avoids at (n % 16) other (omega arith)) refl))
+      (has_byte-both at (short_hex (n / 16)) (hex_digit (n % 16) ∷ []) (short_hex_avoids bound at (n / 16) other (omega (arith, long)))
+      (rw (digit_avoids at (n % 16) other (omega arith)) refl))
 ]
 
 pub short_avoids : (most at : ℕ) → is_digit at ≡ false → Avoids (short_number most) at

@@ -58,7 +58,8 @@ pub fn push_list<F: Field>(
     values: &[F::Value],
     out: &mut Vec<u8>,
 ) -> Result<(), AllocError>
-    ensures { OnOk result (out.new.items ≡ out.old.items ++ (listed (F.field field.now) between).text values.now) }
+    ensures { OnOk result (out.new.items ≡ out.old.items
+        ++ (listed (F.field field.now) between).text values.now) }
 {
     let [first, others @ ..] = values else {
         return Ok(());

@@ -45,7 +45,8 @@ gather_same m xs normal =
 small_rest : (x m : ℕ) → x < m → x % m ≡ x
 small_rest x m h = mod-eq_of_lt h
 
-pub make_same : (m base stride count : ℕ) → IsNormalRun m base stride count → make m base stride count ≡ Run (record { base = base; stride = stride; count = count })
+pub make_same : (m base stride count : ℕ) → IsNormalRun m base stride count
+    → make m base stride count ≡ Run (record { base = base; stride = stride; count = count })
 unfolding make
 make_same m base stride count normal =
     let many : nat_le count 16 ≡ false = lt-leb count 16 (omega (arith, normal.long)) in

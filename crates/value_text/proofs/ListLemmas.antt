@@ -25,9 +25,11 @@ behind_many digits values rest (Some xs) many e =
 
 -- more than 16 numbers
 pub too_many : (digits : ℕ) (values text rest : List ℕ) → length values ≡ 16
-    → (listed (hex_number digits) 44).value text ≡ option_map (λ more. values ++ more) ((listed (hex_number digits) 44).value rest) → None ≡ (list_field digits).value text
+    → (listed (hex_number digits) 44).value text ≡ option_map (λ more. values ++ more) ((listed (hex_number digits) 44).value rest) → None
+    ≡ (list_field digits).value text
 too_many digits values text rest many so_far =
-    sym (ap (option_and_then (λ xs. if is_list xs then Some xs else None)) so_far ∙ behind_many digits values rest ((listed (hex_number digits) 44).value rest) many refl)
+    sym (ap (option_and_then (λ xs. if is_list xs then Some xs else None)) so_far
+    ∙ behind_many digits values rest ((listed (hex_number digits) 44).value rest) many refl)
 
 -- no number
 pub no_list : (digits : ℕ) (text : List ℕ) → (listed (hex_number digits) 44).value text ≡ None → None ≡ (list_field digits).value text
@@ -38,11 +40,14 @@ pub the_list : (digits : ℕ) (values text : List ℕ) → length values ≤ 16 
     → (list_field digits).value text ≡ (if ascends 0 values then Some values else None)
 the_list digits values text few is =
     ap (option_and_then (λ xs. if is_list xs then Some xs else None)) is
-    ∙ ap (λ b. if ascends 0 values && b then Some values else None) (le-leb (length values) 16 few) ∙ ap (λ b. if b then Some values else None) (room (ascends 0 values))
+    ∙ ap (λ b. if ascends 0 values && b then Some values else None) (le-leb (length values) 16 few)
+    ∙ ap (λ b. if b then Some values else None) (room (ascends 0 values))
 
 -- the last number, and the test of all
-pub tested : (digits : ℕ) (values longer slice text rest : List ℕ) (value : ℕ) (passes : Bool) → length values ≤ 16 → (length values ≡ 16 → ⊥) → longer ≡ values ++ value ∷ []
-    → (listed (hex_number digits) 44).value text ≡ Some longer → slice ≡ longer → ascends 0 slice ≡ passes → (if passes then Some longer else None) ≡ (list_field digits).value text
+pub tested : (digits : ℕ) (values longer slice text rest : List ℕ) (value : ℕ) (passes : Bool) → length values ≤ 16 → (length values ≡ 16 → ⊥)
+    → longer ≡ values ++ value ∷ []
+    → (listed (hex_number digits) 44).value text ≡ Some longer → slice ≡ longer → ascends 0 slice ≡ passes → (if passes then Some longer else None)
+    ≡ (list_field digits).value text
 tested digits values longer slice text rest value passes few other pushed is same test =
     let long : length longer ≡ length values + 1 = ap length pushed ∙ omega (arith, length-append values (value ∷ [])) in
     sym (the_list digits longer text (omega (arith, long, few, other)) is ∙ ap (λ b. if b then Some longer else None) (ap (ascends 0) (sym same) ∙ test))

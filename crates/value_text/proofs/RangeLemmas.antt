@@ -5,9 +5,11 @@ use Rattle.irq_frames.specs.Ranges.{AreRanges, with_range}
 
 pub wider : (low from hi most : ℕ) (ranges : List (ℕ × ℕ)) → low ≤ from → hi ≤ most → AreRanges from hi ranges → AreRanges low most ranges
 wider low from hi most [] below above are = tt
-wider low from hi most (range ∷ ranges) below above are = (omega (arith, below, are.0), are.1, omega (arith, above, are.2), wider (range.1 + 2) (range.1 + 2) hi most ranges (omega arith) above are.3)
+wider low from hi most (range ∷ ranges) below above are =
+    (omega (arith, below, are.0), are.1, omega (arith, above, are.2), wider (range.1 + 2) (range.1 + 2) hi most ranges (omega arith) above are.3)
 
-pub range_at : (from hi i : ℕ) (ranges : List (ℕ × ℕ)) → AreRanges from hi ranges → i < length ranges → (from ≤ (get_or ranges i (0, 0)).0) × ((get_or ranges i (0, 0)).0 ≤ (get_or ranges i (0, 0)).1)
+pub range_at : (from hi i : ℕ) (ranges : List (ℕ × ℕ)) → AreRanges from hi ranges → i < length ranges
+    → (from ≤ (get_or ranges i (0, 0)).0) × ((get_or ranges i (0, 0)).0 ≤ (get_or ranges i (0, 0)).1)
 range_at from hi i [] are inside = absurd (omega (arith, inside))
 range_at from hi zero (range ∷ ranges) are inside = (are.0, are.1)
 range_at from hi (suc i) (range ∷ ranges) are inside =

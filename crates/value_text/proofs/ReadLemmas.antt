@@ -13,7 +13,8 @@ pub read_has_form : {A : Type 0} (s : Spelling A) (text : List ℕ) (result : Op
 read_has_form s text None h e = tt
 read_has_form s text (Some a) h e = (h.only text a (sym e)).0
 
-parts : (m : ℕ) (has : Bool) (run : Option (ℕ × (ℕ × ℕ))) (list : Option (List ℕ)) → option_map (form_of m) (option_map Some (if has then option_map inl run else option_map inr list))
+parts : (m : ℕ) (has : Bool) (run : Option (ℕ × (ℕ × ℕ))) (list : Option (List ℕ))
+    → option_map (form_of m) (option_map Some (if has then option_map inl run else option_map inr list))
     ≡ (if has then option_map (λ r. form_of m (Some (inl r))) run else option_map Values list)
 parts m true None list = refl
 parts m true (Some r) list = refl
@@ -28,5 +29,7 @@ wide : (digits : ℕ) → IsWidth digits → 2 ≤ digits
 wide digits (inl two) = omega (arith, two)
 wide digits (inr four) = omega (arith, four)
 
-pub part_normal : (digits : ℕ) (text : List ℕ) (result : Option Form) → IsWidth digits → bytes_eq text (codes "*") ≡ false → result ≡ part_of digits text → IfSome result (IsNormal (16 ^ digits))
-part_normal digits text result width other is = read_has_form (set_field digits) text result (set_is_exact digits (wide digits width)) (is ∙ sym (set_part digits text other))
+pub part_normal : (digits : ℕ) (text : List ℕ) (result : Option Form) → IsWidth digits → bytes_eq text (codes "*") ≡ false → result ≡ part_of digits text
+    → IfSome result (IsNormal (16 ^ digits))
+part_normal digits text result width other is = read_has_form (set_field digits) text result (set_is_exact digits (wide digits width))
+    (is ∙ sym (set_part digits text other))

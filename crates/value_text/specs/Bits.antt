@@ -48,7 +48,8 @@ bits_narrow count bits long = ((length-reverse bits ∙ long, bits_forms (revers
 pub bits_is_exact : (count : ℕ) → IsExact (bits_field count)
 bits_is_exact count =
     restated_is_exact (told_by (in_row count bit_field) reverse reverse) (λ bits. length bits ≡ count)
-    (told_by_is_exact (in_row count bit_field) reverse reverse (in_row_is_exact count bit_field bit_is_exact (λ bit form. refl)) (λ bits form. reverse-reverse bits))
+    (told_by_is_exact (in_row count bit_field) reverse reverse (in_row_is_exact count bit_field bit_is_exact (λ bit form. refl))
+    (λ bits form. reverse-reverse bits))
     (bits_narrow count) (λ bits form. sym (length-reverse bits) ∙ form.0.0)
 
 pub bits_avoids : (count at : ℕ) → none_has at ((48 ∷ []) ∷ (49 ∷ []) ∷ (120 ∷ []) ∷ []) ≡ true → Avoids (bits_field count) at

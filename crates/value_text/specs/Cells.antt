@@ -20,7 +20,8 @@ use Rattle.value_text.specs.Sets.{neither}
 
 -- whole in RAM from an address to another, of one byte with numbers below 100h or of two, and not saying nothing
 abbrev pub is_cell : (lo hi : ℕ) → Cell → Bool
-is_cell lo hi cell = nat_le lo cell.place && (nat_le (cell.place + cell.size) (hi + 1) && ((not (cell.size == 1) || is_byte_set cell.word.set) && not (is_nothing cell.size cell.word)))
+is_cell lo hi cell = nat_le lo cell.place && (nat_le (cell.place + cell.size) (hi + 1) &&
+    ((not (cell.size == 1) || is_byte_set cell.word.set) && not (is_nothing cell.size cell.word)))
 
 -- cells ascend from an address on, and none overlaps the next
 abbrev pub are_cells : (lo hi from : ℕ) → List Cell → Bool
@@ -41,7 +42,8 @@ cell_parts cell = ((cell.place, cell.size), cell.word)
 
 -- a cell that passes a test, with a place of so many digits
 abbrev pub cell_field : (digits : ℕ) → Spelling ℕ → (framed : Bool) → (Cell → Bool) → Spelling Cell
-cell_field digits place framed test = passing (told_by (beside 58 (beside 46 (hex_number digits) size_field) (word_field digits place framed)) cell_of cell_parts) test
+cell_field digits place framed test = passing (told_by
+    (beside 58 (beside 46 (hex_number digits) size_field) (word_field digits place framed)) cell_of cell_parts) test
 
 -- a cell of any kind
 abbrev pub any_cell : (digits : ℕ) → Spelling ℕ → (framed : Bool) → List ℕ → Option Cell
@@ -50,7 +52,8 @@ any_cell digits place framed text = option_map cell_of ((beside 58 (beside 46 (h
 -- each cell passes the test, and has a relation of the frame
 abbrev pub AreRelated : (digits : ℕ) → (IsPlace : ℕ → Type 0) → (framed : Bool) → (Cell → Bool) → List Cell → Type 0
 AreRelated digits IsPlace framed test [] = Unit {0}
-AreRelated digits IsPlace framed test (cell ∷ cells) = HasRelation digits IsPlace framed cell.word.entry × (test cell ≡ true) × AreRelated digits IsPlace framed test cells
+AreRelated digits IsPlace framed test (cell ∷ cells) = HasRelation digits IsPlace framed cell.word.entry × (test cell ≡ true)
+    × AreRelated digits IsPlace framed test cells
 
 abbrev pub AreCellsIn : (digits : ℕ) → (IsPlace : ℕ → Type 0) → (framed : Bool) → (Cell → Bool) → (lo hi : ℕ) → List Cell → Type 0
 AreCellsIn digits IsPlace framed test lo hi cells = AreCells lo hi lo cells × AreRelated digits IsPlace framed test cells
@@ -60,7 +63,8 @@ listed_cells digits place framed test = listed_or_mark (cell_field digits place 
 
 -- the cells of RAM from an address to another
 abbrev pub cells_field : (digits : ℕ) → Spelling ℕ → (framed : Bool) → (Cell → Bool) → (lo hi : ℕ) → Spelling (List Cell)
-cells_field digits place framed test lo hi = restated (passing (listed_cells digits place framed test) (are_cells lo hi lo)) (AreCellsIn digits place.Form framed test lo hi)
+cells_field digits place framed test lo hi = restated (passing (listed_cells digits place framed test) (are_cells lo hi lo))
+    (AreCellsIn digits place.Form framed test lo hi)
 
 -- the text of cells, whatever the frame and the RAM that they lie in
 abbrev pub cells_text : (digits : ℕ) → Spelling ℕ → List Cell → List ℕ
@@ -114,17 +118,22 @@ size_back : (size : ℕ) → (size ≡ 1) ⊎ (size ≡ 2) → size_field.Form s
 size_back size (inl one) = rw one (omega arith, refl)
 size_back size (inr two) = rw two (omega arith, refl)
 
-pub cells_back : (digits : ℕ) (place : Spelling ℕ) (framed : Bool) (test : Cell → Bool) (lo hi from : ℕ) → hi < 16 ^ digits → (cells : List Cell) → AreCells lo hi from cells
+pub cells_back : (digits : ℕ) (place : Spelling ℕ) (framed : Bool) (test : Cell → Bool) (lo hi from : ℕ) → hi < 16 ^ digits → (cells : List Cell)
+    → AreCells lo hi from cells
     → AreRelated digits place.Form framed test cells → AllByRecursion (cell_field digits place framed test).Form cells × (are_cells lo hi from cells ≡ true)
 cells_back digits place framed test lo hi from below [] are related = (tt, refl)
 cells_back digits place framed test lo hi from below (cell ∷ cells) are related =
     let is = are.0 in
     let rest = cells_back digits place framed test lo hi (cell.place + cell.size) below cells are.2 related.2 in
     let size = size_back cell.size is.size in
-    let inside : cell.place < 16 ^ digits = elim is.size [ inl one ↦ omega (arith, one, is.high) | inr two ↦ omega (arith, two, is.high) ] in
-    ((((((inside, size), (is.normal, related.0)), refl), related.1), rest.0), and_from (is_cell lo hi cell) _ (cell_back lo hi cell is) (and_from (nat_le from cell.place) _ (le-leb from cell.place are.1) rest.1))
+    let inside : cell.place < 16 ^ digits = elim is.size [ inl one ↦ omega (arith, one, is.high) | inr two ↦ omega (arith, two, is.high) ] in (
+      (((((inside, size), (is.normal, related.0)), refl), related.1), rest.0),
+      and_from (is_cell lo hi cell) _ (cell_back lo hi cell is)
+          (and_from (nat_le from cell.place) _ (le-leb from cell.place are.1) rest.1),
+    )
 
-cells_only : (digits : ℕ) (place : Spelling ℕ) (framed : Bool) (test : Cell → Bool) (lo hi from : ℕ) (cells : List Cell) → AllByRecursion (cell_field digits place framed test).Form cells
+cells_only : (digits : ℕ) (place : Spelling ℕ) (framed : Bool) (test : Cell → Bool) (lo hi from : ℕ) (cells : List Cell)
+    → AllByRecursion (cell_field digits place framed test).Form cells
     → are_cells lo hi from cells ≡ true → AreCells lo hi from cells × AreRelated digits place.Form framed test cells
 cells_only digits place framed test lo hi from [] forms passes = (tt, tt)
 cells_only digits place framed test lo hi from (cell ∷ cells) forms passes =
@@ -146,39 +155,48 @@ at_is_exact digits = beside_is_exact 46 (hex_number digits) size_field (hex_numb
 at_avoids : (digits at : ℕ) → is_digit at ≡ false → (46 == at) ≡ false → Avoids (beside 46 (hex_number digits) size_field) at
 at_avoids digits at no_digit no_dot = beside_avoids 46 at (hex_number digits) size_field no_dot (number_avoids digits at no_digit) (size_avoids at no_digit)
 
-pub cell_is_exact : (digits : ℕ) (place : Spelling ℕ) (framed : Bool) (test : Cell → Bool) → IsExact place → Avoids place 38 → IsExact (cell_field digits place framed test)
+pub cell_is_exact : (digits : ℕ) (place : Spelling ℕ) (framed : Bool) (test : Cell → Bool) → IsExact place → Avoids place 38
+    → IsExact (cell_field digits place framed test)
 cell_is_exact digits place framed test h apart =
     let parts = beside 58 (beside 46 (hex_number digits) size_field) (word_field digits place framed) in
     passing_is_exact (told_by parts cell_of cell_parts) test
     (told_by_is_exact parts cell_of cell_parts
-    (beside_is_exact 58 (beside 46 (hex_number digits) size_field) (word_field digits place framed) (at_is_exact digits) (word_is_exact digits place framed h apart) (at_avoids digits 58 refl refl))
+    (beside_is_exact 58 (beside 46 (hex_number digits) size_field) (word_field digits place framed) (at_is_exact digits)
+    (word_is_exact digits place framed h apart) (at_avoids digits 58 refl refl))
     (λ parts form. refl))
 
-cell_avoids : (digits : ℕ) (place : Spelling ℕ) (framed : Bool) (test : Cell → Bool) (at : ℕ) → is_digit at ≡ false → (46 == at) ≡ false → (58 == at) ≡ false → is_word_byte at ≡ false → Avoids place at
+cell_avoids : (digits : ℕ) (place : Spelling ℕ) (framed : Bool) (test : Cell → Bool) (at : ℕ) → is_digit at ≡ false → (46 == at) ≡ false → (58 == at) ≡ false
+    → is_word_byte at ≡ false → Avoids place at
     → Avoids (cell_field digits place framed test) at
 cell_avoids digits place framed test at no_digit no_dot no_colon no_word apart =
     let parts = beside 58 (beside 46 (hex_number digits) size_field) (word_field digits place framed) in
     passing_avoids (told_by parts cell_of cell_parts) test at
     (told_by_avoids parts cell_of cell_parts at
-    (beside_avoids 58 at (beside 46 (hex_number digits) size_field) (word_field digits place framed) no_colon (at_avoids digits at no_digit no_dot) (word_avoids digits place framed at no_word apart)))
+    (beside_avoids 58 at (beside 46 (hex_number digits) size_field) (word_field digits place framed) no_colon (at_avoids digits at no_digit no_dot)
+    (word_avoids digits place framed at no_word apart)))
 
-cell_has_dot : (digits : ℕ) (place : Spelling ℕ) (framed : Bool) (test : Cell → Bool) (cell : Cell) → (cell_field digits place framed test).Form cell → has_byte 46 ((cell_field digits place framed test).text cell) ≡ true
+cell_has_dot : (digits : ℕ) (place : Spelling ℕ) (framed : Bool) (test : Cell → Bool) (cell : Cell) → (cell_field digits place framed test).Form cell
+    → has_byte 46 ((cell_field digits place framed test).text cell) ≡ true
 cell_has_dot digits place framed test cell form =
-    has_byte-left 46 (hex digits cell.place ++ 46 ∷ size_field.text cell.size) (58 ∷ (word_field digits place framed).text cell.word) (has_byte-at 46 (hex digits cell.place) (size_field.text cell.size))
+    has_byte-left 46 (hex digits cell.place ++ 46 ∷ size_field.text cell.size) (58 ∷ (word_field digits place framed).text cell.word)
+    (has_byte-at 46 (hex digits cell.place) (size_field.text cell.size))
 
-pub cells_is_exact : (digits : ℕ) (place : Spelling ℕ) (framed : Bool) (test : Cell → Bool) (lo hi : ℕ) → hi < 16 ^ digits → IsExact place → Avoids place 38 → Avoids place 59
+pub cells_is_exact : (digits : ℕ) (place : Spelling ℕ) (framed : Bool) (test : Cell → Bool) (lo hi : ℕ) → hi < 16 ^ digits → IsExact place → Avoids place 38
+    → Avoids place 59
     → IsExact (cells_field digits place framed test lo hi)
 cells_is_exact digits place framed test lo hi below h no_and no_semicolon =
     let cell = cell_field digits place framed test in
     restated_is_exact (passing (listed_cells digits place framed test) (are_cells lo hi lo)) (AreCellsIn digits place.Form framed test lo hi)
     (passing_is_exact (listed_cells digits place framed test) (are_cells lo hi lo)
     (listed_or_mark_is_exact cell 59 (codes "-")
-    (λ cells form. byte_differs 46 ((listed cell 59).text cells) (codes "-") false refl (λ none. true≢false (sym (listed_has cell 59 46 (cell_has_dot digits place framed test) cells form) ∙ none)))
+    (λ cells form. byte_differs 46 ((listed cell 59).text cells) (codes "-") false refl
+    (λ none. true≢false (sym (listed_has cell 59 46 (cell_has_dot digits place framed test) cells form) ∙ none)))
     (cell_is_exact digits place framed test h no_and) (cell_avoids digits place framed test 59 refl refl refl refl no_semicolon)))
     (λ cells are. cells_back digits place framed test lo hi lo below cells are.0 are.1)
     (λ cells form. cells_only digits place framed test lo hi lo cells form.0 form.1)
 
-cells_byte_parts : (at : ℕ) → is_cells_byte at ≡ false → (is_word_byte at ≡ false) × ((46 == at) ≡ false) × ((58 == at) ≡ false) × ((59 == at) ≡ false) × ((45 == at) ≡ false)
+cells_byte_parts : (at : ℕ) → is_cells_byte at ≡ false → (is_word_byte at ≡ false) × ((46 == at) ≡ false) × ((58 == at) ≡ false) × ((59 == at) ≡ false)
+    × ((45 == at) ≡ false)
 cells_byte_parts at none =
     let last = neither (is_word_byte at || (46 == at) || (58 == at) || (59 == at)) (45 == at) none in
     let fourth = neither (is_word_byte at || (46 == at) || (58 == at)) (59 == at) last.0 in
@@ -186,7 +204,8 @@ cells_byte_parts at none =
     let first = neither (is_word_byte at) (46 == at) third.0 in
     (first.0, first.1, third.1, fourth.1, last.1)
 
-pub cells_avoids : (digits : ℕ) (place : Spelling ℕ) (framed : Bool) (test : Cell → Bool) (lo hi at : ℕ) → hi < 16 ^ digits → is_cells_byte at ≡ false → Avoids place at → Avoids (cells_field digits place framed test lo hi) at
+pub cells_avoids : (digits : ℕ) (place : Spelling ℕ) (framed : Bool) (test : Cell → Bool) (lo hi at : ℕ) → hi < 16 ^ digits → is_cells_byte at ≡ false
+    → Avoids place at → Avoids (cells_field digits place framed test lo hi) at
 cells_avoids digits place framed test lo hi at below none apart =
     let parts = cells_byte_parts at none in
     restated_avoids (passing (listed_cells digits place framed test) (are_cells lo hi lo)) (AreCellsIn digits place.Form framed test lo hi) at

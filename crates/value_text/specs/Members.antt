@@ -65,7 +65,8 @@ below_only base stride count v small has =
     omega (arith, is, near, small, reach)
 
 -- such a run never goes round
-below_step : (base stride count : ℕ) → IsNormalRun 65536 base stride count → ((v : ℕ) → Contains (steps 65536 base stride count) v → v < 256) → (i : ℕ) → i < count → base + i * stride < 256
+below_step : (base stride count : ℕ) → IsNormalRun 65536 base stride count → ((v : ℕ) → Contains (steps 65536 base stride count) v → v < 256) → (i : ℕ)
+    → i < count → base + i * stride < 256
 below_step base stride count normal all zero inside =
     let near : (base + 0 * stride) % 65536 ≡ base + 0 * stride = mod-eq_of_lt (omega (arith, normal.below)) in
     omega (arith, near, all _ (steps_have 65536 base stride count 0 inside))

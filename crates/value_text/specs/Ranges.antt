@@ -40,23 +40,28 @@ pub ranges_back : (from hi : ℕ) (ranges : List (ℕ × ℕ)) → AreRanges fro
 ranges_back from hi [] are = refl
 ranges_back from hi (range ∷ ranges) are =
     and_from (nat_le from range.0) _ (le-leb from range.0 are.0)
-    (and_from (nat_le range.0 range.1) _ (le-leb range.0 range.1 are.1) (and_from (nat_le range.1 hi) _ (le-leb range.1 hi are.2) (ranges_back (range.1 + 2) hi ranges are.3)))
+    (and_from (nat_le range.0 range.1) _ (le-leb range.0 range.1 are.1)
+    (and_from (nat_le range.1 hi) _ (le-leb range.1 hi are.2) (ranges_back (range.1 + 2) hi ranges are.3)))
 
 pub range_forms : (digits from hi : ℕ) (ranges : List (ℕ × ℕ)) → hi < 16 ^ digits → AreRanges from hi ranges → AllByRecursion (range_field digits).Form ranges
 range_forms digits from hi [] below are = tt
-range_forms digits from hi (range ∷ ranges) below are = ((omega (arith, are.1, are.2), omega (arith, are.2)), range_forms digits (range.1 + 2) hi ranges below are.3)
+range_forms digits from hi (range ∷ ranges) below are =
+    ((omega (arith, are.1, are.2), omega (arith, are.2)), range_forms digits (range.1 + 2) hi ranges below are.3)
 
 range_is_exact : (digits : ℕ) → IsExact (range_field digits)
-range_is_exact digits = beside_is_exact 45 (hex_number digits) (hex_number digits) (hex_number_is_exact digits) (hex_number_is_exact digits) (number_avoids digits 45 refl)
+range_is_exact digits = beside_is_exact 45 (hex_number digits) (hex_number digits) (hex_number_is_exact digits) (hex_number_is_exact digits)
+    (number_avoids digits 45 refl)
 
 range_avoids : (digits at : ℕ) → is_digit at ≡ false → (45 == at) ≡ false → Avoids (range_field digits) at
-range_avoids digits at no_digit no_dash = beside_avoids 45 at (hex_number digits) (hex_number digits) no_dash (number_avoids digits at no_digit) (number_avoids digits at no_digit)
+range_avoids digits at no_digit no_dash = beside_avoids 45 at (hex_number digits) (hex_number digits) no_dash (number_avoids digits at no_digit)
+    (number_avoids digits at no_digit)
 
 -- a range is longer than a dash
 range_longer : (digits : ℕ) (range : ℕ × ℕ) → 1 ≤ digits → 2 ≤ length ((range_field digits).text range)
 range_longer digits range some = omega (arith, hex_length digits range.0, length-append (hex digits range.0) (45 ∷ hex digits range.1))
 
-ranges_narrow : (digits lo hi : ℕ) → hi < 16 ^ digits → (ranges : List (ℕ × ℕ)) → AreRanges lo hi ranges → (passing (listed_or_mark (range_field digits) 44 (codes "-")) (are_ranges lo hi)).Form ranges
+ranges_narrow : (digits lo hi : ℕ) → hi < 16 ^ digits → (ranges : List (ℕ × ℕ)) → AreRanges lo hi ranges
+    → (passing (listed_or_mark (range_field digits) 44 (codes "-")) (are_ranges lo hi)).Form ranges
 ranges_narrow digits lo hi below ranges are = (range_forms digits lo hi ranges below are, ranges_back lo hi ranges are)
 
 pub ranges_is_exact : (digits lo hi : ℕ) → 1 ≤ digits → hi < 16 ^ digits → IsExact (ranges_field digits lo hi)
@@ -64,11 +69,13 @@ ranges_is_exact digits lo hi some below =
     let range = range_field digits in
     restated_is_exact (passing (listed_or_mark range 44 (codes "-")) (are_ranges lo hi)) (AreRanges lo hi)
     (passing_is_exact (listed_or_mark range 44 (codes "-")) (are_ranges lo hi)
-    (listed_or_mark_is_exact range 44 (codes "-") (λ ranges form. longer_differs ((listed range 44).text ranges) 45 (listed_longer range 44 2 (λ r is. range_longer digits r some) ranges form))
+    (listed_or_mark_is_exact range 44 (codes "-") (λ ranges form. longer_differs ((listed range 44).text ranges) 45
+    (listed_longer range 44 2 (λ r is. range_longer digits r some) ranges form))
     (range_is_exact digits) (range_avoids digits 44 refl refl)))
     (ranges_narrow digits lo hi below) (λ ranges form. ranges_only lo hi ranges form.1)
 
-pub ranges_avoids : (digits lo hi at : ℕ) → hi < 16 ^ digits → is_digit at ≡ false → (44 == at) ≡ false → (45 == at) ≡ false → Avoids (ranges_field digits lo hi) at
+pub ranges_avoids : (digits lo hi at : ℕ) → hi < 16 ^ digits → is_digit at ≡ false → (44 == at) ≡ false → (45 == at) ≡ false
+    → Avoids (ranges_field digits lo hi) at
 ranges_avoids digits lo hi at below no_digit no_comma no_dash =
     let range = range_field digits in
     restated_avoids (passing (listed_or_mark range 44 (codes "-")) (are_ranges lo hi)) (AreRanges lo hi) at (ranges_narrow digits lo hi below)

@@ -70,10 +70,12 @@ is_set_byte at = is_digit at || (42 == at) || (44 == at) || (47 == at)
 -- LAWS
 
 list_is_exact : (digits : ℕ) → IsExact (list_field digits)
-list_is_exact digits = passing_is_exact (listed (hex_number digits) 44) is_list (listed_is_exact (hex_number digits) 44 (hex_number_is_exact digits) (number_avoids digits 44 refl))
+list_is_exact digits = passing_is_exact (listed (hex_number digits) 44) is_list
+    (listed_is_exact (hex_number digits) 44 (hex_number_is_exact digits) (number_avoids digits 44 refl))
 
 steps_is_exact : (digits : ℕ) → IsExact (steps_field digits)
-steps_is_exact digits = beside_is_exact 47 (short_number digits) (short_number digits) (short_number_is_exact digits) (short_number_is_exact digits) (short_avoids digits 47 refl)
+steps_is_exact digits = beside_is_exact 47 (short_number digits) (short_number digits) (short_number_is_exact digits) (short_number_is_exact digits)
+    (short_avoids digits 47 refl)
 
 run_is_exact : (digits : ℕ) → IsExact (run_field digits)
 run_is_exact digits =
@@ -81,7 +83,8 @@ run_is_exact digits =
     (beside_is_exact 47 (hex_number digits) (steps_field digits) (hex_number_is_exact digits) (steps_is_exact digits) (number_avoids digits 47 refl))
 
 list_avoids : (digits at : ℕ) → is_digit at ≡ false → (44 == at) ≡ false → Avoids (list_field digits) at
-list_avoids digits at no_digit no_comma = passing_avoids (listed (hex_number digits) 44) is_list at (listed_avoids (hex_number digits) 44 at no_comma (number_avoids digits at no_digit))
+list_avoids digits at no_digit no_comma = passing_avoids (listed (hex_number digits) 44) is_list at
+    (listed_avoids (hex_number digits) 44 at no_comma (number_avoids digits at no_digit))
 
 run_avoids : (digits at : ℕ) → is_digit at ≡ false → (47 == at) ≡ false → Avoids (run_field digits) at
 run_avoids digits at no_digit no_slash =
@@ -93,13 +96,16 @@ run_has_slash : (digits : ℕ) (run : ℕ × (ℕ × ℕ)) → (run_field digits
 run_has_slash digits run form = has_byte-at 47 (hex digits run.0) ((steps_field digits).text run.1)
 
 one_avoids : (digits at : ℕ) → is_digit at ≡ false → (44 == at) ≡ false → (47 == at) ≡ false → Avoids (either 47 (run_field digits) (list_field digits)) at
-one_avoids digits at no_digit no_comma no_slash = either_avoids 47 at (run_field digits) (list_field digits) (run_avoids digits at no_digit no_slash) (list_avoids digits at no_digit no_comma)
+one_avoids digits at no_digit no_comma no_slash = either_avoids 47 at (run_field digits) (list_field digits) (run_avoids digits at no_digit no_slash)
+    (list_avoids digits at no_digit no_comma)
 
 parts_is_exact : (digits : ℕ) → IsExact (parts_field digits)
 parts_is_exact digits =
     let one = either 47 (run_field digits) (list_field digits) in
-    or_mark_is_exact one (codes "*") (λ parts form. byte_differs 42 (one.text parts) (codes "*") true refl (λ has. true≢false (sym has ∙ one_avoids digits 42 refl refl refl parts form)))
-    (either_is_exact 47 (run_field digits) (list_field digits) (run_is_exact digits) (list_is_exact digits) (run_has_slash digits) (list_avoids digits 47 refl refl))
+    or_mark_is_exact one (codes "*") (λ parts form. byte_differs 42 (one.text parts) (codes "*") true refl
+    (λ has. true≢false (sym has ∙ one_avoids digits 42 refl refl refl parts form)))
+    (either_is_exact 47 (run_field digits) (list_field digits) (run_is_exact digits) (list_is_exact digits) (run_has_slash digits)
+    (list_avoids digits 47 refl refl))
 
 parts_back : (digits : ℕ) (parts : Parts) → (parts_field digits).Form parts → parts_of (16 ^ digits) (form_of (16 ^ digits) parts) ≡ parts
 parts_back digits None form = rw (eq-eqb (16 ^ digits) (16 ^ digits) refl) refl
@@ -112,14 +118,23 @@ big_enough digits two = omega (arith, longer_power 2 digits two)
 abbrev IsTold : (digits : ℕ) → Form → Type 0
 IsTold digits form = (form_field digits).Form form
 
-run_narrow : (digits : ℕ) (run : Progression) (all : Bool) → (run.count == 16 ^ digits) ≡ all → 2 ≤ digits → IsNormalRun (16 ^ digits) run.base run.stride run.count → IsTold digits (Run run)
+run_narrow : (digits : ℕ) (run : Progression) (all : Bool) → (run.count == 16 ^ digits) ≡ all → 2 ≤ digits
+    → IsNormalRun (16 ^ digits) run.base run.stride run.count → IsTold digits (Run run)
 run_narrow digits run true all two normal =
     let same = eqb-true run.count (16 ^ digits) all in
-    let parts = whole_only (16 ^ digits) run.base run.stride (big_enough digits two) (subst (λ n. IsNormalRun (16 ^ digits) run.base run.stride n) same normal) in
+    let parts = whole_only (16 ^ digits) run.base run.stride (big_enough digits two)
+    (subst (λ n. IsNormalRun (16 ^ digits) run.base run.stride n) same normal) in
     rw all (tt, rw (parts.0, parts.1, same) refl)
 run_narrow digits run false all two normal =
     let below = run_is_below (16 ^ digits) run.base run.stride run.count normal all in
-    rw all (((normal.below, ((normal.strides, below.0), (omega (arith, normal.long), below.1))), run_back (16 ^ digits) run.base run.stride run.count normal all), refl)
+    rw all (
+      (
+        (normal.below, ((normal.strides, below.0), (omega (arith, normal.long), below.1))),
+        run_back
+            (16 ^ digits) run.base run.stride run.count normal all,
+      ),
+      refl,
+    )
 
 form_narrow : (digits : ℕ) → 2 ≤ digits → (form : Form) → IsNormal (16 ^ digits) form → IsTold digits form
 form_narrow digits two (Values values) normal =
@@ -127,7 +142,8 @@ form_narrow digits two (Values values) normal =
     (((normal.0, are.0), and_from (ascends 0 values) _ are.1 (le-leb (length values) 16 normal.1)), refl)
 form_narrow digits two (Run run) normal = run_narrow digits run (run.count == 16 ^ digits) refl two normal
 
-run_wide : (digits : ℕ) (run : Progression) (all : Bool) → (run.count == 16 ^ digits) ≡ all → 2 ≤ digits → IsTold digits (Run run) → IsNormalRun (16 ^ digits) run.base run.stride run.count
+run_wide : (digits : ℕ) (run : Progression) (all : Bool) → (run.count == 16 ^ digits) ≡ all → 2 ≤ digits → IsTold digits (Run run)
+    → IsNormalRun (16 ^ digits) run.base run.stride run.count
 run_wide digits run true all two form =
     let whole_is : whole (16 ^ digits) ≡ Run run = rw all at form.1 in
     subst (IsNormal (16 ^ digits)) whole_is (whole_back (16 ^ digits) (big_enough digits two))
@@ -158,10 +174,12 @@ same_run digits run =
     ∙ append_assoc (hex digits run.base ++ codes "/") (short_hex run.stride) (47 ∷ short_hex run.count)
     ∙ append_assoc (hex digits run.base) (codes "/") (short_hex run.stride ++ 47 ∷ short_hex run.count)
 
-pub other_run_text : (digits : ℕ) (run : Progression) → (run.count == 16 ^ digits) ≡ false → form_text digits (16 ^ digits) (Run run) ≡ (run_field digits).text (run.base, (run.stride, run.count))
+pub other_run_text : (digits : ℕ) (run : Progression) → (run.count == 16 ^ digits) ≡ false
+    → form_text digits (16 ^ digits) (Run run) ≡ (run_field digits).text (run.base, (run.stride, run.count))
 other_run_text digits run other = rw other (same_run digits run)
 
-run_text : (digits : ℕ) (run : Progression) (all : Bool) → (run.count == 16 ^ digits) ≡ all → form_text digits (16 ^ digits) (Run run) ≡ (form_field digits).text (Run run)
+run_text : (digits : ℕ) (run : Progression) (all : Bool) → (run.count == 16 ^ digits) ≡ all
+    → form_text digits (16 ^ digits) (Run run) ≡ (form_field digits).text (Run run)
 run_text digits run true all = rw all refl
 run_text digits run false all = rw all (same_run digits run)
 

@@ -75,20 +75,24 @@ is_word_byte at = is_set_byte at || (64 == at) || (38 == at) || (124 == at)
 
 pub relation_is_exact : (digits : ℕ) (place : Spelling ℕ) → IsExact place → Avoids place 38 → IsExact (relation_field digits place)
 relation_is_exact digits place h apart =
-    let masks = beside_is_exact 124 (hex_number digits) (hex_number digits) (hex_number_is_exact digits) (hex_number_is_exact digits) (number_avoids digits 124 refl) in
+    let masks = beside_is_exact 124 (hex_number digits) (hex_number digits) (hex_number_is_exact digits) (hex_number_is_exact digits)
+    (number_avoids digits 124 refl) in
     told_by_is_exact (beside 38 place (beside 124 (hex_number digits) (hex_number digits))) entry_of numbers_of
     (beside_is_exact 38 place (beside 124 (hex_number digits) (hex_number digits)) h masks apart) (λ numbers form. refl)
 
-pub relation_avoids : (digits : ℕ) (place : Spelling ℕ) (at : ℕ) → is_digit at ≡ false → (38 == at) ≡ false → (124 == at) ≡ false → Avoids place at → Avoids (relation_field digits place) at
+pub relation_avoids : (digits : ℕ) (place : Spelling ℕ) (at : ℕ) → is_digit at ≡ false → (38 == at) ≡ false → (124 == at) ≡ false → Avoids place at
+    → Avoids (relation_field digits place) at
 relation_avoids digits place at no_digit no_and no_bar apart =
     told_by_avoids (beside 38 place (beside 124 (hex_number digits) (hex_number digits))) entry_of numbers_of at
     (beside_avoids 38 at place (beside 124 (hex_number digits) (hex_number digits)) no_and apart
     (beside_avoids 124 at (hex_number digits) (hex_number digits) no_bar (number_avoids digits at no_digit) (number_avoids digits at no_digit)))
 
-remembering_is_exact : (width digits : ℕ) (place : Spelling ℕ) (framed : Bool) → 2 ≤ width → IsExact place → Avoids place 38 → IsExact (remembering width digits place framed)
+remembering_is_exact : (width digits : ℕ) (place : Spelling ℕ) (framed : Bool) → 2 ≤ width → IsExact place → Avoids place 38
+    → IsExact (remembering width digits place framed)
 remembering_is_exact width digits place framed two h apart =
     passing_is_exact (with_tail 64 (set_field width) (relation_field digits place)) (λ parts. framed || is_none parts.1)
-    (with_tail_is_exact 64 (set_field width) (relation_field digits place) (set_is_exact width two) (relation_is_exact digits place h apart) (set_avoids width 64 two refl))
+    (with_tail_is_exact 64 (set_field width) (relation_field digits place) (set_is_exact width two) (relation_is_exact digits place h apart)
+    (set_avoids width 64 two refl))
 
 pub word_byte_parts : (at : ℕ) → is_word_byte at ≡ false → (is_set_byte at ≡ false) × ((64 == at) ≡ false) × ((38 == at) ≡ false) × ((124 == at) ≡ false)
 word_byte_parts at none =
@@ -98,9 +102,11 @@ word_byte_parts at none =
     (first.0, first.1, third.1, last.1)
 
 pub no_digits : (at : ℕ) → is_set_byte at ≡ false → is_digit at ≡ false
-no_digits at none = (neither (is_digit at) (42 == at) (neither (is_digit at || (42 == at)) (44 == at) (neither (is_digit at || (42 == at) || (44 == at)) (47 == at) none).0).0).0
+no_digits at none = (neither (is_digit at) (42 == at)
+    (neither (is_digit at || (42 == at)) (44 == at) (neither (is_digit at || (42 == at) || (44 == at)) (47 == at) none).0).0).0
 
-remembering_avoids : (width digits : ℕ) (place : Spelling ℕ) (framed : Bool) (at : ℕ) → 2 ≤ width → is_word_byte at ≡ false → Avoids place at → Avoids (remembering width digits place framed) at
+remembering_avoids : (width digits : ℕ) (place : Spelling ℕ) (framed : Bool) (at : ℕ) → 2 ≤ width → is_word_byte at ≡ false → Avoids place at
+    → Avoids (remembering width digits place framed) at
 remembering_avoids width digits place framed at two none apart =
     let parts = word_byte_parts at none in
     passing_avoids (with_tail 64 (set_field width) (relation_field digits place)) (λ parts. framed || is_none parts.1) at
@@ -115,42 +121,51 @@ frame_back width digits place true None form = (tt, refl)
 frame_back width digits place false (Some entry) form = absurd form
 frame_back width digits place true (Some entry) form = (((form.0, (form.1, form.2)), refl), refl)
 
-pub frame_only : (width digits : ℕ) (place : Spelling ℕ) (framed : Bool) (entry : Option Entry) → IfForm (relation_field digits place).Form entry → (framed || is_none entry) ≡ true
+pub frame_only : (width digits : ℕ) (place : Spelling ℕ) (framed : Bool) (entry : Option Entry) → IfForm (relation_field digits place).Form entry
+    → (framed || is_none entry) ≡ true
     → HasRelation digits place.Form framed entry
 frame_only width digits place framed None form test = tt
 frame_only width digits place false (Some entry) form test = absurd (false≢true test)
 frame_only width digits place true (Some entry) form test = (form.0.0, form.0.1.0, form.0.1.1)
 
-word_narrow : (digits : ℕ) (place : Spelling ℕ) (framed : Bool) (word : Word) → IsWordIn digits place.Form framed word → (told_by (remembering 4 digits place framed) word_of word_parts).Form word
+word_narrow : (digits : ℕ) (place : Spelling ℕ) (framed : Bool) (word : Word) → IsWordIn digits place.Form framed word
+    → (told_by (remembering 4 digits place framed) word_of word_parts).Form word
 word_narrow digits place framed word form = let back = frame_back 4 digits place framed word.entry form.1 in (((form.0, back.0), back.1), refl)
 
-word_wide : (digits : ℕ) (place : Spelling ℕ) (framed : Bool) (word : Word) → (told_by (remembering 4 digits place framed) word_of word_parts).Form word → IsWordIn digits place.Form framed word
+word_wide : (digits : ℕ) (place : Spelling ℕ) (framed : Bool) (word : Word) → (told_by (remembering 4 digits place framed) word_of word_parts).Form word
+    → IsWordIn digits place.Form framed word
 word_wide digits place framed word form = (form.0.0.0, frame_only 4 digits place framed word.entry form.0.0.1 form.0.1)
 
 pub word_is_exact : (digits : ℕ) (place : Spelling ℕ) (framed : Bool) → IsExact place → Avoids place 38 → IsExact (word_field digits place framed)
 word_is_exact digits place framed h apart =
     restated_is_exact (told_by (remembering 4 digits place framed) word_of word_parts) (IsWordIn digits place.Form framed)
-    (told_by_is_exact (remembering 4 digits place framed) word_of word_parts (remembering_is_exact 4 digits place framed (omega arith) h apart) (λ parts form. refl))
+    (told_by_is_exact (remembering 4 digits place framed) word_of word_parts (remembering_is_exact 4 digits place framed (omega arith) h apart)
+    (λ parts form. refl))
     (word_narrow digits place framed) (word_wide digits place framed)
 
-pub word_avoids : (digits : ℕ) (place : Spelling ℕ) (framed : Bool) (at : ℕ) → is_word_byte at ≡ false → Avoids place at → Avoids (word_field digits place framed) at
+pub word_avoids : (digits : ℕ) (place : Spelling ℕ) (framed : Bool) (at : ℕ) → is_word_byte at ≡ false → Avoids place at
+    → Avoids (word_field digits place framed) at
 word_avoids digits place framed at none apart =
     restated_avoids (told_by (remembering 4 digits place framed) word_of word_parts) (IsWordIn digits place.Form framed) at (word_narrow digits place framed)
     (told_by_avoids (remembering 4 digits place framed) word_of word_parts at (remembering_avoids 4 digits place framed at (omega arith) none apart))
 
-byte_narrow : (digits : ℕ) (place : Spelling ℕ) (framed : Bool) (byte : Byte) → IsByteIn digits place.Form framed byte → (told_by (remembering 2 digits place framed) byte_of byte_parts).Form byte
+byte_narrow : (digits : ℕ) (place : Spelling ℕ) (framed : Bool) (byte : Byte) → IsByteIn digits place.Form framed byte
+    → (told_by (remembering 2 digits place framed) byte_of byte_parts).Form byte
 byte_narrow digits place framed byte form = let back = frame_back 2 digits place framed byte.entry form.1 in (((form.0, back.0), back.1), refl)
 
-byte_wide : (digits : ℕ) (place : Spelling ℕ) (framed : Bool) (byte : Byte) → (told_by (remembering 2 digits place framed) byte_of byte_parts).Form byte → IsByteIn digits place.Form framed byte
+byte_wide : (digits : ℕ) (place : Spelling ℕ) (framed : Bool) (byte : Byte) → (told_by (remembering 2 digits place framed) byte_of byte_parts).Form byte
+    → IsByteIn digits place.Form framed byte
 byte_wide digits place framed byte form = (form.0.0.0, frame_only 2 digits place framed byte.entry form.0.0.1 form.0.1)
 
 pub byte_is_exact : (digits : ℕ) (place : Spelling ℕ) (framed : Bool) → IsExact place → Avoids place 38 → IsExact (byte_field digits place framed)
 byte_is_exact digits place framed h apart =
     restated_is_exact (told_by (remembering 2 digits place framed) byte_of byte_parts) (IsByteIn digits place.Form framed)
-    (told_by_is_exact (remembering 2 digits place framed) byte_of byte_parts (remembering_is_exact 2 digits place framed (omega arith) h apart) (λ parts form. refl))
+    (told_by_is_exact (remembering 2 digits place framed) byte_of byte_parts (remembering_is_exact 2 digits place framed (omega arith) h apart)
+    (λ parts form. refl))
     (byte_narrow digits place framed) (byte_wide digits place framed)
 
-pub byte_avoids : (digits : ℕ) (place : Spelling ℕ) (framed : Bool) (at : ℕ) → is_word_byte at ≡ false → Avoids place at → Avoids (byte_field digits place framed) at
+pub byte_avoids : (digits : ℕ) (place : Spelling ℕ) (framed : Bool) (at : ℕ) → is_word_byte at ≡ false → Avoids place at
+    → Avoids (byte_field digits place framed) at
 byte_avoids digits place framed at none apart =
     restated_avoids (told_by (remembering 2 digits place framed) byte_of byte_parts) (IsByteIn digits place.Form framed) at (byte_narrow digits place framed)
     (told_by_avoids (remembering 2 digits place framed) byte_of byte_parts at (remembering_avoids 2 digits place framed at (omega arith) none apart))

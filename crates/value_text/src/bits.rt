@@ -48,7 +48,8 @@ fn bit_code(bit: Tri) -> u8
 
 /// Adds known bits, which are listed from the lowest on.
 pub fn push_bits(bits: &[Tri], out: &mut Vec<u8>) -> Result<(), AllocError>
-    ensures { OnOk result (out.new.items ≡ out.old.items ++ (fields.bits_field (length bits.now)).text bits.now) }
+    ensures { OnOk result (out.new.items ≡ out.old.items
+        ++ (fields.bits_field (length bits.now)).text bits.now) }
 {
     let [lowest, higher @ ..] = bits else {
         return Ok(());

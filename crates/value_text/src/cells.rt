@@ -57,7 +57,8 @@ impl<P: Places> Field for CellField<P> {
 
     ghost use Rattle.value_text.specs.Cells.{cell_field};
 
-    ghost field = { λ cell. cell_field (P.width cell.places) (P.names cell.places) cell.framed (P.keeps cell.places) };
+    ghost field = { λ cell.
+        cell_field (P.width cell.places) (P.names cell.places) cell.framed (P.keeps cell.places) };
 
     fn read(&self, text: &[u8]) -> Option<Cell> {
         let cell = read_cell(self.places, self.framed, text)?;

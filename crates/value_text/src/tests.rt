@@ -20,7 +20,8 @@ const NAMES: [(u16, &str); 3] = [(0, "PC"), (2, "SR"), (4, "R4")];
 impl Places for Three {
     ghost width = { λ places. 4 };
 
-    ghost names = { λ places. one_named ((0, codes "PC") ∷ (2, codes "SR") ∷ (4, codes "R4") ∷ []) };
+    ghost names = { λ places.
+        one_named ((0, codes "PC") ∷ (2, codes "SR") ∷ (4, codes "R4") ∷ []) };
 
     ghost keeps = { λ places cell. true };
 

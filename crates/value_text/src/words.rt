@@ -65,7 +65,8 @@ fn read_relation<P: Places>(places: P, text: &[u8]) -> Option<Entry>
 
 /// A set of words, and perhaps a relation.
 fn word_parts<P: Places>(places: P, text: &[u8]) -> Option<(Vs16, Option<Entry>)>
-    ensures { result ≡ (with_tail 64 (set_field 4) (fields.relation_field (P.width places) (P.names places))).value text.now }
+    ensures { result ≡ (with_tail 64 (set_field 4)
+        (fields.relation_field (P.width places) (P.names places))).value text.now }
 {
     match cut(text, b'@') {
         None => Some((read_word_set(text)?, None)),
@@ -77,7 +78,8 @@ fn word_parts<P: Places>(places: P, text: &[u8]) -> Option<(Vs16, Option<Entry>)
 
 /// A set of bytes, and perhaps a relation.
 fn byte_parts<P: Places>(places: P, text: &[u8]) -> Option<(Vs8, Option<Entry>)>
-    ensures { result ≡ (with_tail 64 (set_field 2) (fields.relation_field (P.width places) (P.names places))).value text.now }
+    ensures { result ≡ (with_tail 64 (set_field 2)
+        (fields.relation_field (P.width places) (P.names places))).value text.now }
 {
     match cut(text, b'@') {
         None => Some((read_byte_set(text)?, None)),

@@ -29,7 +29,8 @@ fn push_values(out: &mut Vec<u8>, values: &[u16], digits: u8) -> Result<(), Allo
 /// Adds a run, which isn't of all numbers.
 fn push_run(out: &mut Vec<u8>, run: &Progression, digits: u8) -> Result<(), AllocError>
     requires { run.now.count < 65536 }
-    ensures { OnOk result (out.new.items ≡ out.old.items ++ (fields.run_field digits).text (run.now.base, (run.now.stride, run.now.count))) }
+    ensures { OnOk result (out.new.items ≡ out.old.items
+        ++ (fields.run_field digits).text (run.now.base, (run.now.stride, run.now.count))) }
 {
     push_number(out, run.base, digits)?;
     out.push(b'/')?;
@@ -42,7 +43,8 @@ fn push_run(out: &mut Vec<u8>, run: &Progression, digits: u8) -> Result<(), Allo
 fn push_form(out: &mut Vec<u8>, form: &Form, digits: u8) -> Result<(), AllocError>
     requires width { IsWidth digits }
     requires normal { IsNormal (16 ^ digits) form.now }
-    ensures { OnOk result (out.new.items ≡ out.old.items ++ form_text digits (16 ^ digits) form.now) }
+    ensures { OnOk result (out.new.items ≡ out.old.items
+        ++ form_text digits (16 ^ digits) form.now) }
 {
     match form {
         Form::Values(values) => push_values(out, values.as_slice(), digits),

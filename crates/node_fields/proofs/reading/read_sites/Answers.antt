@@ -7,11 +7,13 @@ use Rattle.node_fields.proofs.reading.read_sites.Goals as goal
 pub returns-in_default-number : goal.returns-in_default-number
 returns-in_default-number c =
     no_sites c.args.text.now (c.loop-first.invariant.0
-    ∙ list_bad (hex_number 4) 44 c.loop-first.sites c.loop-first.rest.now c.in-Some.first.now c.in-Some.behind.now c.in-Some.ensures.parts c.in_default-number.ensures.value)
+    ∙ list_bad (hex_number 4) 44 c.loop-first.sites c.loop-first.rest.now c.in-Some.first.now c.in-Some.behind.now c.in-Some.ensures.parts
+    c.in_default-number.ensures.value)
 
 pub returns-then-len-eq-MOST_SITES : goal.returns-then-len-eq-MOST_SITES
 returns-then-len-eq-MOST_SITES c =
-    too_many c.loop-first.sites c.args.text.now c.loop-first.rest.now (omega (arith, c.if-len-eq-MOST_SITES.true, c.len.ensures.length)) c.loop-first.invariant.0
+    too_many c.loop-first.sites c.args.text.now c.loop-first.rest.now
+    (omega (arith, c.if-len-eq-MOST_SITES.true, c.len.ensures.length)) c.loop-first.invariant.0
 
 pub loop-first-preserved : goal.loop-first-preserved
 loop-first-preserved c =
@@ -30,11 +32,13 @@ returns-in_default-number-2 c =
 
 pub returns-then-len-eq-MOST_SITES-2 : goal.returns-then-len-eq-MOST_SITES-2
 returns-then-len-eq-MOST_SITES-2 c =
-    too_many c.loop-first.sites c.args.text.now c.loop-first.rest.now (omega (arith, c.if-len-eq-MOST_SITES-2.true, c.len-2.ensures.length)) c.loop-first.invariant.0
+    too_many c.loop-first.sites c.args.text.now c.loop-first.rest.now
+    (omega (arith, c.if-len-eq-MOST_SITES-2.true, c.len-2.ensures.length)) c.loop-first.invariant.0
 
 pub returns : goal.returns
 returns c =
     all_sites c.loop-first.sites c.push-2.new.self c.args.text.now c.in-Some-number-2.site c.loop-first.invariant.1
     (λ full. absurd (omega (arith, full, c.if-len-eq-MOST_SITES-2.false, c.len-2.ensures.length))) c.push-2.ensures
     (c.loop-first.invariant.0
-    ∙ list_last (hex_number 4) 44 c.loop-first.sites c.push-2.new.self c.loop-first.rest.now c.in-Some-number-2.site c.in_default.ensures.parts c.in-Some-number-2.ensures.value c.push-2.ensures)
+    ∙ list_last (hex_number 4) 44 c.loop-first.sites c.push-2.new.self c.loop-first.rest.now c.in-Some-number-2.site c.in_default.ensures.parts
+    c.in-Some-number-2.ensures.value c.push-2.ensures)

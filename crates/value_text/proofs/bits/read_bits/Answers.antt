@@ -9,5 +9,6 @@ returns-in_default g c = bits_bad g.row.N c.loop-i.i c.args.text.now (omega (ari
 pub loop-i-preserved : goal.loop-i-preserved
 loop-i-preserved g c = (
   length-set c.loop-i.bits _ _ ∙ c.loop-i.invariant.0,
-  bits_step g.row.N c.loop-i.i c.loop-i.bits c.args.text.now c.in-Some.bit c.loop-i.invariant.0 (omega (arith, c.if-text.false)) c.loop-i-test.true c.loop-i.invariant.1 c.in-Some.ensures,
+  bits_step g.row.N c.loop-i.i c.loop-i.bits c.args.text.now c.in-Some.bit c.loop-i.invariant.0
+      (omega (arith, c.if-text.false)) c.loop-i-test.true c.loop-i.invariant.1 c.in-Some.ensures,
 )

@@ -11,4 +11,12 @@ overflow_cast-value c =
 pub push-requires : goal.push-requires
 push-requires c =
     let most = ap length c.as_slice-value-items.ensures.numbers in
-    omega (arith, most, c.requires.few, c.loop-value-test.true, ap length c.loop-value.invariant, length-take-le c.loop-value.value-index c.as_slice-value-items.result.now)
+    omega (
+      arith,
+      most,
+      c.requires.few,
+      c.loop-value-test.true,
+      ap length c.loop-value.invariant,
+      length-take-le c.loop-value.value-index
+          c.as_slice-value-items.result.now,
+    )

@@ -10,4 +10,5 @@ returns-in-Some c =
 
 pub returns-in-Some-run : goal.returns-in-Some-run
 returns-in-Some-run c =
-    c.in-Some-run.ensures.value ∙ make_same 256 c.in-Run.run'.base c.in-Run.run'.stride c.in-Run.run'.count (subst (IsNormal 256) c.in-Run.is c.requires) ∙ sym c.in-Run.is
+    c.in-Some-run.ensures.value ∙ make_same 256 c.in-Run.run'.base c.in-Run.run'.stride c.in-Run.run'.count (subst (IsNormal 256) c.in-Run.is c.requires)
+    ∙ sym c.in-Run.is

@@ -7,7 +7,8 @@ use Rattle.value_text.proofs.sets.read_values.Given as goal
 -- the numbers so far, and those of the rest, are all
 abbrev pub invariant-loop-first : goal.invariant-loop-first
 invariant-loop-first l =
-    ((listed (hex_number l.digits) 44).value l.text ≡ option_map (λ more. l.values ++ more) ((listed (hex_number l.digits) 44).value l.rest)) × (length l.values ≤ 16)
+    ((listed (hex_number l.digits) 44).value l.text ≡ option_map (λ more. l.values ++ more) ((listed (hex_number l.digits) 44).value l.rest))
+    × (length l.values ≤ 16)
 
 abbrev pub decreases-loop-first : goal.decreases-loop-first
 decreases-loop-first l = length l.rest

@@ -5,8 +5,10 @@ use Rattle.value_text.proofs.sets.words_of.Goals as goal
 
 pub returns-in-Some : goal.returns-in-Some
 returns-in-Some c =
-    c.in-Some.ensures.value ∙ ap (gather 65536) c.as_slice.ensures.numbers ∙ gather_same 65536 c.in-Values.values (subst (IsNormal 65536) c.in-Values.is c.requires) ∙ sym c.in-Values.is
+    c.in-Some.ensures.value ∙ ap (gather 65536) c.as_slice.ensures.numbers ∙ gather_same 65536 c.in-Values.values (subst (IsNormal 65536) c.in-Values.is c.requires)
+    ∙ sym c.in-Values.is
 
 pub returns-in-Some-run : goal.returns-in-Some-run
 returns-in-Some-run c =
-    c.in-Some-run.ensures.value ∙ make_same 65536 c.in-Run.run'.base c.in-Run.run'.stride c.in-Run.run'.count (subst (IsNormal 65536) c.in-Run.is c.requires) ∙ sym c.in-Run.is
+    c.in-Some-run.ensures.value ∙ make_same 65536 c.in-Run.run'.base c.in-Run.run'.stride c.in-Run.run'.count (subst (IsNormal 65536) c.in-Run.is c.requires)
+    ∙ sym c.in-Run.is
