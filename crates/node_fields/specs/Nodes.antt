@@ -1,20 +1,20 @@
 -- Nodes as a certificate spells them: a location by its address, the sites of its calls and its frame, an exit by its address
 -- and its frame, each behind its letter.
-use Rattle.std.specs.Prelude.{◌≡◌, ◌⊎◌, ℕ, ◌^◌, ◌<◌, ◌≤◌, ◌==◌, ◌&&◌, ◌||◌, nat_lt, nat_le, if◌then◌else◌, Bool, true, false, Option, None, Some, option_map, option_and_then, List, [], ◌∷◌, ◌++◌, codes, length}
+use Rattle.std.specs.Prelude.{◌≡◌, ◌⊎◌, ℕ, ◌^◌, ◌<◌, ◌≤◌, ◌==◌, nat_lt, nat_le, if◌then◌else◌, true, false, Option, None, Some, option_map, option_and_then, List, [], ◌∷◌, ◌++◌, codes, length}
 use Rattle.std.specs.List.{AllByRecursion}
 use Rattle.std.specs.Str.{bytes_eq}
 use Rattle.std.proofs.Common.{refl, sym, ap, ◌∙◌, inl, inr, arith}
-use Rattle.std.proofs.lemmas.Bool.{false≢true, true≢false, ltb-true, lt-ltb, leb-true, le-leb}
+use Rattle.std.proofs.lemmas.Bool.{true≢false, ltb-true, lt-ltb, leb-true, le-leb}
 use Rattle.hex_digits.specs.Digits.{hex}
 use Rattle.call_context.specs.declared.node.Frame.{Frame}
 use Rattle.call_context.specs.declared.node.Frame.TheVariants.{Base, Irq}
 use Rattle.call_context.specs.declared.node.Node.{Node}
 use Rattle.call_context.specs.declared.node.Node.TheVariants.{At, Exit}
-use Rattle.text_fields.specs.Spelling.{Spelling, IsExact, Avoids, has_byte}
+use Rattle.text_fields.specs.Spelling.{Spelling, IsExact, Avoids}
 use Rattle.text_fields.specs.Numbers.{is_digit, hex_number, hex_number_is_exact, number_avoids, hex_length}
-use Rattle.text_fields.specs.Fields.{IfForm, OneForm, behind, cut_at, front_value, other_bytes, byte_differs, named, named_is_exact, named_avoids, passing, passing_is_exact, passing_avoids, or_mark, or_mark_is_exact, or_mark_avoids, beside, beside_is_exact, beside_avoids, beside_by, beside_by_is_exact, either_front, either_front_is_exact, either_front_avoids, told_by, told_by_is_exact, told_by_avoids, restated, restated_is_exact, restated_avoids}
+use Rattle.text_fields.specs.Fields.{IfForm, behind, cut_at, front_value, other_bytes, byte_differs, named, named_is_exact, named_avoids, passing, passing_is_exact, passing_avoids, or_mark, or_mark_is_exact, or_mark_avoids, beside, beside_is_exact, beside_avoids, beside_by, beside_by_is_exact, either_front, either_front_is_exact, told_by, told_by_is_exact, told_by_avoids, restated, restated_is_exact, restated_avoids}
 use Rattle.text_fields.specs.Lists.{listed, listed_longer, listed_or_mark, listed_or_mark_is_exact, listed_or_mark_avoids}
-use Rattle.node_fields.specs.Decimals.{is_decimal, decimal_field, decimal_is_exact, decimal_avoids}
+use Rattle.node_fields.specs.Decimals.{decimal_field, decimal_is_exact, decimal_avoids}
 
 -- FRAMES
 

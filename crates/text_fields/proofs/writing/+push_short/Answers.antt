@@ -1,4 +1,4 @@
-use Rattle.std.proofs.Common.{ap, ◌∙◌, arith}
+use Rattle.std.proofs.Common.{ap, ◌∙◌}
 use Rattle.text_fields.proofs.Steps.{short_last, short_one}
 use Rattle.text_fields.proofs.writing.+push_short.Goals.{then-number-ge16+in_ok-push_short, else-number-ge16}
 use Rattle.text_fields.proofs.writing.+push_short.Goals as goal
