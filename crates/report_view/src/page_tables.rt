@@ -213,6 +213,9 @@ pub fn memory_tables(
     }
     page.put("<h2 id=memory>Memory by address</h2>\n")?;
     memory_table(page, functions, accesses, false)?;
+    if !accesses.rows.values().any(|row| row.is_stack) {
+        return Ok(());
+    }
     page.put("<details><summary>Accesses within the stack</summary>\n")?;
     memory_table(page, functions, accesses, true)?;
     page.put("</details>\n")
