@@ -1,0 +1,4 @@
+pub mod Targets
+pub mod Ways
+pub mod Between
+pub mod Laws
