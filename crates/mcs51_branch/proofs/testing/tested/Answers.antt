@@ -4,4 +4,4 @@ use Rattle.mcs51_branch.proofs.TestedSets.{list_below}
 use Rattle.mcs51_branch.proofs.testing.tested.Goals as goal
 
 pub with_bit-requires-clause-bytes : goal.with_bit-requires-clause-bytes
-with_bit-requires-clause-bytes c = list_below c.members_are_below.ensures c.in-Values.values c.as_slice.result.now c.as_slice.ensures (subst (IsNormal 256) c.in-Values.is (subst (IsNormal 256) (sym c.form.ensures.value) c.form.ensures.normal))
+with_bit-requires-clause-bytes c = list_below c.members_are_below.ensures c.in-Values.values c.as_slice.result.now c.as_slice.ensures.numbers (subst (IsNormal 256) c.in-Values.is (subst (IsNormal 256) (sym c.form.ensures.value) c.form.ensures.normal))
