@@ -62,15 +62,18 @@ use Rattle.msp430_alu.specs.Memory.{IsDevice}
 use Rattle.msp430_entry.specs.declared.coming.Coming.{Coming}
 use Rattle.msp430_entry.specs.Entry.{ComesSo, comings_of, entry_items, entry_shows, frame_of_coming}
 use Rattle.msp430_flow.specs.declared.setting.Setting.{Setting}
-use Rattle.msp430_flow.specs.Chip.{Going, IsSetting, edges_of, entry_post, followed_work, going_back, going_of, going_on, msp430_analysis, posts_of, push_opens, store_opens, target_opens, wait_at, wait_of, work_at}
+use Rattle.unit_ways.specs.Between.{IsWayOf}
+use Rattle.unit_ways.specs.Between.IsWayOf.{goes_on, joins, jumps}
+use Rattle.unit_ways.specs.Ways.{Going, Way, target_opens, wait_at, ways_of, ways_to}
+use Rattle.msp430_flow.specs.Chip.{IsSetting, entry_post, followed_work, going_back, going_of, going_on, msp430_analysis, push_opens, store_opens, wait_of, work_at}
 use Rattle.msp430_flow.specs.Machine.{msp430_machine}
 use Rattle.msp430_flow.specs.Labels.{calls_by, effect_of}
-use Rattle.msp430_flow.specs.Running.{Way, all_ways, are_too_many, fact_of, followed, gie_of, known_behind, leaves_frame, single_or_status, stored_width, ways, ways_of, ways_to, worked}
+use Rattle.msp430_flow.specs.Running.{all_ways, fact_of, followed, gie_of, known_behind, leaves_frame, single_or_status, stored_width, ways, worked}
 use Rattle.msp430_flow.proofs.RegisterViews.{OperandView, TargetView, operand_view, target_view}
 use Rattle.msp430_flow.proofs.RegisterViews.OperandView.{other_operand, status_operand}
 use Rattle.msp430_flow.proofs.RegisterViews.TargetView.{other_target, status_target}
 use Rattle.msp430_flow.proofs.Premises.{Laws}
-use Rattle.msp430_flow.proofs.Members.{in_none, in_cons, in_first, in_flat_map, in_map, in_rest}
+use Rattle.unit_ways.proofs.Members.{in_none, in_cons, in_first, in_flat_map, in_map, in_rest}
 use Rattle.msp430_flow.proofs.Runs.{IsRun, late_form, width_of}
 use Rattle.msp430_flow.proofs.Stepping.{device_of, done_by_hit, entered_state, entry_by, items_of, state_behind}
 
@@ -177,7 +180,7 @@ module _ (laws : Laws) (device : Device) (framed : Bool) (a : Known) (pc : ℕ) 
 -- WAYS
 
 -- A way goes to an even address, what is known there is in form, and an interrupt may come there as GIE was before.
-pub record IsWay (device : Device) (framed : Bool) (late : Tri) (way : Way) : Type 0 where
+pub record IsWay (device : Device) (framed : Bool) (late : Tri) (way : Way Known) : Type 0 where
   pub even : IsEvenWord way.0
   pub known : IsKnown device.lo device.hi framed way.1
   pub late_is : way.1.late ≡ late
@@ -185,13 +188,6 @@ pub record IsWay (device : Device) (framed : Bool) (late : Tri) (way : Way) : Ty
 abbrev IsAhead : Device → Bool → Tri → Option Known → Type 0
 IsAhead device framed late None = Unit {0}
 IsAhead device framed late (Some a) = IsKnown device.lo device.hi framed a × (a.late ≡ late)
-
-only_way : (device : Device) (framed : Bool) (late : Tri) (to : ℕ) (a : Known) → IsEvenWord to → IsKnown device.lo device.hi framed a → a.late ≡ late
-    → (way : Way) → Contains ((to, a) ∷ []) way → IsWay device framed late way
-only_way device framed late to a even known is way h = elim (in_cons (to, a) [] way h) [
-  | inl same ↦ subst (IsWay device framed late) same (record { even = even; known = known; late_is = is })
-  | inr none ↦ absurd (in_none way none)
-]
 
 common_itself : (bit : Tri) → common_bit bit bit ≡ bit
 common_itself Zero = refl
@@ -202,18 +198,23 @@ joined_late : (late : Tri) (a b : Known) → a.late ≡ late → b.late ≡ late
 unfolding known_joined
 joined_late late a b f g = ap (λ bit. common_bit bit b.late) f ∙ ap (λ bit. common_bit late bit) g ∙ common_itself late
 
+some_ahead : (device : Device) (framed : Bool) (late : Tri) (known : Option Known) (a : Known) → IsAhead device framed late known → known ≡ Some a → IsAhead device framed late (Some a)
+some_ahead device framed late known a h is = subst (IsAhead device framed late) is h
+
 ways_form : Laws → (device : Device) (framed : Bool) (late : Tri) (behind target : ℕ) (on jumped : Option Known) → IsEvenWord behind → IsEvenWord target → IsAhead device framed late on → IsAhead device framed late jumped
-    → (way : Way) → Contains (ways_of behind target on jumped) way → IsWay device framed late way
-ways_form laws device framed late behind target None None f g a b way h = absurd (in_none way h)
-ways_form laws device framed late behind target (Some on) None f g a b way h = only_way device framed late behind on f a.0 a.1 way h
-ways_form laws device framed late behind target None (Some jumped) f g a b way h = only_way device framed late target jumped g b.0 b.1 way h
-ways_form laws device framed late behind target (Some on) (Some jumped) f g a b way h =
-    cond_both (behind == target) ((behind, known_joined on jumped) ∷ []) ((behind, on) ∷ (target, jumped) ∷ []) (λ (all : List Way). Contains all way → IsWay device framed late way)
-    (λ _ one. only_way device framed late behind (known_joined on jumped) f (laws.states.join_form device.lo device.hi framed on jumped a.0 b.0) (joined_late late on jumped a.1 b.1) way one)
-    (λ _ two. elim (in_cons (behind, on) ((target, jumped) ∷ []) way two) [
-      | inl same ↦ subst (IsWay device framed late) same (record { even = f; known = a.0; late_is = a.1 })
-      | inr rest ↦ only_way device framed late target jumped g b.0 b.1 way rest
-    ]) h
+    → (way : Way Known) → IsWayOf known_joined behind target on jumped way → IsWay device framed late way
+ways_form laws device framed late behind target on jumped f g a b way (goes_on is to) =
+    let known = some_ahead device framed late on way.1 a is in record { even = subst IsEvenWord (sym to) f; known = known.0; late_is = known.1 }
+ways_form laws device framed late behind target on jumped f g a b way (jumps is to) =
+    let known = some_ahead device framed late jumped way.1 b is in record { even = subst IsEvenWord (sym to) g; known = known.0; late_is = known.1 }
+ways_form laws device framed late behind target on jumped f g a b way (joins one other is_on is_jumped same to is) =
+    let first = some_ahead device framed late on one a is_on in
+    let second = some_ahead device framed late jumped other b is_jumped in
+    record {
+      even = subst IsEvenWord (sym to) f;
+      known = subst (IsKnown device.lo device.hi framed) (sym is) (laws.states.join_form device.lo device.hi framed one other first.0 second.0);
+      late_is = ap (λ (k : Known). k.late) is ∙ joined_late late one other first.1 second.1;
+    }
 
 cut_ahead : Laws → (device : Device) (framed : Bool) (condition : Condition) (taken : Bool) (a : Known) (found : Option Known) → IsKnown device.lo device.hi framed a
     → known_cut condition taken a ≡ found → IsAhead device framed a.late found
@@ -227,15 +228,11 @@ fact_form laws (instr.Single operation width operand) a h = h
 fact_form laws (instr.Jump condition offset) a h = h
 fact_form laws instr.ReturnFromInterrupt a h = h
 
-ways_to_form : (device : Device) (framed : Bool) (late : Tri) (tos : List ℕ) (a : Known) → ((to : ℕ) → Contains tos to → IsEvenWord to) → IsKnown device.lo device.hi framed a → a.late ≡ late
-    → (way : Way) → Contains (ways_to tos a) way → IsWay device framed late way
-ways_to_form device framed late [] a even known is way h = absurd (in_none way h)
-ways_to_form device framed late (to ∷ tos) a even known is way h =
-    let first_way : Way = (to, a) in
-    elim (in_cons first_way (ways_to tos a) way h) [
-      | inl same ↦ subst (IsWay device framed late) same (record { even = even to (in_first to tos); known = known; late_is = is })
-      | inr rest ↦ ways_to_form device framed late tos a (λ other there. even other (in_rest to tos other there)) known is way rest
-    ]
+ways_to_form : Laws → (device : Device) (framed : Bool) (late : Tri) (next : Form) (a : Known) → ((to : ℕ) → Has 65536 next to → IsEvenWord to) → IsKnown device.lo device.hi framed a → a.late ≡ late
+    → (way : Way Known) → Contains (ways_to next a) way → IsWay device framed late way
+ways_to_form laws device framed late next a even known is way h =
+    let (there, same) = laws.ways.member next a way h in
+    record { even = even way.0 there; known = subst (IsKnown device.lo device.hi framed) (sym same) known; late_is = ap (λ (k : Known). k.late) same ∙ is }
 
 module _ (laws : Laws) (device : Device) (framed : Bool) (a : Known) (pc : ℕ) (is : IsDevice device) (form : IsKnown device.lo device.hi framed a) (even : IsEvenWord pc) where
   -- what is known behind an instruction, before a jump tells more
@@ -252,11 +249,11 @@ module _ (laws : Laws) (device : Device) (framed : Bool) (a : Known) (pc : ℕ) 
 
   -- the ways to each next address
   next_ways : (instr_so : Instr) → IsInstr instr_so → ((to : ℕ) → Has 65536 (worked device framed a pc instr_so).next to → IsEvenWord to)
-      → (way : Way) → Contains (ways_to (members 65536 (worked device framed a pc instr_so).next) (known_behind device framed a pc instr_so)) way → IsWay device framed (gie_of a) way
+      → (way : Way Known) → Contains (ways_to (worked device framed a pc instr_so).next (known_behind device framed a pc instr_so)) way → IsWay device framed (gie_of a) way
   next_ways instr_so fits next way h =
-      ways_to_form device framed (gie_of a) (members 65536 (worked device framed a pc instr_so).next) (known_behind device framed a pc instr_so) next (behind_form instr_so fits) refl way h
+      ways_to_form laws device framed (gie_of a) (worked device framed a pc instr_so).next (known_behind device framed a pc instr_so) next (behind_form instr_so fits) refl way h
 
-  pub ways_formed : (instr_so : Instr) → IsInstr instr_so → (way : Way) → Contains (all_ways device framed a pc instr_so) way → IsWay device framed (gie_of a) way
+  pub ways_formed : (instr_so : Instr) → IsInstr instr_so → (way : Way Known) → Contains (all_ways device framed a pc instr_so) way → IsWay device framed (gie_of a) way
   ways_formed (instr.Double operation width origin target) fits way h =
       next_ways (instr.Double operation width origin target) fits (double_form laws device framed a pc is form even operation width origin target fits (target_view target)).next way h
   ways_formed (instr.Single Push width operand) fits way h = next_ways (instr.Single Push width operand) fits (push_form laws device framed a pc is form even Push width operand fits).next way h
@@ -274,7 +271,8 @@ module _ (laws : Laws) (device : Device) (framed : Bool) (a : Known) (pc : ℕ) 
       let behind = behind_form (instr.Jump condition offset) fits in
       ways_form laws device framed (gie_of a) ((pc + 2) % 65536) (target_of pc offset) (known_cut condition false b) (known_cut condition true b) (behind_even pc 0 even) (target_even pc offset even)
       (cut_ahead laws device framed condition false b (known_cut condition false b) behind refl)
-      (cut_ahead laws device framed condition true b (known_cut condition true b) behind refl) way h
+      (cut_ahead laws device framed condition true b (known_cut condition true b) behind refl) way
+      (laws.ways.either known_joined ((pc + 2) % 65536) (target_of pc offset) (known_cut condition false b) (known_cut condition true b) way h)
   ways_formed instr.ReturnFromInterrupt fits way h = next_ways instr.ReturnFromInterrupt fits (return_form laws device framed a pc is form even).next way h
 
 -- COVER
@@ -304,54 +302,15 @@ behind_holds device a b s first left holds is parts form = record {
 
 -- WHAT IS SHOWN
 
-edge_in : (pc : ℕ) (all : List Way) (way : Way) → Contains all way → Contains (edges_of pc all) (items.Edge pc way.0)
-edge_in pc [] way h = absurd (in_none way h)
-edge_in pc (one ∷ all) way h = elim (in_cons one all way h) [
-  | inl same ↦ subst (λ (w : Way). Contains (items.Edge pc one.0 ∷ edges_of pc all) (items.Edge pc w.0)) same (in_first (items.Edge pc one.0) (edges_of pc all))
-  | inr rest ↦ in_rest (items.Edge pc one.0) (edges_of pc all) (items.Edge pc way.0) (edge_in pc all way rest)
-]
+-- a way that is followed is one of all
+pub way_of_all : Laws → (limit : ℕ) (device : Device) (framed : Bool) (a : Known) (pc : ℕ) (instr_so : Instr) (way : Way Known) → Contains (ways limit device framed a pc instr_so) way
+    → Contains (all_ways device framed a pc instr_so) way
+way_of_all laws limit device framed a pc instr_so way h = laws.ways.followed limit (worked device framed a pc instr_so).next (all_ways device framed a pc instr_so) way h
 
-pub post_in : (calls_at : ℕ → List ℕ) (frame : Frame) (all : List Way) (way : Way) → Contains all way → Contains (posts_of calls_at frame all) (At way.0 (calls_at way.0) frame, way.1)
-post_in calls_at frame [] way h = absurd (in_none way h)
-post_in calls_at frame (one ∷ all) way h =
-    let post = λ (w : Way). (let it : Node × Known = (At w.0 (calls_at w.0) frame, w.1) in it) in
-    elim (in_cons one all way h) [
-      | inl same ↦ subst (λ (w : Way). Contains (post one ∷ posts_of calls_at frame all) (post w)) same (in_first (post one) (posts_of calls_at frame all))
-      | inr rest ↦ in_rest (post one) (posts_of calls_at frame all) (post way) (post_in calls_at frame all way rest)
-    ]
-
--- the way of a post
-pub way_of_post : (calls_at : ℕ → List ℕ) (frame : Frame) (all : List Way) (to : Node) (state : Known) → Contains (posts_of calls_at frame all) (to, state)
-    → (way : Way) × Contains all way × (to ≡ At way.0 (calls_at way.0) frame) × (state ≡ way.1)
-way_of_post calls_at frame [] to state h = absurd (in_none (to, state) h)
-way_of_post calls_at frame (one ∷ all) to state h =
-    let post : Node × Known = (At one.0 (calls_at one.0) frame, one.1) in
-    elim (in_cons post (posts_of calls_at frame all) (to, state) h) [
-      | inl same ↦ (one, in_first one all, sym (ap (λ (p : Node × Known). p.0) same), sym (ap (λ (p : Node × Known). p.1) same))
-      | inr rest ↦ let (way, there, is, known) = way_of_post calls_at frame all to state rest in (way, in_rest one all way there, is, known)
-    ]
-
--- where there are few, each way is followed
-followed_way : (limit : ℕ) (device : Device) (framed : Bool) (a : Known) (pc : ℕ) (instr_so : Instr) → are_too_many limit (worked device framed a pc instr_so).next ≡ false
-    → (way : Way) → Contains (all_ways device framed a pc instr_so) way → Contains (ways limit device framed a pc instr_so) way
-followed_way limit device framed a pc instr_so few way h =
-    subst (λ all. Contains all way) (sym (cond-false (are_too_many limit (worked device framed a pc instr_so).next) [] (all_ways device framed a pc instr_so) few)) h
-
--- and a way that is followed is one of all
-pub way_of_all : (limit : ℕ) (device : Device) (framed : Bool) (a : Known) (pc : ℕ) (instr_so : Instr) (way : Way) → Contains (ways limit device framed a pc instr_so) way → Contains (all_ways device framed a pc instr_so) way
-way_of_all limit device framed a pc instr_so way h =
-    cond_both (are_too_many limit (worked device framed a pc instr_so).next) [] (all_ways device framed a pc instr_so) (λ (all : List Way). Contains all way → Contains (all_ways device framed a pc instr_so) way)
-    (λ _ none. absurd (in_none way none)) (λ _ there. there) h
-
--- a work with no open has few targets
-last_none : {A : Type 0} (xs ys : List A) → xs ++ ys ≡ [] → ys ≡ []
-last_none [] ys e = e
-last_none (x ∷ xs) ys e = absurd (cc)
-
-few_targets : (limit pc : ℕ) (next : Form) (others : List (ℕ × Cause)) (many : Bool) → are_too_many limit next ≡ many → target_opens limit pc next ++ others ≡ [] → are_too_many limit next ≡ false
-few_targets limit pc next others false is none = is
-few_targets limit pc next others true is none =
-    let opens : (pc, Targets next) ∷ others ≡ [] = ap (λ many. cond {A = List (ℕ × Cause)} many ((pc, Targets next) ∷ []) [] ++ others) (sym is) ∙ none in absurd (cc)
+-- what stands in front and behind is empty where all is
+parts_none : {A : Type 0} (xs ys : List A) → xs ++ ys ≡ [] → (xs ≡ []) × (ys ≡ [])
+parts_none [] ys e = (refl, e)
+parts_none (x ∷ xs) ys e = absurd (cc)
 
 -- The items of a location where an instruction stands show its accesses, SP, the instruction, and what its edges show.
 shown : (setting : Setting) (pc : ℕ) (calls : List ℕ) (frame : Frame) (a : Known) (s : ChipState) (first : Option ChipState) (instr_so : Instr) (outcome : Outcome ChipState)
@@ -386,7 +345,7 @@ shown setting pc calls frame a s first instr_so outcome here on_stack run item t
     ]
 
 -- an edge among those of an instruction is an item of the location
-edge_shown : (setting : Setting) (pc : ℕ) (calls : List ℕ) (frame : Frame) (a : Known) (instr_so : Instr) (going : Going) (edge : Item) (item : Single)
+edge_shown : (setting : Setting) (pc : ℕ) (calls : List ℕ) (frame : Frame) (a : Known) (instr_so : Instr) (going : Going Known) (edge : Item) (item : Single)
     → going_of setting pc calls frame a instr_so (worked setting.device (is_interrupt frame) a pc instr_so) ≡ going → Contains going.edges edge
     → AreShowing (edge ∷ []) item → AreShowing (followed_work setting pc calls frame a instr_so).items item
 edge_shown setting pc calls frame a instr_so going edge item is there shows =
@@ -396,7 +355,7 @@ edge_shown setting pc calls frame a instr_so going edge item is there shows =
     let own = (going_of setting pc calls frame a instr_so made_so).edges in
     let front = made_so.accesses ++ items.Stack pc (W a.sp) ∷ flat_map (entry_items device pc) (comings_of device a) in
     let same : edge ≡ shows.0 = elim (in_cons edge [] shows.0 shows.1) [ inl one ↦ one | inr none ↦ absurd (in_none shows.0 none) ] in
-    let own_edge : Contains own shows.0 = subst (Contains own) same (subst (λ (g : Going). Contains g.edges edge) (sym is) there) in
+    let own_edge : Contains own shows.0 = subst (Contains own) same (subst (λ (g : Going Known). Contains g.edges edge) (sym is) there) in
     (shows.0, Contains-append_right front (ran_item ∷ own) shows.0 (in_rest ran_item own shows.0 own_edge), shows.2)
 
 -- WHERE AN INSTRUCTION LANDS
@@ -405,13 +364,13 @@ parts_of : (items_so others : List Single) (t u : ChipState) → ◌≡◌ {A = 
 parts_of items_so others t u e = (cc, cc)
 
 -- a post of an instruction is one of the work
-going_in : (setting : Setting) (pc : ℕ) (calls : List ℕ) (frame : Frame) (a : Known) (instr_so : Instr) (going : Going) (post : Node × Known)
+going_in : (setting : Setting) (pc : ℕ) (calls : List ℕ) (frame : Frame) (a : Known) (instr_so : Instr) (going : Going Known) (post : Node × Known)
     → going_of setting pc calls frame a instr_so (worked setting.device (is_interrupt frame) a pc instr_so) ≡ going → Contains going.posts post
     → Contains (followed_work setting pc calls frame a instr_so).posts post
 going_in setting pc calls frame a instr_so going post is there =
     let made_so = worked setting.device (is_interrupt frame) a pc instr_so in
     Contains-append_right (map (entry_post setting.device pc a) (comings_of setting.device a)) (going_of setting pc calls frame a instr_so made_so).posts post
-    (subst (λ (g : Going). Contains g.posts post) (sym is) there)
+    (subst (λ (g : Going Known). Contains g.posts post) (sym is) there)
 
 -- what a step of an instruction comes to at a location
 pub record AtLocation (setting : Setting) (pc : ℕ) (calls : List ℕ) (frame : Frame) (a : Known) (s : ChipState) (first : Option ChipState) (instr_so : Instr) : Type 0 where
@@ -441,19 +400,20 @@ run_stays laws setting pc calls frame a s first instr_so outcome at run form sta
     let others = store_opens device pc (stored_width instr_so) made_so.store in
     let pushes = flat_map (push_opens device pc) (comings_of device a) in
     let opens = (going_of setting pc calls frame a instr_so made_so).opens in
-    let own = last_none pushes (opens ++ others) (sym (append_assoc pushes opens others) ∙ none) in
-    let few = few_targets limit pc made_so.next others (are_too_many limit made_so.next) refl (sym (ap (λ (g : Going). g.opens ++ others) is) ∙ own) in
+    let own = (parts_none pushes (opens ++ others) (sym (append_assoc pushes opens others) ∙ none)).1 in
+    let no_targets : target_opens limit pc made_so.next ≡ [] = sym (ap (λ (g : Going Known). g.opens) is) ∙ (parts_none opens others own).0 in
+    let followed_so : ways limit device framed a pc instr_so ≡ all_ways device framed a pc instr_so = laws.ways.few limit pc made_so.next (all_ways device framed a pc instr_so) no_targets in
     let (way, is_way, goes, parts) = run.way in
     let all_way : Contains (all_ways device framed a pc instr_so) way = subst (λ p. Contains (all_ways device framed a p instr_so) way) at.covers.0 is_way in
-    let here_way = followed_way limit device framed a pc instr_so few way all_way in
+    let here_way : Contains (ways limit device framed a pc instr_so) way = subst (λ (all : List (Way Known)). Contains all way) (sym followed_so) all_way in
     let formed = ways_formed laws device framed a pc (device_of device at.setting_so.program) at.node.1 at.node.0.0 instr_so at.fits way all_way in
     let to = At way.0 (calls_at way.0) frame in
     let edge = items.Edge pc way.0 in
-    stays to way.1 (going_in setting pc calls frame a instr_so going (to, way.1) is (post_in calls_at frame (ways limit device framed a pc instr_so) way here_way)) tt refl
+    stays to way.1 (going_in setting pc calls frame a instr_so going (to, way.1) is (laws.ways.post calls_at frame (ways limit device framed a pc instr_so) way here_way)) tt refl
     (sym goes, behind_holds device a way.1 s first run.left at.covers.1 formed.late_is parts form, at.covers.2)
     (λ item there. elim (shown setting pc calls frame a s first instr_so outcome at.covers.0 at.covers.1.parts.sp run item there) [
       | inl seen ↦ seen
-      | inr last ↦ edge_shown setting pc calls frame a instr_so going edge item is (edge_in pc (ways limit device framed a pc instr_so) way here_way)
+      | inr last ↦ edge_shown setting pc calls frame a instr_so going edge item is (laws.ways.edge pc (ways limit device framed a pc instr_so) way here_way)
           (subst (AreShowing (edge ∷ [])) (sym last) (edge, in_first edge [], (at.covers.0, sym goes)))
     ])
 
@@ -524,7 +484,7 @@ waited : (setting : Setting) (work : Work Known) (a : Known) (coming_so : Coming
 waited setting work a coming_so None is listed same = tt
 waited setting work a coming_so (Some sp) is listed same =
     let frame = Irq coming_so.vector (Some sp) 0 in
-    let own : wait_of coming_so ≡ frame ∷ [] = ap (wait_at coming_so) same ∙ ap (λ (known : Option ℕ). Irq coming_so.vector known 0 ∷ []) same in
+    let own : wait_of coming_so ≡ frame ∷ [] = ap (wait_at (frame_of_coming coming_so)) same ∙ ap (λ (known : Option ℕ). Irq coming_so.vector known 0 ∷ []) same in
     subst (λ all. Contains all frame) (sym is) (in_flat_map wait_of (comings_of setting.device a) coming_so frame listed (subst (λ all. Contains all frame) (sym own) (in_first frame [])))
 
 pub entry_lands : Laws → (setting : Setting) (pc : ℕ) (calls : List ℕ) (frame : Frame) (a : Known) (s : ChipState) (first : Option ChipState) (found : Option Instr) (items_so : List Single) (t : ChipState)

@@ -38,16 +38,17 @@ use Rattle.msp430_entry.specs.Entry.{comings_of}
 use Rattle.msp430_resume.specs.Resume.{resumed_known}
 use Rattle.msp430_flow.specs.declared.setting.Setting.{Setting}
 use Rattle.msp430_flow.specs.Standing.{fetched}
-use Rattle.msp430_flow.specs.Chip.{AreAlike, BreaksLimit, Going, IsProgram, IsSetting, entry_post, going_back, going_of, going_on, msp430_analysis, nothing, resumption, work_at, work_of}
+use Rattle.unit_ways.specs.Ways.{Going}
+use Rattle.msp430_flow.specs.Chip.{AreAlike, BreaksLimit, IsProgram, IsSetting, entry_post, going_back, going_of, going_on, msp430_analysis, nothing, resumption, work_at, work_of}
 use Rattle.msp430_flow.specs.Machine.{StepsTo, leaving_of, msp430_machine}
 use Rattle.msp430_flow.specs.Marks.{stops}
 use Rattle.msp430_flow.specs.Labels.{calls_by, effect_of}
 use Rattle.msp430_flow.specs.Running.{followed, gie_of, leaves_frame, ways, worked}
 use Rattle.msp430_flow.proofs.CallStrings.{sites_by}
-use Rattle.msp430_flow.proofs.Landing.{AtLocation, entry_lands, exit_known, run_lands, way_of_all, way_of_post, ways_formed}
+use Rattle.msp430_flow.proofs.Landing.{AtLocation, entry_lands, exit_known, run_lands, way_of_all, ways_formed}
 use Rattle.msp430_flow.proofs.Premises.{Laws}
 use Rattle.msp430_flow.proofs.MarksLemmas.{stops_below}
-use Rattle.msp430_flow.proofs.Members.{from_map, in_cons, in_first, in_none}
+use Rattle.unit_ways.proofs.Members.{from_map, in_cons, in_first, in_none}
 use Rattle.msp430_flow.proofs.Stepping.{Comes, comes, device_of, in_base, instr_found, open_breaks, told}
 use Rattle.msp430_flow.proofs.Stepping.Comes.{entered, ran, refused}
 
@@ -194,9 +195,9 @@ module _ (laws : Laws) (setting : Setting) (so : IsSetting setting) (pc : ℕ) (
       let all = ways limit device framed a pc instr_so in
       let effect = effect_of instr_so in
       let calls_at = calls_by setting.limits.calls effect device.image pc calls in
-      let (way, there, goes, known) = way_of_post calls_at frame all to state h in
+      let (way, there, goes, known) = laws.ways.way calls_at frame all to state h in
       let fits = instr_found laws device so.program pc instr_so is node.0.1 in
-      let formed = ways_formed laws device framed a pc (device_of device so.program) form.1 node.0 instr_so fits way (way_of_all limit device framed a pc instr_so way there) in
+      let formed = ways_formed laws device framed a pc (device_of device so.program) form.1 node.0 instr_so fits way (way_of_all laws limit device framed a pc instr_so way there) in
       let sites = sites_by setting.limits.calls effect device.image pc calls way.0 so.calls node.0 (record { few = node.1; even = node.2 }) in
       subst (λ n. IsPost setting (n, state)) (sym goes) (subst (λ b. IsPost setting (At way.0 (calls_at way.0) frame, b)) (sym known)
       ((formed.even, sites.few, sites.even, node.3), formed.known))
@@ -230,7 +231,7 @@ module _ (laws : Laws) (setting : Setting) (so : IsSetting setting) (pc : ℕ) (
       elim (Contains-append_cases (map (entry_post device pc a) (comings_of device a)) (going_of setting pc calls frame a instr_so made_so).posts post h) [
         | inl coming ↦ entry_posts post coming
         | inr going ↦ cond_both (leaves_frame device frame a instr_so) (going_back pc frame a made_so) (going_on setting pc calls frame a instr_so made_so)
-            (λ (g : Going). Contains g.posts post → IsPost setting post)
+            (λ (g : Going Known). Contains g.posts post → IsPost setting post)
             (λ leaves_so there. back_posts instr_so post is leaves_so there) (λ _ there. going_posts instr_so post is there) going
       ]
 

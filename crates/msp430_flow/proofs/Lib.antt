@@ -3,11 +3,8 @@ pub mod Landing
 pub mod Lawful
 pub mod Made
 pub mod MarksLemmas
-pub mod Members
 pub mod Premises
 pub mod RegisterViews
 pub mod Runs
-pub mod SetTests
 pub mod Stepping
 pub mod Stores
-pub mod WayLists

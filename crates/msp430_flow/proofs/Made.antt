@@ -11,7 +11,8 @@ use Rattle.msp430_decode.specs.Table.{bytes_of}
 use Rattle.msp430_state.specs.Known.{Known}
 use Rattle.msp430_alu.specs.Formats.{Worked}
 use Rattle.msp430_flow.specs.declared.setting.Setting.{Setting}
-use Rattle.msp430_flow.specs.Chip.{Going, entering, going_of, store_opens, work_by}
+use Rattle.unit_ways.specs.Ways.{Going}
+use Rattle.msp430_flow.specs.Chip.{entering, going_of, store_opens, work_by}
 use Rattle.msp430_flow.specs.Running.{stored_width}
 
 -- what goes on of an instruction, of which its accesses and its store say nothing
@@ -31,7 +32,7 @@ pub work_made : (setting : Setting) (pc : ℕ) (calls : List ℕ) (frame : Frame
     → last ≡ opens ++ store_opens setting.device pc (stored_width instr_so) made.store
     → record { items = all; posts = posts; waits = front.waits; opens = last } ≡ work_by setting pc calls frame a instr_so made
 work_made setting pc calls frame a instr_so made front pushed all posts opens last is_front is_pushed is_all is_posts is_opens is_last =
-    let going : Going = going_of setting pc calls frame a instr_so (bare made) in
+    let going : Going Known = going_of setting pc calls frame a instr_so (bare made) in
     let ran = items.Instr pc (bytes_of instr_so) in
     let stores = store_opens setting.device pc (stored_width instr_so) made.store in
     let shown : all ≡ front.items ++ ran ∷ going.edges = is_all ∙ ap (λ (xs : List Item). xs ++ going.edges) is_pushed ∙ append_assoc front.items (ran ∷ []) going.edges in

@@ -23,6 +23,7 @@ use Rattle.msp430_decode.specs.declared.instr.Destination.{Destination}
 use Rattle.msp430_decode.specs.declared.instr.Destination.TheVariants as destination
 use Rattle.msp430_decode.specs.declared.instr.Register.TheVariants.{Sr}
 use Rattle.msp430_status.specs.Status.{single_status_worked, status_worked}
+use Rattle.unit_ways.specs.Laws.{WayLaws}
 use Rattle.msp430_decode.specs.declared.instr.Instr.{Instr}
 use Rattle.msp430_decode.specs.declared.instr.Operation.{Operation}
 use Rattle.msp430_decode.specs.declared.instr.SingleOperation.{SingleOperation}
@@ -217,6 +218,7 @@ pub record Sets : Type 0 where
 
 pub record Laws : Type 0 where
   pub sets : Sets
+  pub ways : WayLaws Known
   pub formats : Formats
   pub statuses : Statuses
   pub single_statuses : SingleStatuses

@@ -43,16 +43,18 @@ use Rattle.msp430_state.specs.Known.{Known, known_joined, word_of}
 use Rattle.msp430_alu.specs.Formats.{AreShown, IsHit, IsLeft, IsUnder, LeavesStatus, LeavesStatusAlone, Worked, double_worked, push_worked, single_worked}
 use Rattle.msp430_results.specs.Results.{HasWidth}
 use Rattle.msp430_branch.specs.Cuts.{known_cut}
-use Rattle.msp430_flow.specs.Running.{Way, all_ways, fact_of, followed, gie_of, known_behind, leaves_frame, single_or_status, stored_width, ways_behind, ways_of, ways_to, worked}
+use Rattle.unit_ways.specs.Between.{StandsAt}
+use Rattle.unit_ways.specs.Ways.{Way, ways_of, ways_to}
+use Rattle.msp430_flow.specs.Running.{all_ways, fact_of, followed, gie_of, known_behind, leaves_frame, single_or_status, stored_width, ways_behind, worked}
 use Rattle.msp430_flow.proofs.RegisterViews.{IsDouble, IsSingle, OperandView, TargetView, operand_view, target_view}
 use Rattle.msp430_flow.proofs.RegisterViews.OperandView.{other_operand, status_operand}
 use Rattle.msp430_flow.proofs.RegisterViews.TargetView.{other_target, status_target}
 use Rattle.msp430_flow.proofs.Premises.{Laws}
-use Rattle.msp430_flow.proofs.Members.{in_none, in_cons, in_first, in_rest}
+use Rattle.unit_ways.proofs.Members.{in_none}
 
 -- one of some ways goes to an address, and the registers and RAM stand under what is known there
-abbrev pub HasWay : Device → Option ChipState → List Way → (to : ℕ) → (registers ram : List ℕ) → Type 0
-HasWay device first all to registers ram = (way : Way) × Contains all way × (way.0 ≡ to) × HoldsOfParts device way.1 first registers ram
+abbrev pub HasWay : Device → Option ChipState → List (Way Known) → (to : ℕ) → (registers ram : List ℕ) → Type 0
+HasWay device first all to registers ram = (way : Way Known) × Contains all way × (way.0 ≡ to) × HoldsOfParts device way.1 first registers ram
 
 -- what an instruction comes to that goes on behind itself, by what is made of what is known and the width of its store
 pub record ComesTo (device : Device) (s : ChipState) (first : Option ChipState) (instr_so : Instr) (made_so : Worked) (width : Width) (outcome : Outcome ChipState) : Type 0 where
@@ -83,38 +85,31 @@ pub record IsRun (device : Device) (framed : Bool) (a : Known) (s : ChipState) (
   pub hit : (at : ℕ) → left.hit ≡ Some at → IsHit device (stored_width instr_so) (worked device framed a (register_of s 0) instr_so).store at
   pub back : GoesBack device a first instr_so (worked device framed a (register_of s 0) instr_so) left
 
-to_way : (tos : List ℕ) (a : Known) (v : ℕ) → Contains tos v → Contains {X = Way} (ways_to tos a) (v, a)
-to_way [] a v h = absurd (in_none v h)
-to_way (to ∷ tos) a v h = elim (in_cons to tos v h) [
-  | inl same ↦ subst (λ n. Contains {X = Way} ((to, a) ∷ ways_to tos a) (n, a)) same (in_first {X = Way} (to, a) (ways_to tos a))
-  | inr rest ↦ in_rest {X = Way} (to, a) (ways_to tos a) (v, a) (to_way tos a v rest)
-]
-
 parts_followed : (device : Device) (late : Tri) (fact : Option FlagFact) (b : Known) (first : Option ChipState) (registers ram : List ℕ) → HoldsOfParts device b first registers ram
     → HoldsOfFact fact registers → HoldsOfParts device (followed late fact b) first registers ram
 parts_followed device late fact b first registers ram h told =
     record { sp = h.sp; status = h.status; words = h.words; fact = told; cells = h.cells; untouched = h.untouched }
 
 -- an instruction that goes to each address that PC may have
-by_next : (device : Device) (framed : Bool) (a : Known) (s : ChipState) (first : Option ChipState) (instr_so : Instr) (outcome : Outcome ChipState)
-    → all_ways device framed a (register_of s 0) instr_so ≡ ways_to (members 65536 (worked device framed a (register_of s 0) instr_so).next) (known_behind device framed a (register_of s 0) instr_so)
+by_next : Laws → (device : Device) (framed : Bool) (a : Known) (s : ChipState) (first : Option ChipState) (instr_so : Instr) (outcome : Outcome ChipState)
+    → all_ways device framed a (register_of s 0) instr_so ≡ ways_to (worked device framed a (register_of s 0) instr_so).next (known_behind device framed a (register_of s 0) instr_so)
     → (comes : ComesTo device s first instr_so (worked device framed a (register_of s 0) instr_so) (stored_width instr_so) outcome)
     → GoesBack device a first instr_so (worked device framed a (register_of s 0) instr_so) comes.left
     → IsRun device framed a s first instr_so outcome
-by_next device framed a s first instr_so outcome is comes back =
+by_next laws device framed a s first instr_so outcome is comes back =
     let pc = register_of s 0 in
     let to = slice_index comes.left.registers 0 in
     let after = (worked device framed a pc instr_so).after in
     let next = (worked device framed a pc instr_so).next in
     let behind_so = known_behind device framed a pc instr_so in
-    let way : Way = (to, behind_so) in
+    let way : Way Known = (to, behind_so) in
     record {
       left = comes.left;
       accesses = comes.accesses;
       outcome_is = comes.outcome_is;
       way = (
         way,
-        subst (λ all. Contains all way) (sym is) (to_way (members 65536 next) behind_so to comes.left_so.next_is.has),
+        subst (λ all. Contains all way) (sym is) (laws.ways.to next behind_so to comes.left_so.next_is.has),
         refl,
         parts_followed device (gie_of a) (fact_of instr_so after) after first comes.left.registers comes.left.ram comes.left_so.parts comes.fact,
       );
@@ -182,7 +177,7 @@ status_run laws device framed a s first operation width origin target outcome un
     subst (λ t. IsInstr (instr.Double operation width origin t) → MayDouble device s (length_of (instr.Double operation width origin t)) operation width origin t outcome
     → IsRun device framed a s first (instr.Double operation width origin t) outcome) (sym status)
     (λ f m. let comes = status_comes laws device framed a s first operation width origin outcome under f.0 m in
-    by_next device framed a s first (instr.Double operation width origin (destination.Register Sr)) outcome refl comes
+    by_next laws device framed a s first (instr.Double operation width origin (destination.Register Sr)) outcome refl comes
     (double_stays device a first (worked device framed a (register_of s 0) (instr.Double operation width origin (destination.Register Sr))) comes.left operation width origin (destination.Register Sr))) fits may
 
 -- either of them
@@ -194,7 +189,7 @@ double_run laws device framed a s first operation width origin target outcome un
     let i = instr.Double operation width origin target in
     let comes = subst (λ (w : Worked). ComesTo device s first i w width outcome) (sym (is device framed a (register_of s 0) (length_of i) operation width origin))
     (double_comes laws device framed a s first operation width origin target outcome under fits leaves may) in
-    by_next device framed a s first i outcome refl comes (double_stays device a first (worked device framed a (register_of s 0) i) comes.left operation width origin target)
+    by_next laws device framed a s first i outcome refl comes (double_stays device a first (worked device framed a (register_of s 0) i) comes.left operation width origin target)
 double_run laws device framed a s first operation width origin target outcome under fits may (status_target status) =
     status_run laws device framed a s first operation width origin target outcome under fits may status
 
@@ -281,7 +276,7 @@ push_run laws device framed a s first operation width operand outcome under fits
     let i = instr.Single operation width operand in
     let comes = subst (λ w. ComesTo device s first i (worked device framed a (register_of s 0) i) w outcome) (sym wide)
     (subst (λ (w : Worked). ComesTo device s first i w Word outcome) (sym is) (push_comes laws device framed a s first operation width operand outcome under fits may)) in
-    by_next device framed a s first i outcome refl comes (single_stays device a first (worked device framed a (register_of s 0) i) comes.left operation width operand)
+    by_next laws device framed a s first i outcome refl comes (single_stays device a first (worked device framed a (register_of s 0) i) comes.left operation width operand)
 
 -- an operation that pushes nothing
 plain_run : Laws → (device : Device) (framed : Bool) (a : Known) (s : ChipState) (first : Option ChipState) (operation : SingleOperation) (width : Width) (operand : Source) (outcome : Outcome ChipState)
@@ -295,7 +290,7 @@ plain_run laws device framed a s first operation width operand outcome under fit
     let comes = subst (λ w. ComesTo device s first i (worked device framed a (register_of s 0) i) w outcome) (sym wide)
     (subst (λ (w : Worked). ComesTo device s first i w width outcome) (sym (is ∙ same device framed a (register_of s 0) (length_of i) operation width))
     (single_comes laws device framed a s first operation width operand outcome under fits leaves may)) in
-    by_next device framed a s first i outcome refl comes (single_stays device a first (worked device framed a (register_of s 0) i) comes.left operation width operand)
+    by_next laws device framed a s first i outcome refl comes (single_stays device a first (worked device framed a (register_of s 0) i) comes.left operation width operand)
 plain_run laws device framed a s first operation width operand outcome under fits may is wide (status_operand status) =
     subst (λ o. IsInstr (instr.Single operation width o) → MaySingle device s (length_of (instr.Single operation width o)) operation width o outcome
     → worked device framed a (register_of s 0) (instr.Single operation width o) ≡ single_or_status device framed a (register_of s 0) (length_of (instr.Single operation width o)) operation width o
@@ -303,7 +298,7 @@ plain_run laws device framed a s first operation width operand outcome under fit
     (λ f m e w. let i = instr.Single operation width (source.Register Sr) in
     let comes = subst (λ v. ComesTo device s first i (worked device framed a (register_of s 0) i) v outcome) (sym w)
     (subst (λ (made_so : Worked). ComesTo device s first i made_so width outcome) (sym e) (single_status_comes laws device framed a s first operation width outcome under f m)) in
-    by_next device framed a s first i outcome refl comes (single_stays device a first (worked device framed a (register_of s 0) i) comes.left operation width (source.Register Sr)))
+    by_next laws device framed a s first i outcome refl comes (single_stays device a first (worked device framed a (register_of s 0) i) comes.left operation width (source.Register Sr)))
     fits may is wide
 
 -- JUMPS
@@ -354,25 +349,29 @@ module _ (laws : Laws) (device : Device) (framed : Bool) (first : Option ChipSta
   AreKnown None = Unit {0}
   AreKnown (Some a) = IsKnown device.lo device.hi framed a
 
+  known_of : (known : Option Known) (a : Known) → AreKnown known → known ≡ Some a → IsKnown device.lo device.hi framed a
+  known_of known a form is = subst AreKnown is form
+
+  -- alone, or joined with what is known on the other way
+  way_of_stands : (all : List (Way Known)) (to : ℕ) (a : Known) (other : Option Known) (both : Known → Known)
+      → ((b : Known) → IsKnown device.lo device.hi framed b → HoldsOfParts device (both b) first registers ram) → AreKnown other → StandsAt all to a other both
+      → HoldsOfParts device a first registers ram → HasWay device first all to registers ram
+  way_of_stands all to a other both joined form stands h =
+      let known : HoldsOfParts device stands.way.1 first registers ram = elim stands.known [
+        | inl is ↦ subst (λ k. HoldsOfParts device k first registers ram) (sym is) h
+        | inr found ↦ let (b, there, is) = found in subst (λ k. HoldsOfParts device k first registers ram) (sym is) (joined b (known_of other b form there))
+      ] in
+      (stands.way, stands.listed, stands.goes, known)
+
   way_jumped : (ahead target : ℕ) (on : Option Known) (b : Known) → AreKnown on → IsKnown device.lo device.hi framed b → HoldsOfParts device b first registers ram
-      → HasWay device first (ways_of ahead target on (Some b)) target registers ram
-  way_jumped ahead target None b f g h = ((target, b), in_first (target, b) [], refl, h)
-  way_jumped ahead target (Some a) b f g h = elim (cases_eq ahead target) [
-    | inl same ↦ subst (λ all. HasWay device first all target registers ram) (sym (cond-true (ahead == target) ((ahead, known_joined a b) ∷ []) ((ahead, a) ∷ (target, b) ∷ []) (grind (arith, nat_tests, same))))
-        ((ahead, known_joined a b), in_first (ahead, known_joined a b) [], same, joined_second a b f g h)
-    | inr other ↦ subst (λ all. HasWay device first all target registers ram) (sym (cond-false (ahead == target) ((ahead, known_joined a b) ∷ []) ((ahead, a) ∷ (target, b) ∷ []) (grind (arith, nat_tests, other))))
-        ((target, b), in_rest (ahead, a) ((target, b) ∷ []) (target, b) (in_first (target, b) []), refl, h)
-  ]
+      → HasWay device first (ways_of known_joined ahead target on (Some b)) target registers ram
+  way_jumped ahead target on b f g h =
+      way_of_stands (ways_of known_joined ahead target on (Some b)) target b on (λ a. known_joined a b) (λ a k. joined_second a b k g h) f (laws.ways.jumped known_joined ahead target on b) h
 
   way_on : (ahead target : ℕ) (a : Known) (jumped : Option Known) → IsKnown device.lo device.hi framed a → AreKnown jumped → HoldsOfParts device a first registers ram
-      → HasWay device first (ways_of ahead target (Some a) jumped) ahead registers ram
-  way_on ahead target a None f g h = ((ahead, a), in_first (ahead, a) [], refl, h)
-  way_on ahead target a (Some b) f g h = elim (cases_eq ahead target) [
-    | inl same ↦ subst (λ all. HasWay device first all ahead registers ram) (sym (cond-true (ahead == target) ((ahead, known_joined a b) ∷ []) ((ahead, a) ∷ (target, b) ∷ []) (grind (arith, nat_tests, same))))
-        ((ahead, known_joined a b), in_first (ahead, known_joined a b) [], refl, joined_first a b f g h)
-    | inr other ↦ subst (λ all. HasWay device first all ahead registers ram) (sym (cond-false (ahead == target) ((ahead, known_joined a b) ∷ []) ((ahead, a) ∷ (target, b) ∷ []) (grind (arith, nat_tests, other))))
-        ((ahead, a), in_first (ahead, a) ((target, b) ∷ []), refl, h)
-  ]
+      → HasWay device first (ways_of known_joined ahead target (Some a) jumped) ahead registers ram
+  way_on ahead target a jumped f g h =
+      way_of_stands (ways_of known_joined ahead target (Some a) jumped) ahead a jumped (known_joined a) (λ b k. joined_first a b f k h) g (laws.ways.on known_joined ahead target a jumped) h
 
   cut_known : (condition : Condition) (taken : Bool) (a : Known) (found : Option Known) → IsKnown device.lo device.hi framed a → known_cut condition taken a ≡ found → AreKnown found
   cut_known condition taken a None f e = tt
@@ -383,11 +382,11 @@ module _ (laws : Laws) (device : Device) (framed : Bool) (first : Option ChipSta
       → HasWay device first (ways_behind pc (instr.Jump condition offset) (single ((pc + 2) % 65536)) a) (cond taken (target_of pc offset) ((pc + 2) % 65536)) registers ram
   way_of_jump pc offset condition true a b f e h =
       let on = known_cut condition false a in
-      subst (λ found. HasWay device first (ways_of ((pc + 2) % 65536) (target_of pc offset) on found) (target_of pc offset) registers ram) (sym e)
+      subst (λ found. HasWay device first (ways_of known_joined ((pc + 2) % 65536) (target_of pc offset) on found) (target_of pc offset) registers ram) (sym e)
       (way_jumped ((pc + 2) % 65536) (target_of pc offset) on b (cut_known condition false a on f refl) (laws.branches.form device.lo device.hi framed a b condition true f e) h)
   way_of_jump pc offset condition false a b f e h =
       let jumped = known_cut condition true a in
-      subst (λ found. HasWay device first (ways_of ((pc + 2) % 65536) (target_of pc offset) found jumped) ((pc + 2) % 65536) registers ram) (sym e)
+      subst (λ found. HasWay device first (ways_of known_joined ((pc + 2) % 65536) (target_of pc offset) found jumped) ((pc + 2) % 65536) registers ram) (sym e)
       (way_on ((pc + 2) % 65536) (target_of pc offset) b jumped (laws.branches.form device.lo device.hi framed a b condition false f e) (cut_known condition true a jumped f refl) h)
 
 pub late_form : (lo hi : ℕ) (framed : Bool) (late : Tri) (fact : Option FlagFact) (b : Known) → IsFact fact → IsKnown lo hi framed b → IsKnown lo hi framed (followed late fact b)
@@ -448,7 +447,7 @@ return_run laws device framed a s first outcome under may =
       shown = laws.returns.shown device framed a s first under;
       hit = λ at none. absurd (cc);
     } in
-    by_next device framed a s first instr.ReturnFromInterrupt outcome refl comes (λ frame standing leaves. record {
+    by_next laws device framed a s first instr.ReturnFromInterrupt outcome refl comes (λ frame standing leaves. record {
       goes = λ t same. laws.returns.back device framed a s t first frame outcome under standing leaves may same;
       parts = parts_followed device (gie_of a) None made_so.after first left.registers left.ram left_so.parts tt;
     })

@@ -43,11 +43,12 @@ use Rattle.msp430_entry.specs.Entry.{ComesSo, comings_of, counter_slot, entry_sh
 use Rattle.msp430_alu.specs.Memory.{IsDevice}
 use Rattle.msp430_flow.specs.Standing.{fetched, found_by}
 use Rattle.msp430_flow.specs.declared.setting.Setting.{Setting}
-use Rattle.msp430_flow.specs.Chip.{BreaksLimit, CanHit, Going, IsProgram, followed_work, going_back, going_of, going_on, push_opens, store_open, store_opens, target_opens, work_at, work_by}
+use Rattle.msp430_flow.specs.Chip.{BreaksLimit, CanHit, IsProgram, followed_work, going_back, going_of, going_on, push_opens, store_open, store_opens, work_at, work_by}
 use Rattle.msp430_flow.specs.Machine.{leaving_of}
-use Rattle.msp430_flow.specs.Running.{are_too_many, leaves_frame, may_hit, stored_width, worked}
+use Rattle.unit_ways.specs.Ways.{Going, target_opens}
+use Rattle.msp430_flow.specs.Running.{leaves_frame, may_hit, stored_width, worked}
 use Rattle.msp430_flow.proofs.Premises.{Decoding, Laws}
-use Rattle.msp430_flow.proofs.Members.{from_flat_map, in_cons, in_first, in_flat_map, in_none}
+use Rattle.unit_ways.proofs.Members.{from_flat_map, in_cons, in_first, in_flat_map, in_none}
 use Rattle.msp430_flow.proofs.Runs.{IsRun, instr_run}
 use Rattle.msp430_flow.proofs.Stores.{hit_told, may_hit_can}
 
@@ -303,23 +304,20 @@ push_open laws setting framed pc a open_so form h =
       | inr other ↦ store_breaks setting pc Word status open_so (λ can. inr (record { vector = coming_so.vector; has_handler = has; can = can })) (may_hit device Word status) refl other
     ]
 
-targets_open : (setting : Setting) (pc : ℕ) (open_so : ℕ × Cause) (instr_so : Instr) (len : ℕ) → Stands setting.device.image pc instr_so len → (next : Form) (many : Bool)
-    → are_too_many setting.limits.targets next ≡ many → Contains (target_opens setting.limits.targets pc next) open_so → Breaking setting pc open_so
-targets_open setting pc open_so instr_so len standing next true is h =
-    let limit : setting.limits.targets < count_of 65536 next = ltb-true setting.limits.targets (count_of 65536 next) is in
-    only_open setting pc (Targets next) open_so (instr_so, len, standing, limit)
-    (subst (λ many. Contains {X = ℕ × Cause} (cond many ((pc, Targets next) ∷ []) []) open_so) is h)
-targets_open setting pc open_so instr_so len standing next false is h =
-    absurd (in_none open_so (subst (λ many. Contains {X = ℕ × Cause} (cond many ((pc, Targets next) ∷ []) []) open_so) is h))
+targets_open : Laws → (setting : Setting) (pc : ℕ) (open_so : ℕ × Cause) (instr_so : Instr) (len : ℕ) → Stands setting.device.image pc instr_so len → (next : Form)
+    → Contains (target_opens setting.limits.targets pc next) open_so → Breaking setting pc open_so
+targets_open laws setting pc open_so instr_so len standing next h =
+    let (is, many) = laws.ways.many setting.limits.targets pc next open_so h in
+    subst (Breaking setting pc) (sym is) (refl, (instr_so, len, standing, many))
 
 -- a return that leaves its frame leaves nothing open
-going_open : (setting : Setting) (pc : ℕ) (calls : List ℕ) (frame : Frame) (a : Known) (open_so : ℕ × Cause) (instr_so : Instr) (made_so : Worked) (len : ℕ) → Stands setting.device.image pc instr_so len
+going_open : Laws → (setting : Setting) (pc : ℕ) (calls : List ℕ) (frame : Frame) (a : Known) (open_so : ℕ × Cause) (instr_so : Instr) (made_so : Worked) (len : ℕ) → Stands setting.device.image pc instr_so len
     → Contains (going_of setting pc calls frame a instr_so made_so).opens open_so → Breaking setting pc open_so
-going_open setting pc calls frame a open_so instr_so made_so len standing h =
+going_open laws setting pc calls frame a open_so instr_so made_so len standing h =
     cond_both (leaves_frame setting.device frame a instr_so) (going_back pc frame a made_so) (going_on setting pc calls frame a instr_so made_so)
-    (λ (going : Going). Contains going.opens open_so → Breaking setting pc open_so)
+    (λ (going : Going Known). Contains going.opens open_so → Breaking setting pc open_so)
     (λ _ none. absurd (in_none open_so none))
-    (λ _ there. targets_open setting pc open_so instr_so len standing made_so.next (are_too_many setting.limits.targets made_so.next) refl there) h
+    (λ _ there. targets_open laws setting pc open_so instr_so len standing made_so.next there) h
 
 followed_open : Laws → (setting : Setting) (pc : ℕ) (calls : List ℕ) (frame : Frame) (a : Known) (open_so : ℕ × Cause) (instr_so : Instr) (len : ℕ) → Stands setting.device.image pc instr_so len
     → IsKnown setting.device.lo setting.device.hi (is_interrupt frame) a → Contains (followed_work setting pc calls frame a instr_so).opens open_so → Breaking setting pc open_so
@@ -332,7 +330,7 @@ followed_open laws setting pc calls frame a open_so instr_so len standing form h
     elim (Contains-append_cases (pushes ++ going) stores open_so h) [
       | inl front ↦ elim (Contains-append_cases pushes going open_so front) [
         | inl push ↦ push_open laws setting (is_interrupt frame) pc a open_so form push
-        | inr goes ↦ going_open setting pc calls frame a open_so instr_so made_so len standing goes
+        | inr goes ↦ going_open laws setting pc calls frame a open_so instr_so made_so len standing goes
       ]
       | inr store ↦ worked_open setting pc open_so instr_so len standing made_so.store store
     ]

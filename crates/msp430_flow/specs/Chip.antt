@@ -41,13 +41,10 @@ use Rattle.msp430_flow.specs.declared.setting.Setting.{Setting}
 use Rattle.msp430_flow.specs.Standing.{fetched}
 use Rattle.msp430_flow.specs.Marks.{stops}
 use Rattle.msp430_flow.specs.Labels.{calls_by, effect_of}
-use Rattle.msp430_flow.specs.Running.{Way, are_too_many, followed, gie_of, leaves_frame, may_hit, stored_width, ways_by, worked}
+use Rattle.unit_ways.specs.Ways.{Going, back_at, edges_of, posts_of, target_opens, wait_at}
+use Rattle.msp430_flow.specs.Running.{followed, gie_of, leaves_frame, may_hit, stored_width, ways_by, worked}
 
 -- OPENS
-
--- more targets than are followed are left open
-abbrev pub target_opens : (limit : ℕ) → ℕ → Form → List (ℕ × Cause)
-target_opens limit pc next = if are_too_many limit next then (pc, Targets next) ∷ [] else []
 
 -- a store that may write a byte of the program is left open; what follows takes the program as unchanged
 abbrev pub store_open : Device → ℕ → Width → Form → List (ℕ × Cause)
@@ -64,12 +61,8 @@ abbrev pub entry_post : Device → (pc : ℕ) → Known → Coming → Node × K
 entry_post device pc a coming = (At (handler_of device coming.vector) [] (frame_of_coming coming), entered_known device a pc coming.sp)
 
 -- what its frame leaves at a known stack pointer is waited for
-abbrev pub wait_at : Coming → Option ℕ → List Frame
-wait_at coming None = []
-wait_at coming (Some sp) = frame_of_coming coming ∷ []
-
 abbrev pub wait_of : Coming → List Frame
-wait_of coming = wait_at coming coming.known_sp
+wait_of coming = wait_at (frame_of_coming coming) coming.known_sp
 
 -- PC and SR are stored as words
 abbrev pub push_opens : Device → (pc : ℕ) → Coming → List (ℕ × Cause)
@@ -78,21 +71,7 @@ push_opens device pc coming = store_open device pc Word (counter_slot coming.sp)
 -- WHERE AN INSTRUCTION GOES ON
 
 -- its edges, its posts, and more targets than are followed
-pub record Going : Type 0 where
-  pub edges : List Item
-  pub posts : List (Node × Known)
-  pub opens : List (ℕ × Cause)
-
--- each way is an edge, and a post in the same frame
-abbrev pub edges_of : ℕ → List Way → List Item
-edges_of pc [] = []
-edges_of pc (way ∷ ways) = items.Edge pc way.0 ∷ edges_of pc ways
-
-abbrev pub posts_of : (calls_at : ℕ → List ℕ) → Frame → List Way → List (Node × Known)
-posts_of calls_at frame [] = []
-posts_of calls_at frame (way ∷ ways) = (At way.0 (calls_at way.0) frame, way.1) ∷ posts_of calls_at frame ways
-
-abbrev pub going_on : Setting → ℕ → List ℕ → Frame → Known → Instr → Worked → Going
+abbrev pub going_on : Setting → ℕ → List ℕ → Frame → Known → Instr → Worked → Going Known
 going_on setting pc calls frame a instr made = record {
   edges = edges_of pc (ways_by setting.limits.targets a pc instr made);
   posts = posts_of (calls_by setting.limits.calls (effect_of instr) setting.device.image pc calls) frame (ways_by setting.limits.targets a pc instr made);
@@ -100,10 +79,10 @@ going_on setting pc calls frame a instr made = record {
 }
 
 -- a return from the frame's interrupt leaves its state at the exit
-abbrev pub going_back : ℕ → Frame → Known → Worked → Going
-going_back pc frame a made = record { edges = []; posts = (Exit pc frame, followed (gie_of a) None made.after) ∷ []; opens = [] }
+abbrev pub going_back : ℕ → Frame → Known → Worked → Going Known
+going_back pc frame a made = back_at pc frame (followed (gie_of a) None made.after)
 
-abbrev pub going_of : Setting → ℕ → List ℕ → Frame → Known → Instr → Worked → Going
+abbrev pub going_of : Setting → ℕ → List ℕ → Frame → Known → Instr → Worked → Going Known
 going_of setting pc calls frame a instr made =
     if leaves_frame setting.device frame a instr then going_back pc frame a made else going_on setting pc calls frame a instr made
 

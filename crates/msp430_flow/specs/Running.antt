@@ -1,11 +1,11 @@
 -- What an instruction makes of what is known of a state.
-use Rattle.std.specs.Prelude.{ℕ, ◌+◌, ◌%◌, ◌==◌, nat_lt, if◌then◌else◌, Bool, true, false, Option, None, Some, List, [], ◌∷◌, is_some}
+use Rattle.std.specs.Prelude.{ℕ, ◌+◌, ◌%◌, Bool, true, false, Option, None, Some, List, [], is_some}
 use Rattle.std.specs.List.{slice_index_or, list_any}
 use Rattle.value_bits.specs.declared.tri.Tri.{Tri}
 use Rattle.value_bits.specs.declared.tri.Tri.TheVariants.{Either}
 use Rattle.value_set.specs.declared.form.Form.{Form}
 use Rattle.value_set.specs.Form.{members}
-use Rattle.value_set.specs.Summing.{count_of, single}
+use Rattle.value_set.specs.Summing.{single}
 use Rattle.msp430_decode.specs.declared.instr.Instr.{Instr}
 use Rattle.msp430_decode.specs.declared.instr.Instr.TheVariants.{Double, Jump, Single as OneOperand, ReturnFromInterrupt}
 use Rattle.msp430_decode.specs.declared.instr.SingleOperation.{SingleOperation}
@@ -26,6 +26,7 @@ use Rattle.msp430_decode.specs.declared.instr.Register.TheVariants.{Sr}
 use Rattle.msp430_status.specs.Status.{single_status_worked, status_worked}
 use Rattle.msp430_return.specs.Return.{goes_back, return_worked}
 use Rattle.call_context.specs.declared.node.Frame.{Frame}
+use Rattle.unit_ways.specs.Ways.{Way, followed_ways, ways_of, ways_to}
 use Rattle.msp430_branch.specs.Cuts.{known_cut}
 use Rattle.msp430_branch.specs.Facts.{fact_behind}
 use Rattle.msp430_alu.specs.Formats.{Worked, double_worked, single_worked, push_worked}
@@ -88,41 +89,21 @@ known_behind device framed a pc instr = let after = (worked device framed a pc i
 
 -- WHERE IT GOES ON
 
--- an address, with what is known there
-abbrev pub Way : Type 0
-Way = ℕ × Known
-
--- the way on and the way of a jump, where they can be; two that lead to one address are joined
-abbrev pub ways_of : (behind target : ℕ) → (on jumped : Option Known) → List Way
-ways_of behind target None None = []
-ways_of behind target (Some a) None = (behind, a) ∷ []
-ways_of behind target None (Some b) = (target, b) ∷ []
-ways_of behind target (Some a) (Some b) = if behind == target then (behind, known_joined a b) ∷ [] else (behind, a) ∷ (target, b) ∷ []
-
--- what is known stands at each of some addresses
-abbrev pub ways_to : List ℕ → Known → List Way
-ways_to [] a = []
-ways_to (to ∷ others) a = (to, a) ∷ ways_to others a
-
 -- a jump goes two ways, and all else to each address that PC may have then
-abbrev pub ways_behind : ℕ → Instr → (next : Form) → (behind : Known) → List Way
+abbrev pub ways_behind : ℕ → Instr → (next : Form) → (behind : Known) → List (Way Known)
 ways_behind pc (Jump condition offset) next a =
-    ways_of ((pc + 2) % 65536) (target_of pc offset) (known_cut condition false a) (known_cut condition true a)
-ways_behind pc other next a = ways_to (members 65536 next) a
+    ways_of known_joined ((pc + 2) % 65536) (target_of pc offset) (known_cut condition false a) (known_cut condition true a)
+ways_behind pc other next a = ways_to next a
 
-abbrev pub all_ways : Device → (framed : Bool) → Known → ℕ → Instr → List Way
+abbrev pub all_ways : Device → (framed : Bool) → Known → ℕ → Instr → List (Way Known)
 all_ways device framed a pc instr = ways_behind pc instr (worked device framed a pc instr).next (known_behind device framed a pc instr)
 
--- more addresses than are followed
-abbrev pub are_too_many : (limit : ℕ) → Form → Bool
-are_too_many limit next = nat_lt limit (count_of 65536 next)
-
 -- those that are followed, by what the instruction makes of what is known
-abbrev pub ways_by : (limit : ℕ) → Known → ℕ → Instr → Worked → List Way
+abbrev pub ways_by : (limit : ℕ) → Known → ℕ → Instr → Worked → List (Way Known)
 ways_by limit a pc instr made =
-    if are_too_many limit made.next then [] else ways_behind pc instr made.next (followed (gie_of a) (fact_of instr made.after) made.after)
+    followed_ways limit made.next (ways_behind pc instr made.next (followed (gie_of a) (fact_of instr made.after) made.after))
 
-abbrev pub ways : (limit : ℕ) → Device → (framed : Bool) → Known → ℕ → Instr → List Way
+abbrev pub ways : (limit : ℕ) → Device → (framed : Bool) → Known → ℕ → Instr → List (Way Known)
 ways limit device framed a pc instr = ways_by limit a pc instr (worked device framed a pc instr)
 
 -- RETI that goes back to where the interrupt of its frame came

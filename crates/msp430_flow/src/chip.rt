@@ -22,7 +22,7 @@ use crate::marks::marks_of;
 use crate::running::{fact_of, leaves_frame, run, stored_width};
 use crate::setting::Setting;
 use crate::text::Msp430Text;
-use crate::ways::{Site, Ways, add_all, are_too_many};
+use crate::ways::{Site, add_all};
 use abs_memory::CellList;
 use analysis_limits::Limits;
 use arrayvec::ArrayString;
@@ -37,6 +37,7 @@ use msp430_state::{FlagFact, State};
 use no_memory::Memory;
 use std::alloc::Global;
 use std::marker::Model;
+use unit_ways::{Ways, are_too_many, leave, leave_open};
 use value_bits::Tri;
 use value_set::Vs16;
 
@@ -138,8 +139,7 @@ impl Msp430Chip {
     fn go_on(
         &self,
         alloc: Global,
-        ways: &mut Ways,
-        opens: &mut Sequence<(u16, Cause)>,
+        ways: &mut Ways<Kept>,
         pc: u16,
         calls: &Calls,
         frame: Frame,
@@ -151,18 +151,16 @@ impl Msp430Chip {
         requires { IsInstr instr.now }
         ensures items { OnOk result (ways.new.items ≡ ways.old.items ++ (going_of self.now pc calls.now frame at.now instr.now (record { after = after; next = next.now; accesses = []; store = None })).edges) }
         ensures posts { OnOk result (ways.new.posts ≡ ways.old.posts ++ (going_of self.now pc calls.now frame at.now instr.now (record { after = after; next = next.now; accesses = []; store = None })).posts) }
-        ensures opens { OnOk result (opens.new ≡ opens.old ++ (going_of self.now pc calls.now frame at.now instr.now (record { after = after; next = next.now; accesses = []; store = None })).opens) }
+        ensures opens { OnOk result (ways.new.opens ≡ ways.old.opens ++ (going_of self.now pc calls.now frame at.now instr.now (record { after = after; next = next.now; accesses = []; store = None })).opens) }
     {
         self.keeps_rules();
         if leaves_frame(&self.setting.device, &frame, at, instr) {
             let left = followed(after, gie_of(at), None);
             let kept = Kept::new(alloc, left)?;
-            ways.posts.push((Node::Exit(pc, frame), kept))?;
-            return Ok(());
+            return leave(ways, pc, frame, kept);
         }
         if are_too_many(self.setting.limits.targets, next) {
-            opens.push((pc, Cause::Targets(*next)))?;
-            return Ok(());
+            return leave_open(ways, pc, *next);
         }
         let fact = fact_of(instr, &after);
         let behind = followed(after, gie_of(at), fact);
@@ -213,14 +211,19 @@ impl Msp430Chip {
             waits,
             opens,
         } = entered;
-        let mut opens = opens;
-        let mut ways = Ways { items, posts };
+        let mut ways = Ways {
+            items,
+            posts,
+            opens,
+        };
         ways.items.push(instr_item(pc, instr))?;
-        self.go_on(
-            alloc, &mut ways, &mut opens, pc, calls, frame, at, instr, &next, after,
-        )?;
-        add_store_opens(&mut opens, device, pc, stored_width(instr), store)?;
-        let Ways { items, posts } = ways;
+        self.go_on(alloc, &mut ways, pc, calls, frame, at, instr, &next, after)?;
+        add_store_opens(&mut ways.opens, device, pc, stored_width(instr), store)?;
+        let Ways {
+            items,
+            posts,
+            opens,
+        } = ways;
         Ok(Work {
             items,
             posts,

@@ -11,7 +11,7 @@ ghost use Rattle.msp430_flow.specs.Chip as chip;
 use crate::kept::Kept;
 use crate::meeting::may_hit;
 use abs_memory::CellList;
-use call_context::{Calls, Cause, Frame, Item, Node, Sequence, Set};
+use call_context::{Calls, Cause, Item, Node, Sequence, Set};
 use chip_law::Work;
 use msp430_chip::Device;
 use msp430_decode::Width;
@@ -22,6 +22,7 @@ use msp430_entry::{
 use msp430_state::State;
 use no_memory::Memory;
 use std::alloc::Global;
+use unit_ways::add_wait;
 use value_set::Vs16;
 
 /// Adds the open of a store that may write a byte of the program.
@@ -74,16 +75,6 @@ fn entry_post(
     Ok((Node::At(handler, Calls::new(), frame_of(coming)), kept))
 }
 
-/// Adds the frame of an interrupt that came at a known stack pointer.
-fn add_wait(waits: &mut Sequence<Frame>, coming: &Coming) -> Result<(), Memory>
-    ensures { OnOk result (waits.new ≡ waits.old ++ chip.wait_of coming.now) }
-{
-    if coming.known_sp.is_some() {
-        waits.push(frame_of(coming))?;
-    }
-    Ok(())
-}
-
 /// Adds the opens of the stores of PC and SR.
 fn add_push_opens(
     opens: &mut Sequence<(u16, Cause)>,
@@ -115,7 +106,7 @@ fn add_entry(
 {
     add_entry_items(&mut work.items, device, pc, coming)?;
     work.posts.push(entry_post(alloc, device, pc, at, coming)?)?;
-    add_wait(&mut work.waits, coming)?;
+    add_wait(&mut work.waits, frame_of(coming), &coming.known_sp)?;
     add_push_opens(&mut work.opens, device, pc, coming)
 }
 

@@ -5,6 +5,7 @@ ghost use Rattle.msp430_flow.specs.Machine.{msp430_machine};
 ghost use Rattle.msp430_state.specs.Holding.{Covers};
 
 use crate::chip::Msp430Chip;
+use crate::kept::Kept;
 use chip_law::LawfulChip;
 use msp430_alu::{doubles_hold, pushes_hold, singles_hold};
 use msp430_branch::{cuts_hold, facts_hold};
@@ -15,6 +16,7 @@ use msp430_resume::resumptions_cover;
 use msp430_return::returns_hold;
 use msp430_state::{states_are_ordered, states_cover, states_keep_form};
 use msp430_status::{single_statuses_hold, statuses_hold};
+use unit_ways::ways_hold;
 use value_set::members_are_below;
 
 impl LawfulChip for Msp430Chip {
@@ -36,6 +38,7 @@ impl LawfulChip for Msp430Chip {
 
     fn laws() {
         members_are_below();
+        ways_hold::<Kept>();
         doubles_hold();
         singles_hold();
         pushes_hold();

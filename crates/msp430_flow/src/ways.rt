@@ -1,17 +1,17 @@
 //! Where instructions go on.
 
-ghost use Rattle.std.specs.Prelude.{◌≡◌, ◌++◌, ◌∷◌, ◌+◌, ◌%◌, ◌<◌, if◌then◌else◌, [], OnOk, length};
-ghost use Rattle.value_set.specs.Form.{members};
+ghost use Rattle.std.specs.Prelude.{◌≡◌, ◌++◌, ◌+◌, ◌%◌, ◌<◌, IfOk, OnOk};
 ghost use Rattle.msp430_decode.specs.Table.{IsInstr, target_of};
 ghost use Rattle.msp430_branch.specs.Cuts.{known_cut};
-ghost use Rattle.msp430_flow.specs.Chip as chip;
+ghost use Rattle.msp430_state.specs.Known.{known_joined};
+ghost use Rattle.unit_ways.specs.Ways.{edges_of, posts_of, ways_of};
 ghost use Rattle.msp430_flow.specs.Labels as labels;
 ghost use Rattle.msp430_flow.specs.Running as running;
 
 use crate::kept::Kept;
 use crate::labels::{CallEffect, calls_by};
 use abs_memory::CellList;
-use call_context::{Calls, Frame, Item, Node, Sequence};
+use call_context::{Calls, Frame};
 use image::Image;
 use msp430_branch::cut;
 use msp430_decode::{Condition, Instr, offset_target};
@@ -19,14 +19,8 @@ use msp430_state::State;
 use no_memory::Memory;
 use std::alloc::Global;
 use std::marker::Model;
-use value_set::{Vs16, sets_have_members};
-
-/// The edges and the posts of an instruction.
-#[derive(Drop)]
-pub struct Ways {
-    pub items: Sequence<Item>,
-    pub posts: Sequence<(Node, Kept)>,
-}
+use unit_ways::{Ways, add_each, add_either};
+use value_set::Vs16;
 
 /// Where an instruction stands, what it does to the call string, and how many sites this keeps.
 #[derive(Drop)]
@@ -51,87 +45,72 @@ impl<'a> Model for Site<'a> {
     ghost invariant = { λ s. s.limit ≤ 8 };
 }
 
-/// The call string at a target.
-fn label(site: &Site, to: u16) -> Calls
-    ensures { result ≡ labels.calls_at site.now to }
-{
-    calls_by(site.limit, site.effect, site.image, site.pc, site.calls, to)
-}
+impl<'a> unit_ways::Site for Site<'a> {
+    type Known = Kept;
 
-/// Adds a way from one address to another, in the same frame.
-fn add(
-    alloc: Global,
-    ways: &mut Ways,
-    site: &Site,
-    to: u16,
-    state: State<CellList>,
-) -> Result<(), Memory>
-    ensures items { OnOk result (ways.new.items ≡ ways.old.items ++ chip.edges_of site.now.pc ((to, state) ∷ [])) }
-    ensures posts { OnOk result (ways.new.posts ≡ ways.old.posts ++ chip.posts_of (labels.calls_by site.now.limit site.now.effect site.now.image site.now.pc site.now.calls) site.now.frame ((to, state) ∷ [])) }
-{
-    let kept = Kept::new(alloc, state)?;
-    ways.items.push(Item::Edge { from: site.pc, to })?;
-    ways.posts
-        .push((Node::At(to, label(site, to), site.frame), kept))?;
-    Ok(())
-}
+    ghost use Rattle.msp430_flow.specs.Labels as labels;
+    ghost use Rattle.msp430_state.specs.Known.{known_joined};
 
-/// The place of a set's last member.
-fn last_place(set: &Vs16) -> u32
-    ensures { result + 1 ≡ length (members 65536 set.now) }
-{
-    sets_have_members();
-    let _form = set.form();
-    set.count() - 1
-}
+    ghost address = { λ site. site.pc };
 
-/// Adds a way to each address of a set.
-fn add_each(
-    alloc: Global,
-    ways: &mut Ways,
-    site: &Site,
-    next: &Vs16,
-    state: State<CellList>,
-) -> Result<(), Memory>
-    ensures items { OnOk result (ways.new.items ≡ ways.old.items ++ chip.edges_of site.now.pc (running.ways_to (members 65536 next.now) state)) }
-    ensures posts { OnOk result (ways.new.posts ≡ ways.old.posts ++ chip.posts_of (labels.calls_by site.now.limit site.now.effect site.now.image site.now.pc site.now.calls) site.now.frame (running.ways_to (members 65536 next.now) state)) }
-{
-    let last = last_place(next);
-    for place in 0..last {
-        let copy = state.copy(alloc)?;
-        add(alloc, ways, site, next.nth(place), copy)?;
+    ghost frame_of = { λ site. site.frame };
+
+    ghost label = { labels.calls_at };
+
+    ghost joined = { known_joined };
+
+    fn pc(&self) -> u16 {
+        self.pc
     }
-    add(alloc, ways, site, next.nth(last), state)
+
+    fn frame(&self) -> Frame {
+        self.frame
+    }
+
+    fn calls_at(&self, to: u16) -> Calls {
+        calls_by(self.limit, self.effect, self.image, self.pc, self.calls, to)
+    }
+
+    fn copy(&self, alloc: Global, known: &Kept) -> Result<Kept, Memory> {
+        Kept::new(alloc, known.state().copy(alloc)?)
+    }
+
+    fn join(&self, alloc: Global, on: &Kept, jumped: &Kept) -> Result<Kept, Memory> {
+        Kept::new(alloc, on.state().join(alloc, jumped.state())?)
+    }
 }
 
-/// Adds the two ways of a jump, where they can be. Two that lead to one address are joined.
-fn add_both(
+/// Keeps what is known, where that can be.
+fn kept(alloc: Global, known: Option<State<CellList>>) -> Result<Option<Kept>, Memory>
+    ensures { IfOk result (λ kept. kept ≡ known) }
+{
+    match known {
+        Some(state) => Ok(Some(Kept::new(alloc, state)?)),
+        None => Ok(None),
+    }
+}
+
+/// Adds the two ways of a jump, where they can be.
+fn add_jump(
     alloc: Global,
-    ways: &mut Ways,
+    ways: &mut Ways<Kept>,
     site: &Site,
     offset: u16,
     on: Option<State<CellList>>,
     jumped: Option<State<CellList>>,
 ) -> Result<(), Memory>
     requires { offset < 1024 }
-    ensures items { OnOk result (ways.new.items ≡ ways.old.items ++ chip.edges_of site.now.pc (running.ways_of ((site.now.pc + 2) % 65536) (target_of site.now.pc offset) on jumped)) }
-    ensures posts { OnOk result (ways.new.posts ≡ ways.old.posts ++ chip.posts_of (labels.calls_by site.now.limit site.now.effect site.now.image site.now.pc site.now.calls) site.now.frame (running.ways_of ((site.now.pc + 2) % 65536) (target_of site.now.pc offset) on jumped)) }
+    ensures items { OnOk result (ways.new.items ≡ ways.old.items
+        ++ edges_of site.now.pc (ways_of known_joined ((site.now.pc + 2) % 65536) (target_of site.now.pc offset) on jumped)) }
+    ensures posts { OnOk result (ways.new.posts ≡ ways.old.posts
+        ++ posts_of (labels.calls_at site.now) site.now.frame (ways_of known_joined ((site.now.pc + 2) % 65536) (target_of site.now.pc offset) on jumped)) }
+    ensures opens { OnOk result (ways.new.opens ≡ ways.old.opens) }
 {
     let behind = site.pc.wrapping_add(2);
     let target = offset_target(site.pc, offset);
-    match (on, jumped) {
-        (None, None) => Ok(()),
-        (Some(on), None) => add(alloc, ways, site, behind, on),
-        (None, Some(jumped)) => add(alloc, ways, site, target, jumped),
-        (Some(on), Some(jumped)) => {
-            if behind == target {
-                let joined = on.join(alloc, &jumped)?;
-                return add(alloc, ways, site, behind, joined);
-            }
-            add(alloc, ways, site, behind, on)?;
-            add(alloc, ways, site, target, jumped)
-        }
-    }
+    let on = kept(alloc, on)?;
+    let jumped = kept(alloc, jumped)?;
+    add_either(alloc, ways, site, behind, target, on, jumped)
 }
 
 /// What is known where a jump is taken, or isn't, if that can be.
@@ -146,32 +125,30 @@ fn outcome(state: State<CellList>, condition: Condition, taken: bool) -> Option<
     }
 }
 
-/// Whether there are more addresses than are followed.
-pub fn are_too_many(limit: u32, next: &Vs16) -> bool
-    ensures { result ≡ running.are_too_many limit next.now }
-{
-    next.count() > limit
-}
-
 /// Adds all ways of an instruction, by the set of the next addresses and what is known behind it.
 pub fn add_all(
     alloc: Global,
-    ways: &mut Ways,
+    ways: &mut Ways<Kept>,
     site: &Site,
     instr: &Instr,
     next: &Vs16,
     behind: State<CellList>,
 ) -> Result<(), Memory>
     requires { IsInstr instr.now }
-    ensures items { OnOk result (ways.new.items ≡ ways.old.items ++ chip.edges_of site.now.pc (running.ways_behind site.now.pc instr.now next.now behind)) }
-    ensures posts { OnOk result (ways.new.posts ≡ ways.old.posts ++ chip.posts_of (labels.calls_by site.now.limit site.now.effect site.now.image site.now.pc site.now.calls) site.now.frame (running.ways_behind site.now.pc instr.now next.now behind)) }
+    ensures items { OnOk result (ways.new.items ≡ ways.old.items ++ edges_of site.now.pc (running.ways_behind site.now.pc instr.now next.now behind)) }
+    ensures posts { OnOk result (ways.new.posts
+        ≡ ways.old.posts ++ posts_of (labels.calls_at site.now) site.now.frame (running.ways_behind site.now.pc instr.now next.now behind)) }
+    ensures opens { OnOk result (ways.new.opens ≡ ways.old.opens) }
 {
     match instr {
         Instr::Jump { condition, offset } => {
             let jumped = outcome(behind.copy(alloc)?, *condition, true);
             let on = outcome(behind, *condition, false);
-            add_both(alloc, ways, site, *offset, on, jumped)
+            add_jump(alloc, ways, site, *offset, on, jumped)
         }
-        _ => add_each(alloc, ways, site, next, behind),
+        _ => {
+            let known = Kept::new(alloc, behind)?;
+            add_each(alloc, ways, site, next, known)
+        }
     }
 }

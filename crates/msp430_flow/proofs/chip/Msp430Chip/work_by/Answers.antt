@@ -19,11 +19,11 @@ returns c =
     let front = c.in_ok-entered.entered in
     let made_so : Worked = record { after = c.made.inside.after; next = c.made.inside.next; accesses = c.made.inside.accesses; store = c.made.inside.store } in
     let device = c.device-device.ensures in
-    work_made setting pc calls frame a instr_so made_so front c.push.new.self c.go_on.new.ways.items c.go_on.new.ways.posts c.go_on.new.opens c.add_store_opens.new.opens
+    work_made setting pc calls frame a instr_so made_so front c.push.new.self c.go_on.new.ways.items c.go_on.new.ways.posts c.go_on.new.ways.opens c.add_store_opens.new.opens
     (c.in_ok-entered.ensures ∙ ap (λ (d : Device). entering d pc a made_so.accesses) device)
     (c.in_ok-push.ensures.added ∙ ap (λ (i : Item). front.items ++ i ∷ []) c.instr_item.ensures)
     c.in_ok-go_on.ensures.items
     c.in_ok-go_on.ensures.posts
     c.in_ok-go_on.ensures.opens
-    (c.in_ok-add_store_opens.ensures ∙ ap₂ (λ (d : Device) (w : Width). c.go_on.new.opens ++ store_opens d pc w made_so.store) device c.stored_width.ensures)
+    (c.in_ok-add_store_opens.ensures ∙ ap₂ (λ (d : Device) (w : Width). c.go_on.new.ways.opens ++ store_opens d pc w made_so.store) device c.stored_width.ensures)
     ∙ ap (λ (m : Worked). work_by setting pc calls frame a instr_so m) c.made.view_is

@@ -4,6 +4,7 @@ use Rattle.msp430_flow.proofs.laws.Msp430ChipLawfulChip.laws.Goals as goal
 pub returns : goal.returns
 returns c = lawful record {
   sets = record { below = c.members_are_below.ensures 65536 };
+  ways = c.ways_hold.ensures;
   formats = record {
     double_left = c.doubles_hold.ensures.left;
     double_shown = c.doubles_hold.ensures.shown;
