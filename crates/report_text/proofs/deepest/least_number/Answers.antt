@@ -5,7 +5,7 @@ use Rattle.report_text.proofs.deepest.least_number.Goals as goal
 pub returns-in-Values-clause-least : goal.returns-in-Values-clause-least
 returns-in-Values-clause-least c =
     list_least c.args.values.now c.in-Values.few c.as_slice.result.now c.copied.result c.form.ensures.normal (sym c.form.ensures.value ∙ c.in-Values.is)
-    c.as_slice.ensures (c.copied.ensures ∙ c.first.ensures.value)
+    c.as_slice.ensures.numbers (c.copied.ensures ∙ c.first.ensures.value)
 
 pub returns-else-is_whole_run-clause-least : goal.returns-else-is_whole_run-clause-least
 returns-else-is_whole_run-clause-least c =
