@@ -15,6 +15,10 @@ fn numbers(rt: HostRuntime) {
     ] {
         assert_eq!(rt; number(text.as_bytes(), digits), value, "{text}");
     }
+}
+
+#[test]
+fn short_numbers(rt: HostRuntime) {
     for (most, text, value) in [
         (4, "FFFF", Some(0xFFFF)),
         (4, "1", Some(1)),

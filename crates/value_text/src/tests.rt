@@ -10,6 +10,7 @@ use crate::{
 use entry_value::Cell;
 use std::alloc::AllocError;
 use text_fields::{push_name, read_name};
+use value_bits::Tri;
 
 /// Places of a chip with three of them, whose words have even places.
 #[derive(Clone, Copy)]
@@ -43,7 +44,7 @@ impl Places for Three {
 }
 
 #[test]
-fn sets_and_words(rt: HostRuntime) {
+fn words(rt: HostRuntime) {
     for text in [
         "*",
         "0280",
@@ -60,20 +61,25 @@ fn sets_and_words(rt: HostRuntime) {
         push_word(Three, &word, &mut again).expect(&rt, "memory");
         assert_eq!(rt; again.as_slice(), text.as_bytes(), "{text}");
     }
+}
+
+#[test]
+fn no_words(rt: HostRuntime) {
     for text in [
         "",
         "280",
         "02a0",
         "0001,0001",
         "0002,0001",
+        "0000,",
+        ",0000",
+        "0000,0001,0002,0003,0004,0005,0006,0007,0008,0009,000A,000B,000C,000D,000E,000F,0010",
         "0000/1/10",
         "0000/1/10000",
         "0000/01/20",
         "0000/0/20",
         "0002/2/8000",
         "0000/1000/11",
-        "0000,",
-        ",0000",
         "0000/2",
         "**",
         "0280@R5&FFFF|0000",
@@ -81,15 +87,19 @@ fn sets_and_words(rt: HostRuntime) {
         "0280@R4|FFFF&0000",
         "0280@",
         "0280@R4&FFFF|0000@",
-        "0000,0001,0002,0003,0004,0005,0006,0007,0008,0009,000A,000B,000C,000D,000E,000F,0010",
     ] {
         assert!(rt; read_word(Three, true, text.as_bytes()).is_none(), "{text}");
     }
     assert!(rt; read_word(Three, false, b"0280@R4&00FF|0000".as_slice()).is_none());
     assert!(rt; read_byte_set(b"00/2/80".as_slice()).is_some());
     assert!(rt; read_byte_set(b"00/1/100".as_slice()).is_none());
+}
+
+#[test]
+fn even_sets(rt: HostRuntime) {
     for (text, even) in [
         ("0000/2/8000", true),
+        ("0000,0002", true),
         ("0000,0003", false),
         ("0001/2/20", false),
     ] {
@@ -99,7 +109,7 @@ fn sets_and_words(rt: HostRuntime) {
 }
 
 #[test]
-fn ranges_cells_and_bits(rt: HostRuntime) {
+fn ranges(rt: HostRuntime) {
     for (text, spells) in [
         ("-", true),
         ("0200-0201,0203-0203", true),
@@ -113,24 +123,26 @@ fn ranges_cells_and_bits(rt: HostRuntime) {
         ("0200-0201,", false),
         ("0200-201", false),
     ] {
-        let read = read_ranges(rt.alloc(), 4, 0x200, 0x3FF, text.as_bytes()).expect(&rt, "memory");
-        match read {
-            Some(ranges) => {
-                let mut again = Vec::new(rt.alloc());
-                push_ranges(4, &ranges, &mut again).expect(&rt, "memory");
-                assert!(rt; spells, "{text}");
-                assert_eq!(rt; again.as_slice(), text.as_bytes());
-            }
-            None => assert!(rt; !spells, "{text}"),
+        let read = read_ranges(rt.alloc(), 4, 0x200, 0x3FF, text.as_bytes());
+        let found = read.expect(&rt, "memory");
+        assert_eq!(rt; found.is_some(), spells, "{text}");
+        if let Some(ranges) = found {
+            let mut again = Vec::new(rt.alloc());
+            push_ranges(4, &ranges, &mut again).expect(&rt, "memory");
+            assert_eq!(rt; again.as_slice(), text.as_bytes());
         }
     }
+}
+
+#[test]
+fn cells(rt: HostRuntime) {
     for (text, spells) in [
         ("-", true),
         ("0200.2:0280;0202.1:0007@PC&00FF|0000", true),
+        ("0200.2:*@SR&FFFF|0000", true),
         ("0200.1:0000/1/100", false),
         ("0200.1:*", false),
         ("0200.2:*", false),
-        ("0200.2:*@SR&FFFF|0000", true),
         ("0200.1:0100", false),
         ("0200.3:0000", false),
         ("0200.2:0000;0201.1:0000", false),
@@ -139,16 +151,19 @@ fn ranges_cells_and_bits(rt: HostRuntime) {
         ("0200.2:0000;", false),
         ("0200:0000", false),
     ] {
-        let read = read_cells(rt.alloc(), Three, true, 0x200, 0x3FF, text.as_bytes()).expect(
-            &rt, "memory",
-        );
-        assert_eq!(rt; read.is_some(), spells, "{text}");
-        if let Some(cells) = read {
+        let read = read_cells(rt.alloc(), Three, true, 0x200, 0x3FF, text.as_bytes());
+        let found = read.expect(&rt, "memory");
+        assert_eq!(rt; found.is_some(), spells, "{text}");
+        if let Some(cells) = found {
             let mut again = Vec::new(rt.alloc());
             push_cells(Three, cells.as_slice(), &mut again).expect(&rt, "memory");
             assert_eq!(rt; again.as_slice(), text.as_bytes());
         }
     }
+}
+
+#[test]
+fn bits(rt: HostRuntime) {
     for (text, spells) in [
         ("10x", true),
         ("10X", false),
@@ -156,7 +171,7 @@ fn ranges_cells_and_bits(rt: HostRuntime) {
         ("10xx", false),
         ("102", false),
     ] {
-        let read: Option<[value_bits::Tri; 3]> = read_bits(text.as_bytes());
+        let read: Option<[Tri; 3]> = read_bits(text.as_bytes());
         assert_eq!(rt; read.is_some(), spells, "{text}");
         if let Some(bits) = read {
             let mut again = Vec::new(rt.alloc());
