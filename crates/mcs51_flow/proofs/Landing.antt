@@ -36,19 +36,20 @@ use Rattle.mcs51_state.specs.Under.{IsUnder}
 use Rattle.mcs51_operands.specs.Showing.{AreShown}
 use Rattle.mcs51_control.specs.Returning.{interrupt_returned}
 use Rattle.mcs51_entry.specs.declared.coming.Coming.{Coming}
-use Rattle.mcs51_entry.specs.Coming.{ComesSo, comings_of}
+use Rattle.mcs51_entry.specs.Coming.{ComesSo, comings_of, frame_of_coming}
 use Rattle.mcs51_entry.specs.Entering.{entry_accesses, entry_edge}
 use Rattle.mcs51_running.specs.declared.ran.Way.{Way}
 use Rattle.mcs51_running.specs.declared.ran.Way.TheVariants as way
 use Rattle.mcs51_running.specs.Doing.{RunsSo}
 use Rattle.mcs51_running.specs.Running.{Ran, ran_of}
 use Rattle.mcs51_flow.specs.declared.setting.Setting.{Setting}
-use Rattle.mcs51_flow.specs.Chip.{IsSetting, entry_items, entry_post, followed_work, going_of, mcs51_analysis, wait_at, wait_of, work_at}
-use Rattle.mcs51_flow.specs.Going.{Arrival, Going, all_arrivals, arrivals_by, going_back, going_on, leaves_frame}
+use Rattle.mcs51_flow.specs.Chip.{IsSetting, entry_items, entry_post, followed_work, going_of, mcs51_analysis, wait_of, work_at}
+use Rattle.unit_ways.specs.Ways.{Going, Way as Arrival, wait_at}
+use Rattle.mcs51_flow.specs.Going.{all_arrivals, arrivals_by, going_back, going_on, leaves_frame}
 use Rattle.mcs51_flow.specs.Labels.{calls_by, effect_on_calls}
 use Rattle.mcs51_flow.specs.Machine.{mcs51_machine}
-use Rattle.mcs51_flow.proofs.Arriving.{all_followed, edge_in, post_in, way_arrives}
-use Rattle.mcs51_flow.proofs.Members.{from_map, in_cons, in_first, in_flat_map, in_map, in_none, in_rest}
+use Rattle.mcs51_flow.proofs.Arriving.{all_followed, way_arrives}
+use Rattle.unit_ways.proofs.Members.{from_map, in_cons, in_first, in_flat_map, in_map, in_none, in_rest}
 use Rattle.mcs51_flow.proofs.Premises.{Laws}
 use Rattle.mcs51_flow.proofs.Returning.{is_return, return_leaves, return_way}
 
@@ -107,21 +108,21 @@ module _ (setting : Setting) (calls : List ℕ) (frame : Frame) (a : Known) (s :
       ]
 
   -- an edge among those of an instruction is an item of the location
-  edge_shown : (going : Going) (to : ℕ) → going_of setting s.pc calls frame a instr_so ran_so.way ≡ going → Contains going.edges (items.Edge s.pc to)
+  edge_shown : (going : Going Known) (to : ℕ) → going_of setting s.pc calls frame a instr_so ran_so.way ≡ going → Contains going.edges (items.Edge s.pc to)
       → AreShowing (followed_work setting s.pc calls frame a instr_so).items (Went s.pc to)
   edge_shown going to is there =
       let edge = items.Edge s.pc to in
       let own = items.Instr s.pc (bytes_of instr_so) in
       let edges = (going_of setting s.pc calls frame a instr_so ran_so.way).edges in
-      let here : Contains edges edge = subst (λ (g : Going). Contains g.edges edge) (sym is) there in
+      let here : Contains edges edge = subst (λ (g : Going Known). Contains g.edges edge) (sym is) there in
       (edge, Contains-append_right front_so own_so edge (in_rest own edges edge here), (refl, refl))
 
   -- a post of an instruction is one of the work
-  going_in : (going : Going) (post : Node × Known) → going_of setting s.pc calls frame a instr_so ran_so.way ≡ going → Contains going.posts post
+  going_in : (going : Going Known) (post : Node × Known) → going_of setting s.pc calls frame a instr_so ran_so.way ≡ going → Contains going.posts post
       → Contains (followed_work setting s.pc calls frame a instr_so).posts post
   going_in going post is there =
       Contains-append_right (map (entry_post s.pc a) (comings_of a)) (going_of setting s.pc calls frame a instr_so ran_so.way).posts post
-      (subst (λ (g : Going). Contains g.posts post) (sym is) there)
+      (subst (λ (g : Going Known). Contains g.posts post) (sym is) there)
 
 -- WHERE AN INSTRUCTION LANDS
 
@@ -165,18 +166,18 @@ run_stays laws setting calls frame a s first instr_so effect at stays_so none =
     let calls_at = calls_by setting.limits.calls (effect_on_calls instr_so) setting.image s.pc calls in
     let going = going_on limit calls_at s.pc behind frame ran.way in
     let is : going_of setting s.pc calls frame a instr_so ran.way ≡ going = cond-false (leaves_frame frame a instr_so) (going_back s.pc frame ran.way) going stays_so in
-    let few : arrivals_by limit behind ran.way ≡ all_arrivals behind ran.way = all_followed limit s.pc behind ran.way (sym (ap (λ (g : Going). g.opens) is) ∙ none) in
+    let few : arrivals_by limit behind ran.way ≡ all_arrivals behind ran.way = all_followed laws limit s.pc behind ran.way (sym (ap (λ (g : Going Known). g.opens) is) ∙ none) in
     let form = laws.instructions.form framed a setting.image s.pc instr_so at.stands.form at.fits at.setting_so.program.bytes in
     let come = way_arrives laws framed first ran.items s.pc ran.way (going_to behind s) effect form at.runs in
-    let listed : Contains (arrivals_by limit behind ran.way) come.arrival = subst (λ (all : List Arrival). Contains all come.arrival) (sym few) come.listed in
+    let listed : Contains (arrivals_by limit behind ran.way) come.arrival = subst (λ (all : List (Arrival Known)). Contains all come.arrival) (sym few) come.listed in
     let to = At come.arrival.0 (calls_at come.arrival.0) frame in
     let shows = way_shown framed first s.pc ran ran.way (going_to behind s) effect refl at.runs in
-    stays to come.arrival.1 (going_in setting calls frame a s instr_so going (to, come.arrival.1) is (post_in calls_at frame (arrivals_by limit behind ran.way) come.arrival listed)) tt refl
+    stays to come.arrival.1 (going_in setting calls frame a s instr_so going (to, come.arrival.1) is (laws.ways.post calls_at frame (arrivals_by limit behind ran.way) come.arrival listed)) tt refl
     (come.goes, come.holds, at.in_frame)
     (λ item there. elim (shown setting calls frame a s instr_so effect at.stands.holds.parts.sp shows item there) [
       | inl seen ↦ seen
       | inr last ↦ subst (AreShowing (followed_work setting s.pc calls frame a instr_so).items) (sym last)
-          (edge_shown setting calls frame a s instr_so going effect.1.pc is (subst (λ n. Contains going.edges (items.Edge s.pc n)) (sym come.goes) (edge_in s.pc (arrivals_by limit behind ran.way) come.arrival listed)))
+          (edge_shown setting calls frame a s instr_so going effect.1.pc is (subst (λ n. Contains going.edges (items.Edge s.pc n)) (sym come.goes) (laws.ways.edge s.pc (arrivals_by limit behind ran.way) come.arrival listed)))
     ])
 
 -- at the exit of its frame
@@ -252,7 +253,7 @@ waited : (work : Work Known) (a : Known) (coming_so : Coming) (sp : Option ℕ) 
 waited work a coming_so None is listed same = tt
 waited work a coming_so (Some sp) is listed same =
     let frame = Irq coming_so.source (Some sp) coming_so.level in
-    let own : wait_of coming_so ≡ frame ∷ [] = ap (wait_at coming_so) same ∙ ap (λ (known : Option ℕ). Irq coming_so.source known coming_so.level ∷ []) same in
+    let own : wait_of coming_so ≡ frame ∷ [] = ap (wait_at (frame_of_coming coming_so)) same ∙ ap (λ (known : Option ℕ). Irq coming_so.source known coming_so.level ∷ []) same in
     subst (λ all. Contains all frame) (sym is) (in_flat_map wait_of (comings_of a) coming_so frame listed (subst (λ all. Contains all frame) (sym own) (in_first frame [])))
 
 -- the state that the handler begins with, and what its entry shows

@@ -37,16 +37,17 @@ use Rattle.mcs51_running.specs.Doing.{IsWay}
 use Rattle.mcs51_running.specs.Running.{ran_of}
 use Rattle.mcs51_flow.specs.declared.setting.Setting.{Setting}
 use Rattle.mcs51_flow.specs.Chip.{BreaksLimit, IsSetting, entry_post, going_of, mcs51_analysis, nothing, resumption, work_at, work_of}
-use Rattle.mcs51_flow.specs.Going.{Going, arrivals_by, going_back, going_on, leaves_frame}
+use Rattle.unit_ways.specs.Ways.{Going}
+use Rattle.mcs51_flow.specs.Going.{arrivals_by, going_back, going_on, leaves_frame}
 use Rattle.mcs51_flow.specs.Labels.{calls_by, effect_on_calls}
 use Rattle.mcs51_flow.specs.Machine.{StepsTo, leaving_of, mcs51_machine}
 use Rattle.mcs51_flow.specs.Marks.{stops}
 use Rattle.mcs51_flow.specs.Standing.{fetched}
-use Rattle.mcs51_flow.proofs.Arriving.{arrival_of, arrivals_formed, followed_all}
+use Rattle.mcs51_flow.proofs.Arriving.{arrivals_formed, followed_all}
 use Rattle.mcs51_flow.proofs.CallStrings.{sites_by}
 use Rattle.mcs51_flow.proofs.Landing.{AtLocation, entry_lands, run_lands}
 use Rattle.mcs51_flow.proofs.MarksLemmas.{stops_below}
-use Rattle.mcs51_flow.proofs.Members.{from_map, in_cons, in_first, in_none}
+use Rattle.unit_ways.proofs.Members.{from_map, in_cons, in_first, in_none}
 use Rattle.mcs51_flow.proofs.Premises.{Laws}
 use Rattle.mcs51_flow.proofs.Returning.{is_return}
 use Rattle.mcs51_flow.proofs.Stepping.{Comes, comes, framed_by, instr_found, open_breaks, told}
@@ -167,8 +168,8 @@ module _ (laws : Laws) (setting : Setting) (so : IsSetting setting) (pc : ℕ) (
       let behind = following pc instr_so in
       let effect = effect_on_calls instr_so in
       let calls_at = calls_by setting.limits.calls effect setting.image pc calls in
-      let (arrival, there, goes, known) = arrival_of calls_at frame (arrivals_by limit behind made) to state h in
-      let formed = arrivals_formed laws (is_interrupt frame) behind made (following_below pc instr_so) is_way arrival (followed_all limit behind made arrival there) in
+      let (arrival, there, goes, known) = laws.ways.way calls_at frame (arrivals_by limit behind made) to state h in
+      let formed = arrivals_formed laws (is_interrupt frame) behind made (following_below pc instr_so) is_way arrival (followed_all laws limit behind made arrival there) in
       let sites = sites_by setting.limits.calls effect setting.image pc calls arrival.0 so.calls node.0 (record { few = node.1; below = node.2 }) in
       subst (λ n. IsPost (n, state)) (sym goes) (subst (λ b. IsPost (At arrival.0 (calls_at arrival.0) frame, b)) (sym known)
       ((formed.below, sites.few, sites.below, node.3), formed.known))
@@ -195,7 +196,7 @@ module _ (laws : Laws) (setting : Setting) (so : IsSetting setting) (pc : ℕ) (
       elim (Contains-append_cases (map (entry_post pc a) (comings_of a)) (going_of setting pc calls frame a instr_so made).posts post h) [
         | inl coming ↦ entry_posts post coming
         | inr going ↦ cond_both (leaves_frame frame a instr_so) (going_back pc frame made) (going_on setting.limits.targets calls_at pc (following pc instr_so) frame made)
-            (λ (g : Going). Contains g.posts post → IsPost post)
+            (λ (g : Going Known). Contains g.posts post → IsPost post)
             (λ leaves_so there. back_posts made post (way_of instr_so is) (entry_of instr_so leaves_so) there) (λ _ there. going_posts instr_so made post (way_of instr_so is) there) going
       ]
 

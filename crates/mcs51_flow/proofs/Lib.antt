@@ -5,9 +5,6 @@ pub mod Landing
 pub mod Lawful
 pub mod Made
 pub mod MarksLemmas
-pub mod Members
 pub mod Premises
 pub mod Returning
-pub mod SetTests
 pub mod Stepping
-pub mod WayLists

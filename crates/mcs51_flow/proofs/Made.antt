@@ -12,7 +12,7 @@ use Rattle.mcs51_state.specs.Known.{Known}
 use Rattle.mcs51_running.specs.Running.{Ran}
 use Rattle.mcs51_flow.specs.declared.setting.Setting.{Setting}
 use Rattle.mcs51_flow.specs.Chip.{entering, going_of, work_by}
-use Rattle.mcs51_flow.specs.Going.{Going}
+use Rattle.unit_ways.specs.Ways.{Going}
 
 abbrev work_with : List Item → List (Node × Known) → List Frame → List (ℕ × Cause) → Work Known
 work_with all posts waits opens = record { items = all; posts = posts; waits = waits; opens = opens }
@@ -26,7 +26,7 @@ pub work_made : (setting : Setting) (pc : ℕ) (calls : List ℕ) (frame : Frame
     → opens ≡ front.opens ++ (going_of setting pc calls frame a instr_so ran_so.way).opens
     → record { items = all; posts = posts; waits = front.waits; opens = opens } ≡ work_by setting pc calls frame a instr_so ran_so
 work_made setting pc calls frame a instr_so ran_so front pushed all posts opens is_front is_pushed is_all is_posts is_opens =
-    let going : Going = going_of setting pc calls frame a instr_so ran_so.way in
+    let going : Going Known = going_of setting pc calls frame a instr_so ran_so.way in
     let own = items.Instr pc (bytes_of instr_so) in
     let shown : all ≡ front.items ++ own ∷ going.edges = is_all ∙ ap (λ (xs : List Item). xs ++ going.edges) is_pushed ∙ append_assoc front.items (own ∷ []) going.edges in
     ap (λ (xs : List Item). work_with xs posts front.waits opens) shown

@@ -10,6 +10,7 @@ use Rattle.image.specs.Image.{IsByte}
 use Rattle.value_set.specs.declared.form.Form.{Form}
 use Rattle.value_set.specs.Form.{Has, IsNormal}
 use Rattle.value_set.specs.Joining.{is_in}
+use Rattle.unit_ways.specs.Laws.{WayLaws}
 use Rattle.mcs51_decode.specs.declared.instr.Instr.{Instr}
 use Rattle.mcs51_decode.specs.declared.refusal.NoInstr.{NoInstr}
 use Rattle.mcs51_decode.specs.Decoding.{decoded}
@@ -105,6 +106,7 @@ pub record Instructions : Type 0 where
 
 pub record Laws : Type 0 where
   pub sets : Sets
+  pub ways : WayLaws Known
   pub steps : Steps
   pub decoding : Decoding
   pub states : States

@@ -33,12 +33,13 @@ use Rattle.mcs51_running.specs.Doing.{RunsSo}
 use Rattle.mcs51_running.specs.Running.{ran_of}
 use Rattle.mcs51_flow.specs.declared.setting.Setting.{Setting}
 use Rattle.mcs51_flow.specs.Chip.{BreaksLimit, followed_work, work_at}
-use Rattle.mcs51_flow.specs.Going.{Going, are_too_many, going_back, going_on, leaves_frame, target_opens}
+use Rattle.unit_ways.specs.Ways.{Going}
+use Rattle.mcs51_flow.specs.Going.{going_back, going_on, leaves_frame, opens_by}
 use Rattle.mcs51_flow.specs.Labels.{calls_by, effect_on_calls}
 use Rattle.mcs51_flow.specs.Machine.{leaving_of}
 use Rattle.mcs51_flow.specs.Standing.{fetched, found_by}
 use Rattle.mcs51_flow.proofs.InstrForms.{standing_is_instr}
-use Rattle.mcs51_flow.proofs.Members.{in_cons, in_first, in_none}
+use Rattle.unit_ways.proofs.Members.{in_cons, in_first, in_none}
 use Rattle.mcs51_flow.proofs.Premises.{Laws}
 
 -- WHAT STANDS AT AN ADDRESS
@@ -151,34 +152,32 @@ only_open setting pc why open_so breaks h = elim (in_cons (pc, why) [] open_so h
   | inr none ↦ absurd (in_none open_so none)
 ]
 
-targets_open : (setting : Setting) (pc : ℕ) (open_so : ℕ × Cause) (instr_so : Instr) (len : ℕ) → Stands setting.image pc instr_so len → (way : Way Known)
-    → Contains (target_opens setting.limits.targets pc way) open_so → Breaking setting pc open_so
-targets_open setting pc open_so instr_so len standing (Lands targets b) h =
-    let limit = setting.limits.targets in
-    cond_both (are_too_many limit targets) ((pc, Targets targets) ∷ []) [] (λ (opens : List (ℕ × Cause)). Contains opens open_so → Breaking setting pc open_so)
-    (λ many there. only_open setting pc (Targets targets) open_so (instr_so, len, standing, ltb-true limit (count_of 65536 targets) many) there)
-    (λ _ none. absurd (in_none open_so none)) h
-targets_open setting pc open_so instr_so len standing (Goes target on jumped) h = absurd (in_none open_so h)
+targets_open : Laws → (setting : Setting) (pc : ℕ) (open_so : ℕ × Cause) (instr_so : Instr) (len : ℕ) → Stands setting.image pc instr_so len → (way : Way Known)
+    → Contains (opens_by setting.limits.targets pc way) open_so → Breaking setting pc open_so
+targets_open laws setting pc open_so instr_so len standing (Lands targets b) h =
+    let (is, many) = laws.ways.many setting.limits.targets pc targets open_so h in
+    subst (Breaking setting pc) (sym is) (refl, (instr_so, len, standing, many))
+targets_open laws setting pc open_so instr_so len standing (Goes target on jumped) h = absurd (in_none open_so h)
 
 -- a return that leaves its frame leaves nothing open
 none_back : (pc : ℕ) (frame : Frame) (way : Way Known) (open_so : ℕ × Cause) → Contains (going_back pc frame way).opens open_so → ⊥
 none_back pc frame (Lands targets b) open_so h = in_none open_so h
 none_back pc frame (Goes target on jumped) open_so h = in_none open_so h
 
-followed_open : (setting : Setting) (pc : ℕ) (calls : List ℕ) (frame : Frame) (a : Known) (open_so : ℕ × Cause) (instr_so : Instr) (len : ℕ) → Stands setting.image pc instr_so len
+followed_open : Laws → (setting : Setting) (pc : ℕ) (calls : List ℕ) (frame : Frame) (a : Known) (open_so : ℕ × Cause) (instr_so : Instr) (len : ℕ) → Stands setting.image pc instr_so len
     → Contains (followed_work setting pc calls frame a instr_so).opens open_so → Breaking setting pc open_so
-followed_open setting pc calls frame a open_so instr_so len standing h =
+followed_open laws setting pc calls frame a open_so instr_so len standing h =
     let way = (ran_of setting.image (is_interrupt frame) pc a instr_so).way in
     let calls_at = calls_by setting.limits.calls (effect_on_calls instr_so) setting.image pc calls in
     cond_both (leaves_frame frame a instr_so) (going_back pc frame way) (going_on setting.limits.targets calls_at pc (following pc instr_so) frame way)
-    (λ (going : Going). Contains going.opens open_so → Breaking setting pc open_so)
+    (λ (going : Going Known). Contains going.opens open_so → Breaking setting pc open_so)
     (λ _ none. absurd (none_back pc frame way open_so none))
-    (λ _ there. targets_open setting pc open_so instr_so len standing way there) h
+    (λ _ there. targets_open laws setting pc open_so instr_so len standing way there) h
 
 fetched_open : Laws → (setting : Setting) → IsProgram setting.image → (pc : ℕ) (calls : List ℕ) (frame : Frame) (a : Known) (open_so : ℕ × Cause) (found : Option Instr)
     → Fetching setting.image pc found → Contains (work_at setting pc calls frame a found).opens open_so → Breaking setting pc open_so
 fetched_open laws setting program pc calls frame a open_so found (stands instr_so len is e) h =
-    followed_open setting pc calls frame a open_so instr_so len
+    followed_open laws setting pc calls frame a open_so instr_so len
     (subst (Decodes setting.image pc) is (laws.decoding.answer setting.image pc program.size program.bytes))
     (subst (λ r. Contains (work_at setting pc calls frame a r).opens open_so) e h)
 fetched_open laws setting program pc calls frame a open_so found (none_stands refusal is e) h =

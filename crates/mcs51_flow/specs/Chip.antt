@@ -33,7 +33,8 @@ use Rattle.mcs51_resume.specs.Resume.{resumed_known}
 use Rattle.mcs51_running.specs.declared.ran.Way.{Way}
 use Rattle.mcs51_running.specs.Running.{Ran, ran_of}
 use Rattle.mcs51_flow.specs.declared.setting.Setting.{Setting}
-use Rattle.mcs51_flow.specs.Going.{Going, going_back, going_on, leaves_frame}
+use Rattle.unit_ways.specs.Ways.{Going, wait_at}
+use Rattle.mcs51_flow.specs.Going.{going_back, going_on, leaves_frame}
 use Rattle.mcs51_flow.specs.Labels.{calls_by, effect_on_calls}
 use Rattle.mcs51_flow.specs.Marks.{stops}
 use Rattle.mcs51_flow.specs.Standing.{fetched}
@@ -49,12 +50,8 @@ abbrev pub entry_items : (pc : ℕ) → Coming → List Item
 entry_items pc coming = entry_accesses pc coming ++ entry_edge pc coming ∷ []
 
 -- what its frame leaves at a known stack pointer is waited for
-abbrev pub wait_at : Coming → Option ℕ → List Frame
-wait_at coming None = []
-wait_at coming (Some sp) = frame_of_coming coming ∷ []
-
 abbrev pub wait_of : Coming → List Frame
-wait_of coming = wait_at coming coming.known_sp
+wait_of coming = wait_at (frame_of_coming coming) coming.known_sp
 
 -- THE WORK OF A LOCATION
 
@@ -63,7 +60,7 @@ abbrev pub labels_of : Setting → ℕ → List ℕ → Instr → (to : ℕ) →
 labels_of setting pc calls instr = calls_by setting.limits.calls (effect_on_calls instr) setting.image pc calls
 
 -- where it goes on
-abbrev pub going_of : Setting → ℕ → List ℕ → Frame → Known → Instr → Way Known → Going
+abbrev pub going_of : Setting → ℕ → List ℕ → Frame → Known → Instr → Way Known → Going Known
 going_of setting pc calls frame a instr way =
     if leaves_frame frame a instr then going_back pc frame way
     else going_on setting.limits.targets (labels_of setting pc calls instr) pc (following pc instr) frame way

@@ -21,7 +21,7 @@ use crate::labels::effect_on_calls;
 use crate::marks::marks_of;
 use crate::setting::Setting;
 use crate::text::Mcs51Text;
-use crate::ways::{Site, Ways, add_all, leave};
+use crate::ways::{Site, add_all, leave};
 use abs_memory::CellList;
 use analysis_limits::Limits;
 use arrayvec::ArrayString;
@@ -36,6 +36,7 @@ use mcs51_state::State;
 use no_memory::Memory;
 use std::alloc::Global;
 use std::marker::Model;
+use unit_ways::Ways;
 use value_set::members_are_below;
 
 /// What is known of a state, with its RAM as a list of cells.
@@ -109,7 +110,7 @@ impl Mcs51Chip {
     fn go_on(
         &self,
         alloc: Global,
-        ways: &mut Ways,
+        ways: &mut Ways<Kept>,
         pc: u16,
         calls: &Calls,
         frame: Frame,

@@ -9,12 +9,13 @@ ghost use Rattle.mcs51_flow.specs.Chip as chip;
 
 use crate::kept::Kept;
 use abs_memory::CellList;
-use call_context::{Calls, Frame, Item, Node, Sequence, Set};
+use call_context::{Calls, Item, Node, Sequence, Set};
 use chip_law::Work;
 use mcs51_entry::{Coming, add_entry_items, comings, entered, entries_hold, frame_of, handler_of};
 use mcs51_state::State;
 use no_memory::Memory;
 use std::alloc::Global;
+use unit_ways::add_wait;
 
 /// The handler of an interrupt, with what it knows.
 fn entry_post(
@@ -29,16 +30,6 @@ fn entry_post(
     let handler = handler_of(coming.source);
     let kept = Kept::new(alloc, entered(alloc, at, pc, coming)?)?;
     Ok((Node::At(handler, Calls::new(), frame_of(coming)), kept))
-}
-
-/// Adds the frame of an interrupt that came at a known stack pointer.
-fn add_wait(waits: &mut Sequence<Frame>, coming: &Coming) -> Result<(), Memory>
-    ensures { OnOk result (waits.new ≡ waits.old ++ chip.wait_of coming.now) }
-{
-    if coming.known_sp.is_some() {
-        waits.push(frame_of(coming))?;
-    }
-    Ok(())
 }
 
 /// Adds what an interrupt that comes at a location shows, posts and waits for.
@@ -57,7 +48,7 @@ fn add_entry(
 {
     add_entry_items(&mut work.items, pc, coming)?;
     work.posts.push(entry_post(alloc, pc, at, coming)?)?;
-    add_wait(&mut work.waits, coming)
+    add_wait(&mut work.waits, frame_of(coming), &coming.known_sp)
 }
 
 /// Adds each of some interrupts that come at a location.

@@ -5,6 +5,7 @@ ghost use Rattle.mcs51_flow.specs.Machine.{mcs51_machine};
 ghost use Rattle.mcs51_state.specs.Holding.{Covers};
 
 use crate::chip::Mcs51Chip;
+use crate::kept::Kept;
 use chip_law::LawfulChip;
 use mcs51_chip::{ChipState, steps_lead};
 use mcs51_control::returns_hold;
@@ -13,6 +14,7 @@ use mcs51_entry::entries_hold;
 use mcs51_resume::resumptions_cover;
 use mcs51_running::instructions_do;
 use mcs51_state::{states_are_ordered, states_cover, states_keep_form};
+use unit_ways::ways_hold;
 use value_set::members_are_below;
 
 impl LawfulChip for Mcs51Chip {
@@ -34,6 +36,7 @@ impl LawfulChip for Mcs51Chip {
 
     fn laws() {
         members_are_below();
+        ways_hold::<Kept>();
         instructions_do();
         entries_hold();
         returns_hold();

@@ -1,29 +1,20 @@
 //! Where instructions go on.
 
-ghost use Rattle.std.specs.Prelude.{◌≡◌, ◌++◌, ◌∷◌, ◌+◌, [], OnOk, length};
-ghost use Rattle.value_set.specs.Form.{members};
+ghost use Rattle.std.specs.Prelude.{◌≡◌, ◌++◌, IfOk, OnOk};
 ghost use Rattle.mcs51_flow.specs.Going as going;
 ghost use Rattle.mcs51_flow.specs.Labels as labels;
 
 use crate::kept::Kept;
 use crate::labels::{CallEffect, calls_by};
 use abs_memory::CellList;
-use call_context::{Calls, Cause, Frame, Item, Node, Sequence};
+use call_context::{Calls, Frame};
 use image::Image;
 use mcs51_running::Way;
 use mcs51_state::State;
 use no_memory::Memory;
 use std::alloc::Global;
 use std::marker::Model;
-use value_set::{Vs16, sets_have_members};
-
-/// The edges, the posts and the opens of an instruction.
-#[derive(Drop)]
-pub struct Ways {
-    pub items: Sequence<Item>,
-    pub posts: Sequence<(Node, Kept)>,
-    pub opens: Sequence<(u16, Cause)>,
-}
+use unit_ways::{Ways, add_each, add_either, are_too_many, leave_open};
 
 /// Where an instruction stands, what it does to the call string, and how many sites this keeps.
 #[derive(Drop)]
@@ -48,106 +39,55 @@ impl<'a> Model for Site<'a> {
     ghost invariant = { λ s. s.limit ≤ 8 };
 }
 
-/// The call string at a target.
-fn label(site: &Site, to: u16) -> Calls
-    ensures { result ≡ labels.calls_at site.now to }
-{
-    calls_by(site.limit, site.effect, site.image, site.pc, site.calls, to)
-}
+impl<'a> unit_ways::Site for Site<'a> {
+    type Known = Kept;
 
-/// Adds a way from one address to another, in the same frame.
-fn add(
-    alloc: Global,
-    ways: &mut Ways,
-    site: &Site,
-    to: u16,
-    state: State<CellList>,
-) -> Result<(), Memory>
-    ensures items { OnOk result (ways.new.items ≡ ways.old.items ++ going.edges_of site.now.pc ((to, state) ∷ [])) }
-    ensures posts { OnOk result (ways.new.posts ≡ ways.old.posts
-        ++ going.posts_of (labels.calls_at site.now) site.now.frame ((to, state) ∷ [])) }
-    ensures opens { OnOk result (ways.new.opens ≡ ways.old.opens) }
-{
-    let kept = Kept::new(alloc, state)?;
-    ways.items.push(Item::Edge { from: site.pc, to })?;
-    ways.posts
-        .push((Node::At(to, label(site, to), site.frame), kept))?;
-    Ok(())
-}
+    ghost use Rattle.mcs51_flow.specs.Labels as labels;
+    ghost use Rattle.mcs51_state.specs.Known.{known_joined};
 
-/// The place of a set's last member.
-fn last_place(set: &Vs16) -> u32
-    ensures { result + 1 ≡ length (members 65536 set.now) }
-{
-    sets_have_members();
-    let _form = set.form();
-    set.count() - 1
-}
+    ghost address = { λ site. site.pc };
 
-/// Adds a way to each address of a set.
-fn add_each(
-    alloc: Global,
-    ways: &mut Ways,
-    site: &Site,
-    targets: &Vs16,
-    state: State<CellList>,
-) -> Result<(), Memory>
-    ensures items { OnOk result (ways.new.items ≡ ways.old.items
-        ++ going.edges_of site.now.pc (going.each_arrival (members 65536 targets.now) state)) }
-    ensures posts { OnOk result (ways.new.posts ≡ ways.old.posts
-        ++ going.posts_of (labels.calls_at site.now) site.now.frame (going.each_arrival (members 65536 targets.now) state)) }
-    ensures opens { OnOk result (ways.new.opens ≡ ways.old.opens) }
-{
-    let last = last_place(targets);
-    for place in 0..last {
-        let copy = state.copy(alloc)?;
-        add(alloc, ways, site, targets.nth(place), copy)?;
+    ghost frame_of = { λ site. site.frame };
+
+    ghost label = { labels.calls_at };
+
+    ghost joined = { known_joined };
+
+    fn pc(&self) -> u16 {
+        self.pc
     }
-    add(alloc, ways, site, targets.nth(last), state)
-}
 
-/// Adds the two ways of a jump, where they can be. Two that lead to one address are joined.
-fn add_either(
-    alloc: Global,
-    ways: &mut Ways,
-    site: &Site,
-    behind: u16,
-    target: u16,
-    on: Option<State<CellList>>,
-    jumped: Option<State<CellList>>,
-) -> Result<(), Memory>
-    ensures items { OnOk result (ways.new.items ≡ ways.old.items
-        ++ going.edges_of site.now.pc (going.either_arrival behind target on jumped)) }
-    ensures posts { OnOk result (ways.new.posts ≡ ways.old.posts
-        ++ going.posts_of (labels.calls_at site.now) site.now.frame (going.either_arrival behind target on jumped)) }
-    ensures opens { OnOk result (ways.new.opens ≡ ways.old.opens) }
-{
-    match (on, jumped) {
-        (None, None) => Ok(()),
-        (Some(on), None) => add(alloc, ways, site, behind, on),
-        (None, Some(jumped)) => add(alloc, ways, site, target, jumped),
-        (Some(on), Some(jumped)) => {
-            if behind == target {
-                let joined = on.join(alloc, &jumped)?;
-                return add(alloc, ways, site, behind, joined);
-            }
-            add(alloc, ways, site, behind, on)?;
-            add(alloc, ways, site, target, jumped)
-        }
+    fn frame(&self) -> Frame {
+        self.frame
+    }
+
+    fn calls_at(&self, to: u16) -> Calls {
+        calls_by(self.limit, self.effect, self.image, self.pc, self.calls, to)
+    }
+
+    fn copy(&self, alloc: Global, known: &Kept) -> Result<Kept, Memory> {
+        Kept::new(alloc, known.state().copy(alloc)?)
+    }
+
+    fn join(&self, alloc: Global, on: &Kept, jumped: &Kept) -> Result<Kept, Memory> {
+        Kept::new(alloc, on.state().join(alloc, jumped.state())?)
     }
 }
 
-/// Whether there are more addresses than are followed.
-fn are_too_many(limit: u32, targets: &Vs16) -> bool
-    ensures { result ≡ going.are_too_many limit targets.now }
+/// Keeps what is known, where that can be.
+fn kept(alloc: Global, known: Option<State<CellList>>) -> Result<Option<Kept>, Memory>
+    ensures { IfOk result (λ kept. kept ≡ known) }
 {
-    targets.count() > limit
+    match known {
+        Some(state) => Ok(Some(Kept::new(alloc, state)?)),
+        None => Ok(None),
+    }
 }
 
 /// Adds all ways of an instruction that has this address behind it, or that there are more than are followed.
 pub fn add_all(
     alloc: Global,
-    ways: &mut Ways,
+    ways: &mut Ways<Kept>,
     site: &Site,
     limit: u32,
     behind: u16,
@@ -166,12 +106,14 @@ pub fn add_all(
             behind: state,
         } => {
             if are_too_many(limit, &targets) {
-                ways.opens.push((site.pc, Cause::Targets(targets)))?;
-                return Ok(());
+                return leave_open(ways, site.pc, targets);
             }
-            add_each(alloc, ways, site, &targets, state)
+            let known = Kept::new(alloc, state)?;
+            add_each(alloc, ways, site, &targets, known)
         }
         Way::Goes { target, on, jumped } => {
+            let on = kept(alloc, on)?;
+            let jumped = kept(alloc, jumped)?;
             add_either(alloc, ways, site, behind, target, on, jumped)
         }
     }
@@ -180,7 +122,7 @@ pub fn add_all(
 /// Leaves what is known behind a return from an interrupt at the exit of its frame.
 pub fn leave(
     alloc: Global,
-    ways: &mut Ways,
+    ways: &mut Ways<Kept>,
     pc: u16,
     frame: Frame,
     way: Way<State<CellList>>,
@@ -190,8 +132,8 @@ pub fn leave(
     ensures opens { OnOk result (ways.new.opens ≡ ways.old.opens ++ (going.going_back pc frame way).opens) }
 {
     if let Way::Lands { behind, .. } = way {
-        let kept = Kept::new(alloc, behind)?;
-        ways.posts.push((Node::Exit(pc, frame), kept))?;
+        let known = Kept::new(alloc, behind)?;
+        unit_ways::leave(ways, pc, frame, known)?;
     }
     Ok(())
 }

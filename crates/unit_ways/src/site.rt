@@ -36,11 +36,11 @@ pub trait Site {
     fn calls_at(&self, to: u16) -> Calls
         ensures { result ≡ label self.now to };
 
-    /// The same once more.
+    /// An equal copy, or that memory lacks.
     fn copy(&self, alloc: Global, known: &Self::Known) -> Result<Self::Known, Memory>
         ensures { IfOk result (λ copy. copy ≡ known.now) };
 
-    /// What is known where either of two is.
+    /// What is known where either of two is, or that memory lacks.
     fn join(
         &self,
         alloc: Global,

@@ -13,7 +13,7 @@ use no_memory::Memory;
 use std::alloc::Global;
 use value_set::Vs16;
 
-/// The edges, the posts and the opens of an instruction, behind those of the interrupts that may come.
+/// What a unit shows, the states that it posts, each at its node, and the addresses that it leaves open, each with its cause.
 #[derive(Drop)]
 pub struct Ways<A> {
     pub items: Sequence<Item>,
@@ -23,7 +23,8 @@ pub struct Ways<A> {
 
 /// Adds a way from one address to another, in the same frame.
 fn add<S: Site>(ways: &mut Ways<S::Known>, site: &S, to: u16, known: S::Known) -> Result<(), Memory>
-    ensures items { OnOk result (ways.new.items ≡ ways.old.items ++ edges_of (S.address site.now) ((to, known) ∷ [])) }
+    ensures items { OnOk result (ways.new.items
+        ≡ ways.old.items ++ edges_of (S.address site.now) ((to, known) ∷ [])) }
     ensures posts { OnOk result (ways.new.posts
         ≡ ways.old.posts ++ posts_of (S.label site.now) (S.frame_of site.now) ((to, known) ∷ [])) }
     ensures opens { OnOk result (ways.new.opens ≡ ways.old.opens) }
@@ -43,7 +44,8 @@ pub fn add_each<S: Site>(
     targets: &Vs16,
     known: S::Known,
 ) -> Result<(), Memory>
-    ensures items { OnOk result (ways.new.items ≡ ways.old.items ++ edges_of (S.address site.now) (ways_to targets.now known)) }
+    ensures items { OnOk result (ways.new.items
+        ≡ ways.old.items ++ edges_of (S.address site.now) (ways_to targets.now known)) }
     ensures posts { OnOk result (ways.new.posts
         ≡ ways.old.posts ++ posts_of (S.label site.now) (S.frame_of site.now) (ways_to targets.now known)) }
     ensures opens { OnOk result (ways.new.opens ≡ ways.old.opens) }
@@ -69,7 +71,8 @@ fn add_both<S: Site>(
     ensures items { OnOk result (ways.new.items
         ≡ ways.old.items ++ edges_of (S.address site.now) (the_ways.in_order (behind, on) (target, jumped))) }
     ensures posts { OnOk result (ways.new.posts
-        ≡ ways.old.posts ++ posts_of (S.label site.now) (S.frame_of site.now) (the_ways.in_order (behind, on) (target, jumped))) }
+        ≡ ways.old.posts ++ posts_of (S.label site.now) (S.frame_of site.now)
+        (the_ways.in_order (behind, on) (target, jumped))) }
     ensures opens { OnOk result (ways.new.opens ≡ ways.old.opens) }
 {
     if target < behind {
@@ -93,7 +96,8 @@ pub fn add_either<S: Site>(
     ensures items { OnOk result (ways.new.items
         ≡ ways.old.items ++ edges_of (S.address site.now) (ways_of S.joined behind target on jumped)) }
     ensures posts { OnOk result (ways.new.posts
-        ≡ ways.old.posts ++ posts_of (S.label site.now) (S.frame_of site.now) (ways_of S.joined behind target on jumped)) }
+        ≡ ways.old.posts ++ posts_of (S.label site.now) (S.frame_of site.now)
+        (ways_of S.joined behind target on jumped)) }
     ensures opens { OnOk result (ways.new.opens ≡ ways.old.opens) }
 {
     match (on, jumped) {

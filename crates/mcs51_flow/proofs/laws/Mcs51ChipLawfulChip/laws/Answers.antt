@@ -4,6 +4,7 @@ use Rattle.mcs51_flow.proofs.laws.Mcs51ChipLawfulChip.laws.Goals as goal
 pub returns : goal.returns
 returns c = lawful record {
   sets = record { below = c.members_are_below.ensures 65536 };
+  ways = c.ways_hold.ensures;
   steps = record { lead = c.steps_lead.ensures };
   decoding = record {
     answer = c.decoded_is_the_answer.ensures.answer;
