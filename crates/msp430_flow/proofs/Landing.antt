@@ -1,5 +1,5 @@
 -- Where steps land, and the forms of what is posted.
-use Rattle.std.proofs.Common.{◌≡◌, ◌⊎◌, ◌≢◌, ℕ, ◌+◌, ◌-◌, ◌*◌, ◌/◌, ◌%◌, ◌<◌, ◌==◌, ◌++◌, cond, nat_lt, Bool, true, false, Option, None, Some, List, [], ◌∷◌, length, slice_index, append_assoc, refl, sym, ap, ◌∙◌, subst, inl, inr, arith, Contains}
+use Rattle.std.proofs.Common.{◌≡◌, ◌⊎◌, ℕ, ◌+◌, ◌-◌, ◌*◌, ◌/◌, ◌%◌, ◌<◌, ◌==◌, ◌++◌, nat_lt, Bool, true, false, Option, None, Some, List, [], ◌∷◌, length, slice_index, append_assoc, refl, sym, ap, ◌∙◌, subst, inl, inr, arith, Contains}
 use Rattle.std.proofs.lemmas.Bool.{cond_both, cond-true, cond-false}
 use Rattle.std.proofs.lemmas.List.Elements.{Contains-append_left, Contains-append_right, Contains-append_cases}
 use Rattle.std.specs.List.{flat_map, slice_index_or}
@@ -8,8 +8,6 @@ use Rattle.call_context.specs.declared.node.Frame.{Frame}
 use Rattle.call_context.specs.declared.node.Frame.TheVariants.{Irq}
 use Rattle.call_context.specs.declared.node.Node.{Node}
 use Rattle.call_context.specs.declared.node.Node.TheVariants.{At, Exit}
-use Rattle.call_context.specs.declared.shown.Cause.{Cause}
-use Rattle.call_context.specs.declared.shown.Cause.TheVariants.{Targets}
 use Rattle.call_context.specs.declared.shown.Item.{Item}
 use Rattle.call_context.specs.declared.shown.Item.TheVariants as items
 use Rattle.call_context.specs.declared.shown.Set.TheVariants.{W}
@@ -25,7 +23,7 @@ use Rattle.value_bits.specs.declared.tri.Tri.TheVariants.{Zero, One, Either}
 use Rattle.value_bits.specs.Bits.{Agrees}
 use Rattle.value_bits.specs.Flags.{IsFlag}
 use Rattle.value_set.specs.declared.form.Form.{Form}
-use Rattle.value_set.specs.Form.{Has, IsNormal, members}
+use Rattle.value_set.specs.Form.{Has, IsNormal}
 use Rattle.value_set.specs.Remainders.{HasRemainder}
 use Rattle.msp430_decode.specs.declared.instr.Condition.{Condition}
 use Rattle.msp430_decode.specs.declared.instr.Instr.{Instr}
@@ -43,19 +41,18 @@ use Rattle.msp430_decode.specs.declared.instr.SingleOperation.TheVariants.{Rrc, 
 use Rattle.msp430_decode.specs.Table.{IsInstr, bytes_of, extension_words, length_of, target_of}
 use Rattle.msp430_chip.specs.declared.device.Device.{Device}
 use Rattle.msp430_chip.specs.declared.state.ChipState.{ChipState}
-use Rattle.msp430_chip.specs.Interrupts.{entry, first_hit, handler_of}
+use Rattle.msp430_chip.specs.Interrupts.{entry, first_hit}
 use Rattle.msp430_chip.specs.Memory.{program_hit}
 use Rattle.msp430_chip.specs.Outcome.{Outcome}
 use Rattle.msp430_chip.specs.State.{allows_interrupts, register_of, IsChipState}
 use Rattle.msp430_chip.specs.Step.{Left}
 use Rattle.msp430_decode.specs.declared.instr.Width.TheVariants.{Word}
 use Rattle.msp430_state.specs.Forms.{HasChipForm, IsEvenWord, IsFact, IsKnown}
-use Rattle.msp430_state.specs.Holding.{Covers, GoesOn, HoldsOf, HoldsOfParts, IsSuspendedState, StandsIn}
+use Rattle.msp430_state.specs.Holding.{Covers, HoldsOf, HoldsOfParts}
 use Rattle.msp430_state.specs.Known.{Known, is_interrupt, known_joined}
 use Rattle.msp430_state.specs.Status.{common_bit}
 use Rattle.msp430_status.specs.Status.{single_status_worked, status_worked}
-use Rattle.msp430_return.specs.Return.{goes_back, return_worked}
-use Rattle.msp430_branch.specs.Conditions.{bit_of}
+use Rattle.msp430_return.specs.Return.{return_worked}
 use Rattle.msp430_branch.specs.Cuts.{known_cut}
 use Rattle.msp430_alu.specs.Formats.{IsUnder, Worked, push_worked, single_worked, double_worked}
 use Rattle.msp430_alu.specs.Memory.{IsDevice}
@@ -64,7 +61,7 @@ use Rattle.msp430_entry.specs.Entry.{ComesSo, comings_of, entry_items, entry_sho
 use Rattle.msp430_flow.specs.declared.setting.Setting.{Setting}
 use Rattle.unit_ways.specs.Between.{IsWayOf}
 use Rattle.unit_ways.specs.Between.IsWayOf.{goes_on, joins, jumps}
-use Rattle.unit_ways.specs.Ways.{Going, Way, target_opens, wait_at, ways_of, ways_to}
+use Rattle.unit_ways.specs.Ways.{Going, Way, target_opens, wait_at, ways_to}
 use Rattle.msp430_flow.specs.Chip.{IsSetting, entry_post, followed_work, going_back, going_of, going_on, msp430_analysis, push_opens, store_opens, wait_of, work_at}
 use Rattle.msp430_flow.specs.Machine.{msp430_machine}
 use Rattle.msp430_flow.specs.Labels.{calls_by, effect_of}

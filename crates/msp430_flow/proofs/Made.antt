@@ -1,5 +1,5 @@
 -- The work of a location, put together from its parts.
-use Rattle.std.proofs.Common.{◌≡◌, ℕ, ◌++◌, Option, None, List, [], ◌∷◌, sym, ap, ◌∙◌, append_assoc}
+use Rattle.std.proofs.Common.{◌≡◌, ℕ, ◌++◌, None, List, [], ◌∷◌, ap, ◌∙◌, append_assoc}
 use Rattle.call_context.specs.declared.node.Frame.{Frame}
 use Rattle.call_context.specs.declared.node.Node.{Node}
 use Rattle.call_context.specs.declared.shown.Cause.{Cause}

@@ -1,13 +1,11 @@
 -- What an instruction may lead to, from a state that stands under what is known.
-use Rattle.std.proofs.Common.{◌≡◌, ℕ, ◌+◌, ◌%◌, ◌<◌, ◌++◌, ◌==◌, inl, inr, cond, Bool, true, false, Option, None, Some, List, [], ◌∷◌, length, slice_index, slice_set, refl, sym, ap, ◌∙◌, subst, arith, Contains}
-use Rattle.std.proofs.lemmas.Bool.{cases_eq, cond-true, cond-false}
-use Rattle.std.proofs.lemmas.Bool.Decides.{nat_tests}
+use Rattle.std.proofs.Common.{◌≡◌, ℕ, ◌+◌, ◌%◌, ◌<◌, ◌++◌, inl, inr, cond, Bool, true, false, Option, None, Some, List, [], length, slice_index, slice_set, refl, sym, ap, ◌∙◌, subst, arith, Contains}
 use Rattle.std.proofs.lemmas.List.{get_or-set_same, get_or-set_other}
 use Rattle.chip_numbers.specs.Single.{Single}
 use Rattle.std.specs.Option.{option_map}
 use Rattle.entry_value.specs.Words.{HoldsOfWord}
 use Rattle.value_bits.specs.declared.tri.Tri.{Tri}
-use Rattle.value_set.specs.Form.{Has, members}
+use Rattle.value_set.specs.Form.{Has}
 use Rattle.value_set.specs.Summing.{single}
 use Rattle.msp430_decode.specs.declared.instr.Condition.{Condition}
 use Rattle.msp430_decode.specs.declared.instr.Destination.{Destination}
@@ -46,7 +44,7 @@ use Rattle.msp430_branch.specs.Cuts.{known_cut}
 use Rattle.unit_ways.specs.Between.{StandsAt}
 use Rattle.unit_ways.specs.Ways.{Way, ways_of, ways_to}
 use Rattle.msp430_flow.specs.Running.{all_ways, fact_of, followed, gie_of, known_behind, leaves_frame, single_or_status, stored_width, ways_behind, worked}
-use Rattle.msp430_flow.proofs.RegisterViews.{IsDouble, IsSingle, OperandView, TargetView, operand_view, target_view}
+use Rattle.msp430_flow.proofs.RegisterViews.{OperandView, TargetView, operand_view, target_view}
 use Rattle.msp430_flow.proofs.RegisterViews.OperandView.{other_operand, status_operand}
 use Rattle.msp430_flow.proofs.RegisterViews.TargetView.{other_target, status_target}
 use Rattle.msp430_flow.proofs.Premises.{Laws}

@@ -1,21 +1,19 @@
 -- The steps of states that stand under what is known, and the opens of works.
 use Rattle.std.proofs.Common.{◌≡◌, ◌⊎◌, ℕ, ◌+◌, ◌*◌, ◌%◌, ◌<◌, ◌==◌, ◌++◌, cond, Bool, true, false, Option, None, Some, Result, Ok, Err, List, [], ◌∷◌, slice_index, refl, sym, ap, ◌∙◌, subst, inl, inr, Contains}
 use Rattle.std.specs.List.{flat_map}
-use Rattle.std.proofs.lemmas.Bool.{cond_both, cond-true, ltb-true}
+use Rattle.std.proofs.lemmas.Bool.{cond_both, cond-true}
 use Rattle.std.proofs.lemmas.List.Elements.{Contains-append_cases, Contains-append_left, Contains-append_right}
 use Rattle.call_context.specs.declared.node.Frame.{Frame}
 use Rattle.call_context.specs.declared.node.Frame.TheVariants.{Base, Irq}
 use Rattle.call_context.specs.declared.shown.Cause.{Cause}
-use Rattle.call_context.specs.declared.shown.Cause.TheVariants.{Fetch, Store, Targets}
+use Rattle.call_context.specs.declared.shown.Cause.TheVariants.{Fetch, Store}
 use Rattle.chip_numbers.specs.Single.{Single}
 use Rattle.chip_numbers.specs.Single.Single.{Instr as Ran, Edge as Went, Stack as Stood}
 use Rattle.chip_law.specs.declared.chip.Work.{Work}
 use Rattle.chip_law.specs.Laws.{IsTold, Tells}
-use Rattle.chip_law.specs.Outcome.{Leaving}
 use Rattle.chip_law.specs.Outcome.Leaving.{program_written}
 use Rattle.choosing.specs.Outcome.Outcome.{Wild as Leaves}
 use Rattle.value_set.specs.declared.form.Form.{Form}
-use Rattle.value_set.specs.Summing.{count_of}
 use Rattle.msp430_decode.specs.declared.instr.Instr.{Instr}
 use Rattle.msp430_decode.specs.declared.refusal.NoInstr.{NoInstr}
 use Rattle.msp430_decode.specs.Decoding.{decoded}

@@ -1,5 +1,5 @@
 -- What an instruction makes of what is known of a state.
-use Rattle.std.specs.Prelude.{ℕ, ◌+◌, ◌%◌, Bool, true, false, Option, None, Some, List, [], is_some}
+use Rattle.std.specs.Prelude.{ℕ, ◌+◌, ◌%◌, Bool, true, false, Option, None, List, [], is_some}
 use Rattle.std.specs.List.{slice_index_or, list_any}
 use Rattle.value_bits.specs.declared.tri.Tri.{Tri}
 use Rattle.value_bits.specs.declared.tri.Tri.TheVariants.{Either}

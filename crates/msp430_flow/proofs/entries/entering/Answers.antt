@@ -1,4 +1,4 @@
-use Rattle.std.proofs.Common.{◌<◌, List, ◌∙◌, sym, subst}
+use Rattle.std.proofs.Common.{List, ◌∙◌, subst}
 use Rattle.std.specs.Prelude.{Contains}
 use Rattle.msp430_entry.specs.declared.coming.Coming.{Coming}
 use Rattle.msp430_flow.proofs.entries.entering.Goals as goal
