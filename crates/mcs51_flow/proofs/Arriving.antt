@@ -1,15 +1,6 @@
 -- Where instructions go on, and the forms of what is known there.
-use Rattle.std.proofs.Common.{◌≡◌, ℕ, ◌<◌, ◌==◌, Bool, true, false, Option, None, Some, List, [], ◌∷◌, refl, sym, ap, ◌∙◌, subst, inl, inr, arith, Contains, IfSome}
-use Rattle.std.proofs.lemmas.Bool.{cond_both, cond-false}
-use Rattle.std.proofs.lemmas.Bool.Decides.{nat_tests}
-use Rattle.call_context.specs.declared.node.Frame.{Frame}
-use Rattle.call_context.specs.declared.node.Node.{Node}
-use Rattle.call_context.specs.declared.node.Node.TheVariants.{At}
-use Rattle.call_context.specs.declared.shown.Cause.{Cause}
-use Rattle.call_context.specs.declared.shown.Cause.TheVariants.{Targets}
+use Rattle.std.proofs.Common.{◌≡◌, ℕ, ◌<◌, Bool, true, Option, Some, List, [], refl, sym, ◌∙◌, subst, inl, inr, Contains, IfSome}
 use Rattle.call_context.specs.declared.shown.Item.{Item}
-use Rattle.call_context.specs.declared.shown.Item.TheVariants as items
-use Rattle.value_set.specs.Form.{members}
 use Rattle.mcs51_chip.specs.declared.state.ChipState.{ChipState}
 use Rattle.mcs51_chip.specs.Step.{Effect}
 use Rattle.mcs51_state.specs.Forms.{IsKnown}

@@ -1,16 +1,15 @@
 -- The steps of states that stand under what is known, and the opens of works.
 use Rattle.std.proofs.Common.{◌≡◌, ℕ, Bool, Option, None, Some, Result, Ok, Err, List, [], ◌∷◌, refl, sym, ap, ◌∙◌, subst, inl, inr, Contains}
-use Rattle.std.proofs.lemmas.Bool.{cond_both, ltb-true}
+use Rattle.std.proofs.lemmas.Bool.{cond_both}
 use Rattle.call_context.specs.declared.node.Frame.{Frame}
 use Rattle.call_context.specs.declared.node.Frame.TheVariants.{Base, Irq}
 use Rattle.call_context.specs.declared.shown.Cause.{Cause}
-use Rattle.call_context.specs.declared.shown.Cause.TheVariants.{Fetch, Targets}
+use Rattle.call_context.specs.declared.shown.Cause.TheVariants.{Fetch}
 use Rattle.chip_numbers.specs.Single.Single.{Instr as RanOne}
 use Rattle.chip_law.specs.Laws.{IsTold}
 use Rattle.choosing.specs.Outcome.Outcome.{Wild as Leaves}
 use Rattle.image.specs.Kept.{IsReadUnder}
 use Rattle.image.specs.declared.rule_set.Rules.TheVariants.{Mcs51}
-use Rattle.value_set.specs.Summing.{count_of}
 use Rattle.mcs51_decode.specs.declared.instr.Instr.{Instr}
 use Rattle.mcs51_decode.specs.declared.refusal.NoInstr.{NoInstr}
 use Rattle.mcs51_decode.specs.Decoding.{decoded}
