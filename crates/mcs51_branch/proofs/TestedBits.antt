@@ -11,6 +11,7 @@ use Rattle.std.proofs.lemmas.Option.{same_Some}
 use Rattle.entry_value.specs.declared.byte.Byte.{Byte}
 use Rattle.entry_value.specs.Words.{HoldsOfByte, IsFromEntry, Suspended}
 use Rattle.value_set.specs.declared.form.Form.{Form}
+use Rattle.value_set.specs.declared.form.Form.TheVariants.{Values, Run}
 use Rattle.value_set.specs.Form.{Has, IsNormal}
 use Rattle.value_bits.specs.declared.tri.Tri.TheVariants.{Either}
 use Rattle.value_bits.specs.Bits.{IsBit}
@@ -26,10 +27,10 @@ use Rattle.mcs51_state.specs.Forms.{IsByte, IsKnown, IsOwnByte, IsOwnRelation, I
 use Rattle.mcs51_state.specs.Known.{Known}
 use Rattle.mcs51_state.specs.Places.{ie_place, ip_place, suspended_of}
 use Rattle.mcs51_state.specs.Under.{IsUnder}
-use Rattle.mcs51_branch.specs.Cuts.{set_at, with_set}
+use Rattle.mcs51_branch.specs.Cuts.{set_at}
 use Rattle.mcs51_branch.specs.Jumps.{may_be, known_flag}
 use Rattle.mcs51_branch.specs.Premises.{Premises}
-use Rattle.mcs51_branch.specs.Testing.{IsPlace, bit_tested, byte_tested, register_tested, status_tested, tested, with_seen_bit}
+use Rattle.mcs51_branch.specs.Testing.{IsPlace, bit_tested, byte_tested, register_tested, status_tested, tested, with_left, with_seen_bit}
 use Rattle.mcs51_branch.proofs.CarryBits.{bit_there, bit_put, moved}
 use Rattle.mcs51_branch.proofs.Cutting.{mapped}
 use Rattle.mcs51_branch.proofs.OneRegister.{a_form, a_holds, b_form, b_holds, ie_form, ie_holds, ip_form, ip_holds, bits_form, bits_holds}
@@ -122,13 +123,24 @@ flag_known false = refl
 
 -- WAYS
 
-ram_way : (laws : Premises) (framed : Bool) (known : Known) (s : ChipState) (first : Option ChipState) (at place : ℕ) (bit : Bool) → IsUnder framed known s first → at < 256 → place < 8
-    → bit_at (slice_index s.ram at) place ≡ bit_of bit → Way framed (option_map (with_set (Ram at) known) (tested place bit (set_at (Ram at) known))) s first
+-- a cell that is cut, or stays, stands under what is left
+left_under : (laws : Premises) (framed : Bool) (whole : Form) (at : ℕ) (known : Known) (left : Form) (s : ChipState) (first : Option ChipState)
+    → at < 256 → IsNormal 256 left → Has 256 left (slice_index s.ram at) → IsUnder framed known s first → IsUnder framed (with_left whole at known left) s first
+left_under laws framed (Values xs) at known left s first is normal has under = with_set_under laws framed (Ram at) known left s first is normal has under
+left_under laws framed (Run p) at known left s first is normal has under = under
+
+ram_way : (laws : Premises) (framed : Bool) (known : Known) (s : ChipState) (first : Option ChipState) (at place : ℕ) (bit : Bool)
+    → IsUnder framed known s first → at < 256 → place < 8 → bit_at (slice_index s.ram at) place ≡ bit_of bit
+    → Way framed (option_map (with_left (set_at (Ram at) known) at known) (tested place bit (set_at (Ram at) known))) s first
 ram_way laws framed known s first at place bit under is low so =
     let v = slice_index s.ram at in
+    let whole = set_at (Ram at) known in
     let has = set_has laws framed (Ram at) known s first is under in
-    let found = tested_has laws.sets (set_at (Ram at) known) place v bit (set_normal laws framed (Ram at) known under.form) has low so in
-    (with_set (Ram at) known found.0, ap (option_map (with_set (Ram at) known)) found.1, with_set_under laws framed (Ram at) known found.0 s first is found.2 (found.3 v has so) under)
+    let found = tested_has laws.sets whole place v bit (set_normal laws framed (Ram at) known under.form) has low so in (
+      with_left whole at known found.0,
+      ap (option_map (with_left whole at known)) found.1,
+      left_under laws framed whole at known found.0 s first is found.2 (found.3 v has so) under,
+    )
 
 a_way : (laws : Premises) (framed : Bool) (known : Known) (s : ChipState) (first : Option ChipState) (place : ℕ) (bit : Bool) → IsUnder framed known s first → place < 8 → bit_at s.a place ≡ bit_of bit
     → Way framed (option_map (λ (a : Byte). record known { a = a }) (byte_tested place bit known.a)) s first
@@ -288,9 +300,20 @@ register_form laws framed known way Dpl place bit form e = subst (IsKnown framed
 register_form laws framed known way Dph place bit form e = subst (IsKnown framed) (same_Some known way e) form
 register_form laws framed known way Other place bit form e = subst (IsKnown framed) (same_Some known way e) form
 
+left_form : (laws : Premises) (framed : Bool) (whole : Form) (at : ℕ) (known : Known) (left : Form)
+    → at < 256 → IsNormal 256 left → IsKnown framed known → IsKnown framed (with_left whole at known left)
+left_form laws framed (Values xs) at known left is normal form = with_set_form laws framed (Ram at) known left is normal form
+left_form laws framed (Run p) at known left is normal form = form
+
+ram_form : (laws : Premises) (framed : Bool) (known way : Known) (at place : ℕ) (bit : Bool) → IsKnown framed known → at < 256
+    → option_map (with_left (set_at (Ram at) known) at known) (tested place bit (set_at (Ram at) known)) ≡ Some way → IsKnown framed way
+ram_form laws framed known way at place bit form is e =
+    let whole = set_at (Ram at) known in
+    let (left, cut, same) = mapped (with_left whole at known) (tested place bit whole) way e in
+    let normal = tested_normal laws.sets whole left place bit (set_normal laws framed (Ram at) known form) cut in
+    subst (IsKnown framed) same (left_form laws framed whole at known left is normal form)
+
 pub bit_way_form : (laws : Premises) (framed : Bool) (known way : Known) (address : Address) (place : ℕ) (bit : Bool) → IsKnown framed known → IsPlace address → place < 8 → bit_tested address place bit known ≡ Some way → IsKnown framed way
 unfolding bit_tested
-bit_way_form laws framed known way (InRam at) place bit form is low e =
-    let (part, cut, same) = mapped (with_set (Ram at) known) (tested place bit (set_at (Ram at) known)) way e in
-    subst (IsKnown framed) same (with_set_form laws framed (Ram at) known part is (tested_normal laws.sets (set_at (Ram at) known) part place bit (set_normal laws framed (Ram at) known form) cut) form)
+bit_way_form laws framed known way (InRam at) place bit form is low e = ram_form laws framed known way at place bit form is e
 bit_way_form laws framed known way (InSfr at) place bit form is low e = register_form laws framed known way (sfr_at at) place bit form e

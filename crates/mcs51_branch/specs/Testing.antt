@@ -67,8 +67,13 @@ register_tested sfr.Other place bit known = Some known
 
 -- PLACES
 
+-- the cell of a list gets what is left of it, and that of a run stays as it is
+abbrev pub with_left : (whole : Form) → (at : ℕ) → Known → (left : Form) → Known
+with_left (Values xs) at known left = with_set (Ram at) known left
+with_left (Run p) at known left = known
+
 unfoldable pub bit_tested : Address → (place : ℕ) → (bit : Bool) → Known → Option Known
-bit_tested (InRam at) place bit known = option_map (with_set (Ram at) known) (tested place bit (set_at (Ram at) known))
+bit_tested (InRam at) place bit known = option_map (with_left (set_at (Ram at) known) at known) (tested place bit (set_at (Ram at) known))
 bit_tested (InSfr at) place bit known = register_tested (sfr_at at) place bit known
 
 -- a byte of RAM, or a register

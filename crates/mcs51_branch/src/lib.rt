@@ -3,7 +3,8 @@
 //! - [`cut_by_condition`]: JC, JNC, JZ, JNZ and SJMP, taken or not. CY that was looked at is known behind the jump, and cuts the
 //!   byte that CJNE compared; A is cut to 0, or to what isn't 0.
 //! - [`cut_by_comparison`]: CJNE with a constant, which writes CY and cuts its operand. [`compare_with`]: `CJNE A,dir`.
-//! - [`cut_by_bit`]: JB, JNB and JBC. A list keeps the numbers with such a bit, and a held bit of PSW is known behind the jump.
+//! - [`cut_by_bit`]: JB, JNB and JBC. A list keeps the numbers with such a bit, a run and its cell stay as they are, and a held bit
+//!   of PSW is known behind the jump.
 //! - [`lowered`]: the numbers of the byte that DJNZ lowered, which it writes on each way.
 //!
 //! `specs/Cuts.antt`, `specs/Jumps.antt` and `specs/Testing.antt` have the formulas. A cut changes sets alone, and no relation.

@@ -1,6 +1,6 @@
 //! Bits that a jump tests.
 
-ghost use Rattle.std.specs.Prelude.{◌≡◌, ◌<◌, ◌≤◌, ◌^◌, ◌-◌, if◌then◌else◌, false, None, Some, ℕ, All, length};
+ghost use Rattle.std.specs.Prelude.{◌≡◌, ◌<◌, ◌≤◌, ◌^◌, ◌-◌, if◌then◌else◌, false, None, Some, ℕ, All, OnErr, OnOk, length};
 ghost use Rattle.std.specs.Int as numbers;
 ghost use Rattle.std.specs.List.{filter};
 ghost use Rattle.mcs51_chip.specs.declared.place.Address.TheVariants.{InRam};
@@ -131,15 +131,27 @@ fn test_register<M: Cells>(state: &mut State<M>, sfr: Sfr, place: u8, bit: bool)
     }
 }
 
+/// Gives a byte of RAM what is left of its numbers. A test leaves a run whole, and its cell stays as it is.
+fn keep_left<M: Cells>(state: &mut State<M>, at: u8, whole: &Vs8, left: Vs8) -> Result<(), Memory>
+    ensures value { OnOk result (state.new ≡ testing.with_left whole.now at state.old left) }
+    ensures kept { OnErr result (state.new ≡ state.old) }
+{
+    match whole.form() {
+        Form::Values(_) => put(state, Compared::Ram(at), left),
+        Form::Run(_) => Ok(()),
+    }
+}
+
 /// Keeps the numbers of a byte of RAM where a bit is so, if that can be.
 #[tactic(auto, unfolding(crate::specs::Testing::bit_tested))]
 fn test_ram<M: Cells>(state: &mut State<M>, at: u8, place: u8, bit: bool) -> Result<bool, Memory>
     requires { place < 8 }
     ensures { IsWay (testing.bit_tested (InRam at) place bit state.old) result state.old state.new }
 {
-    match tested(&set_at(state, Compared::Ram(at)), place, bit) {
-        Some(set) => {
-            put(state, Compared::Ram(at), set)?;
+    let whole = set_at(state, Compared::Ram(at));
+    match tested(&whole, place, bit) {
+        Some(left) => {
+            keep_left(state, at, &whole, left)?;
             Ok(true)
         }
         None => Ok(false),
