@@ -27,7 +27,7 @@ use Rattle.mcs51_chip.specs.declared.place.Sfr.TheVariants.{Psw}
 use Rattle.mcs51_chip.specs.declared.state.ChipState.{ChipState}
 use Rattle.mcs51_chip.specs.Arithmetic.{bit_after, carry_after, carry_with}
 use Rattle.mcs51_chip.specs.Leading.{MayReadSfr}
-use Rattle.mcs51_chip.specs.Registers.{carry_of, parity, with_bit, with_carry, write_sfr}
+use Rattle.mcs51_chip.specs.Registers.{carry_of, with_bit, with_carry, write_sfr}
 use Rattle.mcs51_chip.specs.State.{IsChipState}
 use Rattle.mcs51_state.specs.declared.status.Status.{Status}
 use Rattle.mcs51_state.specs.Forms.{IsByte, IsRelation}
@@ -41,7 +41,7 @@ use Rattle.mcs51_results.specs.StatusBytes.{all_bits, upper, bit_of_set, bit_of_
 use Rattle.mcs51_results.proofs.SetLemmas.{combined, zero_is, chosen_is, bit_below, bit_value, member}
 use Rattle.mcs51_results.proofs.StatusLemmas.{bit_agrees, carry_bit, carried_holds}
 use Rattle.mcs51_results.proofs.Accumulations.{byte_is}
-use Rattle.mcs51_results.proofs.StatusWrites.{and_bit, or_bit, own_holds, own_form, own_is, read_agrees, read_entry, read_quarter, upper_agree, write_quarter}
+use Rattle.mcs51_results.proofs.StatusWrites.{and_bit, or_bit, own_holds, own_form, own_is, read_entry, read_quarter, status_agrees, upper_agree, write_quarter}
 
 -- CY
 
@@ -234,16 +234,9 @@ bit_known laws at set x normal has = bit_agrees (known_bits 8 set) x (at % 8) (l
 
 -- A BIT OF PSW
 
-odd_below : (a : ℕ) → parity a < 2
-odd_below a = omega arith
-
-status_agrees : (t : Tri) (psw : Status) (s : ChipState) (x : ℕ) (first : Option Suspended) → IsChipState s → HoldsOfStatus first psw s.psw → IsBit t (parity s.a) → MayReadSfr s Psw x → Agrees (all_bits t psw) x
-status_agrees t psw s x first state holds odd (bit, few, is) =
-    subst (Agrees (all_bits t psw)) (sym is) (read_agrees t psw s.psw bit (parity s.a) state.psw state.psw_held few (odd_below s.a) odd holds.bits)
-
-pub status_bit_known : (first : Option Suspended) (at : ℕ) (t : Tri) (psw : Status) (s : ChipState) (x : ℕ) → IsChipState s → HoldsOfStatus first psw s.psw → IsBit t (parity s.a) → MayReadSfr s Psw x
-    → IsBit (bit_of_status t psw (at % 8)) (bit_at x (at % 8))
-status_bit_known first at t psw s x state holds odd may = bit_agrees (all_bits t psw) x (at % 8) (status_agrees t psw s x first state holds odd may)
+pub status_bit_known : (first : Option Suspended) (at : ℕ) (psw : Status) (s : ChipState) (x : ℕ) → IsChipState s → HoldsOfStatus first psw s.psw → MayReadSfr s Psw x
+    → IsBit (bit_of_status psw (at % 8)) (bit_at x (at % 8))
+status_bit_known first at psw s x state holds may = bit_agrees (all_bits psw) x (at % 8) (status_agrees first psw s x state holds may)
 
 pub status_bit_holds : (laws : Premises) (framed : Bool) (first : Option ChipState) (done : BitOperation) (at : ℕ) (psw : Status) (s : ChipState) (x : ℕ) → IsChipState s → IsStatus framed psw
     → HoldsOfStatus (option_map suspended_of first) psw s.psw → MayReadSfr s Psw x
@@ -252,17 +245,17 @@ status_bit_holds laws framed first done at psw s x state form holds may =
     let under = option_map suspended_of first in
     let n = at % 8 in
     let (same, small) = read_quarter s x state may in
-    let agrees = status_agrees Either psw s x under state holds (odd_below s.a) may in
-    let old = bit_agrees (all_bits Either psw) x n agrees in
-    let t = bit_made done (carry_in psw) (bit_of_status Either psw n) in
+    let agrees = status_agrees under psw s x state holds may in
+    let old = bit_agrees (all_bits psw) x n agrees in
+    let t = bit_made done (carry_in psw) (bit_of_status psw n) in
     let c = bit_after done (carry_of s) (bit_at x n) in
     let few = carry_bit under psw s.psw holds in
-    let long : length (all_bits Either psw) ≡ 8 = refl in
-    let made : Agrees (set (all_bits Either psw) n t) (with_bit x n c) =
-    set_agrees (all_bits Either psw) x n c t (omega (arith, long, place_below at)) agrees (bit_is done (carry_in psw) (bit_of_status Either psw n) (carry_of s) (bit_at x n) few old) in
+    let long : length (all_bits psw) ≡ 8 = refl in
+    let made : Agrees (set (all_bits psw) n t) (with_bit x n c) =
+    set_agrees (all_bits psw) x n c t (omega (arith, long, place_below at)) agrees (bit_is done (carry_in psw) (bit_of_status psw n) (carry_of s) (bit_at x n) few old) in
     let below = bit_put x n c (place_below at) small (after_below done (carry_of s) (bit_at x n) (bit_below (carry_in psw) (carry_of s) few)) in
     record {
-      bits = subst (Agrees (upper (set (all_bits Either psw) n t))) (write_quarter (with_bit x n c)) (upper_agree (set (all_bits Either psw) n t) (with_bit x n c) below made);
+      bits = subst (Agrees (upper (set (all_bits psw) n t))) (write_quarter (with_bit x n c)) (upper_agree (set (all_bits psw) n t) (with_bit x n c) below made);
       entry = own_holds framed first (bit_entry done n psw.entry) (with_bit x n c) (bit_entry_form framed done n psw.entry (place_below at) (own_is framed psw.entry form.entry))
           (bit_entry_holds laws under done n psw.entry x (carry_of s) (bit_at x n) (place_below at) small (read_entry framed first psw s x state form holds may));
     }

@@ -10,10 +10,9 @@ use Rattle.std.proofs.lemmas.Nat.{and_le_l, and_mask, and_mod, and_or_self, and_
 use Rattle.std.proofs.lemmas.Nat.Bits.{and_high_mask, bit_at_and, bit_at_or, bit_at_xor}
 use Rattle.entry_value.specs.declared.byte.Byte.{Byte}
 use Rattle.entry_value.specs.declared.word.Entry.{Entry}
-use Rattle.entry_value.specs.Words.{IsFromEntry, HoldsOfByte}
+use Rattle.entry_value.specs.Words.{IsFromEntry, HoldsOfByte, Suspended}
 use Rattle.value_set.specs.declared.form.Form.{Form}
 use Rattle.value_set.specs.Form.{Has}
-use Rattle.value_set.specs.Summing.{single}
 use Rattle.value_bits.specs.declared.tri.Logic.{Logic as Bitwise}
 use Rattle.value_bits.specs.declared.tri.Logic.TheVariants.{And, Or, Xor}
 use Rattle.value_bits.specs.declared.tri.Tri.{Tri}
@@ -30,25 +29,20 @@ use Rattle.mcs51_state.specs.declared.status.Status.{Status}
 use Rattle.mcs51_state.specs.Forms.{IsByte, IsOwnRelation, IsRelation}
 use Rattle.mcs51_state.specs.Holding.{HoldsOfStatus}
 use Rattle.mcs51_state.specs.Places.{is_place, psw_place, suspended_of}
-use Rattle.mcs51_results.specs.declared.flags.FlagRule.TheVariants as flag
 use Rattle.mcs51_results.specs.declared.made.Operand.{Operand}
 use Rattle.mcs51_results.specs.declared.made.Operand.TheVariants.{Constant, Among}
 use Rattle.mcs51_results.specs.Holding.{AreOperands, IsOperand, IsStatus}
 use Rattle.mcs51_results.specs.Premises.{Premises}
 use Rattle.mcs51_results.specs.Results.{bit_in, bitwise, masked_entry, set_of}
-use Rattle.mcs51_results.specs.Rules.{flag_by}
-use Rattle.mcs51_results.specs.StatusBytes.{parity_in, all_bits, status_byte, own_entry, six, upper, bit_of_set, written_status, masked_status}
-use Rattle.mcs51_results.proofs.SetLemmas.{zero_is, bit_below, operand_is}
-use Rattle.mcs51_results.proofs.StatusLemmas.{equal_bit, bit_agrees, six_agree}
+use Rattle.mcs51_results.specs.StatusBytes.{all_bits, status_byte, own_entry, six, upper, bit_of_set, written_status, masked_status}
+use Rattle.mcs51_results.proofs.SetLemmas.{bit_below, operand_is}
+use Rattle.mcs51_results.proofs.StatusLemmas.{bit_agrees, six_agree}
 use Rattle.mcs51_results.proofs.Accumulations.{entry_holds, entry_form, masked_logic}
 
 -- P
 
 parity_below : (a : ℕ) → parity a < 2
 parity_below a = omega arith
-
-pub parity_is : (laws : Premises) (a : Form) (x : ℕ) → Has 256 a x → IsBit (parity_in a) (parity x)
-parity_is laws a x has = equal_bit (parity_in a) (parity x) (parity_below x) (laws.flags 256 x 0 0 (flag_by flag.OddParity) a (single 0) (single 0) has (zero_is laws).has (zero_is laws).has)
 
 -- BITS
 
@@ -67,14 +61,11 @@ upper_agree bits v small h =
 pub write_quarter : (v : ℕ) → v / 4 ≡ v / 4 * 4 / 4
 write_quarter v = omega arith
 
-read_bits : (p bit one : ℕ) → p % 4 ≡ 0 → bit < 2 → one < 2 → (one ≡ (p + 2 * bit + one) % 2) × (p / 4 ≡ (p + 2 * bit + one) / 2 / 2)
-read_bits p bit one held few less = (omega (arith, held, less), omega (arith, held, few, less))
-
-pub read_agrees : (parity_so : Tri) (psw : Status) (p bit one : ℕ) → p < 256 → p % 4 ≡ 0 → bit < 2 → one < 2 → IsBit parity_so one → Agrees psw.bits (p / 4) → Agrees (all_bits parity_so psw) (p + 2 * bit + one)
-read_agrees parity_so psw p bit one small held few less is agrees =
-    let (low, high) = read_bits p bit one held few less in
+read_agrees : (psw : Status) (p bit one : ℕ) → p < 256 → p % 4 ≡ 0 → bit < 2 → one < 2 → Agrees psw.bits (p / 4) → Agrees (all_bits psw) (p + 2 * bit + one)
+read_agrees psw p bit one small held few less agrees =
+    let high : p / 4 ≡ (p + 2 * bit + one) / 2 / 2 = omega (arith, held, few, less) in
     let rest = six_of (bit_in psw) (p / 4) (omega (arith, small)) (λ place. bit_agrees psw.bits (p / 4) place agrees) in
-    (subst (IsBit parity_so) low is, (omega arith, subst (Agrees (six (bit_in psw))) high rest))
+    (omega arith, (omega arith, subst (Agrees (six (bit_in psw))) high rest))
 
 -- RELATIONS
 
@@ -184,17 +175,20 @@ read_entry framed first psw s x state form holds (bit, few, is) =
     let sum : s.psw + (2 * bit + parity s.a) ≡ x = omega (arith, is) in
     subst (IsFromEntry (option_map suspended_of first) psw.entry) sum (relation_wider framed first psw.entry s.psw (2 * bit + parity s.a) state.psw_held (omega (arith, few, one)) form.entry holds.entry)
 
-pub read_holds : (laws : Premises) (framed : Bool) (first : Option ChipState) (psw : Status) (t : Tri) (s : ChipState) (x : ℕ) → IsChipState s → IsStatus framed psw → HoldsOfStatus (option_map suspended_of first) psw s.psw
-    → IsBit t (parity s.a) → MayReadSfr s Psw x → HoldsOfByte (option_map suspended_of first) (status_byte t psw) x
-read_holds laws framed first psw t s x state form holds odd (bit, few, is) =
-    let agrees = read_agrees t psw s.psw bit (parity s.a) state.psw state.psw_held few (parity_below s.a) odd holds.bits in
-    let long : length (all_bits t psw) ≡ 8 = refl in
-    (laws.from 8 x (all_bits t psw) long (subst (Agrees (all_bits t psw)) (sym is) agrees), read_entry framed first psw s x state form holds (bit, few, is))
+pub status_agrees : (first : Option Suspended) (psw : Status) (s : ChipState) (x : ℕ) → IsChipState s → HoldsOfStatus first psw s.psw → MayReadSfr s Psw x → Agrees (all_bits psw) x
+status_agrees first psw s x state holds (bit, few, is) =
+    subst (Agrees (all_bits psw)) (sym is) (read_agrees psw s.psw bit (parity s.a) state.psw state.psw_held few (parity_below s.a) holds.bits)
 
-pub read_form : (laws : Premises) (framed : Bool) (psw : Status) (t : Tri) → IsStatus framed psw → IsByte framed (status_byte t psw)
-read_form laws framed psw t form =
-    let long : length (all_bits t psw) ≡ 8 = refl in
-    record { normal = laws.from_normal 8 (all_bits t psw) long; entry = own_is framed psw.entry form.entry }
+pub read_holds : (laws : Premises) (framed : Bool) (first : Option ChipState) (psw : Status) (s : ChipState) (x : ℕ) → IsChipState s → IsStatus framed psw → HoldsOfStatus (option_map suspended_of first) psw s.psw
+    → MayReadSfr s Psw x → HoldsOfByte (option_map suspended_of first) (status_byte psw) x
+read_holds laws framed first psw s x state form holds may =
+    let long : length (all_bits psw) ≡ 8 = refl in
+    (laws.from 8 x (all_bits psw) long (status_agrees (option_map suspended_of first) psw s x state holds may), read_entry framed first psw s x state form holds may)
+
+pub read_form : (laws : Premises) (framed : Bool) (psw : Status) → IsStatus framed psw → IsByte framed (status_byte psw)
+read_form laws framed psw form =
+    let long : length (all_bits psw) ≡ 8 = refl in
+    record { normal = laws.from_normal 8 (all_bits psw) long; entry = own_is framed psw.entry form.entry }
 
 -- WRITING
 

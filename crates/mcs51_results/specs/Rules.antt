@@ -6,7 +6,6 @@ use Rattle.std.proofs.Math.Nat.{mod-lt}
 use Rattle.value_set.specs.Operations.{StaysBelow}
 use Rattle.chip_numbers.specs.Numbers.{adjusted_carry}
 use Rattle.mcs51_chip.specs.Arithmetic.{carries, borrows, differ}
-use Rattle.mcs51_chip.specs.Registers.{parity}
 use Rattle.mcs51_results.specs.declared.combining.NumberRule.{NumberRule}
 use Rattle.mcs51_results.specs.declared.combining.NumberRule.TheVariants.{CarrySum, CarryDifference, ProductLow, ProductHigh, Quotient, Remainder}
 use Rattle.mcs51_results.specs.declared.flags.FlagRule.{FlagRule}
@@ -45,7 +44,7 @@ answer_stays Remainder x y z h k l = remainder_below x y (y == 0) h
 -- FLAGS
 
 -- CY, AC and OV of sums and of differences, of a number added to itself, the bits that rotations put into CY, CY behind DA,
--- OV behind MUL and behind DIV, and P
+-- and OV behind MUL and behind DIV
 abbrev pub flag_by : FlagRule → ℕ → ℕ → ℕ → Bool
 flag_by flag.Carry x y z = carries 256 x y z
 flag_by flag.HalfCarry x y z = carries 16 x y z
@@ -61,7 +60,6 @@ flag_by flag.HighestBit x y z = x / 128 == 1
 flag_by flag.Adjusted x y z = adjusted_carry x y z
 flag_by flag.Exceeding x y z = nat_lt 255 (x * y)
 flag_by flag.ByZero x y z = y == 0
-flag_by flag.OddParity x y z = parity x == 1
 
 -- DA adds 60h
 abbrev pub is_high_adjusted : (low carry : ℕ) → Bool

@@ -1,5 +1,6 @@
--- PSW as a byte, bit by bit: of its bits 7 to 2 as much is known as was known of them, bit 1 reads as any, and bit 0 is P (Intel,
--- MCS-51 Programmer's Guide and Instruction Set, "Program Status Word"). And bits of bytes.
+-- PSW as a byte, bit by bit: of its bits 7 to 2 as much is known as was known of them, and its bits 1 and 0 are read as any: bit 1
+-- isn't held, and P isn't taken from what is known of the accumulator (Intel, MCS-51 Programmer's Guide and Instruction Set,
+-- "Program Status Word"). And bits of bytes.
 use Rattle.std.specs.Prelude.{ℕ, ◌+◌, ◌-◌, ◌%◌, ◌^◌, ◌==◌, if◌then◌else◌, Option, None, Some, List, [], ◌∷◌, bit_and, bit_or, slice_index_or, slice_set}
 use Rattle.std.specs.Int.{bit_at}
 use Rattle.std.specs.Option.{option_map}
@@ -23,24 +24,19 @@ use Rattle.mcs51_state.specs.declared.status.Status.{Status}
 use Rattle.mcs51_state.specs.Places.{psw_place}
 use Rattle.mcs51_chip.specs.Arithmetic.{bit_after}
 use Rattle.mcs51_chip.specs.Registers.{with_bit}
-use Rattle.mcs51_results.specs.declared.flags.FlagRule.TheVariants as flag
 use Rattle.mcs51_results.specs.declared.made.Operand.{Operand}
-use Rattle.mcs51_results.specs.Results.{bit_in, bitwise, carried, carry_in, known_flag, masked_entry, set_of}
+use Rattle.mcs51_results.specs.Results.{bit_in, bitwise, carried, carry_in, masked_entry, set_of}
 
 -- PSW AS A BYTE
-
--- P, where all members of the accumulator's set agree
-abbrev pub parity_in : Form → Tri
-parity_in a = known_flag flag.OddParity a (single 0) (single 0)
 
 abbrev pub six : (ℕ → Tri) → List Tri
 six at = at 0 ∷ at 1 ∷ at 2 ∷ at 3 ∷ at 4 ∷ at 5 ∷ []
 
-abbrev pub all_bits : (parity : Tri) → Status → List Tri
-all_bits parity psw = parity ∷ Either ∷ six (bit_in psw)
+abbrev pub all_bits : Status → List Tri
+all_bits psw = Either ∷ Either ∷ six (bit_in psw)
 
-abbrev pub status_byte : (parity : Tri) → Status → Byte
-status_byte parity psw = record { set = from_bits 8 (all_bits parity psw); entry = psw.entry }
+abbrev pub status_byte : Status → Byte
+status_byte psw = record { set = from_bits 8 (all_bits psw); entry = psw.entry }
 
 -- Of a byte that is written to PSW a relation to PSW alone is kept. Its AND mask gains the bits that aren't held, and its OR
 -- mask loses them.
@@ -120,11 +116,11 @@ byte_with_bit operation at c byte = record {
 }
 
 -- of PSW
-abbrev pub bit_of_status : (parity : Tri) → Status → (place : ℕ) → Tri
-bit_of_status parity psw place = slice_index_or (all_bits parity psw) place Either
+abbrev pub bit_of_status : Status → (place : ℕ) → Tri
+bit_of_status psw place = slice_index_or (all_bits psw) place Either
 
 abbrev pub status_with_bit : BitOperation → (at : ℕ) → Status → Status
 status_with_bit operation at psw = record {
-  bits = upper (slice_set (all_bits Either psw) (at % 8) (bit_made operation (carry_in psw) (bit_of_status Either psw (at % 8))));
+  bits = upper (slice_set (all_bits psw) (at % 8) (bit_made operation (carry_in psw) (bit_of_status psw (at % 8))));
   entry = own_entry (bit_entry operation (at % 8) psw.entry);
 }

@@ -152,11 +152,11 @@ pub fn bit_of_byte(at: u8, set: &Vs8) -> Tri
     bit_at(&w8::bits(set), (at % 8) as usize)
 }
 
-/// What is known of the bit of PSW at an address, by what is known of P.
-pub fn bit_of_status(at: u8, parity: Tri, psw: &Status) -> Tri
-    ensures { result ≡ status.bit_of_status parity psw.now (at % 8) }
+/// What is known of the bit of PSW at an address: of P nothing is.
+pub fn bit_of_status(at: u8, psw: &Status) -> Tri
+    ensures { result ≡ status.bit_of_status psw.now (at % 8) }
 {
-    bit_at(&all_bits(parity, psw), (at % 8) as usize)
+    bit_at(&all_bits(psw), (at % 8) as usize)
 }
 
 /// PSW behind an operation on its bit at an address.
@@ -164,7 +164,7 @@ pub fn status_with_bit(operation: BitOperation, at: u8, psw: &Status) -> Status
     ensures { result ≡ status.status_with_bit operation at psw.now }
 {
     let place = (at % 8) as usize;
-    let mut bits = all_bits(Tri::Either, psw);
+    let mut bits = all_bits(psw);
     bits[place] = bit_made(operation, carry_in(psw), bit_at(&bits, place));
     Status {
         bits: upper(&bits),

@@ -4,7 +4,6 @@ ghost use Rattle.std.specs.Prelude.{◌≡◌, ◌<◌};
 ghost use Rattle.chip_numbers.specs.Numbers as numbers;
 ghost use Rattle.value_bits.specs.Sets.{chosen};
 ghost use Rattle.mcs51_chip.specs.Arithmetic as arithmetic;
-ghost use Rattle.mcs51_chip.specs.Registers as registers;
 ghost use Rattle.mcs51_results.specs.Results as results;
 ghost use Rattle.mcs51_results.specs.Rules as rules;
 
@@ -40,8 +39,6 @@ pub(crate) enum FlagRule {
     Exceeding,
     /// OV behind DIV.
     ByZero,
-    /// P, where the accumulator is the first number.
-    OddParity,
 }
 
 impl Flag for FlagRule {
@@ -114,14 +111,6 @@ fn adjusted_carry(a: u16, carry: u16, half: u16) -> bool
     carry == 1 || high_adjusted(low_adjusted(a, half), carry) >= 256
 }
 
-/// P.
-fn parity(a: u16) -> u16
-    ensures { result ≡ registers.parity a }
-{
-    (a % 2 + a / 2 % 2 + a / 4 % 2 + a / 8 % 2 + a / 16 % 2 + a / 32 % 2 + a / 64 % 2 + a / 128 % 2)
-        % 2
-}
-
 fn flag_by(rule: FlagRule, x: u16, y: u16, carry: u16) -> bool
     requires x_below { x < 256 }
     requires y_below { y < 256 }
@@ -145,7 +134,6 @@ fn flag_by(rule: FlagRule, x: u16, y: u16, carry: u16) -> bool
         FlagRule::Adjusted => adjusted_carry(x, y, carry),
         FlagRule::Exceeding => x as u32 * y as u32 > 255,
         FlagRule::ByZero => y == 0,
-        FlagRule::OddParity => parity(x) == 1,
     }
 }
 

@@ -25,7 +25,7 @@ ghost use Rattle.mcs51_decode.specs.declared.instr.AccumulatorOperation.{Accumul
 ghost use Rattle.mcs51_chip.specs.declared.state.ChipState.{ChipState as AState};
 ghost use Rattle.mcs51_chip.specs.Arithmetic.{accumulated, bit_after, carry_after, carry_with, changed, masked, multiplied};
 ghost use Rattle.mcs51_chip.specs.Leading.{MayDivide, MayReadSfr};
-ghost use Rattle.mcs51_chip.specs.Registers.{carry_of, data_pointer, parity, with_bit, with_carry, with_data_pointer, write_sfr};
+ghost use Rattle.mcs51_chip.specs.Registers.{carry_of, data_pointer, with_bit, with_carry, with_data_pointer, write_sfr};
 ghost use Rattle.mcs51_chip.specs.Step.{Effect};
 ghost use Rattle.mcs51_state.specs.Forms.{IsByte};
 ghost use Rattle.mcs51_results.specs.declared.made.Made.{Made as AMade};
@@ -117,10 +117,9 @@ pub fn changes_hold()
 /// PSW as a byte: what is known when it is read holds of each byte that it may read as, and what is known behind a write of a
 /// byte, also of one that ORL, ANL or XRL made, holds of what the chip then holds. The form is kept.
 pub fn statuses_hold()
-    ensures parity { (a : AForm) (x : ℕ) → Has 256 a x → IsBit (status.parity_in a) (parity x) }
-    ensures read { (framed : Bool) (first : Option AState) (psw : AStatus) (t : ATri) (s : AState) (x : ℕ) → IsChipState s → IsStatus framed psw → HoldsOfStatus (option_map suspended_of first) psw s.psw
-        → IsBit t (parity s.a) → MayReadSfr s Psw x → HoldsOfByte (option_map suspended_of first) (status.status_byte t psw) x }
-    ensures read_form { (framed : Bool) (psw : AStatus) (t : ATri) → IsStatus framed psw → IsByte framed (status.status_byte t psw) }
+    ensures read { (framed : Bool) (first : Option AState) (psw : AStatus) (s : AState) (x : ℕ) → IsChipState s → IsStatus framed psw → HoldsOfStatus (option_map suspended_of first) psw s.psw
+        → MayReadSfr s Psw x → HoldsOfByte (option_map suspended_of first) (status.status_byte psw) x }
+    ensures read_form { (framed : Bool) (psw : AStatus) → IsStatus framed psw → IsByte framed (status.status_byte psw) }
     ensures written { (framed : Bool) (first : Option AState) (byte : AByte) (s : AState) (x : ℕ) → IsByte framed byte → HoldsOfByte (option_map suspended_of first) byte x
         → HoldsOfStatus (option_map suspended_of first) (status.written_status byte) (write_sfr Psw x s).psw }
     ensures written_form { (framed : Bool) (byte : AByte) → IsByte framed byte → IsStatus framed (status.written_status byte) }
@@ -148,8 +147,8 @@ pub fn bit_changes_hold()
         → HoldsOfStatus (option_map suspended_of first) psw s.psw → MayReadSfr s Psw x
         → HoldsOfStatus (option_map suspended_of first) (status.status_with_bit done at psw) (write_sfr Psw (with_bit x (at % 8) (bit_after done (carry_of s) (bit_at x (at % 8)))) s).psw }
     ensures status_form { (framed : Bool) (done : ABitOperation) (at : ℕ) (psw : AStatus) → IsStatus framed psw → IsStatus framed (status.status_with_bit done at psw) }
-    ensures status_bit { (first : Option Suspended) (at : ℕ) (t : ATri) (psw : AStatus) (s : AState) (x : ℕ) → IsChipState s → HoldsOfStatus first psw s.psw → IsBit t (parity s.a) → MayReadSfr s Psw x
-        → IsBit (status.bit_of_status t psw (at % 8)) (bit_at x (at % 8)) }
+    ensures status_bit { (first : Option Suspended) (at : ℕ) (psw : AStatus) (s : AState) (x : ℕ) → IsChipState s → HoldsOfStatus first psw s.psw → MayReadSfr s Psw x
+        → IsBit (status.bit_of_status psw (at % 8)) (bit_at x (at % 8)) }
 {
     premises_hold();
 }

@@ -6,7 +6,6 @@ ghost use Rattle.value_bits.specs.Bits as known;
 ghost use Rattle.mcs51_results.specs.Results as results;
 ghost use Rattle.mcs51_results.specs.StatusBytes as status;
 
-use crate::flags::{FlagRule, known_flag};
 use crate::made::Operand;
 use crate::results::{bit_in, carried, carry_in, masked_entry, set_of};
 use entry_value::{Byte, Entry};
@@ -18,19 +17,12 @@ use value_set::Vs8;
 /// Where PSW stands among the places that values remember.
 const PSW_PLACE: u16 = 0x1D0;
 
-/// P, where all numbers of the accumulator agree.
-pub fn parity_in(a: &Vs8) -> Tri
-    ensures { result ≡ status.parity_in a.now }
-{
-    known_flag(FlagRule::OddParity, a, &Vs8::one(0), Tri::Zero)
-}
-
-/// What is known of the bits that PSW is read with. Bit 1 isn't held.
-pub(crate) fn all_bits(parity: Tri, psw: &Status) -> [Tri; 8]
-    ensures { result ≡ status.all_bits parity psw.now }
+/// What is known of the bits that PSW is read with. P may be any, and bit 1 isn't held.
+pub(crate) fn all_bits(psw: &Status) -> [Tri; 8]
+    ensures { result ≡ status.all_bits psw.now }
 {
     [
-        parity,
+        Tri::Either,
         Tri::Either,
         bit_in(psw, 0),
         bit_in(psw, 1),
@@ -41,12 +33,12 @@ pub(crate) fn all_bits(parity: Tri, psw: &Status) -> [Tri; 8]
     ]
 }
 
-/// PSW as it is read, with what is known of P.
-pub fn status_byte(parity: Tri, psw: &Status) -> Byte
-    ensures { result ≡ status.status_byte parity psw.now }
+/// PSW as it is read, with any P.
+pub fn status_byte(psw: &Status) -> Byte
+    ensures { result ≡ status.status_byte psw.now }
 {
     Byte {
-        set: w8::from_bits(&all_bits(parity, psw)),
+        set: w8::from_bits(&all_bits(psw)),
         entry: psw.entry,
     }
 }

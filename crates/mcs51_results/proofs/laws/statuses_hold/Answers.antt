@@ -1,11 +1,10 @@
-use Rattle.mcs51_results.proofs.StatusWrites.{parity_is, read_holds, read_form, written_holds, written_form, masked_psw_holds, masked_psw_form}
+use Rattle.mcs51_results.proofs.StatusWrites.{read_holds, read_form, written_holds, written_form, masked_psw_holds, masked_psw_form}
 use Rattle.mcs51_results.proofs.laws.statuses_hold.Goals as goal
 
 pub returns : goal.returns
 returns c =
     let laws = c.premises_hold.ensures in
     record {
-      parity = parity_is laws;
       read = read_holds laws;
       read_form = read_form laws;
       written = written_holds laws;
