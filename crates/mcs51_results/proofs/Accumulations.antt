@@ -6,6 +6,7 @@ use Rattle.std.proofs.lemmas.Nat.Bits.{bit_at_lowest}
 use Rattle.entry_value.specs.declared.byte.Byte.{Byte}
 use Rattle.entry_value.specs.declared.word.Entry.{Entry}
 use Rattle.entry_value.specs.Words.{Suspended, IsFromEntry, HoldsOfByte}
+use Rattle.irq_frames.specs.KnownLaws.{KnownLaws}
 use Rattle.value_set.specs.declared.form.Form.{Form}
 use Rattle.value_set.specs.declared.form.Form.TheVariants.{Values, Run}
 use Rattle.value_set.specs.Form.{Has, IsNormal}
@@ -35,7 +36,6 @@ use Rattle.mcs51_results.specs.declared.made.Made.{Made}
 use Rattle.mcs51_results.specs.declared.made.Operand.{Operand}
 use Rattle.mcs51_results.specs.declared.made.Operand.TheVariants.{Constant, Among}
 use Rattle.mcs51_results.specs.Holding.{IsResult, AreOperands, IsOperand, IsStatus, IsMade, HoldsOfMade, StandsMade}
-use Rattle.mcs51_results.specs.Premises.{Premises}
 use Rattle.mcs51_results.specs.Results.{carry_in, half_carry_in, known_flag, set_of, add_carry, sub_carry, sum_flags, difference_flags, twice_flags, twice_made, bitwise, masked_entry, masked_made, accumulated_made, changed_set, changed_flags, changed_made}
 use Rattle.mcs51_results.specs.Rules.{flag_by}
 use Rattle.mcs51_results.proofs.SetLemmas.{single_is, zero_is, chosen_is, member, bit_value, operand_value, operand_is, add_is, sub_is, carry_is, borrow_is, logic_is}
@@ -60,10 +60,10 @@ masked_logic logic.Orl x mask = refl
 masked_logic logic.Anl x mask = refl
 masked_logic logic.Xrl x mask = refl
 
-pub entry_holds : (laws : Premises) (first : Option Suspended) (done : Logic) (operand : Operand) (entry : Option Entry) (x mask : ℕ) → IsOperand operand mask → IsFromEntry first entry x
+pub entry_holds : (laws : KnownLaws) (first : Option Suspended) (done : Logic) (operand : Operand) (entry : Option Entry) (x mask : ℕ) → IsOperand operand mask → IsFromEntry first entry x
     → IsFromEntry first (masked_entry done operand entry) (masked done x mask)
-entry_holds laws first logic.Orl (Constant m) entry x mask (small, is) holds = rw is (laws.masked_or first entry x m holds)
-entry_holds laws first logic.Anl (Constant m) entry x mask (small, is) holds = rw is (laws.masked_and first entry x m holds)
+entry_holds laws first logic.Orl (Constant m) entry x mask (small, is) holds = rw is (laws.values.entries.or first entry x m holds)
+entry_holds laws first logic.Anl (Constant m) entry x mask (small, is) holds = rw is (laws.values.entries.and first entry x m holds)
 entry_holds laws first logic.Xrl (Constant m) entry x mask is holds = tt
 entry_holds laws first logic.Orl (Among set) entry x mask is holds = tt
 entry_holds laws first logic.Anl (Among set) entry x mask is holds = tt
@@ -81,50 +81,50 @@ entry_form framed logic.Orl (Among set) entry small form = tt
 entry_form framed logic.Anl (Among set) entry small form = tt
 entry_form framed logic.Xrl (Among set) entry small form = tt
 
-pub masked_holds : (laws : Premises) (framed : Bool) (first : Option Suspended) (done : Logic) (byte : Byte) (operand : Operand) (x mask : ℕ) → IsByte framed byte → HoldsOfByte first byte x → IsOperand operand mask
+pub masked_holds : (laws : KnownLaws) (framed : Bool) (first : Option Suspended) (done : Logic) (byte : Byte) (operand : Operand) (x mask : ℕ) → IsByte framed byte → HoldsOfByte first byte x → IsOperand operand mask
     → HoldsOfByte first (masked_made done byte operand) (masked done x mask)
 masked_holds laws framed first done byte operand x mask form holds is =
     let set_is = logic_is laws (bitwise done) x mask byte.set (set_of operand) (byte_is framed first byte x form holds) (operand_is laws operand mask is) in
     (subst (Has 256 (masked_made done byte operand).set) (masked_logic done x mask) set_is.has, entry_holds laws first done operand byte.entry x mask is holds.1)
 
-operand_normal : (laws : Premises) (operand : Operand) → AreOperands operand → IsNormal 256 (set_of operand)
-operand_normal laws (Constant m) small = (laws.single 256 m small).0
+operand_normal : (laws : KnownLaws) (operand : Operand) → AreOperands operand → IsNormal 256 (set_of operand)
+operand_normal laws (Constant m) small = (laws.sets.single 256 m small).0
 operand_normal laws (Among set) normal = normal
 
-pub masked_form : (laws : Premises) (framed : Bool) (done : Logic) (byte : Byte) (operand : Operand) → IsByte framed byte → AreOperands operand → IsByte framed (masked_made done byte operand)
+pub masked_form : (laws : KnownLaws) (framed : Bool) (done : Logic) (byte : Byte) (operand : Operand) → IsByte framed byte → AreOperands operand → IsByte framed (masked_made done byte operand)
 masked_form laws framed done byte operand form are = record {
-  normal = laws.logic_normal 8 (bitwise done) byte.set (set_of operand) form.normal (operand_normal laws operand are);
+  normal = laws.bits.logic_normal 8 (bitwise done) byte.set (set_of operand) form.normal (operand_normal laws operand are);
   entry = entry_form framed done operand byte.entry are form.entry;
 }
 
 -- SUMS AND DIFFERENCES
 
-sum_row : (laws : Premises) (first : Option Suspended) (set a b c : Form) (psw : Status) (x z : ℕ) (s : ChipState) → IsResult 256 set ((s.a + x + z) % 256) → HoldsOfStatus first psw s.psw
+sum_row : (laws : KnownLaws) (first : Option Suspended) (set a b c : Form) (psw : Status) (x z : ℕ) (s : ChipState) → IsResult 256 set ((s.a + x + z) % 256) → HoldsOfStatus first psw s.psw
     → Has 256 a s.a → Has 256 b x → Has 256 c z → HoldsOfMade first (record { a = byte_of set; psw = sum_flags a b c psw }) (added x z s)
 sum_row laws first set a b c psw x z s is holds h k l = record {
   a = plain_holds first set ((s.a + x + z) % 256) is;
   psw = flagged_holds first psw s.psw (bit_of (carries 256 s.a x z)) (bit_of (carries 16 s.a x z)) (bit_of (differ (carries 256 s.a x z) (carries 128 s.a x z)))
       (known_flag flag.Carry a b c) (known_flag flag.HalfCarry a b c) (known_flag flag.SumOverflow a b c) holds
-      (flag_bit (known_flag flag.Carry a b c) (carries 256 s.a x z) (laws.flags 256 s.a x z (flag_by flag.Carry) a b c h k l))
-      (flag_bit (known_flag flag.HalfCarry a b c) (carries 16 s.a x z) (laws.flags 256 s.a x z (flag_by flag.HalfCarry) a b c h k l))
-      (flag_bit (known_flag flag.SumOverflow a b c) (differ (carries 256 s.a x z) (carries 128 s.a x z)) (laws.flags 256 s.a x z (flag_by flag.SumOverflow) a b c h k l));
+      (flag_bit (known_flag flag.Carry a b c) (carries 256 s.a x z) (laws.bits.flags 256 s.a x z (flag_by flag.Carry) a b c h k l))
+      (flag_bit (known_flag flag.HalfCarry a b c) (carries 16 s.a x z) (laws.bits.flags 256 s.a x z (flag_by flag.HalfCarry) a b c h k l))
+      (flag_bit (known_flag flag.SumOverflow a b c) (differ (carries 256 s.a x z) (carries 128 s.a x z)) (laws.bits.flags 256 s.a x z (flag_by flag.SumOverflow) a b c h k l));
 }
 
-difference_row : (laws : Premises) (first : Option Suspended) (set a b c : Form) (psw : Status) (x z : ℕ) (s : ChipState) → IsResult 256 set ((s.a + 256 - x - z) % 256) → HoldsOfStatus first psw s.psw
+difference_row : (laws : KnownLaws) (first : Option Suspended) (set a b c : Form) (psw : Status) (x z : ℕ) (s : ChipState) → IsResult 256 set ((s.a + 256 - x - z) % 256) → HoldsOfStatus first psw s.psw
     → Has 256 a s.a → Has 256 b x → Has 256 c z → HoldsOfMade first (record { a = byte_of set; psw = difference_flags a b c psw }) (subtracted x z s)
 difference_row laws first set a b c psw x z s is holds h k l = record {
   a = plain_holds first set ((s.a + 256 - x - z) % 256) is;
   psw = flagged_holds first psw s.psw (bit_of (borrows 256 s.a x z)) (bit_of (borrows 16 s.a x z)) (bit_of (differ (borrows 256 s.a x z) (borrows 128 s.a x z)))
       (known_flag flag.Borrow a b c) (known_flag flag.HalfBorrow a b c) (known_flag flag.DifferenceOverflow a b c) holds
-      (flag_bit (known_flag flag.Borrow a b c) (borrows 256 s.a x z) (laws.flags 256 s.a x z (flag_by flag.Borrow) a b c h k l))
-      (flag_bit (known_flag flag.HalfBorrow a b c) (borrows 16 s.a x z) (laws.flags 256 s.a x z (flag_by flag.HalfBorrow) a b c h k l))
-      (flag_bit (known_flag flag.DifferenceOverflow a b c) (differ (borrows 256 s.a x z) (borrows 128 s.a x z)) (laws.flags 256 s.a x z (flag_by flag.DifferenceOverflow) a b c h k l));
+      (flag_bit (known_flag flag.Borrow a b c) (borrows 256 s.a x z) (laws.bits.flags 256 s.a x z (flag_by flag.Borrow) a b c h k l))
+      (flag_bit (known_flag flag.HalfBorrow a b c) (borrows 16 s.a x z) (laws.bits.flags 256 s.a x z (flag_by flag.HalfBorrow) a b c h k l))
+      (flag_bit (known_flag flag.DifferenceOverflow a b c) (differ (borrows 256 s.a x z) (borrows 128 s.a x z)) (laws.bits.flags 256 s.a x z (flag_by flag.DifferenceOverflow) a b c h k l));
 }
 
 no_carry : (x y : ℕ) → (x + y) % 256 ≡ (x + y + 0) % 256
 no_carry x y = omega arith
 
-pub accumulated_holds : (laws : Premises) (framed : Bool) (first : Option Suspended) (done : Operation) (made : Made) (operand : Operand) (x : ℕ) (s : ChipState) → StandsMade framed first made s → IsOperand operand x
+pub accumulated_holds : (laws : KnownLaws) (framed : Bool) (first : Option Suspended) (done : Operation) (made : Made) (operand : Operand) (x : ℕ) (s : ChipState) → StandsMade framed first made s → IsOperand operand x
     → HoldsOfMade first (accumulated_made done made.a operand made.psw) (accumulated done x s)
 accumulated_holds laws framed first Add made operand x s stands is =
     let a = byte_is framed first made.a s.a stands.form.a stands.holds.a in
@@ -147,9 +147,9 @@ accumulated_holds laws framed first Orl made operand x s stands is = record { a 
 accumulated_holds laws framed first Anl made operand x s stands is = record { a = masked_holds laws framed first logic.Anl made.a operand s.a x stands.form.a stands.holds.a is; psw = stands.holds.psw }
 accumulated_holds laws framed first Xrl made operand x s stands is = record { a = masked_holds laws framed first logic.Xrl made.a operand s.a x stands.form.a stands.holds.a is; psw = stands.holds.psw }
 
-pub accumulated_form : (laws : Premises) (framed : Bool) (done : Operation) (made : Made) (operand : Operand) → IsMade framed made → AreOperands operand → IsMade framed (accumulated_made done made.a operand made.psw)
+pub accumulated_form : (laws : KnownLaws) (framed : Bool) (done : Operation) (made : Made) (operand : Operand) → IsMade framed made → AreOperands operand → IsMade framed (accumulated_made done made.a operand made.psw)
 accumulated_form laws framed Add made operand form are = record {
-  a = plain_form framed (add 256 made.a.set (set_of operand)) (laws.add_normal 256 made.a.set (set_of operand) form.a.normal (operand_normal laws operand are));
+  a = plain_form framed (add 256 made.a.set (set_of operand)) (laws.sets.add_normal 256 made.a.set (set_of operand) form.a.normal (operand_normal laws operand are));
   psw = record { bits = refl; entry = tt };
 }
 accumulated_form laws framed Addc made operand form are =
@@ -172,23 +172,23 @@ accumulated_form laws framed Xrl made operand form are = record { a = masked_for
 
 -- ADD OF THE ACCUMULATOR TO ITSELF
 
-twice_psw : (laws : Premises) (first : Option Suspended) (set : Form) (psw : Status) (s : ChipState) → Has 256 set s.a → HoldsOfStatus first psw s.psw
+twice_psw : (laws : KnownLaws) (first : Option Suspended) (set : Form) (psw : Status) (s : ChipState) → Has 256 set s.a → HoldsOfStatus first psw s.psw
     → HoldsOfStatus first (twice_flags set psw) (added s.a 0 s).psw
 twice_psw laws first (Values xs) psw s h holds =
     let none = (zero_is laws).has in
     flagged_holds first psw s.psw (bit_of (carries 256 s.a s.a 0)) (bit_of (carries 16 s.a s.a 0)) (bit_of (differ (carries 256 s.a s.a 0) (carries 128 s.a s.a 0)))
     (known_flag flag.TwiceCarry (Values xs) (single 0) (single 0)) (known_flag flag.TwiceHalfCarry (Values xs) (single 0) (single 0)) (known_flag flag.TwiceOverflow (Values xs) (single 0) (single 0)) holds
-    (flag_bit (known_flag flag.TwiceCarry (Values xs) (single 0) (single 0)) (carries 256 s.a s.a 0) (laws.flags 256 s.a 0 0 (flag_by flag.TwiceCarry) (Values xs) (single 0) (single 0) h none none))
-    (flag_bit (known_flag flag.TwiceHalfCarry (Values xs) (single 0) (single 0)) (carries 16 s.a s.a 0) (laws.flags 256 s.a 0 0 (flag_by flag.TwiceHalfCarry) (Values xs) (single 0) (single 0) h none none))
+    (flag_bit (known_flag flag.TwiceCarry (Values xs) (single 0) (single 0)) (carries 256 s.a s.a 0) (laws.bits.flags 256 s.a 0 0 (flag_by flag.TwiceCarry) (Values xs) (single 0) (single 0) h none none))
+    (flag_bit (known_flag flag.TwiceHalfCarry (Values xs) (single 0) (single 0)) (carries 16 s.a s.a 0) (laws.bits.flags 256 s.a 0 0 (flag_by flag.TwiceHalfCarry) (Values xs) (single 0) (single 0) h none none))
     (flag_bit (known_flag flag.TwiceOverflow (Values xs) (single 0) (single 0)) (differ (carries 256 s.a s.a 0) (carries 128 s.a s.a 0))
-    (laws.flags 256 s.a 0 0 (flag_by flag.TwiceOverflow) (Values xs) (single 0) (single 0) h none none))
+    (laws.bits.flags 256 s.a 0 0 (flag_by flag.TwiceOverflow) (Values xs) (single 0) (single 0) h none none))
 twice_psw laws first (Run p) psw s h holds =
     flagged_holds first psw s.psw (bit_of (carries 256 s.a s.a 0)) (bit_of (carries 16 s.a s.a 0)) (bit_of (differ (carries 256 s.a s.a 0) (carries 128 s.a s.a 0))) Either Either Either holds
     (flag_bit Either (carries 256 s.a s.a 0) tt) (flag_bit Either (carries 16 s.a s.a 0) tt) (flag_bit Either (differ (carries 256 s.a s.a 0) (carries 128 s.a s.a 0)) tt)
 
-pub twice_holds : (laws : Premises) (framed : Bool) (first : Option Suspended) (made : Made) (s : ChipState) → StandsMade framed first made s → HoldsOfMade first (twice_made made.a made.psw) (accumulated Add s.a s)
+pub twice_holds : (laws : KnownLaws) (framed : Bool) (first : Option Suspended) (made : Made) (s : ChipState) → StandsMade framed first made s → HoldsOfMade first (twice_made made.a made.psw) (accumulated Add s.a s)
 twice_holds laws framed first made s stands = record {
-  a = (subst (Has 256 (twice 256 made.a.set)) (no_carry s.a s.a) (laws.twice 256 s.a made.a.set stands.form.a.normal stands.holds.a.0), tt);
+  a = (subst (Has 256 (twice 256 made.a.set)) (no_carry s.a s.a) (laws.sets.twice 256 s.a made.a.set stands.form.a.normal stands.holds.a.0), tt);
   psw = twice_psw laws first made.a.set made.psw s stands.holds.a.0 stands.holds.psw;
 }
 
@@ -196,9 +196,9 @@ twice_status : (framed : Bool) (set : Form) (psw : Status) → IsStatus framed (
 twice_status framed (Values xs) psw = record { bits = refl; entry = tt }
 twice_status framed (Run p) psw = record { bits = refl; entry = tt }
 
-pub twice_form : (laws : Premises) (framed : Bool) (made : Made) → IsMade framed made → IsMade framed (twice_made made.a made.psw)
+pub twice_form : (laws : KnownLaws) (framed : Bool) (made : Made) → IsMade framed made → IsMade framed (twice_made made.a made.psw)
 twice_form laws framed made form = record {
-  a = plain_form framed (twice 256 made.a.set) (laws.twice_normal 256 made.a.set form.a.normal);
+  a = plain_form framed (twice 256 made.a.set) (laws.sets.twice_normal 256 made.a.set form.a.normal);
   psw = twice_status framed made.a.set made.psw;
 }
 
@@ -220,18 +220,18 @@ top_bit x small = omega (arith, small)
 other_bits : (x : ℕ) → x < 256 → (255 + 256 - x) % 256 ≡ 255 - x
 other_bits x small = omega (arith, small)
 
-changed_is : (laws : Premises) (done : AccumulatorOperation) (a : Form) (c h : Tri) (x carry half : ℕ) → IsResult 256 a x → IsBit c carry → IsBit h half
+changed_is : (laws : KnownLaws) (done : AccumulatorOperation) (a : Form) (c h : Tri) (x carry half : ℕ) → IsResult 256 a x → IsBit c carry → IsBit h half
     → IsResult 256 (changed_set done a c h) (number_after done x carry half)
-changed_is laws Rr a c h x carry half is first second = record { normal = laws.shift_normal 7 a Low is.normal; has = laws.shift 7 x (x % 2) a Low is.normal is.has (sym (bit_at_lowest x)) }
-changed_is laws Rrc a c h x carry half is first second = record { normal = laws.shift_normal 7 a (Put c) is.normal; has = laws.shift 7 x carry a (Put c) is.normal is.has first }
+changed_is laws Rr a c h x carry half is first second = record { normal = laws.bits.shift_normal 7 a Low is.normal; has = laws.bits.shift 7 x (x % 2) a Low is.normal is.has (sym (bit_at_lowest x)) }
+changed_is laws Rrc a c h x carry half is first second = record { normal = laws.bits.shift_normal 7 a (Put c) is.normal; has = laws.bits.shift 7 x carry a (Put c) is.normal is.has first }
 changed_is laws Rl a c h x carry half is first second =
-    record { normal = laws.left_normal 7 a High is.normal; has = laws.left 7 x (x / 128) a High is.normal is.has (top_bit x (laws.below 256 x a is.normal is.has)) }
-changed_is laws Rlc a c h x carry half is first second = record { normal = laws.left_normal 7 a (Given c) is.normal; has = laws.left 7 x carry a (Given c) is.normal is.has first }
-changed_is laws Swap a c h x carry half is first second = record { normal = laws.exchange_normal 4 a is.normal; has = laws.exchange 4 x a is.normal is.has }
-changed_is laws Da a c h x carry half is first second = record { normal = laws.adjust_normal a c h is.normal; has = laws.adjust x carry half a c h is.normal is.has first second }
+    record { normal = laws.bits.left_normal 7 a High is.normal; has = laws.bits.left 7 x (x / 128) a High is.normal is.has (top_bit x (laws.sets.below 256 x a is.normal is.has)) }
+changed_is laws Rlc a c h x carry half is first second = record { normal = laws.bits.left_normal 7 a (Given c) is.normal; has = laws.bits.left 7 x carry a (Given c) is.normal is.has first }
+changed_is laws Swap a c h x carry half is first second = record { normal = laws.bits.exchange_normal 4 a is.normal; has = laws.bits.exchange 4 x a is.normal is.has }
+changed_is laws Da a c h x carry half is first second = record { normal = laws.bits.adjust_normal a c h is.normal; has = laws.bits.adjust x carry half a c h is.normal is.has first second }
 changed_is laws Clr a c h x carry half is first second = zero_is laws
 changed_is laws Cpl a c h x carry half is first second =
-    subst (IsResult 256 (sub 256 (single 255) a)) (other_bits x (laws.below 256 x a is.normal is.has)) (sub_is laws 256 255 x (single 255) a (single_is laws 256 255 (omega arith)) is)
+    subst (IsResult 256 (sub 256 (single 255) a)) (other_bits x (laws.sets.below 256 x a is.normal is.has)) (sub_is laws 256 255 x (single 255) a (single_is laws 256 255 (omega arith)) is)
 
 changed_a : (done : AccumulatorOperation) (s : ChipState) → number_after done s.a (carry_of s) (half_carry_of s) ≡ (changed done s).a
 changed_a Rr s = refl
@@ -249,7 +249,7 @@ low_bit x = omega arith
 high_bit : (x : ℕ) → x < 256 → x / 128 < 2
 high_bit x small = omega (arith, small)
 
-changed_psw : (laws : Premises) (first : Option Suspended) (done : AccumulatorOperation) (a : Form) (psw : Status) (s : ChipState) → IsResult 256 a s.a → HoldsOfStatus first psw s.psw
+changed_psw : (laws : KnownLaws) (first : Option Suspended) (done : AccumulatorOperation) (a : Form) (psw : Status) (s : ChipState) → IsResult 256 a s.a → HoldsOfStatus first psw s.psw
     → HoldsOfStatus first (changed_flags done a psw) (changed done s).psw
 changed_psw laws first Rr a psw s is holds = holds
 changed_psw laws first Rl a psw s is holds = holds
@@ -259,12 +259,12 @@ changed_psw laws first Cpl a psw s is holds = holds
 changed_psw laws first Rrc a psw s is holds =
     let none = (zero_is laws).has in
     let t = known_flag flag.LowestBit a (single 0) (single 0) in
-    carried_holds first psw s.psw (s.a % 2) t holds (equal_bit t (s.a % 2) (low_bit s.a) (laws.flags 256 s.a 0 0 (flag_by flag.LowestBit) a (single 0) (single 0) is.has none none))
+    carried_holds first psw s.psw (s.a % 2) t holds (equal_bit t (s.a % 2) (low_bit s.a) (laws.bits.flags 256 s.a 0 0 (flag_by flag.LowestBit) a (single 0) (single 0) is.has none none))
 changed_psw laws first Rlc a psw s is holds =
     let none = (zero_is laws).has in
     let t = known_flag flag.HighestBit a (single 0) (single 0) in
     carried_holds first psw s.psw (s.a / 128) t holds
-    (equal_bit t (s.a / 128) (high_bit s.a (laws.below 256 s.a a is.normal is.has)) (laws.flags 256 s.a 0 0 (flag_by flag.HighestBit) a (single 0) (single 0) is.has none none))
+    (equal_bit t (s.a / 128) (high_bit s.a (laws.sets.below 256 s.a a is.normal is.has)) (laws.bits.flags 256 s.a 0 0 (flag_by flag.HighestBit) a (single 0) (single 0) is.has none none))
 changed_psw laws first Da a psw s is holds =
     let c = carry_in psw in
     let h = half_carry_in psw in
@@ -272,9 +272,9 @@ changed_psw laws first Da a psw s is holds =
     let carry = chosen_is laws (carry_of s) c (carry_bit first psw s.psw holds) in
     let half = chosen_is laws (half_carry_of s) h (half_carry_bit first psw s.psw holds) in
     carried_holds first psw s.psw (bit_of (adjusted_carry s.a (carry_of s) (half_carry_of s))) t holds
-    (flag_bit t (adjusted_carry s.a (carry_of s) (half_carry_of s)) (laws.flags 256 s.a (carry_of s) (half_carry_of s) (flag_by flag.Adjusted) a (chosen c) (chosen h) is.has carry.has half.has))
+    (flag_bit t (adjusted_carry s.a (carry_of s) (half_carry_of s)) (laws.bits.flags 256 s.a (carry_of s) (half_carry_of s) (flag_by flag.Adjusted) a (chosen c) (chosen h) is.has carry.has half.has))
 
-pub changed_holds : (laws : Premises) (framed : Bool) (first : Option Suspended) (done : AccumulatorOperation) (made : Made) (s : ChipState) → StandsMade framed first made s
+pub changed_holds : (laws : KnownLaws) (framed : Bool) (first : Option Suspended) (done : AccumulatorOperation) (made : Made) (s : ChipState) → StandsMade framed first made s
     → HoldsOfMade first (changed_made done made.a made.psw) (changed done s)
 changed_holds laws framed first done made s stands =
     let a = byte_is framed first made.a s.a stands.form.a stands.holds.a in
@@ -294,7 +294,7 @@ changed_status framed Rrc a psw form = record { bits = refl; entry = tt }
 changed_status framed Rlc a psw form = record { bits = refl; entry = tt }
 changed_status framed Da a psw form = record { bits = refl; entry = tt }
 
-pub changed_form : (laws : Premises) (framed : Bool) (done : AccumulatorOperation) (made : Made) → IsMade framed made → IsMade framed (changed_made done made.a made.psw)
+pub changed_form : (laws : KnownLaws) (framed : Bool) (done : AccumulatorOperation) (made : Made) → IsMade framed made → IsMade framed (changed_made done made.a made.psw)
 changed_form laws framed done made form =
     let (x, a) = member laws 256 made.a.set form.a.normal in
     let (c, carry) = bit_value (carry_in made.psw) in

@@ -11,6 +11,7 @@ use Rattle.std.proofs.lemmas.Nat.Bits.{and_pow, bit_at-suc}
 use Rattle.entry_value.specs.declared.byte.Byte.{Byte}
 use Rattle.entry_value.specs.declared.word.Entry.{Entry}
 use Rattle.entry_value.specs.Words.{Suspended, IsFromEntry, HoldsOfByte}
+use Rattle.irq_frames.specs.KnownLaws.{KnownLaws}
 use Rattle.value_set.specs.declared.form.Form.{Form}
 use Rattle.value_set.specs.Form.{Has, IsNormal}
 use Rattle.value_set.specs.Summing.{single}
@@ -35,7 +36,6 @@ use Rattle.mcs51_state.specs.Holding.{HoldsOfStatus}
 use Rattle.mcs51_state.specs.Places.{suspended_of}
 use Rattle.mcs51_results.specs.BitRules.{after_below, bit_put, bit_stays}
 use Rattle.mcs51_results.specs.Holding.{IsResult, IsStatus}
-use Rattle.mcs51_results.specs.Premises.{Premises}
 use Rattle.mcs51_results.specs.Results.{carry_in}
 use Rattle.mcs51_results.specs.StatusBytes.{all_bits, upper, bit_of_set, bit_of_status, carry_changed, carry_joined, carry_made, carry_bit_made, bit_made, bit_entry, bit_answer, bit_carries, bits_made, byte_with_bit, status_with_bit}
 use Rattle.mcs51_results.proofs.SetLemmas.{combined, zero_is, chosen_is, bit_below, bit_value, member}
@@ -152,12 +152,12 @@ sets x n =
 
 -- RELATIONS
 
-pub bit_entry_holds : (laws : Premises) (first : Option Suspended) (done : BitOperation) (n : ℕ) (entry : Option Entry) (x c b : ℕ) → n < 8 → x < 256 → IsFromEntry first entry x
+pub bit_entry_holds : (laws : KnownLaws) (first : Option Suspended) (done : BitOperation) (n : ℕ) (entry : Option Entry) (x c b : ℕ) → n < 8 → x < 256 → IsFromEntry first entry x
     → IsFromEntry first (bit_entry done n entry) (with_bit x n (bit_after done c b))
 bit_entry_holds laws first bit.MovCarry n entry x c b lt small holds = tt
 bit_entry_holds laws first bit.Cpl n entry x c b lt small holds = tt
-bit_entry_holds laws first bit.Clr n entry x c b lt small holds = subst (IsFromEntry first (bit_entry bit.Clr n entry)) (clears x n small lt) (laws.masked_and first entry x (255 - 2 ^ n) holds)
-bit_entry_holds laws first bit.Setb n entry x c b lt small holds = subst (IsFromEntry first (bit_entry bit.Setb n entry)) (sets x n) (laws.masked_or first entry x (2 ^ n) holds)
+bit_entry_holds laws first bit.Clr n entry x c b lt small holds = subst (IsFromEntry first (bit_entry bit.Clr n entry)) (clears x n small lt) (laws.values.entries.and first entry x (255 - 2 ^ n) holds)
+bit_entry_holds laws first bit.Setb n entry x c b lt small holds = subst (IsFromEntry first (bit_entry bit.Setb n entry)) (sets x n) (laws.values.entries.or first entry x (2 ^ n) holds)
 
 pub bit_entry_form : (framed : Bool) (done : BitOperation) (n : ℕ) (entry : Option Entry) → n < 8 → IsRelation framed entry → IsRelation framed (bit_entry done n entry)
 bit_entry_form framed bit.MovCarry n entry lt form = tt
@@ -180,7 +180,7 @@ taken bit.Cpl c = 0
 taken bit.Clr c = 0
 taken bit.Setb c = 0
 
-taken_is : (laws : Premises) (done : BitOperation) (c : Tri) (x : ℕ) → IsBit c x → IsResult 256 (bit_carries done c) (taken done x)
+taken_is : (laws : KnownLaws) (done : BitOperation) (c : Tri) (x : ℕ) → IsBit c x → IsResult 256 (bit_carries done c) (taken done x)
 taken_is laws bit.MovCarry c x h = chosen_is laws x c h
 taken_is laws bit.Cpl c x h = zero_is laws
 taken_is laws bit.Clr c x h = zero_is laws
@@ -198,11 +198,11 @@ after_taken bit.Setb c b h = refl
 place_below : (at : ℕ) → at % 8 < 8
 place_below at = omega arith
 
-byte_set_is : (laws : Premises) (done : BitOperation) (at : ℕ) (t : Tri) (set : Form) (x c : ℕ) → IsResult 256 set x → IsBit t c
+byte_set_is : (laws : KnownLaws) (done : BitOperation) (at : ℕ) (t : Tri) (set : Form) (x c : ℕ) → IsResult 256 set x → IsBit t c
     → IsResult 256 (byte_with_bit done at t (record { set = set; entry = None })).set (with_bit x (at % 8) (bit_after done c (bit_at x (at % 8))))
 byte_set_is laws done at t set x c is bit =
     let n = at % 8 in
-    let agrees = laws.bits 8 x set is.normal is.has in
+    let agrees = laws.bits.known 8 x set is.normal is.has in
     let long = known_length 8 set in
     let old : IsBit (bit_of_set set n) (bit_at x n) = bit_agrees (known_bits 8 set) x n agrees in
     let new = bits_made done n t set in
@@ -210,35 +210,35 @@ byte_set_is laws done at t set x c is bit =
     let value = with_bit x n (bit_after done c (bit_at x n)) in
     let same : bit_answer done at x 0 (taken done c) ≡ value = ap (λ b. with_bit x n b) (after_taken done c (bit_at x n) (bit_below t c bit)) in
     let made : Agrees new value = set_agrees (known_bits 8 set) x n (bit_after done c (bit_at x n)) (bit_made done t (bit_of_set set n)) (omega (arith, long, place_below at)) agrees (bit_is done t (bit_of_set set n) c (bit_at x n) bit old) in
-    let rest : IsResult 256 (from_bits 8 new) value = record { normal = laws.from_normal 8 new count; has = laws.from 8 value new count made } in
+    let rest : IsResult 256 (from_bits 8 new) value = record { normal = laws.bits.from_normal 8 new count; has = laws.bits.from 8 value new count made } in
     subst (IsResult 256 (byte_with_bit done at t (record { set = set; entry = None })).set) same
     (combined laws (bit_answer done at) set (single 0) (bit_carries done t) (from_bits 8 new) x 0 (taken done c) (bit_stays done at) is (zero_is laws) (taken_is laws done t c bit)
     (subst (IsResult 256 (from_bits 8 new)) (sym same) rest))
 
-pub byte_bit_holds : (laws : Premises) (framed : Bool) (first : Option Suspended) (done : BitOperation) (at : ℕ) (t : Tri) (byte : Byte) (x c : ℕ) → IsByte framed byte → HoldsOfByte first byte x → IsBit t c
+pub byte_bit_holds : (laws : KnownLaws) (framed : Bool) (first : Option Suspended) (done : BitOperation) (at : ℕ) (t : Tri) (byte : Byte) (x c : ℕ) → IsByte framed byte → HoldsOfByte first byte x → IsBit t c
     → HoldsOfByte first (byte_with_bit done at t byte) (with_bit x (at % 8) (bit_after done c (bit_at x (at % 8))))
 byte_bit_holds laws framed first done at t byte x c form holds bit =
     let is = byte_is framed first byte x form holds in (
       (byte_set_is laws done at t byte.set x c is bit).has,
-      bit_entry_holds laws first done (at % 8) byte.entry x c (bit_at x (at % 8)) (place_below at) (laws.below 256 x byte.set is.normal is.has) holds.1,
+      bit_entry_holds laws first done (at % 8) byte.entry x c (bit_at x (at % 8)) (place_below at) (laws.sets.below 256 x byte.set is.normal is.has) holds.1,
     )
 
-pub byte_bit_form : (laws : Premises) (framed : Bool) (done : BitOperation) (at : ℕ) (t : Tri) (byte : Byte) → IsByte framed byte → IsByte framed (byte_with_bit done at t byte)
+pub byte_bit_form : (laws : KnownLaws) (framed : Bool) (done : BitOperation) (at : ℕ) (t : Tri) (byte : Byte) → IsByte framed byte → IsByte framed (byte_with_bit done at t byte)
 byte_bit_form laws framed done at t byte form =
     let (x, is) = member laws 256 byte.set form.normal in
     let (c, bit) = bit_value t in
     record { normal = (byte_set_is laws done at t byte.set x c is bit).normal; entry = bit_entry_form framed done (at % 8) byte.entry (place_below at) form.entry }
 
-pub bit_known : (laws : Premises) (at : ℕ) (set : Form) (x : ℕ) → IsNormal 256 set → Has 256 set x → IsBit (bit_of_set set (at % 8)) (bit_at x (at % 8))
-bit_known laws at set x normal has = bit_agrees (known_bits 8 set) x (at % 8) (laws.bits 8 x set normal has)
+pub bit_known : (laws : KnownLaws) (at : ℕ) (set : Form) (x : ℕ) → IsNormal 256 set → Has 256 set x → IsBit (bit_of_set set (at % 8)) (bit_at x (at % 8))
+bit_known laws at set x normal has = bit_agrees (known_bits 8 set) x (at % 8) (laws.bits.known 8 x set normal has)
 
 -- A BIT OF PSW
 
-pub status_bit_known : (first : Option Suspended) (at : ℕ) (psw : Status) (s : ChipState) (x : ℕ) → IsChipState s → HoldsOfStatus first psw s.psw → MayReadSfr s Psw x
-    → IsBit (bit_of_status psw (at % 8)) (bit_at x (at % 8))
+pub status_bit_known : (first : Option Suspended) (at : ℕ) (psw : Status) (s : ChipState) (x : ℕ) → IsChipState s
+    → HoldsOfStatus first psw s.psw → MayReadSfr s Psw x → IsBit (bit_of_status psw (at % 8)) (bit_at x (at % 8))
 status_bit_known first at psw s x state holds may = bit_agrees (all_bits psw) x (at % 8) (status_agrees first psw s x state holds may)
 
-pub status_bit_holds : (laws : Premises) (framed : Bool) (first : Option ChipState) (done : BitOperation) (at : ℕ) (psw : Status) (s : ChipState) (x : ℕ) → IsChipState s → IsStatus framed psw
+pub status_bit_holds : (laws : KnownLaws) (framed : Bool) (first : Option ChipState) (done : BitOperation) (at : ℕ) (psw : Status) (s : ChipState) (x : ℕ) → IsChipState s → IsStatus framed psw
     → HoldsOfStatus (option_map suspended_of first) psw s.psw → MayReadSfr s Psw x
     → HoldsOfStatus (option_map suspended_of first) (status_with_bit done at psw) (write_sfr Psw (with_bit x (at % 8) (bit_after done (carry_of s) (bit_at x (at % 8)))) s).psw
 status_bit_holds laws framed first done at psw s x state form holds may =

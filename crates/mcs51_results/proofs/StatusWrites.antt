@@ -11,8 +11,7 @@ use Rattle.std.proofs.lemmas.Nat.Bits.{and_high_mask, bit_at_and, bit_at_or, bit
 use Rattle.entry_value.specs.declared.byte.Byte.{Byte}
 use Rattle.entry_value.specs.declared.word.Entry.{Entry}
 use Rattle.entry_value.specs.Words.{IsFromEntry, HoldsOfByte, Suspended}
-use Rattle.value_set.specs.declared.form.Form.{Form}
-use Rattle.value_set.specs.Form.{Has}
+use Rattle.irq_frames.specs.KnownLaws.{KnownLaws}
 use Rattle.value_bits.specs.declared.tri.Logic.{Logic as Bitwise}
 use Rattle.value_bits.specs.declared.tri.Logic.TheVariants.{And, Or, Xor}
 use Rattle.value_bits.specs.declared.tri.Tri.{Tri}
@@ -32,7 +31,6 @@ use Rattle.mcs51_state.specs.Places.{is_place, psw_place, suspended_of}
 use Rattle.mcs51_results.specs.declared.made.Operand.{Operand}
 use Rattle.mcs51_results.specs.declared.made.Operand.TheVariants.{Constant, Among}
 use Rattle.mcs51_results.specs.Holding.{AreOperands, IsOperand, IsStatus}
-use Rattle.mcs51_results.specs.Premises.{Premises}
 use Rattle.mcs51_results.specs.Results.{bit_in, bitwise, masked_entry, set_of}
 use Rattle.mcs51_results.specs.StatusBytes.{all_bits, status_byte, own_entry, six, upper, bit_of_set, written_status, masked_status}
 use Rattle.mcs51_results.proofs.SetLemmas.{bit_below, operand_is}
@@ -61,7 +59,8 @@ upper_agree bits v small h =
 pub write_quarter : (v : ℕ) → v / 4 ≡ v / 4 * 4 / 4
 write_quarter v = omega arith
 
-read_agrees : (psw : Status) (p bit one : ℕ) → p < 256 → p % 4 ≡ 0 → bit < 2 → one < 2 → Agrees psw.bits (p / 4) → Agrees (all_bits psw) (p + 2 * bit + one)
+read_agrees : (psw : Status) (p bit one : ℕ) → p < 256 → p % 4 ≡ 0 → bit < 2 → one < 2
+    → Agrees psw.bits (p / 4) → Agrees (all_bits psw) (p + 2 * bit + one)
 read_agrees psw p bit one small held few less agrees =
     let high : p / 4 ≡ (p + 2 * bit + one) / 2 / 2 = omega (arith, held, few, less) in
     let rest = six_of (bit_in psw) (p / 4) (omega (arith, small)) (λ place. bit_agrees psw.bits (p / 4) place agrees) in
@@ -175,28 +174,32 @@ read_entry framed first psw s x state form holds (bit, few, is) =
     let sum : s.psw + (2 * bit + parity s.a) ≡ x = omega (arith, is) in
     subst (IsFromEntry (option_map suspended_of first) psw.entry) sum (relation_wider framed first psw.entry s.psw (2 * bit + parity s.a) state.psw_held (omega (arith, few, one)) form.entry holds.entry)
 
-pub status_agrees : (first : Option Suspended) (psw : Status) (s : ChipState) (x : ℕ) → IsChipState s → HoldsOfStatus first psw s.psw → MayReadSfr s Psw x → Agrees (all_bits psw) x
+-- the bits that PSW is read with
+pub status_agrees : (first : Option Suspended) (psw : Status) (s : ChipState) (x : ℕ) → IsChipState s → HoldsOfStatus first psw s.psw
+    → MayReadSfr s Psw x → Agrees (all_bits psw) x
 status_agrees first psw s x state holds (bit, few, is) =
     subst (Agrees (all_bits psw)) (sym is) (read_agrees psw s.psw bit (parity s.a) state.psw state.psw_held few (parity_below s.a) holds.bits)
 
-pub read_holds : (laws : Premises) (framed : Bool) (first : Option ChipState) (psw : Status) (s : ChipState) (x : ℕ) → IsChipState s → IsStatus framed psw → HoldsOfStatus (option_map suspended_of first) psw s.psw
-    → MayReadSfr s Psw x → HoldsOfByte (option_map suspended_of first) (status_byte psw) x
+pub read_holds : (laws : KnownLaws) (framed : Bool) (first : Option ChipState) (psw : Status) (s : ChipState) (x : ℕ) → IsChipState s
+    → IsStatus framed psw → HoldsOfStatus (option_map suspended_of first) psw s.psw → MayReadSfr s Psw x
+    → HoldsOfByte (option_map suspended_of first) (status_byte psw) x
 read_holds laws framed first psw s x state form holds may =
     let long : length (all_bits psw) ≡ 8 = refl in
-    (laws.from 8 x (all_bits psw) long (status_agrees (option_map suspended_of first) psw s x state holds may), read_entry framed first psw s x state form holds may)
+    let agrees = status_agrees (option_map suspended_of first) psw s x state holds may in
+    (laws.bits.from 8 x (all_bits psw) long agrees, read_entry framed first psw s x state form holds may)
 
-pub read_form : (laws : Premises) (framed : Bool) (psw : Status) → IsStatus framed psw → IsByte framed (status_byte psw)
+pub read_form : (laws : KnownLaws) (framed : Bool) (psw : Status) → IsStatus framed psw → IsByte framed (status_byte psw)
 read_form laws framed psw form =
     let long : length (all_bits psw) ≡ 8 = refl in
-    record { normal = laws.from_normal 8 (all_bits psw) long; entry = own_is framed psw.entry form.entry }
+    record { normal = laws.bits.from_normal 8 (all_bits psw) long; entry = own_is framed psw.entry form.entry }
 
 -- WRITING
 
-pub written_holds : (laws : Premises) (framed : Bool) (first : Option ChipState) (byte : Byte) (s : ChipState) (x : ℕ) → IsByte framed byte → HoldsOfByte (option_map suspended_of first) byte x
+pub written_holds : (laws : KnownLaws) (framed : Bool) (first : Option ChipState) (byte : Byte) (s : ChipState) (x : ℕ) → IsByte framed byte → HoldsOfByte (option_map suspended_of first) byte x
     → HoldsOfStatus (option_map suspended_of first) (written_status byte) (write_sfr Psw x s).psw
 written_holds laws framed first byte s x form holds =
-    let small = laws.below 256 x byte.set form.normal holds.0 in record {
-      bits = subst (Agrees (upper (known_bits 8 byte.set))) (write_quarter x) (upper_agree (known_bits 8 byte.set) x small (laws.bits 8 x byte.set form.normal holds.0));
+    let small = laws.sets.below 256 x byte.set form.normal holds.0 in record {
+      bits = subst (Agrees (upper (known_bits 8 byte.set))) (write_quarter x) (upper_agree (known_bits 8 byte.set) x small (laws.bits.known 8 x byte.set form.normal holds.0));
       entry = own_holds framed first byte.entry x form.entry holds.1;
     }
 
@@ -242,13 +245,13 @@ logic_below And x y h k = omega (arith, and_le_l x y, h)
 logic_below Or x y h k = or_lt 8 x y h k
 logic_below Xor x y h k = xor_lt 8 x y h k
 
-masked_agrees : (laws : Premises) (done : Logic) (psw : Status) (operand : Operand) (x mask : ℕ) → x < 256 → Agrees psw.bits (x / 4) → IsOperand operand mask
+masked_agrees : (laws : KnownLaws) (done : Logic) (psw : Status) (operand : Operand) (x mask : ℕ) → x < 256 → Agrees psw.bits (x / 4) → IsOperand operand mask
     → Agrees (six (λ place. tri_logic (bitwise done) (bit_in psw place) (bit_of_set (set_of operand) (2 + place)))) (masked done x mask / 4)
 masked_agrees laws done psw operand x mask small agrees is =
     let other = operand_is laws operand mask is in
     let v = logic_of (bitwise done) x mask in
-    let below : v < 256 = logic_below (bitwise done) x mask small (laws.below 256 mask (set_of operand) other.normal other.has) in
-    let bits = laws.bits 8 mask (set_of operand) other.normal other.has in
+    let below : v < 256 = logic_below (bitwise done) x mask small (laws.sets.below 256 mask (set_of operand) other.normal other.has) in
+    let bits = laws.bits.known 8 mask (set_of operand) other.normal other.has in
     subst (λ n. Agrees (six (λ place. tri_logic (bitwise done) (bit_in psw place) (bit_of_set (set_of operand) (2 + place)))) (n / 4)) (masked_logic done x mask)
     (six_of (λ place. tri_logic (bitwise done) (bit_in psw place) (bit_of_set (set_of operand) (2 + place))) (v / 4) (omega (arith, below))
     (λ p. subst (IsBit (tri_logic (bitwise done) (bit_in psw p) (bit_of_set (set_of operand) (2 + p)))) (upper_place v p)
@@ -267,7 +270,7 @@ operands_are : (operand : Operand) (x : ℕ) → IsOperand operand x → AreOper
 operands_are (Constant m) x is = is.0
 operands_are (Among set) x is = is.normal
 
-pub masked_psw_holds : (laws : Premises) (framed : Bool) (first : Option ChipState) (done : Logic) (psw : Status) (operand : Operand) (s : ChipState) (x mask : ℕ) → IsChipState s → IsStatus framed psw
+pub masked_psw_holds : (laws : KnownLaws) (framed : Bool) (first : Option ChipState) (done : Logic) (psw : Status) (operand : Operand) (s : ChipState) (x mask : ℕ) → IsChipState s → IsStatus framed psw
     → HoldsOfStatus (option_map suspended_of first) psw s.psw → MayReadSfr s Psw x → IsOperand operand mask
     → HoldsOfStatus (option_map suspended_of first) (masked_status done psw operand) (write_sfr Psw (masked done x mask) s).psw
 masked_psw_holds laws framed first done psw operand s x mask state form holds may is =

@@ -3,4 +3,3 @@ pub mod Results
 pub mod StatusBytes
 pub mod BitRules
 pub mod Holding
-pub mod Premises

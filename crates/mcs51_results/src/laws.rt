@@ -32,37 +32,9 @@ ghost use Rattle.mcs51_results.specs.declared.made.Made.{Made as AMade};
 ghost use Rattle.mcs51_results.specs.declared.made.MadePair.{MadePair as APair};
 ghost use Rattle.mcs51_results.specs.declared.made.Operand.{Operand as AnOperand};
 ghost use Rattle.mcs51_results.specs.Holding.{AreOperands, IsOperand, IsMade, IsPair, IsStatus, HoldsOfMade, HoldsOfPair, StandsMade, StandsPair};
-ghost use Rattle.mcs51_results.specs.Premises.{Premises};
 ghost use Rattle.mcs51_results.specs.Results as results;
 
-use entry_value::relations_hold;
-use value_bits::{
-    bits_hold, decimals_hold, flags_agree, halves_hold, left_shifts_hold, logic_holds, moves_hold,
-};
-use value_set::{
-    inclusion_is_tested, members_are_below, results_hold, sets_have_members, single_and_whole_sets,
-    sums_hold,
-};
-
-/// The laws of sets and relations that those below rest on.
-fn premises_hold()
-    ensures { Premises }
-{
-    members_are_below();
-    sets_have_members();
-    single_and_whole_sets();
-    inclusion_is_tested();
-    results_hold();
-    sums_hold();
-    logic_holds();
-    moves_hold();
-    left_shifts_hold();
-    decimals_hold();
-    halves_hold();
-    bits_hold();
-    flags_agree();
-    relations_hold();
-}
+use irq_frames::known_laws;
 
 /// The operations on the accumulator and PSW: where what is known holds of a state, what is known behind the operation holds
 /// of the state that the chip comes to. The form is kept.
@@ -78,7 +50,7 @@ pub fn accumulations_hold()
         → HoldsOfMade first (results.changed_made done made.a made.psw) (changed done s) }
     ensures alone_form { (framed : Bool) (done : AnAccumulatorOperation) (made : AMade) → IsMade framed made → IsMade framed (results.changed_made done made.a made.psw) }
 {
-    premises_hold();
+    known_laws();
 }
 
 /// MUL and DIV, likewise.
@@ -90,7 +62,7 @@ pub fn products_hold()
         → HoldsOfPair first (results.divided_made made.a made.b made.psw) effect.1 }
     ensures divided_form { (framed : Bool) (made : APair) → IsPair framed made → IsPair framed (results.divided_made made.a made.b made.psw) }
 {
-    premises_hold();
+    known_laws();
 }
 
 /// The operations on a byte, and INC DPTR, likewise.
@@ -111,15 +83,18 @@ pub fn changes_hold()
     ensures pointer_form { (framed : Bool) (dpl dph : AByte) → IsByte framed dpl → IsByte framed dph
         → IsByte framed (results.pointer_increased dpl dph).0 × IsByte framed (results.pointer_increased dpl dph).1 }
 {
-    premises_hold();
+    known_laws();
 }
 
 /// PSW as a byte: what is known when it is read holds of each byte that it may read as, and what is known behind a write of a
 /// byte, also of one that ORL, ANL or XRL made, holds of what the chip then holds. The form is kept.
 pub fn statuses_hold()
-    ensures read { (framed : Bool) (first : Option AState) (psw : AStatus) (s : AState) (x : ℕ) → IsChipState s → IsStatus framed psw → HoldsOfStatus (option_map suspended_of first) psw s.psw
-        → MayReadSfr s Psw x → HoldsOfByte (option_map suspended_of first) (status.status_byte psw) x }
-    ensures read_form { (framed : Bool) (psw : AStatus) → IsStatus framed psw → IsByte framed (status.status_byte psw) }
+    ensures read { (framed : Bool) (first : Option AState) (psw : AStatus) (s : AState) (x : ℕ)
+        → IsChipState s → IsStatus framed psw
+        → HoldsOfStatus (option_map suspended_of first) psw s.psw → MayReadSfr s Psw x
+        → HoldsOfByte (option_map suspended_of first) (status.status_byte psw) x }
+    ensures read_form { (framed : Bool) (psw : AStatus) → IsStatus framed psw
+        → IsByte framed (status.status_byte psw) }
     ensures written { (framed : Bool) (first : Option AState) (byte : AByte) (s : AState) (x : ℕ) → IsByte framed byte → HoldsOfByte (option_map suspended_of first) byte x
         → HoldsOfStatus (option_map suspended_of first) (status.written_status byte) (write_sfr Psw x s).psw }
     ensures written_form { (framed : Bool) (byte : AByte) → IsByte framed byte → IsStatus framed (status.written_status byte) }
@@ -128,7 +103,7 @@ pub fn statuses_hold()
         → HoldsOfStatus (option_map suspended_of first) (status.masked_status done psw operand) (write_sfr Psw (masked done x mask) s).psw }
     ensures masked_form { (framed : Bool) (done : ALogic) (psw : AStatus) (operand : AnOperand) → IsStatus framed psw → AreOperands operand → IsStatus framed (status.masked_status done psw operand) }
 {
-    premises_hold();
+    known_laws();
 }
 
 /// CY, and bits of bytes and of PSW by their addresses, likewise.
@@ -147,8 +122,9 @@ pub fn bit_changes_hold()
         → HoldsOfStatus (option_map suspended_of first) psw s.psw → MayReadSfr s Psw x
         → HoldsOfStatus (option_map suspended_of first) (status.status_with_bit done at psw) (write_sfr Psw (with_bit x (at % 8) (bit_after done (carry_of s) (bit_at x (at % 8)))) s).psw }
     ensures status_form { (framed : Bool) (done : ABitOperation) (at : ℕ) (psw : AStatus) → IsStatus framed psw → IsStatus framed (status.status_with_bit done at psw) }
-    ensures status_bit { (first : Option Suspended) (at : ℕ) (psw : AStatus) (s : AState) (x : ℕ) → IsChipState s → HoldsOfStatus first psw s.psw → MayReadSfr s Psw x
+    ensures status_bit { (first : Option Suspended) (at : ℕ) (psw : AStatus) (s : AState) (x : ℕ)
+        → IsChipState s → HoldsOfStatus first psw s.psw → MayReadSfr s Psw x
         → IsBit (status.bit_of_status psw (at % 8)) (bit_at x (at % 8)) }
 {
-    premises_hold();
+    known_laws();
 }

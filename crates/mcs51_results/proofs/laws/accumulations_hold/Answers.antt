@@ -3,7 +3,7 @@ use Rattle.mcs51_results.proofs.laws.accumulations_hold.Goals as goal
 
 pub returns : goal.returns
 returns c =
-    let laws = c.premises_hold.ensures in
+    let laws = c.known_laws.ensures in
     record {
       two = accumulated_holds laws;
       two_form = accumulated_form laws;

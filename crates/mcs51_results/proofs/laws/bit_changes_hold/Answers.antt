@@ -6,7 +6,7 @@ use Rattle.mcs51_results.proofs.laws.bit_changes_hold.Goals as goal
 
 pub returns : goal.returns
 returns c =
-    let laws = c.premises_hold.ensures in
+    let laws = c.known_laws.ensures in
     record {
       carry = carry_holds;
       carry_form = λ framed done psw. carried_form framed (carry_changed done (carry_in psw)) psw;

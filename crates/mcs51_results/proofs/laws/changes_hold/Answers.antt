@@ -4,7 +4,7 @@ use Rattle.mcs51_results.proofs.laws.changes_hold.Goals as goal
 
 pub returns : goal.returns
 returns c =
-    let laws = c.premises_hold.ensures in
+    let laws = c.known_laws.ensures in
     record {
       masked = masked_holds laws;
       masked_form = masked_form laws;

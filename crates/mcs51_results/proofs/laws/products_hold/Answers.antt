@@ -3,7 +3,7 @@ use Rattle.mcs51_results.proofs.laws.products_hold.Goals as goal
 
 pub returns : goal.returns
 returns c =
-    let laws = c.premises_hold.ensures in
+    let laws = c.known_laws.ensures in
     record {
       multiplied = multiplied_holds laws;
       multiplied_form = multiplied_form laws;

@@ -3,7 +3,7 @@ use Rattle.mcs51_results.proofs.laws.statuses_hold.Goals as goal
 
 pub returns : goal.returns
 returns c =
-    let laws = c.premises_hold.ensures in
+    let laws = c.known_laws.ensures in
     record {
       read = read_holds laws;
       read_form = read_form laws;
