@@ -1,14 +1,17 @@
 //! Cuts against rows worked by hand.
 
 use abs_memory::CellList;
-use entry_value::Cells;
-use mcs51_branch::{Operand, cut_by_comparison, cut_by_condition, lowered};
-use mcs51_decode::Condition;
-use mcs51_state::{CarryFact, Compared, State};
+use entry_value::{Byte, Cells};
+use mcs51_branch::{Operand, cut_by_bit, cut_by_comparison, cut_by_condition, lowered};
+use mcs51_chip::Address;
+use mcs51_decode::{Condition, Memory};
+use mcs51_moves::move_to_direct;
+use mcs51_state::{Addresses, CarryFact, Compared, State};
+use mcs51_stores::write_byte;
 use std::alloc::Global;
 use std::test::Fail;
 use value_bits::{Tri, w16};
-use value_set::Vs8;
+use value_set::{Vs8, Vs16};
 
 /// The jump behind `CJNE A,#4`, with A from 0 to FFh.
 fn jump(alloc: Global, condition: Condition, taken: bool) -> Result<Option<Vs8>, Fail> {
@@ -60,5 +63,42 @@ fn rows_of_cuts(rt: HostRuntime) -> Result<(), Fail> {
     assert_eq!(rt; lowered(&Vs8::one(0), true), Some(Vs8::one(255)));
     assert_eq!(rt; lowered(&Vs8::one(1), false), Some(Vs8::one(0)));
     assert_eq!(rt; lowered(&Vs8::one(1), true), None);
+    Ok(())
+}
+
+/// The state in which the byte 20h of RAM is one of a set.
+fn with_byte(alloc: Global, set: Option<Vs8>) -> Result<State<CellList>, Fail> {
+    let mut state: State<CellList> = State::first(alloc)?;
+    let byte = Byte {
+        set: set.unwrap_or(Vs8::any()),
+        entry: None,
+    };
+    let at = Addresses::InRam(Vs8::one(0x20));
+    write_byte(false, &mut state, &at, &byte)?;
+    Ok(state)
+}
+
+#[test]
+fn bit_of_a_run(rt: HostRuntime) -> Result<(), Fail> {
+    let at = Address::InRam(0x20);
+    let mut state = with_byte(rt.alloc(), Vs8::run(0, 6, 0x2B))?;
+    let word = Vs16::run(0, 6, 0x2B);
+    assert_eq!(rt; Some(state.cells.read(0x20, 1).set), word);
+    assert_eq!(rt; cut_by_bit(&mut state, at, 0, true)?, false);
+    assert_eq!(rt; cut_by_bit(&mut state, at, 1, false)?, true);
+    assert_eq!(rt; Some(state.cells.read(0x20, 1).set), word);
+    move_to_direct(false, &mut state, 0x81, Memory::Direct(0x20))?;
+    assert_eq!(rt; Some(state.sp), Vs8::run(6, 2, 0x7E));
+    Ok(())
+}
+
+#[test]
+fn bit_of_a_list(rt: HostRuntime) -> Result<(), Fail> {
+    let at = Address::InRam(0x20);
+    let mut state = with_byte(rt.alloc(), Vs8::gather(&[0, 1, 2, 6]))?;
+    assert_eq!(rt; cut_by_bit(&mut state, at, 3, true)?, false);
+    assert_eq!(rt; cut_by_bit(&mut state, at, 1, true)?, true);
+    let left = w16::low(&state.cells.read(0x20, 1).set);
+    assert_eq!(rt; Some(left), Vs8::gather(&[2, 6]));
     Ok(())
 }

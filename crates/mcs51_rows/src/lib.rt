@@ -4,6 +4,8 @@
 #[cfg(test)]
 mod accumulator;
 #[cfg(test)]
+mod bits;
+#[cfg(test)]
 mod branches;
 #[cfg(test)]
 mod control;
@@ -11,6 +13,10 @@ mod control;
 mod entries;
 #[cfg(test)]
 mod joins;
+#[cfg(test)]
+mod memories;
+#[cfg(test)]
+mod moves;
 #[cfg(test)]
 mod operands;
 #[cfg(test)]
