@@ -1,5 +1,5 @@
 -- What is known where CY was seen, and where it is written.
-use Rattle.std.proofs.Common.{◌≡◌, ℕ, ◌<◌, ◌==◌, Bool, true, false, Option, None, Some, List, refl, sym, ap, ◌∙◌, arith}
+use Rattle.std.proofs.Common.{◌≡◌, ℕ, ◌%◌, ◌<◌, ◌==◌, Bool, true, false, Option, None, Some, List, refl, sym, ap, ◌∙◌, arith}
 use Rattle.std.specs.Prelude.{nat_lt}
 use Rattle.value_bits.specs.declared.tri.Tri.{Tri}
 use Rattle.value_bits.specs.Bits.{IsBit}
@@ -11,7 +11,7 @@ use Rattle.mcs51_state.specs.declared.fact.LinearFact.{LinearFact}
 use Rattle.mcs51_state.specs.declared.fact.Compared.{Compared}
 use Rattle.mcs51_state.specs.declared.fact.Compared.TheVariants.{Accumulator, Ram}
 use Rattle.mcs51_state.specs.Forms.{IsCarry, IsKnown, IsOwnRelation}
-use Rattle.mcs51_state.specs.Holding.{HoldsOf, HoldsOfCarry, HoldsOfLinear, KeepsUntouched, compared_in}
+use Rattle.mcs51_state.specs.Holding.{HoldsOf, HoldsOfCarry, HoldsOfLinear, HoldsOfParts, KeepsUntouched, compared_in}
 use Rattle.mcs51_state.specs.Known.{Known}
 use Rattle.mcs51_state.specs.Places.{psw_place}
 use Rattle.mcs51_state.specs.Under.{IsUnder}
@@ -29,26 +29,9 @@ carry_below s = omega arith
 
 seen_form : (framed : Bool) (carry : Bool) (known : Known) → IsKnown framed known → IsKnown framed (with_seen_carry carry known)
 unfolding with_seen_carry
-seen_form framed carry known form = record {
-  sp = form.sp;
-  a = form.a;
-  b = form.b;
-  dpl = form.dpl;
-  dph = form.dph;
-  ie = form.ie;
-  ip = form.ip;
-  bits = put_long known.psw.bits (known_flag carry) form.bits;
-  psw = form.psw;
-  levels = form.levels;
-  linear_fact = form.linear_fact;
-  carry_fact = form.carry_fact;
-  from = form.from;
-  up_to = form.up_to;
-  cells = form.cells;
-  each_cell = form.each_cell;
-  touched = form.touched;
-  none_touched = form.none_touched;
-}
+seen_form framed carry known form =
+    let bits = put_long known.psw.bits (known_flag carry) form.bits in
+    assumption (form, bits)
 
 pub seen_carry_form : (framed : Bool) (carry : Bool) (known : Known) → IsKnown framed known → IsKnown framed (with_seen_carry carry known)
 seen_carry_form framed carry known form = seen_form framed carry known form
@@ -56,29 +39,9 @@ seen_carry_form framed carry known form = seen_form framed carry known form
 seen_holds : (known : Known) (s : ChipState) (first : Option ChipState) (framed : Bool) → IsUnder framed known s first → HoldsOf (with_seen_carry (carry_of s == 1) known) s first
 unfolding with_seen_carry
 seen_holds known s first framed under =
-    let parts = under.holds.parts in
-    record {
-      state = under.holds.state;
-      suspended = under.holds.suspended;
-      parts = record {
-        sp = parts.sp;
-        a = parts.a;
-        b = parts.b;
-        dpl = parts.dpl;
-        dph = parts.dph;
-        ie = parts.ie;
-        ip = parts.ip;
-        psw = record {
-          bits = carry_seen known.psw.bits s.psw (known_flag (carry_of s == 1)) under.form.bits parts.psw.bits (known_set (carry_of s) (carry_below s));
-          entry = parts.psw.entry;
-        };
-        levels = parts.levels;
-        linear_fact = parts.linear_fact;
-        carry_fact = parts.carry_fact;
-        cells = parts.cells;
-        untouched = parts.untouched;
-      };
-    }
+    let known_carry = known_set (carry_of s) (carry_below s) in
+    let bits = carry_seen known.psw.bits s.psw (known_flag (carry_of s == 1)) under.form.bits under.holds.parts.psw.bits known_carry in
+    assumption (under.holds, bits)
 
 pub seen_under : (framed : Bool) (known : Known) (s : ChipState) (first : Option ChipState) → IsUnder framed known s first → IsUnder framed (with_seen_carry (carry_of s == 1) known) s first
 seen_under framed known s first under = record {
@@ -91,45 +54,16 @@ seen_under framed known s first under = record {
 
 pub written_form : (framed : Bool) (carry : Tri) (fact : Option CarryFact) (known : Known) → IsCarry fact → IsKnown framed known → IsKnown framed (with_carry_written carry fact known)
 unfolding with_carry_written
-written_form framed carry fact known is form = record {
-  sp = form.sp;
-  a = form.a;
-  b = form.b;
-  dpl = form.dpl;
-  dph = form.dph;
-  ie = form.ie;
-  ip = form.ip;
-  bits = put_long known.psw.bits carry form.bits;
-  psw = no_own_relation framed psw_place 3;
-  levels = form.levels;
-  linear_fact = form.linear_fact;
-  carry_fact = is;
-  from = form.from;
-  up_to = form.up_to;
-  cells = form.cells;
-  each_cell = form.each_cell;
-  touched = form.touched;
-  none_touched = form.none_touched;
-}
+written_form framed carry fact known is form =
+    let bits = put_long known.psw.bits carry form.bits in
+    assumption (form, bits, no_own_relation framed psw_place 3, is)
 
 state_with_carry : (s : ChipState) (carry : ℕ) → carry < 2 → IsChipState s → IsChipState (with_carry carry s)
 state_with_carry s carry small is =
     let held = is.psw_held in
-    record {
-      pc = is.pc;
-      a = is.a;
-      b = is.b;
-      sp = is.sp;
-      dpl = is.dpl;
-      dph = is.dph;
-      psw = omega (arith, small);
-      psw_held = omega (arith, held);
-      ie = is.ie;
-      ie_held = is.ie_held;
-      ip = is.ip;
-      ram = is.ram;
-      bytes = is.bytes;
-    }
+    let psw : (with_carry carry s).psw < 256 = omega (arith, small) in
+    let psw_held : (with_carry carry s).psw % 4 ≡ 0 = omega (arith, held) in
+    assumption (is, psw, psw_held)
 
 linear_stays : (fact : Option LinearFact) (s : ChipState) (carry : ℕ) → HoldsOfLinear fact s → HoldsOfLinear fact (with_carry carry s)
 linear_stays None s carry holds = holds
@@ -144,29 +78,13 @@ pub written_under : (framed : Bool) (bit : Tri) (fact : Option CarryFact) (carry
 unfolding with_carry_written
 written_under framed bit fact carry known s first small is fact_is told under =
     let parts = under.holds.parts in
-    record {
-      base = under.base;
-      form = written_form framed bit fact known fact_is under.form;
-      holds = record {
-        state = state_with_carry s carry small under.holds.state;
-        suspended = under.holds.suspended;
-        parts = record {
-          sp = parts.sp;
-          a = parts.a;
-          b = parts.b;
-          dpl = parts.dpl;
-          dph = parts.dph;
-          ie = parts.ie;
-          ip = parts.ip;
-          psw = record { bits = carry_put known.psw.bits s.psw carry bit under.form.bits parts.psw.bits small is; entry = tt };
-          levels = parts.levels;
-          linear_fact = linear_stays known.linear_fact s carry parts.linear_fact;
-          carry_fact = told;
-          cells = parts.cells;
-          untouched = untouched_stays known.touched s first carry parts.untouched;
-        };
-      };
-    }
+    let form = written_form framed bit fact known fact_is under.form in
+    let state = state_with_carry s carry small under.holds.state in
+    let bits = carry_put known.psw.bits s.psw carry bit under.form.bits parts.psw.bits small is in
+    let linear = linear_stays known.linear_fact s carry parts.linear_fact in
+    let untouched = untouched_stays known.touched s first carry parts.untouched in
+    let held : HoldsOfParts (with_carry_written bit fact known) (with_carry carry s) first = assumption (parts, bits, linear, told, untouched) in
+    record { base = under.base; form = form; holds = assumption (under.holds, state, held) }
 
 -- WHAT IT SAYS OF A BYTE
 

@@ -1,5 +1,5 @@
--- The form of cells, where one is read and where one is written.
-use Rattle.std.proofs.Common.{◌≡◌, ℕ, ◌+◌, ◌-◌, ◌%◌, ◌<◌, ◌==◌, Bool, true, false, None, Some, List, [], ◌∷◌, refl, subst, arith}
+-- Cells of one byte, in all 256 bytes of RAM: where one is read and where one is written.
+use Rattle.std.proofs.Common.{◌≡◌, ℕ, ◌+◌, ◌-◌, ◌%◌, ◌<◌, ◌≤◌, ◌==◌, Bool, true, false, Option, None, Some, List, [], ◌∷◌, refl, sym, subst, inl, arith}
 use Rattle.std.specs.Prelude.{◌&&◌, ◌||◌, nat_lt, not, All}
 use Rattle.std.specs.List.{filter}
 use Rattle.std.proofs.lemmas.Bool.{cond_both}
@@ -7,10 +7,21 @@ use Rattle.std.proofs.lemmas.Bool.Decides.{nat_tests}
 use Rattle.std.proofs.lemmas.List.Elements.{All-cons, All-filter, All-head, All-tail}
 use Rattle.entry_value.specs.declared.cells.Cell.{Cell}
 use Rattle.entry_value.specs.declared.word.Word.{Word}
-use Rattle.entry_value.specs.Cells.{CellMap, cell_at, found_or, insert, is_nothing, meets, put_together, read, write_one, written}
+use Rattle.entry_value.specs.Cells.{AreCells, CellMap, StandsUnder, cell_at, found_or, insert, is_nothing, meets, put_together, read, write_one, written}
+use Rattle.entry_value.specs.Laws.{CellLaws}
+use Rattle.entry_value.specs.Words.{HoldsOfWord, Suspended}
+use Rattle.value_set.specs.Form.{IsNormal}
+use Rattle.value_set.specs.Laws.{IsBelow}
 use Rattle.mcs51_state.specs.Forms.{IsChipCell, IsRelation}
 
 -- READING
+
+pub cell_read : (laws : CellLaws) (first : Option Suspended) (ram : ℕ → ℕ) (at : ℕ) (cells : List Cell) → AreCells 0 255 0 cells → at < 65536
+    → StandsUnder first cells ram → HoldsOfWord first (read cells at 1) (ram at)
+cell_read laws first ram at cells are below stands = laws.reads first ram 0 255 0 at 1 cells are below (inl refl) stands
+
+pub cell_normal : (laws : CellLaws) (at : ℕ) (cells : List Cell) → AreCells 0 255 0 cells → IsNormal 65536 (read cells at 1).set
+cell_normal laws at cells are = laws.read_normal 0 255 0 at 1 cells are
 
 pub no_relation : (framed : Bool) → IsRelation framed None
 no_relation true = tt
@@ -46,6 +57,27 @@ write_each P map at size word is each =
     let rest : All P left = All-filter test P map.cells each in
     cond_both (nat_lt at map.lo || nat_lt map.hi (at + size - 1) || is_nothing size word) left (insert cell left) (All P)
     (λ e. rest) (λ e. insert_each P cell left is rest)
+
+-- a byte that is written
+in_range : (map : CellMap) → map.lo ≡ 0 → map.hi ≡ 255 → AreCells 0 255 0 map.cells → AreCells map.lo map.hi 0 map.cells
+in_range map from up_to are =
+    subst (λ lo. AreCells lo map.hi 0 map.cells) (sym from) (subst (λ hi. AreCells 0 hi 0 map.cells) (sym up_to) are)
+
+pub cell_put : (laws : CellLaws) (first : Option Suspended) (ram : ℕ → ℕ) (at v : ℕ) (map : CellMap) (word : Word)
+    → map.lo ≡ 0 → map.hi ≡ 255 → AreCells 0 255 0 map.cells → at < 65536 → IsNormal 65536 word.set → IsBelow 65536 256 word.set
+    → StandsUnder first map.cells ram → HoldsOfWord first word v → StandsUnder first (write_one map at 1 word).cells (written ram at 1 v)
+cell_put laws first ram at v map word from up_to are below normal bytes stands holds =
+    laws.write first ram 0 at 1 v map word (omega (arith, up_to)) (in_range map from up_to are) below (inl refl) normal (λ e. bytes) stands holds
+
+pub cell_put_form : (laws : CellLaws) (at : ℕ) (map : CellMap) (word : Word) → map.lo ≡ 0 → map.hi ≡ 255 → AreCells 0 255 0 map.cells
+    → IsNormal 65536 word.set → IsBelow 65536 256 word.set → AreCells 0 255 0 (write_one map at 1 word).cells
+cell_put_form laws at map word from up_to are normal bytes =
+    let put = laws.write_form 0 at 1 map word (omega (arith, up_to)) (omega arith) (in_range map from up_to are) (inl refl) normal (λ e. bytes) in
+    subst (λ lo. AreCells lo 255 0 (write_one map at 1 word).cells) from (subst (λ hi. AreCells map.lo hi 0 (write_one map at 1 word).cells) up_to put)
+
+pub cells_alike : (laws : CellLaws) (first : Option Suspended) (one other : ℕ → ℕ) (cells : List Cell) → AreCells 0 255 0 cells
+    → ((at : ℕ) → other at < 256) → ((at : ℕ) → 0 ≤ at → at ≤ 255 → one at ≡ other at) → StandsUnder first cells one → StandsUnder first cells other
+cells_alike laws first one other cells are bytes same stands = laws.agree first one other 0 255 0 cells (omega arith) are bytes same stands
 
 -- a byte that is written as it was
 pub written_same : (ram : ℕ → ℕ) (at : ℕ) → ram at < 256 → (address : ℕ) → written ram at 1 (ram at) address ≡ ram address

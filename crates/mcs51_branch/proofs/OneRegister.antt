@@ -13,227 +13,39 @@ use Rattle.mcs51_state.specs.Known.{Known}
 use Rattle.mcs51_state.specs.Places.{ie_place, ip_place, suspended_of}
 
 pub a_form : (framed : Bool) (known : Known) (byte : Byte) → IsByte framed byte → IsKnown framed known → IsKnown framed (record known { a = byte })
-a_form framed known byte is form = record {
-  sp = form.sp;
-  a = is;
-  b = form.b;
-  dpl = form.dpl;
-  dph = form.dph;
-  ie = form.ie;
-  ip = form.ip;
-  bits = form.bits;
-  psw = form.psw;
-  levels = form.levels;
-  linear_fact = form.linear_fact;
-  carry_fact = form.carry_fact;
-  from = form.from;
-  up_to = form.up_to;
-  cells = form.cells;
-  each_cell = form.each_cell;
-  touched = form.touched;
-  none_touched = form.none_touched;
-}
+a_form framed known byte is form = assumption (form, is)
 
-pub a_holds : (known : Known) (byte : Byte) (s : ChipState) (first : Option ChipState) → HoldsOfByte (option_map suspended_of first) byte s.a → HoldsOf known s first → HoldsOf (record known { a = byte }) s first
-a_holds known byte s first is holds =
-    let parts = holds.parts in
-    record {
-      state = holds.state;
-      suspended = holds.suspended;
-      parts = record {
-        sp = parts.sp;
-        a = is;
-        b = parts.b;
-        dpl = parts.dpl;
-        dph = parts.dph;
-        ie = parts.ie;
-        ip = parts.ip;
-        psw = parts.psw;
-        levels = parts.levels;
-        linear_fact = parts.linear_fact;
-        carry_fact = parts.carry_fact;
-        cells = parts.cells;
-        untouched = parts.untouched;
-      };
-    }
+pub a_holds : (known : Known) (byte : Byte) (s : ChipState) (first : Option ChipState) → HoldsOfByte (option_map suspended_of first) byte s.a
+    → HoldsOf known s first → HoldsOf (record known { a = byte }) s first
+a_holds known byte s first is holds = assumption (holds, is)
 
 pub b_form : (framed : Bool) (known : Known) (byte : Byte) → IsByte framed byte → IsKnown framed known → IsKnown framed (record known { b = byte })
-b_form framed known byte is form = record {
-  sp = form.sp;
-  a = form.a;
-  b = is;
-  dpl = form.dpl;
-  dph = form.dph;
-  ie = form.ie;
-  ip = form.ip;
-  bits = form.bits;
-  psw = form.psw;
-  levels = form.levels;
-  linear_fact = form.linear_fact;
-  carry_fact = form.carry_fact;
-  from = form.from;
-  up_to = form.up_to;
-  cells = form.cells;
-  each_cell = form.each_cell;
-  touched = form.touched;
-  none_touched = form.none_touched;
-}
+b_form framed known byte is form = assumption (form, is)
 
-pub b_holds : (known : Known) (byte : Byte) (s : ChipState) (first : Option ChipState) → HoldsOfByte (option_map suspended_of first) byte s.b → HoldsOf known s first → HoldsOf (record known { b = byte }) s first
-b_holds known byte s first is holds =
-    let parts = holds.parts in
-    record {
-      state = holds.state;
-      suspended = holds.suspended;
-      parts = record {
-        sp = parts.sp;
-        a = parts.a;
-        b = is;
-        dpl = parts.dpl;
-        dph = parts.dph;
-        ie = parts.ie;
-        ip = parts.ip;
-        psw = parts.psw;
-        levels = parts.levels;
-        linear_fact = parts.linear_fact;
-        carry_fact = parts.carry_fact;
-        cells = parts.cells;
-        untouched = parts.untouched;
-      };
-    }
+pub b_holds : (known : Known) (byte : Byte) (s : ChipState) (first : Option ChipState) → HoldsOfByte (option_map suspended_of first) byte s.b
+    → HoldsOf known s first → HoldsOf (record known { b = byte }) s first
+b_holds known byte s first is holds = assumption (holds, is)
 
-pub ie_form : (framed : Bool) (known : Known) (byte : Byte) → IsOwnByte framed ie_place 64 byte → IsKnown framed known → IsKnown framed (record known { ie = byte })
-ie_form framed known byte is form = record {
-  sp = form.sp;
-  a = form.a;
-  b = form.b;
-  dpl = form.dpl;
-  dph = form.dph;
-  ie = is;
-  ip = form.ip;
-  bits = form.bits;
-  psw = form.psw;
-  levels = form.levels;
-  linear_fact = form.linear_fact;
-  carry_fact = form.carry_fact;
-  from = form.from;
-  up_to = form.up_to;
-  cells = form.cells;
-  each_cell = form.each_cell;
-  touched = form.touched;
-  none_touched = form.none_touched;
-}
+pub ie_form : (framed : Bool) (known : Known) (byte : Byte) → IsOwnByte framed ie_place 64 byte → IsKnown framed known
+    → IsKnown framed (record known { ie = byte })
+ie_form framed known byte is form = assumption (form, is)
 
-pub ie_holds : (known : Known) (byte : Byte) (s : ChipState) (first : Option ChipState) → HoldsOfReads (option_map suspended_of first) byte s Ie → HoldsOf known s first → HoldsOf (record known { ie = byte }) s first
-ie_holds known byte s first is holds =
-    let parts = holds.parts in
-    record {
-      state = holds.state;
-      suspended = holds.suspended;
-      parts = record {
-        sp = parts.sp;
-        a = parts.a;
-        b = parts.b;
-        dpl = parts.dpl;
-        dph = parts.dph;
-        ie = is;
-        ip = parts.ip;
-        psw = parts.psw;
-        levels = parts.levels;
-        linear_fact = parts.linear_fact;
-        carry_fact = parts.carry_fact;
-        cells = parts.cells;
-        untouched = parts.untouched;
-      };
-    }
+pub ie_holds : (known : Known) (byte : Byte) (s : ChipState) (first : Option ChipState) → HoldsOfReads (option_map suspended_of first) byte s Ie
+    → HoldsOf known s first → HoldsOf (record known { ie = byte }) s first
+ie_holds known byte s first is holds = assumption (holds, is)
 
-pub ip_form : (framed : Bool) (known : Known) (byte : Byte) → IsOwnByte framed ip_place 192 byte → IsKnown framed known → IsKnown framed (record known { ip = byte })
-ip_form framed known byte is form = record {
-  sp = form.sp;
-  a = form.a;
-  b = form.b;
-  dpl = form.dpl;
-  dph = form.dph;
-  ie = form.ie;
-  ip = is;
-  bits = form.bits;
-  psw = form.psw;
-  levels = form.levels;
-  linear_fact = form.linear_fact;
-  carry_fact = form.carry_fact;
-  from = form.from;
-  up_to = form.up_to;
-  cells = form.cells;
-  each_cell = form.each_cell;
-  touched = form.touched;
-  none_touched = form.none_touched;
-}
+pub ip_form : (framed : Bool) (known : Known) (byte : Byte) → IsOwnByte framed ip_place 192 byte → IsKnown framed known
+    → IsKnown framed (record known { ip = byte })
+ip_form framed known byte is form = assumption (form, is)
 
-pub ip_holds : (known : Known) (byte : Byte) (s : ChipState) (first : Option ChipState) → HoldsOfReads (option_map suspended_of first) byte s Ip → HoldsOf known s first → HoldsOf (record known { ip = byte }) s first
-ip_holds known byte s first is holds =
-    let parts = holds.parts in
-    record {
-      state = holds.state;
-      suspended = holds.suspended;
-      parts = record {
-        sp = parts.sp;
-        a = parts.a;
-        b = parts.b;
-        dpl = parts.dpl;
-        dph = parts.dph;
-        ie = parts.ie;
-        ip = is;
-        psw = parts.psw;
-        levels = parts.levels;
-        linear_fact = parts.linear_fact;
-        carry_fact = parts.carry_fact;
-        cells = parts.cells;
-        untouched = parts.untouched;
-      };
-    }
+pub ip_holds : (known : Known) (byte : Byte) (s : ChipState) (first : Option ChipState) → HoldsOfReads (option_map suspended_of first) byte s Ip
+    → HoldsOf known s first → HoldsOf (record known { ip = byte }) s first
+ip_holds known byte s first is holds = assumption (holds, is)
 
-pub bits_form : (framed : Bool) (known : Known) (bits : List Tri) → length bits ≡ 6 → IsKnown framed known → IsKnown framed (record known { psw = record { bits = bits; entry = known.psw.entry } })
-bits_form framed known bits long form = record {
-  sp = form.sp;
-  a = form.a;
-  b = form.b;
-  dpl = form.dpl;
-  dph = form.dph;
-  ie = form.ie;
-  ip = form.ip;
-  bits = long;
-  psw = form.psw;
-  levels = form.levels;
-  linear_fact = form.linear_fact;
-  carry_fact = form.carry_fact;
-  from = form.from;
-  up_to = form.up_to;
-  cells = form.cells;
-  each_cell = form.each_cell;
-  touched = form.touched;
-  none_touched = form.none_touched;
-}
+pub bits_form : (framed : Bool) (known : Known) (bits : List Tri) → length bits ≡ 6 → IsKnown framed known
+    → IsKnown framed (record known { psw = record { bits = bits; entry = known.psw.entry } })
+bits_form framed known bits long form = assumption (form, long)
 
 pub bits_holds : (known : Known) (bits : List Tri) (s : ChipState) (first : Option ChipState) → Agrees bits (s.psw / 4) → HoldsOf known s first
     → HoldsOf (record known { psw = record { bits = bits; entry = known.psw.entry } }) s first
-bits_holds known bits s first is holds =
-    let parts = holds.parts in
-    record {
-      state = holds.state;
-      suspended = holds.suspended;
-      parts = record {
-        sp = parts.sp;
-        a = parts.a;
-        b = parts.b;
-        dpl = parts.dpl;
-        dph = parts.dph;
-        ie = parts.ie;
-        ip = parts.ip;
-        psw = record { bits = is; entry = parts.psw.entry };
-        levels = parts.levels;
-        linear_fact = parts.linear_fact;
-        carry_fact = parts.carry_fact;
-        cells = parts.cells;
-        untouched = parts.untouched;
-      };
-    }
+bits_holds known bits s first is holds = assumption (holds, is)

@@ -10,6 +10,7 @@ use Rattle.std.proofs.lemmas.List.{length-set}
 use Rattle.std.proofs.lemmas.Option.{same_Some}
 use Rattle.entry_value.specs.declared.byte.Byte.{Byte}
 use Rattle.entry_value.specs.Words.{HoldsOfByte, IsFromEntry, Suspended}
+use Rattle.irq_frames.specs.KnownLaws.{KnownLaws}
 use Rattle.value_set.specs.declared.form.Form.{Form}
 use Rattle.value_set.specs.declared.form.Form.TheVariants.{Values, Run}
 use Rattle.value_set.specs.Form.{Has, IsNormal}
@@ -29,7 +30,6 @@ use Rattle.mcs51_state.specs.Places.{ie_place, ip_place, suspended_of}
 use Rattle.mcs51_state.specs.Under.{IsUnder}
 use Rattle.mcs51_branch.specs.Cuts.{set_at}
 use Rattle.mcs51_branch.specs.Jumps.{may_be, known_flag}
-use Rattle.mcs51_branch.specs.Premises.{Premises}
 use Rattle.mcs51_branch.specs.Testing.{IsPlace, bit_tested, byte_tested, register_tested, status_tested, tested, with_left, with_seen_bit}
 use Rattle.mcs51_branch.proofs.CarryBits.{bit_there, bit_put, moved}
 use Rattle.mcs51_branch.proofs.Cutting.{mapped}
@@ -52,17 +52,17 @@ record IsLeft (place : ℕ) (bit : Bool) (byte left : Byte) : Type 0 where
 abbrev with_numbers : Byte → Form → Byte
 with_numbers byte set_so = record { set = set_so; entry = byte.entry }
 
-byte_left : (laws : Premises) (byte : Byte) (place v : ℕ) (bit : Bool) → IsNormal 256 byte.set → Has 256 byte.set v → place < 8 → bit_at v place ≡ bit_of bit → (left : Byte) × IsLeft place bit byte left
+byte_left : (laws : KnownLaws) (byte : Byte) (place v : ℕ) (bit : Bool) → IsNormal 256 byte.set → Has 256 byte.set v → place < 8 → bit_at v place ≡ bit_of bit → (left : Byte) × IsLeft place bit byte left
 unfolding byte_tested
 byte_left laws byte place v bit normal has low so =
-    let found = tested_has laws.sets byte.set place v bit normal has low so in
+    let found = tested_has laws byte.set place v bit normal has low so in
     (with_numbers byte found.0, record { is = ap (option_map (with_numbers byte)) found.1; normal = found.2; entry = refl; has = found.3 })
 
-byte_normal : (laws : Premises) (byte left : Byte) (place : ℕ) (bit : Bool) → IsNormal 256 byte.set → byte_tested place bit byte ≡ Some left → IsNormal 256 left.set × (left.entry ≡ byte.entry)
+byte_normal : (laws : KnownLaws) (byte left : Byte) (place : ℕ) (bit : Bool) → IsNormal 256 byte.set → byte_tested place bit byte ≡ Some left → IsNormal 256 left.set × (left.entry ≡ byte.entry)
 unfolding byte_tested
 byte_normal laws byte left place bit normal e =
     let (part, cut, same) = mapped (with_numbers byte) (tested place bit byte.set) left e in
-    (subst (λ (b : Byte). IsNormal 256 b.set) same (tested_normal laws.sets byte.set part place bit normal cut), ap (λ (b : Byte). b.entry) (sym same))
+    (subst (λ (b : Byte). IsNormal 256 b.set) same (tested_normal laws byte.set part place bit normal cut), ap (λ (b : Byte). b.entry) (sym same))
 
 left_holds : (first : Option Suspended) (place v : ℕ) (bit : Bool) (byte left : Byte) → IsLeft place bit byte left → bit_at v place ≡ bit_of bit → HoldsOfByte first byte v → HoldsOfByte first left v
 left_holds first place v bit byte left is so holds = (is.has v holds.0 so, subst (λ entry. IsFromEntry first entry v) (sym is.entry) holds.1)
@@ -124,25 +124,25 @@ flag_known false = refl
 -- WAYS
 
 -- a cell that is cut, or stays, stands under what is left
-left_under : (laws : Premises) (framed : Bool) (whole : Form) (at : ℕ) (known : Known) (left : Form) (s : ChipState) (first : Option ChipState)
+left_under : (laws : KnownLaws) (framed : Bool) (whole : Form) (at : ℕ) (known : Known) (left : Form) (s : ChipState) (first : Option ChipState)
     → at < 256 → IsNormal 256 left → Has 256 left (slice_index s.ram at) → IsUnder framed known s first → IsUnder framed (with_left whole at known left) s first
 left_under laws framed (Values xs) at known left s first is normal has under = with_set_under laws framed (Ram at) known left s first is normal has under
 left_under laws framed (Run p) at known left s first is normal has under = under
 
-ram_way : (laws : Premises) (framed : Bool) (known : Known) (s : ChipState) (first : Option ChipState) (at place : ℕ) (bit : Bool)
+ram_way : (laws : KnownLaws) (framed : Bool) (known : Known) (s : ChipState) (first : Option ChipState) (at place : ℕ) (bit : Bool)
     → IsUnder framed known s first → at < 256 → place < 8 → bit_at (slice_index s.ram at) place ≡ bit_of bit
     → Way framed (option_map (with_left (set_at (Ram at) known) at known) (tested place bit (set_at (Ram at) known))) s first
 ram_way laws framed known s first at place bit under is low so =
     let v = slice_index s.ram at in
     let whole = set_at (Ram at) known in
     let has = set_has laws framed (Ram at) known s first is under in
-    let found = tested_has laws.sets whole place v bit (set_normal laws framed (Ram at) known under.form) has low so in (
+    let found = tested_has laws whole place v bit (set_normal laws framed (Ram at) known under.form) has low so in (
       with_left whole at known found.0,
       ap (option_map (with_left whole at known)) found.1,
       left_under laws framed whole at known found.0 s first is found.2 (found.3 v has so) under,
     )
 
-a_way : (laws : Premises) (framed : Bool) (known : Known) (s : ChipState) (first : Option ChipState) (place : ℕ) (bit : Bool) → IsUnder framed known s first → place < 8 → bit_at s.a place ≡ bit_of bit
+a_way : (laws : KnownLaws) (framed : Bool) (known : Known) (s : ChipState) (first : Option ChipState) (place : ℕ) (bit : Bool) → IsUnder framed known s first → place < 8 → bit_at s.a place ≡ bit_of bit
     → Way framed (option_map (λ (a : Byte). record known { a = a }) (byte_tested place bit known.a)) s first
 a_way laws framed known s first place bit under low so =
     let held = under.holds.parts.a in
@@ -156,7 +156,7 @@ a_way laws framed known s first place bit under low so =
       },
     )
 
-b_way : (laws : Premises) (framed : Bool) (known : Known) (s : ChipState) (first : Option ChipState) (place : ℕ) (bit : Bool) → IsUnder framed known s first → place < 8 → bit_at s.b place ≡ bit_of bit
+b_way : (laws : KnownLaws) (framed : Bool) (known : Known) (s : ChipState) (first : Option ChipState) (place : ℕ) (bit : Bool) → IsUnder framed known s first → place < 8 → bit_at s.b place ≡ bit_of bit
     → Way framed (option_map (λ (b : Byte). record known { b = b }) (byte_tested place bit known.b)) s first
 b_way laws framed known s first place bit under low so =
     let held = under.holds.parts.b in
@@ -170,7 +170,7 @@ b_way laws framed known s first place bit under low so =
       },
     )
 
-ie_way : (laws : Premises) (framed : Bool) (known : Known) (s : ChipState) (first : Option ChipState) (place x : ℕ) (bit : Bool) → IsUnder framed known s first → place < 8 → (place ≡ 6 → ⊥) → MayReadSfr s Ie x → bit_at x place ≡ bit_of bit
+ie_way : (laws : KnownLaws) (framed : Bool) (known : Known) (s : ChipState) (first : Option ChipState) (place x : ℕ) (bit : Bool) → IsUnder framed known s first → place < 8 → (place ≡ 6 → ⊥) → MayReadSfr s Ie x → bit_at x place ≡ bit_of bit
     → Way framed (option_map (λ (ie : Byte). record known { ie = ie }) (byte_tested place bit known.ie)) s first
 ie_way laws framed known s first place x bit under low other may so =
     let held : (y : ℕ) → MayReadSfr s Ie y → bit_at y place ≡ bit_at s.ie place =
@@ -186,7 +186,7 @@ ie_way laws framed known s first place x bit under low other may so =
       },
     )
 
-ip_way : (laws : Premises) (framed : Bool) (known : Known) (s : ChipState) (first : Option ChipState) (place x : ℕ) (bit : Bool) → IsUnder framed known s first → place < 6 → MayReadSfr s Ip x → bit_at x place ≡ bit_of bit
+ip_way : (laws : KnownLaws) (framed : Bool) (known : Known) (s : ChipState) (first : Option ChipState) (place x : ℕ) (bit : Bool) → IsUnder framed known s first → place < 6 → MayReadSfr s Ip x → bit_at x place ≡ bit_of bit
     → Way framed (option_map (λ (ip : Byte). record known { ip = ip }) (byte_tested place bit known.ip)) s first
 ip_way laws framed known s first place x bit under low may so =
     let held : (y : ℕ) → MayReadSfr s Ip y → bit_at y place ≡ bit_at s.ip place =
@@ -233,7 +233,7 @@ status_way framed known s first place x bit under low (free, small, is) so =
     let held = psw_bit s.psw free (parity s.a) place under.holds.state.psw_held small odd high low in
     seen_way framed known s first place bit under high low (sym held ∙ ap (λ n. bit_at n place) (sym is) ∙ so))
 
-register_way : (laws : Premises) (framed : Bool) (known : Known) (s : ChipState) (first : Option ChipState) (sfr : Sfr) (x place : ℕ) (bit : Bool) → IsUnder framed known s first → MayReadSfr s sfr x → place < 8 → bit_at x place ≡ bit_of bit
+register_way : (laws : KnownLaws) (framed : Bool) (known : Known) (s : ChipState) (first : Option ChipState) (sfr : Sfr) (x place : ℕ) (bit : Bool) → IsUnder framed known s first → MayReadSfr s sfr x → place < 8 → bit_at x place ≡ bit_of bit
     → Way framed (register_tested sfr place bit known) s first
 unfolding register_tested
 register_way laws framed known s first Acc x place bit under may low so = a_way laws framed known s first place bit under low (ap (λ n. bit_at n place) (sym may) ∙ so)
@@ -250,7 +250,7 @@ register_way laws framed known s first Dpl x place bit under may low so = (known
 register_way laws framed known s first Dph x place bit under may low so = (known, refl, under)
 register_way laws framed known s first Other x place bit under may low so = (known, refl, under)
 
-pub bit_way : (laws : Premises) (framed : Bool) (known : Known) (s : ChipState) (first : Option ChipState) (address : Address) (x place : ℕ) (bit : Bool) → IsUnder framed known s first → IsPlace address → MayRead s address x → place < 8 → bit_at x place ≡ bit_of bit
+pub bit_way : (laws : KnownLaws) (framed : Bool) (known : Known) (s : ChipState) (first : Option ChipState) (address : Address) (x place : ℕ) (bit : Bool) → IsUnder framed known s first → IsPlace address → MayRead s address x → place < 8 → bit_at x place ≡ bit_of bit
     → (way : Known) × (bit_tested address place bit known ≡ Some way) × IsUnder framed way s first
 unfolding bit_tested
 bit_way laws framed known s first (InRam at) x place bit under is may low so = ram_way laws framed known s first at place bit under is low (ap (λ n. bit_at n place) (sym may) ∙ so)
@@ -270,7 +270,7 @@ status_form framed known way place bit form e =
     (λ may there. subst (IsKnown framed) (same_Some seen way there) (bits_form framed known (set bits (place - 2) (known_flag bit)) (length-set bits (place - 2) (known_flag bit) ∙ form.bits) form))
     (λ may there. absurd (cc))) e
 
-register_form : (laws : Premises) (framed : Bool) (known way : Known) (sfr : Sfr) (place : ℕ) (bit : Bool) → IsKnown framed known → register_tested sfr place bit known ≡ Some way → IsKnown framed way
+register_form : (laws : KnownLaws) (framed : Bool) (known way : Known) (sfr : Sfr) (place : ℕ) (bit : Bool) → IsKnown framed known → register_tested sfr place bit known ≡ Some way → IsKnown framed way
 unfolding register_tested
 register_form laws framed known way Acc place bit form e =
     let (left, cut, same) = mapped (λ (a : Byte). record known { a = a }) (byte_tested place bit known.a) way e in
@@ -300,20 +300,20 @@ register_form laws framed known way Dpl place bit form e = subst (IsKnown framed
 register_form laws framed known way Dph place bit form e = subst (IsKnown framed) (same_Some known way e) form
 register_form laws framed known way Other place bit form e = subst (IsKnown framed) (same_Some known way e) form
 
-left_form : (laws : Premises) (framed : Bool) (whole : Form) (at : ℕ) (known : Known) (left : Form)
+left_form : (laws : KnownLaws) (framed : Bool) (whole : Form) (at : ℕ) (known : Known) (left : Form)
     → at < 256 → IsNormal 256 left → IsKnown framed known → IsKnown framed (with_left whole at known left)
 left_form laws framed (Values xs) at known left is normal form = with_set_form laws framed (Ram at) known left is normal form
 left_form laws framed (Run p) at known left is normal form = form
 
-ram_form : (laws : Premises) (framed : Bool) (known way : Known) (at place : ℕ) (bit : Bool) → IsKnown framed known → at < 256
+ram_form : (laws : KnownLaws) (framed : Bool) (known way : Known) (at place : ℕ) (bit : Bool) → IsKnown framed known → at < 256
     → option_map (with_left (set_at (Ram at) known) at known) (tested place bit (set_at (Ram at) known)) ≡ Some way → IsKnown framed way
 ram_form laws framed known way at place bit form is e =
     let whole = set_at (Ram at) known in
     let (left, cut, same) = mapped (with_left whole at known) (tested place bit whole) way e in
-    let normal = tested_normal laws.sets whole left place bit (set_normal laws framed (Ram at) known form) cut in
+    let normal = tested_normal laws whole left place bit (set_normal laws framed (Ram at) known form) cut in
     subst (IsKnown framed) same (left_form laws framed whole at known left is normal form)
 
-pub bit_way_form : (laws : Premises) (framed : Bool) (known way : Known) (address : Address) (place : ℕ) (bit : Bool) → IsKnown framed known → IsPlace address → place < 8 → bit_tested address place bit known ≡ Some way → IsKnown framed way
+pub bit_way_form : (laws : KnownLaws) (framed : Bool) (known way : Known) (address : Address) (place : ℕ) (bit : Bool) → IsKnown framed known → IsPlace address → place < 8 → bit_tested address place bit known ≡ Some way → IsKnown framed way
 unfolding bit_tested
 bit_way_form laws framed known way (InRam at) place bit form is low e = ram_form laws framed known way at place bit form is e
 bit_way_form laws framed known way (InSfr at) place bit form is low e = register_form laws framed known way (sfr_at at) place bit form e

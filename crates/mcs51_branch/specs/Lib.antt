@@ -2,4 +2,3 @@ pub mod Ways
 pub mod Cuts
 pub mod Jumps
 pub mod Testing
-pub mod Premises

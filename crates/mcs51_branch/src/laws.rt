@@ -15,35 +15,9 @@ ghost use Rattle.mcs51_state.specs.Known.{Known};
 ghost use Rattle.mcs51_state.specs.Under.{IsUnder};
 ghost use Rattle.mcs51_branch.specs.declared.operand.Operand.{Operand as AnOperand};
 ghost use Rattle.mcs51_branch.specs.Jumps.{IsNumberOf, IsOperand, comparison_cut, compared_with, condition_cut, lowered_cut};
-ghost use Rattle.mcs51_branch.specs.Premises.{Premises};
 ghost use Rattle.mcs51_branch.specs.Testing.{IsPlace, bit_tested};
 
-use entry_value::{
-    bytes_stay_bytes, cells_speak_of_ram, reads_hold, reads_keep_form, writes_cover,
-    writes_keep_form,
-};
-use value_bits::{bits_hold as known_bits_hold, flags_agree, halves_hold};
-use value_set::{cuts_hold, gathers_hold, members_are_below, single_and_whole_sets, sums_hold};
-
-/// The laws of sets, of flags and of cells that those below rest on.
-fn premises_hold()
-    ensures { Premises }
-{
-    members_are_below();
-    single_and_whole_sets();
-    cuts_hold();
-    sums_hold();
-    gathers_hold();
-    halves_hold();
-    known_bits_hold();
-    flags_agree();
-    bytes_stay_bytes();
-    reads_hold();
-    reads_keep_form();
-    writes_cover();
-    writes_keep_form();
-    cells_speak_of_ram();
-}
+use irq_frames::known_laws;
 
 /// A state that stands under what is known in front of a jump stands under what is known on the way that the chip goes: by
 /// its condition, behind CJNE with the CY that it writes, and DJNZ's lowered byte is one of its numbers there. What is known on
@@ -64,7 +38,7 @@ pub fn jumps_hold()
         → (part : AForm) × (lowered_cut (not ((x + 255) % 256 == 0)) set ≡ Some part) × IsNormal 256 part × Has 256 part ((x + 255) % 256) }
     ensures lowered_form { (set part : AForm) (taken : Bool) → IsNormal 256 set → lowered_cut taken set ≡ Some part → IsNormal 256 part }
 {
-    premises_hold();
+    known_laws();
 }
 
 /// The same of a jump by a bit: whatever the byte may be read as, where the chip finds its bit so the way isn't left out.
@@ -75,5 +49,5 @@ pub fn bits_hold()
     ensures form { (framed : Bool) (known way : Known) (address : AnAddress) (place : ℕ) (bit : Bool)
         → IsKnown framed known → IsPlace address → place < 8 → bit_tested address place bit known ≡ Some way → IsKnown framed way }
 {
-    premises_hold();
+    known_laws();
 }

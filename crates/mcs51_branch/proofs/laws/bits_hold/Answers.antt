@@ -3,5 +3,5 @@ use Rattle.mcs51_branch.proofs.laws.bits_hold.Goals as goal
 
 pub returns : goal.returns
 returns c =
-    let laws = c.premises_hold.ensures in
+    let laws = c.known_laws.ensures in
     record { way = bit_way laws; form = bit_way_form laws }

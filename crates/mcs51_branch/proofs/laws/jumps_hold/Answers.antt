@@ -3,7 +3,7 @@ use Rattle.mcs51_branch.proofs.laws.jumps_hold.Goals as goal
 
 pub returns : goal.returns
 returns c =
-    let laws = c.premises_hold.ensures in
+    let laws = c.known_laws.ensures in
     record {
       condition = condition_way laws;
       condition_form = condition_way_form laws;
