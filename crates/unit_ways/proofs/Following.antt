@@ -1,5 +1,5 @@
 -- Which ways are followed, and what is left open.
-use Rattle.std.proofs.Common.{◌≡◌, ℕ, ◌<◌, Bool, true, false, List, [], ◌∷◌, refl, sym, inl, inr, Contains}
+use Rattle.std.proofs.Common.{◌≡◌, ℕ, ◌<◌, false, List, [], ◌∷◌, sym, inl, inr, Contains}
 use Rattle.std.proofs.lemmas.Bool.{cond-false, cond_both, ltb-true}
 use Rattle.call_context.specs.declared.shown.Cause.{Cause}
 use Rattle.call_context.specs.declared.shown.Cause.TheVariants.{Targets}
