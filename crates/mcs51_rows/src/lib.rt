@@ -22,4 +22,6 @@ mod operands;
 #[cfg(test)]
 mod results;
 #[cfg(test)]
+mod resuming;
+#[cfg(test)]
 mod stores;
