@@ -2,9 +2,9 @@
 use Rattle.std.proofs.Common.{◌≡◌, ℕ, zero, suc, ◌-◌, ◌/◌, ◌%◌, ◌<◌, ◌≤◌, Option, List, [], ◌∷◌, ◌++◌, take, drop, get_or, length, sym, ap, ap₂, ◌∙◌, arith, append_assoc}
 use Rattle.std.specs.Prelude.{option_map}
 use Rattle.std.proofs.lemmas.List.{append-nil, drop_all, take_rest}
-use Rattle.hex_digits.specs.Digits.{hex, hex_digit}
+use Rattle.hex_digits.specs.Digits.{hex, hex_digit, short_hex}
 use Rattle.text_fields.specs.Spelling.{Spelling}
-use Rattle.text_fields.specs.Numbers.{short_hex, short_hex_long, short_hex_low}
+use Rattle.text_fields.specs.Numbers.{short_hex_long, short_hex_low}
 use Rattle.text_fields.specs.Lists.{listed, listed_others, others_text}
 
 -- CUTS

@@ -5,7 +5,7 @@ use Rattle.std.proofs.Math.Nat.{pow-suc}
 use Rattle.std.proofs.lemmas.Bool.{cases_Bool, cases_lt, false≢true, le-leb, leb-true, cond-true, cond-false, ltb-false, lt-ltb, le-ltb, eq-eqb, eqb-true, and_parts, and_from}
 use Rattle.std.proofs.lemmas.Bool.Decides.{nat_tests}
 use Rattle.std.proofs.lemmas.Option.{none-some, same_Some}
-use Rattle.hex_digits.specs.Digits.{hex, hex_digit}
+use Rattle.hex_digits.specs.Digits.{hex, hex_digit, digits_below, short_hex}
 use Rattle.text_fields.specs.Spelling.{Spelling, IsExact, Avoids, has_byte, has_byte-both, then_only, map_only, test_only}
 
 -- numbers of bytes have two digits, and those of words four
@@ -32,15 +32,6 @@ abbrev pub hex_number : (digits : ℕ) → Spelling ℕ
 hex_number digits = record { text = hex digits; value = number_of digits; Form = λ n. n < 16 ^ digits }
 
 -- NO LEADING ZEROS
-
--- the digits of a number that is below the first one, without leading zeros
-abbrev pub digits_below : (bound n : ℕ) → List ℕ
-digits_below zero n = []
-digits_below (suc bound) n = (if nat_lt n 16 then [] else digits_below bound (n / 16)) ++ hex_digit (n % 16) ∷ []
-
--- a number with as many digits as it has
-unfoldable pub short_hex : ℕ → List ℕ
-short_hex n = digits_below (suc n) n
 
 -- the text begins with a digit that isn't 0
 abbrev pub begins_above_zero : List ℕ → Bool

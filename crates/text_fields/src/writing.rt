@@ -1,8 +1,7 @@
 //! The texts of numbers.
 
 ghost use Rattle.std.specs.Prelude.{◌≡◌, ◌<◌, ◌++◌, OnOk};
-ghost use Rattle.hex_digits.specs.Digits.{hex, hex_digit};
-ghost use Rattle.text_fields.specs.Numbers.{short_hex};
+ghost use Rattle.hex_digits.specs.Digits.{hex, hex_digit, short_hex};
 
 use std::alloc::AllocError;
 

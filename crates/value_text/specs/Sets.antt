@@ -4,15 +4,14 @@ use Rattle.std.specs.List.{join_with_byte}
 use Rattle.std.proofs.Common.{refl, sym, ap, ap₂, ◌∙◌, subst, inl, inr, arith, append_assoc}
 use Rattle.std.proofs.lemmas.Bool.{and_parts, and_from, true≢false, leb-true, le-leb, eq-eqb, eqb-true}
 use Rattle.std.proofs.lemmas.List.{append-nil}
-use Rattle.hex_digits.specs.Digits.{hex}
-use Rattle.hex_digits.specs.Digits as report
+use Rattle.hex_digits.specs.Digits.{hex, short_hex}
 use Rattle.chip_law.specs.Line.{comma_list, form_text}
 use Rattle.value_set.specs.Form.{IsNormal, IsNormalRun}
 use Rattle.value_set.specs.declared.form.Progression.{Progression}
 use Rattle.value_set.specs.declared.form.Form.{Form}
 use Rattle.value_set.specs.declared.form.Form.TheVariants.{Values, Run}
 use Rattle.text_fields.specs.Spelling.{Spelling, IsExact, Avoids, has_byte, has_byte-at}
-use Rattle.text_fields.specs.Numbers.{is_digit, hex_number, hex_number_is_exact, number_avoids, short_hex, short_number, short_number_is_exact, short_avoids, longer_power}
+use Rattle.text_fields.specs.Numbers.{is_digit, hex_number, hex_number_is_exact, number_avoids, short_number, short_number_is_exact, short_avoids, longer_power}
 use Rattle.text_fields.specs.Fields.{passing, passing_is_exact, passing_avoids, or_mark, or_mark_is_exact, or_mark_avoids, byte_differs, beside, beside_is_exact, beside_avoids, either, either_is_exact, either_avoids, told_by, told_by_is_exact, told_by_avoids, restated, restated_is_exact, restated_avoids, respelled, respelled_is_exact, respelled_avoids}
 use Rattle.text_fields.specs.Lists.{listed, listed_is_exact, listed_avoids}
 use Rattle.value_text.specs.Runs.{is_list, is_run, ascends, ascends_only, ascends_back, run_only, run_back, whole_only, whole_back, run_is_below}
@@ -157,20 +156,14 @@ form_wide digits two (Values values) form =
     (form.0.0.0, leb-true (length values) 16 parts.1, ascends_only 0 (16 ^ digits) values form.0.0.1 parts.0)
 form_wide digits two (Run run) form = run_wide digits run (run.count == 16 ^ digits) refl two form
 
--- a report's numbers without leading zeros are these
-same_short : (n : ℕ) → report.short_hex n ≡ short_hex n
-unfolding report.short_hex short_hex
-same_short n = refl
-
 same_list : (digits x : ℕ) (xs : List ℕ) → comma_list digits (x ∷ xs) ≡ join_with_byte 44 (map (hex digits) (x ∷ xs))
 same_list digits x [] = append-nil (hex digits x)
 same_list digits x (y ∷ xs) = ap (λ (t : List ℕ). hex digits x ++ 44 ∷ t) (same_list digits y xs)
 
-same_run : (digits : ℕ) (run : Progression) → hex digits run.base ++ codes "/" ++ report.short_hex run.stride ++ codes "/" ++ report.short_hex run.count
+same_run : (digits : ℕ) (run : Progression) → hex digits run.base ++ codes "/" ++ short_hex run.stride ++ codes "/" ++ short_hex run.count
     ≡ (run_field digits).text (run.base, (run.stride, run.count))
 same_run digits run =
-    ap₂ (λ (s c : List ℕ). hex digits run.base ++ codes "/" ++ s ++ codes "/" ++ c) (same_short run.stride) (same_short run.count)
-    ∙ append_assoc (hex digits run.base ++ codes "/" ++ short_hex run.stride) (codes "/") (short_hex run.count)
+    append_assoc (hex digits run.base ++ codes "/" ++ short_hex run.stride) (codes "/") (short_hex run.count)
     ∙ append_assoc (hex digits run.base ++ codes "/") (short_hex run.stride) (47 ∷ short_hex run.count)
     ∙ append_assoc (hex digits run.base) (codes "/") (short_hex run.stride ++ 47 ∷ short_hex run.count)
 
