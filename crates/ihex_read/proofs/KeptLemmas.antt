@@ -13,7 +13,7 @@ use Rattle.image.specs.declared.rule_set.Rules.TheVariants.{Msp430, Mcs51}
 use Rattle.ihex_read.specs.declared.tail.Tail.{Tail}
 use Rattle.image.specs.Image.{byte_at}
 use Rattle.ihex_read.specs.ImageText.{base_of, placed_of, has, alone_faults, placing_faults, fault_of, is_misplaced, is_end, lacks_reset, IsOpen, Denotes}
-use Rattle.image.specs.Kept.{Suits, IsReadUnder}
+use Rattle.image.specs.Kept.{lies_in, lies_in_mirror, Suits, IsReadUnder}
 use Rattle.ihex_read.specs.Record.{record_of, placed_by}
 use Rattle.ihex_read.proofs.ByteLemmas.{denoted_bytes}
 use Rattle.ihex_read.proofs.MadeLemmas.{placed_of-push}
@@ -73,11 +73,18 @@ free_at rules image placed holds free at barred (Some value) is =
     let some = list_any_at (is_barred rules) placed place.0 (at, value) place.1 (rw place.2 barred) in
     cc (some, free)
 
-below_barred : (lo hi at : ℕ) → at < 512 → is_misplaced (Msp430 lo hi) at ≡ true
-below_barred lo hi at h = grind (arith, nat_tests)
+below_barred : (lo hi : ℕ) (mirror : Option (ℕ × ℕ)) (at : ℕ) → at < 512 → is_misplaced (Msp430 lo hi mirror) at ≡ true
+below_barred lo hi mirror at h = grind (arith, nat_tests)
 
-ram_barred : (lo hi at : ℕ) → lo ≤ at → at ≤ hi → is_misplaced (Msp430 lo hi) at ≡ true
-ram_barred lo hi at low high = grind (arith, nat_tests)
+ram_barred : (lo hi : ℕ) (mirror : Option (ℕ × ℕ)) (at : ℕ) → lo ≤ at → at ≤ hi → is_misplaced (Msp430 lo hi mirror) at ≡ true
+ram_barred lo hi mirror at low high = grind (arith, nat_tests)
+
+either_true : (a b : Bool) → b ≡ true → (a || b) ≡ true
+either_true true b h = refl
+either_true false b h = h
+
+mirror_barred : (lo hi : ℕ) (mirror : Option (ℕ × ℕ)) (at : ℕ) → lies_in_mirror mirror at ≡ true → is_misplaced (Msp430 lo hi mirror) at ≡ true
+mirror_barred lo hi mirror at there = either_true (lies_in 0 511 at || lies_in lo hi at) (lies_in_mirror mirror at) there
 
 both_there : (a b : Bool) → not (a && b) ≡ false → (a ≡ true) × (b ≡ true)
 both_there true true h = (refl, refl)
@@ -90,10 +97,12 @@ ended_reset false lacks is h = cc is
 
 suits : (rules : Rules) (image : List (Option ℕ)) (placed : List (ℕ × ℕ)) → Holds image placed → list_any (is_barred rules) placed ≡ false
     → lacks_reset rules placed ≡ false → Suits rules image
-suits (Msp430 lo hi) image placed holds free reset =
+suits (Msp430 lo hi mirror) image placed holds free reset =
+    let rules = Msp430 lo hi mirror in
     let has = both_there _ _ reset in record {
-      peripherals = λ at below. free_at (Msp430 lo hi) image placed holds free at (below_barred lo hi at below) _ refl;
-      ram = λ at low high. free_at (Msp430 lo hi) image placed holds free at (ram_barred lo hi at low high) _ refl;
+      peripherals = λ at below. free_at rules image placed holds free at (below_barred lo hi mirror at below) _ refl;
+      ram = λ at low high. free_at rules image placed holds free at (ram_barred lo hi mirror at low high) _ refl;
+      mirrored = λ at there. free_at rules image placed holds free at (mirror_barred lo hi mirror at there) _ refl;
       reset_low = sym (has_byte-some image placed 65534 holds) ∙ has.0;
       reset_high = sym (has_byte-some image placed 65535 holds) ∙ has.1;
     }

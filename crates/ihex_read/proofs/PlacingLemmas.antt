@@ -5,6 +5,7 @@ use Rattle.std.specs.List.{list_any, enumerate_from}
 use Rattle.std.proofs.lemmas.Bool.Decides.{nat_tests}
 use Rattle.std.proofs.lemmas.List.{drop_more}
 use Rattle.image.specs.declared.rule_set.Rules.TheVariants.{Msp430, Mcs51}
+use Rattle.image.specs.Kept.{lies_in, lies_in_mirror}
 use Rattle.ihex_read.specs.ImageText.{is_misplaced}
 use Rattle.ihex_read.specs.Loading.{is_outside, differs}
 
@@ -18,23 +19,46 @@ outside-row start [] = refl
 outside-row start (b ∷ bytes) =
     ap (λ t. nat_lt 65535 start || t) (outside-row (start + 1) bytes) ∙ outside_step start (length bytes) (start + length (b ∷ bytes)) (omega arith)
 
-barred_step : (lo hi start n m : ℕ) → m ≡ start + 1 + n
-    → ((nat_lt start 512 || (nat_le lo start && nat_le start hi))
-    || (nat_lt (start + 1) (start + 1 + n) && (nat_lt (start + 1) 512 || nat_lt (max (start + 1) lo) (min (start + 1 + n) (hi + 1)))))
-    ≡ (nat_lt start m && (nat_lt start 512 || nat_lt (max start lo) (min m (hi + 1))))
-barred_step lo hi start n m e = grind (arith, nat_tests)
+range_step : (lo hi start n m : ℕ) → m ≡ start + 1 + n
+    → ((nat_le lo start && nat_le start hi) || (nat_lt (start + 1) (start + 1 + n) && nat_lt (max (start + 1) lo) (min (start + 1 + n) (hi + 1))))
+    ≡ (nat_lt start m && nat_lt (max start lo) (min m (hi + 1)))
+range_step lo hi start n m e = grind (arith, nat_tests)
 
-barred_empty : (lo hi start m : ℕ) → m ≡ start → false ≡ (nat_lt start m && (nat_lt start 512 || nat_lt (max start lo) (min m (hi + 1))))
-barred_empty lo hi start m e = grind (arith, nat_tests)
+range_empty : (lo hi start m : ℕ) → m ≡ start → false ≡ (nat_lt start m && nat_lt (max start lo) (min m (hi + 1)))
+range_empty lo hi start m e = grind (arith, nat_tests)
 
 -- some byte of a row stands in a range where the row and the range overlap
-pub barred-row : (lo hi start : ℕ) (bytes : List ℕ)
-    → list_any (λ byte. is_misplaced (Msp430 lo hi) byte.0) (enumerate_from start bytes)
-    ≡ (nat_lt start (start + length bytes) && (nat_lt start 512 || nat_lt (max start lo) (min (start + length bytes) (hi + 1))))
-barred-row lo hi start [] = barred_empty lo hi start (start + length {A = ℕ} []) (omega arith)
-barred-row lo hi start (b ∷ bytes) =
-    ap (λ t. is_misplaced (Msp430 lo hi) start || t) (barred-row lo hi (start + 1) bytes)
-    ∙ barred_step lo hi start (length bytes) (start + length (b ∷ bytes)) (omega arith)
+pub range-row : (lo hi start : ℕ) (bytes : List ℕ)
+    → list_any (λ byte. lies_in lo hi byte.0) (enumerate_from start bytes)
+    ≡ (nat_lt start (start + length bytes) && nat_lt (max start lo) (min (start + length bytes) (hi + 1)))
+range-row lo hi start [] = range_empty lo hi start (start + length {A = ℕ} []) (omega arith)
+range-row lo hi start (b ∷ bytes) =
+    ap (λ t. lies_in lo hi start || t) (range-row lo hi (start + 1) bytes)
+    ∙ range_step lo hi start (length bytes) (start + length (b ∷ bytes)) (omega arith)
+
+either_step : (a b c d : Bool) → ((a || b) || (c || d)) ≡ ((a || c) || (b || d))
+either_step true b c d = refl
+either_step false true true d = refl
+either_step false true false d = refl
+either_step false false c d = refl
+
+-- some byte passes one of two tests where some byte passes the first or some byte the second
+pub any_either : (p q : ℕ × ℕ → Bool) (bytes : List (ℕ × ℕ)) → list_any (λ byte. p byte || q byte) bytes ≡ (list_any p bytes || list_any q bytes)
+any_either p q [] = refl
+any_either p q (byte ∷ bytes) =
+    ap (λ t. (p byte || q byte) || t) (any_either p q bytes) ∙ either_step (p byte) (q byte) (list_any p bytes) (list_any q bytes)
+
+pub mirror_nowhere : (bytes : List (ℕ × ℕ)) → list_any (λ byte. lies_in_mirror None byte.0) bytes ≡ false
+mirror_nowhere [] = refl
+mirror_nowhere (b ∷ bytes) = mirror_nowhere bytes
+
+-- some byte of a row is misplaced in one of the three ranges
+pub barred-row : (lo hi : ℕ) (mirror : Option (ℕ × ℕ)) (bytes : List (ℕ × ℕ))
+    → list_any (λ byte. is_misplaced (Msp430 lo hi mirror) byte.0) bytes
+    ≡ ((list_any (λ byte. lies_in 0 511 byte.0) bytes || list_any (λ byte. lies_in lo hi byte.0) bytes) || list_any (λ byte. lies_in_mirror mirror byte.0) bytes)
+barred-row lo hi mirror bytes =
+    any_either (λ byte. lies_in 0 511 byte.0 || lies_in lo hi byte.0) (λ byte. lies_in_mirror mirror byte.0) bytes
+    ∙ ap (λ t. t || list_any (λ byte. lies_in_mirror mirror byte.0) bytes) (any_either (λ byte. lies_in 0 511 byte.0) (λ byte. lies_in lo hi byte.0) bytes)
 
 pub barred_nowhere : (bytes : List (ℕ × ℕ)) → list_any (λ byte. is_misplaced Mcs51 byte.0) bytes ≡ false
 barred_nowhere [] = refl

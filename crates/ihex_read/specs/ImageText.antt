@@ -1,9 +1,10 @@
 -- What image a text denotes, and which of its lines is the first at fault.
-use Rattle.std.specs.Prelude.{◌≡◌, ℕ, ◌+◌, ◌%◌, ◌<◌, ◌≤◌, ◌==◌, ◌↔◌, nat_lt, nat_le, Bool, true, false, not, ◌&&◌, ◌||◌, List, [], ◌∷◌, ◌++◌, length, take, drop, sum, slice_index, Option, None, Some, All, Contains, find}
+use Rattle.std.specs.Prelude.{◌≡◌, ℕ, ◌+◌, ◌%◌, ◌<◌, ◌==◌, ◌↔◌, nat_lt, Bool, true, false, not, ◌&&◌, ◌||◌, List, [], ◌∷◌, ◌++◌, length, take, drop, sum, slice_index, Option, None, Some, All, Contains, find}
 use Rattle.std.specs.List.{slice_index_or, list_any, list_all}
 use Rattle.hex.specs.Hex.{is_hex_digit}
 use Rattle.image.specs.declared.rule_set.Rules.{Rules}
 use Rattle.image.specs.declared.rule_set.Rules.TheVariants.{Msp430, Mcs51}
+use Rattle.image.specs.Kept.{lies_in, lies_in_mirror}
 use Rattle.ihex_read.specs.declared.tail.Tail.{Tail}
 use Rattle.ihex_read.specs.declared.tail.Tail.TheVariants.{Blank, Second}
 use Rattle.ihex_read.specs.declared.fault.HexFault.{HexFault}
@@ -39,14 +40,14 @@ clashes placed byte = list_any (λ other. (other.0 == byte.0) && not (other.1 ==
 abbrev pub has_byte : List (ℕ × ℕ) → ℕ → Bool
 has_byte placed at = list_any (λ byte. byte.0 == at) placed
 
--- the MSP430 has peripherals below 0200h, and its RAM holds nothing of an image
+-- the MSP430 has peripherals below 0200h, and its RAM, which the mirror shows again, holds nothing of an image
 abbrev pub is_misplaced : Rules → ℕ → Bool
-is_misplaced (Msp430 lo hi) at = nat_lt at 512 || (nat_le lo at && nat_le at hi)
+is_misplaced (Msp430 lo hi mirror) at = (lies_in 0 511 at || lies_in lo hi at) || lies_in_mirror mirror at
 is_misplaced Mcs51 at = false
 
 -- the MSP430 starts at the word at FFFEh
 abbrev pub lacks_reset : Rules → List (ℕ × ℕ) → Bool
-lacks_reset (Msp430 lo hi) placed = not (has_byte placed 65534 && has_byte placed 65535)
+lacks_reset (Msp430 lo hi mirror) placed = not (has_byte placed 65534 && has_byte placed 65535)
 lacks_reset Mcs51 placed = false
 
 abbrev pub is_end : List ℕ → Bool

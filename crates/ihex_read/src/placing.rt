@@ -4,6 +4,7 @@
 ghost use Rattle.std.specs.Prelude.{◌≡◌, ◌+◌, ◌≤◌, ◌^◌, ◌<◌, nat_lt, max, min, length};
 ghost use Rattle.std.specs.Bool.{OnFalse};
 ghost use Rattle.std.specs.List.{list_any, enumerate_from};
+ghost use Rattle.image.specs.Kept.{lies_in, lies_in_mirror};
 ghost use Rattle.ihex_read.specs.ImageText.{is_misplaced};
 ghost use Rattle.ihex_read.specs.Loading.{is_outside, is_taken, is_resettable, written};
 
@@ -42,20 +43,33 @@ pub fn is_barred(rules: Rules, start: usize, bytes: &[u8]) -> bool
     ensures { result ≡ list_any (λ byte. is_misplaced rules byte.0) (enumerate_from start bytes.now) }
 {
     match rules {
-        Rules::Msp430 { lo, hi } => {
-            let end = start + bytes.len();
-            start < end && (start < 0x200 || overlaps(start, end, usize::from(lo), usize::from(hi)))
+        Rules::Msp430 { lo, hi, mirror } => {
+            stand_in(0, 0x1FF, start, bytes)
+                || stand_in(lo, hi, start, bytes)
+                || stand_in_mirror(mirror, start, bytes)
         }
         Rules::Mcs51 => false,
     }
 }
 
-/// Whether an address from `start` on in front of `end` is one from `low` to `high`.
-fn overlaps(start: usize, end: usize, low: usize, high: usize) -> bool
-    requires { high < 2 ^ 16 }
-    ensures { result ≡ nat_lt (max start low) (min end (high + 1)) }
+/// Whether some of the bytes stands in the mirror of RAM.
+fn stand_in_mirror(mirror: Option<(u16, u16)>, start: usize, bytes: &[u8]) -> bool
+    requires { start < 2 ^ 33 }
+    ensures { result ≡ list_any (λ byte. lies_in_mirror mirror byte.0) (enumerate_from start bytes.now) }
 {
-    start.max(low) < end.min(high + 1)
+    match mirror {
+        Some((first, last)) => stand_in(first, last, start, bytes),
+        None => false,
+    }
+}
+
+/// Whether some of the bytes stands at an address from `low` to `high`.
+fn stand_in(low: u16, high: u16, start: usize, bytes: &[u8]) -> bool
+    requires { start < 2 ^ 33 }
+    ensures { result ≡ list_any (λ byte. lies_in low high byte.0) (enumerate_from start bytes.now) }
+{
+    let end = start + bytes.len();
+    start < end && start.max(usize::from(low)) < end.min(usize::from(high) + 1)
 }
 
 /// Writes the bytes.

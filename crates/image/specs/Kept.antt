@@ -1,24 +1,49 @@
 -- What the rules of a chip ask of an image.
-use Rattle.std.specs.Prelude.{◌≡◌, ◌%◌, ◌<◌, ◌≤◌, ℕ, List, length, Option, None, IsSome, All}
+use Rattle.std.specs.Prelude.{◌≡◌, ◌-◌, ◌%◌, ◌<◌, ◌≤◌, ◌&&◌, ◌||◌, nat_le, nat_lt, Bool, true, false, ℕ, List, length, Option, None, Some, IsSome, All}
 use Rattle.image.specs.declared.rule_set.Rules.{Rules}
 use Rattle.image.specs.declared.rule_set.Rules.TheVariants.{Msp430, Mcs51}
 use Rattle.image.specs.Image.{byte_at, IsByte}
 
--- RAM stands from an even address to an odd one above it, behind the peripherals
+-- Where RAM from lo to hi answers a second time, from the first of these addresses to the last: at whole words behind the
+-- peripherals, of which there are no more than RAM has, and none of them is RAM's.
+pub record IsMirror (lo hi first last : ℕ) : Type 0 where
+  pub low : first % 2 ≡ 0
+  pub high : last % 2 ≡ 1
+  pub behind : 512 ≤ first
+  pub some : first < last
+  pub top : last < 65536
+  pub short : last - first ≤ hi - lo
+  pub apart : (nat_lt last lo || nat_lt hi first) ≡ true
+
+-- a mirror, if there is one
+abbrev pub HasMirror : (lo hi : ℕ) → Option (ℕ × ℕ) → Type 0
+HasMirror lo hi None = Unit {0}
+HasMirror lo hi (Some (first, last)) = IsMirror lo hi first last
+
+-- RAM stands from an even address to an odd one above it, behind the peripherals, and may have a mirror
 abbrev pub IsRamRange : Rules → Type 0
-IsRamRange (Msp430 lo hi) = (lo % 2 ≡ 0) × (hi % 2 ≡ 1) × (512 ≤ lo) × (lo < hi)
+IsRamRange (Msp430 lo hi mirror) = (lo % 2 ≡ 0) × (hi % 2 ≡ 1) × (512 ≤ lo) × (lo < hi) × HasMirror lo hi mirror
 IsRamRange Mcs51 = Unit {0}
 
--- an MSP430 with RAM from lo to hi: the image has nothing where its peripherals and its RAM are, and has both bytes of
--- the word at which it starts
-pub record SuitsMsp430 (lo hi : ℕ) (image : List (Option ℕ)) : Type 0 where
+-- an address from one to another
+abbrev pub lies_in : (lo hi at : ℕ) → Bool
+lies_in lo hi at = nat_le lo at && nat_le at hi
+
+abbrev pub lies_in_mirror : (mirror : Option (ℕ × ℕ)) → (at : ℕ) → Bool
+lies_in_mirror None at = false
+lies_in_mirror (Some (first, last)) at = lies_in first last at
+
+-- an MSP430 with RAM from lo to hi: the image has nothing where its peripherals, its RAM and the mirror are, and has both
+-- bytes of the word at which it starts
+pub record SuitsMsp430 (lo hi : ℕ) (mirror : Option (ℕ × ℕ)) (image : List (Option ℕ)) : Type 0 where
   pub peripherals : (at : ℕ) → at < 512 → byte_at image at ≡ None
   pub ram : (at : ℕ) → lo ≤ at → at ≤ hi → byte_at image at ≡ None
+  pub mirrored : (at : ℕ) → lies_in_mirror mirror at ≡ true → byte_at image at ≡ None
   pub reset_low : IsSome (byte_at image 65534)
   pub reset_high : IsSome (byte_at image 65535)
 
 abbrev pub Suits : Rules → List (Option ℕ) → Type 0
-Suits (Msp430 lo hi) image = SuitsMsp430 lo hi image
+Suits (Msp430 lo hi mirror) image = SuitsMsp430 lo hi mirror image
 Suits Mcs51 image = Unit {0}
 
 -- a byte or nothing at each address, as the rules ask

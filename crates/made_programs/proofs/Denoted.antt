@@ -1,5 +1,5 @@
 -- The texts of programs denote images.
-use Rattle.std.proofs.Common.{◌≡◌, ℕ, ◌+◌, ◌<◌, ◌≤◌, ◌==◌, ◌&&◌, ◌⊎◌, inl, inr, not, nat_lt, nat_le, true, false, List, [], ◌∷◌, ◌++◌, length, take, slice_index_or, Option, None, refl, sym, ◌∙◌, ap, length-append, le-ltb, take_at, arith}
+use Rattle.std.proofs.Common.{◌≡◌, ℕ, ◌+◌, ◌<◌, ◌≤◌, ◌==◌, ◌&&◌, ◌||◌, ◌⊎◌, inl, inr, not, nat_le, true, false, List, [], ◌∷◌, ◌++◌, length, take, slice_index_or, Option, None, refl, sym, ◌∙◌, ap, length-append, take_at, arith}
 use Rattle.std.proofs.lemmas.Bool.{cases_lt, or_right, and_right, or_from, lt-leb}
 use Rattle.std.proofs.lemmas.List.{get_or_append_left, get_or_at, take-append-le}
 use Rattle.std.proofs.lemmas.List.Folds.{list_any-append}
@@ -7,6 +7,7 @@ use Rattle.image.specs.declared.chip_name.ChipName.{ChipName}
 use Rattle.image.specs.declared.chip_name.ChipName.TheVariants.{Msp430, Mcs51}
 use Rattle.image_gen.specs.Made.{low_first, high_first, made_image, msp430_program, mcs51_program}
 use Rattle.ihex_read.specs.declared.fault.HexFault.{HexFault}
+use Rattle.image.specs.Kept.{lies_in}
 use Rattle.image.specs.declared.rule_set.Rules.{Rules}
 use Rattle.image.specs.declared.rule_set.Rules.TheVariants as rules
 use Rattle.ihex_read.specs.declared.tail.Tail.{Tail}
@@ -91,9 +92,11 @@ two_laid chosen at bytes next more first second behind free =
     (one, laid_stretch chosen (rows_of at bytes) next more one second (λ place above. free place (omega arith)))
 
 -- above RAM that ends at 09FFh
-free_above : (from : ℕ) → 0x0A00 ≤ from → IsFree (rules.Msp430 0x0200 0x09FF) from
+free_above : (from : ℕ) → 0x0A00 ≤ from → IsFree (rules.Msp430 0x0200 0x09FF None) from
 free_above from h at above =
-    or_from (nat_lt at 512) _ (le-ltb at 512 (omega arith)) (and_right (nat_le 512 at) (nat_le at 2559) (lt-leb at 2559 (omega arith)))
+    or_from (lies_in 0 511 at || lies_in 512 2559 at) false
+    (or_from (lies_in 0 511 at) (lies_in 512 2559 at) (and_right (nat_le 0 at) (nat_le at 511) (lt-leb at 511 (omega arith)))
+    (and_right (nat_le 512 at) (nat_le at 2559) (lt-leb at 2559 (omega arith)))) refl
 
 msp430_stretch : (number : ℕ) → number ≤ 2000 → IsStretch 0x4000 (msp430_program number)
 msp430_stretch number most = record {
@@ -113,12 +116,12 @@ both_there placed low high =
     let second : has_byte (placed ++ added) 65535 ≡ true = list_any-append (λ byte. byte.0 == 65535) placed added ∙ or_right (has_byte placed 65535) true refl in
     rw (first, second) refl
 
-resets : (chosen : Rules) (lines : List (List ℕ)) → chosen ≡ rules.Msp430 0x0200 0x09FF → IsLaid chosen lines 0xFFFE
+resets : (chosen : Rules) (lines : List (List ℕ)) → chosen ≡ rules.Msp430 0x0200 0x09FF None → IsLaid chosen lines 0xFFFE
     → lacks_reset chosen (placed_of (lines ++ rows_of 0xFFFE (low_first 0x4000))) ≡ false
 resets chosen lines is laid =
     let row : IsRow 0xFFFE (low_first 0x4000) = record { starts = omega arith; short = omega arith; bytes_are = low_first_bytes 0x4000 (omega arith) } in
     let placed = placed_more chosen lines 0xFFFE 0xFFFE (low_first 0x4000) laid row in
-    rw is (ap (λ xs. lacks_reset (rules.Msp430 0x0200 0x09FF) xs) placed ∙ both_there (placed_of lines) 0x00 0x40)
+    rw is (ap (λ xs. lacks_reset (rules.Msp430 0x0200 0x09FF None) xs) placed ∙ both_there (placed_of lines) 0x00 0x40)
 
 mcs51_jump : IsStretch 0x0000 (0x02 ∷ high_first 0x0030)
 mcs51_jump = record { fits = omega arith; bytes_are = mcs51_jump_bytes }

@@ -1,4 +1,5 @@
 -- The rules under which the text of a program is read.
+use Rattle.std.specs.Prelude.{None}
 use Rattle.image.specs.declared.chip_name.ChipName.{ChipName}
 use Rattle.image.specs.declared.chip_name.ChipName.TheVariants.{Msp430, Mcs51}
 use Rattle.image.specs.declared.rule_set.Rules.{Rules}
@@ -6,5 +7,5 @@ use Rattle.image.specs.declared.rule_set.Rules.TheVariants as rules
 
 -- RAM of the MSP430 from 0200h to 09FFh
 abbrev pub rules_of : ChipName → Rules
-rules_of Msp430 = rules.Msp430 0x0200 0x09FF
+rules_of Msp430 = rules.Msp430 0x0200 0x09FF None
 rules_of Mcs51 = rules.Mcs51
