@@ -60,6 +60,13 @@ impl InstrBytes {
     {
         self.bytes.as_slice()
     }
+
+    /// The same bytes.
+    pub fn copy(&self) -> Self
+        ensures { result ≡ self.now }
+    {
+        InstrBytes::from_slice(self.bytes.as_slice())
+    }
 }
 
 impl PartialEq for InstrBytes {
@@ -110,6 +117,38 @@ pub enum Item {
         pc: u16,
         at: Set,
     },
+}
+
+impl Item {
+    /// An equal item.
+    pub fn copy(&self) -> Self
+        ensures { result ≡ self.now }
+    {
+        match self {
+            Item::Instr { pc, bytes } => Item::Instr {
+                pc: *pc,
+                bytes: bytes.copy(),
+            },
+            Item::Edge { from, to } => Item::Edge {
+                from: *from,
+                to: *to,
+            },
+            Item::Access {
+                pc,
+                space,
+                write,
+                size,
+                at,
+            } => Item::Access {
+                pc: *pc,
+                space: *space,
+                write: *write,
+                size: *size,
+                at: *at,
+            },
+            Item::Stack { pc, at } => Item::Stack { pc: *pc, at: *at },
+        }
+    }
 }
 
 impl Default for Item {

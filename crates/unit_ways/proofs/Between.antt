@@ -12,7 +12,7 @@ use Rattle.unit_ways.specs.Between.{IsWayOf, StandsAt}
 use Rattle.unit_ways.specs.Between.IsWayOf.{goes_on, joins, jumps}
 use Rattle.unit_ways.specs.Targets.{targets_of}
 use Rattle.unit_ways.specs.Ways.{Way, each_way, edges_of, in_order, posts_of, ways_of, ways_to}
-use Rattle.unit_ways.proofs.Members.{in_cons, in_first, in_none, in_rest}
+use Rattle.unit_ways.specs.Members.{in_cons, in_first, in_none, in_rest}
 use Rattle.unit_ways.proofs.Turning.{target_from, target_has}
 
 -- EDGES AND POSTS

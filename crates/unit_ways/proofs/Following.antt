@@ -7,7 +7,7 @@ use Rattle.value_set.specs.declared.form.Form.{Form}
 use Rattle.value_set.specs.Summing.{count_of}
 use Rattle.unit_ways.specs.Targets.{are_too_many}
 use Rattle.unit_ways.specs.Ways.{Way, followed_ways, target_opens}
-use Rattle.unit_ways.proofs.Members.{in_cons, in_none}
+use Rattle.unit_ways.specs.Members.{in_cons, in_none}
 
 pub few_followed : {A : Type 0} (limit pc : ℕ) (targets : Form) (all : List (Way A)) → target_opens limit pc targets ≡ [] → followed_ways limit targets all ≡ all
 few_followed {A} limit pc targets all none =

@@ -1,5 +1,3 @@
-pub mod Members
-pub mod SetTests
 mod Turning
 mod Ascending
 mod Between

@@ -2,3 +2,5 @@ pub mod Targets
 pub mod Ways
 pub mod Between
 pub mod Laws
+pub mod Members
+pub mod SetTests
