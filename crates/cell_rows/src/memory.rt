@@ -4,6 +4,7 @@ ghost use Rattle.std.specs.Prelude.{ℕ, ◌<◌};
 ghost use Rattle.value_set.specs.Form.{Has};
 
 use abs_memory::CellList;
+use abs_pages::CellPages;
 use entry_value::{Cells, Entry, Word};
 use std::alloc::Global;
 use std::process::Abort;
@@ -80,7 +81,8 @@ fn reads<C: Cells>(rt: &impl Abort, alloc: Global) -> Result<(), Fail> {
 
 #[test]
 fn rows_of_reads(rt: HostRuntime) -> Result<(), Fail> {
-    reads::<CellList>(&rt, rt.alloc())
+    reads::<CellList>(&rt, rt.alloc())?;
+    reads::<CellPages>(&rt, rt.alloc())
 }
 
 /// A write takes out each cell that it meets, also one that begins in front of it, and makes one where that lies in RAM
@@ -107,7 +109,8 @@ fn writes<C: Cells>(rt: &impl Abort, alloc: Global) -> Result<(), Fail> {
 
 #[test]
 fn rows_of_writes(rt: HostRuntime) -> Result<(), Fail> {
-    writes::<CellList>(&rt, rt.alloc())
+    writes::<CellList>(&rt, rt.alloc())?;
+    writes::<CellPages>(&rt, rt.alloc())
 }
 
 /// The highest byte of the addresses and the lowest one are a word.
@@ -123,7 +126,8 @@ fn writes_round<C: Cells>(rt: &impl Abort, alloc: Global) -> Result<(), Fail> {
 
 #[test]
 fn row_of_the_last_address(rt: HostRuntime) -> Result<(), Fail> {
-    writes_round::<CellList>(&rt, rt.alloc())
+    writes_round::<CellList>(&rt, rt.alloc())?;
+    writes_round::<CellPages>(&rt, rt.alloc())
 }
 
 /// A write at one of 200h and 204h joins with the cell that is there, and takes out those that it meets elsewhere.
@@ -149,7 +153,8 @@ fn writes_at_some<C: Cells>(rt: &impl Abort, alloc: Global) -> Result<(), Fail> 
 
 #[test]
 fn rows_of_writes_at_some(rt: HostRuntime) -> Result<(), Fail> {
-    writes_at_some::<CellList>(&rt, rt.alloc())
+    writes_at_some::<CellList>(&rt, rt.alloc())?;
+    writes_at_some::<CellPages>(&rt, rt.alloc())
 }
 
 /// A write at one address alone takes the place of what stood there, and makes a cell where there was none.
@@ -169,7 +174,8 @@ fn writes_at_one<C: Cells>(rt: &impl Abort, alloc: Global) -> Result<(), Fail> {
 
 #[test]
 fn rows_of_writes_at_one(rt: HostRuntime) -> Result<(), Fail> {
-    writes_at_one::<CellList>(&rt, rt.alloc())
+    writes_at_one::<CellList>(&rt, rt.alloc())?;
+    writes_at_one::<CellPages>(&rt, rt.alloc())
 }
 
 /// A byte that is read is written at other places.
@@ -193,7 +199,8 @@ fn copies_of_bytes<C: Cells>(rt: &impl Abort, alloc: Global) -> Result<(), Fail>
 
 #[test]
 fn rows_of_copies(rt: HostRuntime) -> Result<(), Fail> {
-    copies_of_bytes::<CellList>(&rt, rt.alloc())
+    copies_of_bytes::<CellList>(&rt, rt.alloc())?;
+    copies_of_bytes::<CellPages>(&rt, rt.alloc())
 }
 
 /// Cells that both have are joined, and each is within the join.
@@ -215,7 +222,8 @@ fn joins<C: Cells>(rt: &impl Abort, alloc: Global) -> Result<(), Fail> {
 
 #[test]
 fn rows_of_joins(rt: HostRuntime) -> Result<(), Fail> {
-    joins::<CellList>(&rt, rt.alloc())
+    joins::<CellList>(&rt, rt.alloc())?;
+    joins::<CellPages>(&rt, rt.alloc())
 }
 
 /// The word of a byte grows among bytes, and stops in front of the marks.
@@ -237,7 +245,8 @@ fn widenings<C: Cells>(rt: &impl Abort, alloc: Global) -> Result<(), Fail> {
 
 #[test]
 fn rows_of_widenings(rt: HostRuntime) -> Result<(), Fail> {
-    widenings::<CellList>(&rt, rt.alloc())
+    widenings::<CellList>(&rt, rt.alloc())?;
+    widenings::<CellPages>(&rt, rt.alloc())
 }
 
 /// A relation is read from its own cell alone, and a write of a byte of it takes it out.
@@ -262,5 +271,6 @@ fn relations<C: Cells>(rt: &impl Abort, alloc: Global) -> Result<(), Fail> {
 
 #[test]
 fn rows_of_relations(rt: HostRuntime) -> Result<(), Fail> {
-    relations::<CellList>(&rt, rt.alloc())
+    relations::<CellList>(&rt, rt.alloc())?;
+    relations::<CellPages>(&rt, rt.alloc())
 }

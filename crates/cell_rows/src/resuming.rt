@@ -5,6 +5,7 @@ ghost use Rattle.value_set.specs.Form.{Has};
 ghost use Rattle.entry_value.specs.declared.cells.Cell.{Cell as ACell};
 
 use abs_memory::CellList;
+use abs_pages::CellPages;
 use entry_value::{Cells, Entry, Word};
 use irq_frames::{Places, Ranges, resume_cells, resume_word};
 use std::alloc::Global;
@@ -175,5 +176,6 @@ fn cells_go_on<M: Cells>(rt: &impl Abort, alloc: Global) -> Result<(), Fail> {
 
 #[test]
 fn rows_of_cells_that_go_on(rt: HostRuntime) -> Result<(), Fail> {
-    cells_go_on::<CellList>(&rt, rt.alloc())
+    cells_go_on::<CellList>(&rt, rt.alloc())?;
+    cells_go_on::<CellPages>(&rt, rt.alloc())
 }

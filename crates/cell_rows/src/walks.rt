@@ -2,6 +2,7 @@
 
 use crate::memory::{byte, numbers};
 use abs_memory::CellList;
+use abs_pages::CellPages;
 use entry_value::Cells;
 use std::alloc::Global;
 use std::process::Abort;
@@ -261,5 +262,6 @@ fn walk<C: Cells>(rt: &impl Abort, alloc: Global) -> Result<(), Fail> {
 
 #[test]
 fn a_long_row_of_calls(rt: HostRuntime) -> Result<(), Fail> {
-    walk::<CellList>(&rt, rt.alloc())
+    walk::<CellList>(&rt, rt.alloc())?;
+    walk::<CellPages>(&rt, rt.alloc())
 }

@@ -1,0 +1,9 @@
+mod Lists
+mod Flat
+mod Begun
+mod Putting
+mod Passes
+mod Sharing
+mod Edges
+mod Written
+mod Scattered

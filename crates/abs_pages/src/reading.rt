@@ -1,0 +1,122 @@
+//! Reading cells, by those that begin at an address and in front of it.
+
+ghost use Rattle.std.specs.Prelude.{◌≡◌};
+ghost use Rattle.entry_value.specs.Cells as the_cells;
+ghost use Rattle.abs_pages.specs.Paging as paging;
+ghost use Rattle.abs_pages.specs.Paging.{AreRead, flat};
+
+use crate::finding::next;
+use crate::page::Page;
+use entry_value::Word;
+use value_bits::w16;
+use value_set::{Vs8, Vs16};
+
+/// The size and the word of the cell that begins at an address.
+pub(crate) fn begun_at(pages: &[Page], at: u16) -> Option<(u8, Word)>
+    requires { AreRead pages.now }
+    ensures { result ≡ paging.begun_at (flat pages.now) at }
+{
+    match next(pages, at as u32) {
+        Some((place, size, word)) => {
+            if place == at {
+                Some((size, word))
+            } else {
+                None
+            }
+        }
+        None => None,
+    }
+}
+
+/// The high byte of the cell of two bytes that begins at an address.
+pub(crate) fn high_byte(pages: &[Page], at: u16) -> Option<Vs8>
+    requires { AreRead pages.now }
+    ensures { result ≡ paging.high_of (paging.begun_at (flat pages.now) at) }
+{
+    let (size, word) = begun_at(pages, at)?;
+    if size == 2 {
+        Some(w16::high(&word.set))
+    } else {
+        None
+    }
+}
+
+/// The byte at an address, as far as the cell that has it says.
+fn byte_at(pages: &[Page], at: u16) -> Option<Vs8>
+    requires { AreRead pages.now }
+    ensures { result ≡ the_cells.byte_at (flat pages.now) at }
+{
+    match begun_at(pages, at) {
+        Some((_, word)) => Some(w16::low(&word.set)),
+        None => high_byte(pages, at.saturating_sub(1)),
+    }
+}
+
+/// What is known of a byte, or of a word, of which nothing is known.
+pub(crate) fn any_of(size: u8) -> Vs16
+    ensures { result ≡ the_cells.any_of size }
+{
+    if size != 1 {
+        return Vs16::any();
+    }
+    match Vs16::run(0, 1, 256) {
+        Some(bytes) => bytes,
+        None => unreachable!(),
+    }
+}
+
+/// The word of a byte.
+fn word_of_byte(byte: Option<Vs8>) -> Vs16
+    ensures { result ≡ the_cells.word_of_byte byte }
+{
+    match byte {
+        Some(byte) => w16::pair(&byte, &Vs8::one(0)),
+        None => any_of(1),
+    }
+}
+
+/// The word of two bytes.
+fn word_of_bytes(low: Option<Vs8>, high: Option<Vs8>) -> Vs16
+    ensures { result ≡ the_cells.word_of_bytes low high }
+{
+    match (low, high) {
+        (Some(low), Some(high)) => w16::pair(&low, &high),
+        _ => any_of(2),
+    }
+}
+
+/// What is put together from the parts of cells, without a relation.
+fn put_together(pages: &[Page], at: u16, size: u8) -> Word
+    requires { AreRead pages.now }
+    ensures { result ≡ the_cells.put_together (flat pages.now) at size }
+{
+    let set = if size == 1 {
+        word_of_byte(byte_at(pages, at))
+    } else {
+        word_of_bytes(byte_at(pages, at), byte_at(pages, at.wrapping_add(1)))
+    };
+    Word { set, entry: None }
+}
+
+/// The word of the cell that begins at an address with a size.
+fn cell_at(pages: &[Page], at: u16, size: u8) -> Option<Word>
+    requires { AreRead pages.now }
+    ensures { result ≡ the_cells.cell_at (flat pages.now) at size }
+{
+    match begun_at(pages, at) {
+        Some((found, word)) => { if found == size { Some(word) } else { None } }
+        None => None,
+    }
+}
+
+/// The cell of that size, else what is put together.
+#[tactic(auto, unfolding(entry_value::specs::Cells::read))]
+pub(crate) fn read(pages: &[Page], at: u16, size: u8) -> Word
+    requires { AreRead pages.now }
+    ensures { result ≡ the_cells.read (flat pages.now) at size }
+{
+    match cell_at(pages, at, size) {
+        Some(word) => word,
+        None => put_together(pages, at, size),
+    }
+}
