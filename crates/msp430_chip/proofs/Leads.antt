@@ -26,9 +26,9 @@ use Rattle.msp430_chip.specs.declared.place.Place.TheVariants.{InRegister, InMem
 use Rattle.msp430_chip.specs.declared.state.ChipState.{ChipState}
 use Rattle.msp430_chip.specs.Arithmetic.{any_flags, decimal, digits_of, modulus, result_of, rotated, single_result, sets_flags, single_sets_flags, reads_destination}
 use Rattle.msp430_chip.specs.Interrupts.{coming, enter}
-use Rattle.msp430_chip.specs.Memory.{is_ram, read, read_byte, read_outside, read_word}
+use Rattle.msp430_chip.specs.Memory.{aligned, is_ram, read, read_byte, read_outside, read_word}
 use Rattle.msp430_chip.specs.Operands.{value_at, is_status, has_free_bits, with_free_bits}
-use Rattle.msp430_chip.specs.State.{even, register_of}
+use Rattle.msp430_chip.specs.State.{register_of}
 use Rattle.msp430_chip.specs.Step.{Left, behind, counter, reads_counter, destination_value, double_left, double, single_left, single, is_formed_by_stack, pushed, pushed_word, push_left, push, one_operand, return, executed, run, step_of, with_lowered}
 use Rattle.msp430_chip.specs.Leading.{MayReadByte, MayReadWord, MayRead, MayStandAt, MayStandIf, MayCount, MayMakeDecimal, MayMake, MayMakeSingle, LeavesFree, MayLeaveDouble, MayDouble, MayLeaveSingle, MaySingle, MayPushWord, MayLeavePush, MayPush, MayReturn, MayRunSingle, MayRun, MayLead, at_source, behind_source, origin_of, place_of, pushed_place}
 use Rattle.msp430_chip.specs.Leading.MayReadByte.{OfRam, OfProgram, OfNeither}
@@ -55,13 +55,14 @@ byte_leads device ram at = if_gives (MayReadByte device ram at) (is_ram device a
 word_leads : (device : Device) (ram : List ℕ) (at : ℕ) → Gives (MayReadWord device ram at) (read_word device ram at)
 unfolding read_word
 word_leads device ram at =
-    then_gives (MayReadByte device ram (even at)) (MayReadWord device ram at) _ _ (byte_leads device ram (even at)) (λ low l.
-    then_gives (MayReadByte device ram (even at + 1)) (MayReadWord device ram at) _ _ (byte_leads device ram (even at + 1)) (λ high h.
+    let first = aligned device Word at in
+    then_gives (MayReadByte device ram first) (MayReadWord device ram at) _ _ (byte_leads device ram first) (λ low l.
+    then_gives (MayReadByte device ram (first + 1)) (MayReadWord device ram at) _ _ (byte_leads device ram (first + 1)) (λ high h.
     answer_gives (MayReadWord device ram at) (low + 256 * high) (record { low = low; high = high; reads_low = l; reads_high = h; word_is = refl })))
 
 read_leads : (device : Device) (ram : List ℕ) (width : Width) (at : ℕ) → Gives (MayRead device ram width at) (read device ram width at)
 read_leads device ram Word at = word_leads device ram at
-read_leads device ram Byte at = byte_leads device ram at
+read_leads device ram Byte at = byte_leads device ram (aligned device Byte at)
 
 at_leads : (device : Device) (ram registers : List ℕ) (width : Width) (place : Place) → Gives (MayStandAt device ram registers width place) (value_at device ram registers width place)
 at_leads device ram registers width (InRegister register) = answer_gives (MayStandAt device ram registers width (InRegister register)) _ refl

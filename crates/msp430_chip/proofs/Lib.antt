@@ -7,3 +7,4 @@ pub mod Resets
 pub mod Results
 pub mod StepForms
 pub mod StepFronts
+pub mod Accesses

@@ -12,8 +12,8 @@ use Rattle.msp430_decode.specs.declared.instr.Width.TheVariants.{Word, Byte}
 use Rattle.msp430_chip.specs.declared.device.Device.{Device}
 use Rattle.choosing.specs.Asking.{answer}
 use Rattle.msp430_chip.specs.Arithmetic.{modulus}
-use Rattle.msp430_chip.specs.Memory.{is_ram, read_outside, read_byte, read_word, read, with_byte, with_stored}
-use Rattle.msp430_chip.specs.State.{even, ram_size, image_word, word_from}
+use Rattle.msp430_chip.specs.Memory.{aligned, is_ram, read_outside, read_byte, read_word, read, with_byte, with_stored}
+use Rattle.msp430_chip.specs.State.{ram_size, image_word, word_from}
 use Rattle.choosing.specs.Gives.{Gives, answer_gives, ask_gives, if_gives, then_gives}
 
 pub record IsMemory (device : Device) (ram : List ℕ) : Type 0 where
@@ -47,13 +47,13 @@ read_byte_gives device ram at is = if_gives (λ (b : ℕ). b < 256) (is_ram devi
 pub read_word_gives : (device : Device) (ram : List ℕ) (at : ℕ) → IsMemory device ram → Gives (λ (w : ℕ). w < 65536) (read_word device ram at)
 unfolding read_word
 read_word_gives device ram at is =
-    then_gives (λ (b : ℕ). b < 256) (λ (w : ℕ). w < 65536) _ _ (read_byte_gives device ram (even at) is) (λ low l.
-    then_gives (λ (b : ℕ). b < 256) (λ (w : ℕ). w < 65536) _ _ (read_byte_gives device ram (even at + 1) is) (λ high h.
+    then_gives (λ (b : ℕ). b < 256) (λ (w : ℕ). w < 65536) _ _ (read_byte_gives device ram (aligned device Word at) is) (λ low l.
+    then_gives (λ (b : ℕ). b < 256) (λ (w : ℕ). w < 65536) _ _ (read_byte_gives device ram (aligned device Word at + 1) is) (λ high h.
     answer_gives (λ (w : ℕ). w < 65536) (low + 256 * high) (omega (arith, l, h))))
 
 pub read_gives : (device : Device) (ram : List ℕ) (width : Width) (at : ℕ) → IsMemory device ram → Gives (λ (x : ℕ). x < modulus width) (read device ram width at)
 read_gives device ram Word at is = read_word_gives device ram at is
-read_gives device ram Byte at is = read_byte_gives device ram at is
+read_gives device ram Byte at is = read_byte_gives device ram (aligned device Byte at) is
 
 set_keeps : (device : Device) (ram : List ℕ) (i byte : ℕ) → IsMemory device ram → byte < 256 → IsMemory device (slice_set ram i byte)
 set_keeps device ram i byte is below = record {
@@ -74,9 +74,9 @@ with_byte_keeps device ram at byte is below =
 pub with_stored_keeps : (device : Device) (ram : List ℕ) (width : Width) (at value : ℕ) → IsMemory device ram → value < modulus width
     → IsMemory device (with_stored device ram width at value)
 with_stored_keeps device ram Word at value is below =
-    with_byte_keeps device (with_byte device ram (even at) (value % 256)) (even at + 1) (value / 256)
-    (with_byte_keeps device ram (even at) (value % 256) is (omega arith)) (omega arith)
-with_stored_keeps device ram Byte at value is below = with_byte_keeps device ram at value is below
+    with_byte_keeps device (with_byte device ram (aligned device Word at) (value % 256)) (aligned device Word at + 1) (value / 256)
+    (with_byte_keeps device ram (aligned device Word at) (value % 256) is (omega arith)) (omega arith)
+with_stored_keeps device ram Byte at value is below = with_byte_keeps device ram (aligned device Byte at) value is below
 
 word_below : (low high : Option ℕ) → IsByte low → IsByte high → word_from low high < 65536
 word_below None high l h = omega arith

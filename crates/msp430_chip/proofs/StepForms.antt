@@ -29,7 +29,7 @@ use Rattle.msp430_chip.specs.declared.state.ChipState.{ChipState}
 use Rattle.msp430_chip.specs.Arithmetic.{modulus, sets_flags, single_sets_flags, reads_destination, writes_result}
 use Rattle.choosing.specs.Asking.{answer, ask, and_then}
 use Rattle.msp430_chip.specs.Interrupts.{coming, enter, handler_of, vector_address}
-use Rattle.msp430_chip.specs.Memory.{with_stored}
+use Rattle.msp430_chip.specs.Memory.{aligned, with_stored}
 use Rattle.msp430_chip.specs.Operands.{value_at, value_in, grown, source_place, destination_place, is_status, has_free_bits, with_free_bits, access_to}
 use Rattle.msp430_chip.specs.Outcome.{Outcome, unless_hit}
 use Rattle.choosing.specs.Outcome.Outcome.{Next, Wild}
@@ -228,7 +228,7 @@ double_gives device s len operation width origin destination image is h =
     then_gives (IsLeft device) (Keeps device) _ _
     (double_left_gives device s.ram (slice_set registers 0 (behind s len)) operation width place (with_free_bits width from bits x) (with_free_bits width place bits y) (register_of s 2 % 2)
     (set_pc registers (behind s len) raised next.below next.whole) memory (operand_below width from x bits first few) (operand_below width place y bits second few)) (λ left kept.
-    answer_gives (Keeps device) _ (done_keeps device s (Double operation width origin destination) (double_accesses (register_of s 0) operation width from place) left kept))))))
+    answer_gives (Keeps device) _ (done_keeps device s (Double operation width origin destination) (double_accesses device (register_of s 0) operation width from place) left kept))))))
 
 -- ---- one operand
 
@@ -247,7 +247,7 @@ single_step_gives device s len operation width operand image is h form =
     then_gives (IsLeft device) (Keeps device) _ _
     (single_left_gives device s.ram (grown before width operand) operation width operand place (with_free_bits width place bits x) (register_of s 2 % 2)
     (grown_keeps before width operand started) memory form (operand_below width place x bits first few) (omega arith)) (λ left kept.
-    answer_gives (Keeps device) _ (done_keeps device s (OneOperand operation width operand) (access_to (register_of s 0) false width place ++ access_to (register_of s 0) true width place) left kept))))
+    answer_gives (Keeps device) _ (done_keeps device s (OneOperand operation width operand) (access_to device (register_of s 0) false width place ++ access_to device (register_of s 0) true width place) left kept))))
 
 -- ---- PUSH and CALL
 
@@ -293,7 +293,7 @@ push_gives device s len operation width operand image is h =
     (push_left_gives device s.ram (grown before width operand) operation width (with_free_bits width place bits x) (behind s len)
     (grown_keeps before width operand started) memory (operand_below width place x bits first few) next.below) (λ left kept.
     answer_gives (Keeps device) _ (done_keeps device s (OneOperand operation width operand)
-    (access_to (register_of s 0) false width place ++ access_to (register_of s 0) true Word (InMemory (lowered (slice_index (grown before width operand) 1)))) left kept)))))
+    (access_to device (register_of s 0) false width place ++ access_to device (register_of s 0) true Word (InMemory (lowered (slice_index (grown before width operand) 1)))) left kept)))))
 
 one_operand_gives : (device : Device) (s : ChipState) (len : ℕ) (operation : SingleOperation) (width : Width) (operand : Source)
     → All IsByte device.image → IsChipState device s → len % 2 ≡ 0 → AreSingle operation width operand → Gives (Keeps device) (one_operand device s len operation width operand)
@@ -332,7 +332,7 @@ return_gives device s image is =
     then_gives (λ (w : ℕ). w < 65536) (Keeps device) _ _ (read_word_gives device s.ram _ memory) (λ status a.
     then_gives (λ (w : ℕ). w < 65536) (Keeps device) _ _ (read_word_gives device s.ram _ memory) (λ target b.
     answer_gives (Keeps device) _ (done_keeps device s ReturnFromInterrupt
-    (Access (register_of s 0) Mem false 2 (register_of s 1) ∷ Access (register_of s 0) Mem false 2 ((register_of s 1 + 2) % 65536) ∷ [])
+    (Access (register_of s 0) Mem false 2 (aligned device Word (register_of s 1)) ∷ Access (register_of s 0) Mem false 2 (aligned device Word ((register_of s 1 + 2) % 65536)) ∷ [])
     (record { registers = slice_set (slice_set (slice_set s.registers 0 (even target)) 1 ((register_of s 1 + 4) % 65536)) 2 (status % 512); ram = s.ram; hit = None })
     (record {
       registers = set_status _ (status % 512) (set_sp _ _ (set_pc s.registers (even target) (state_registers device s is) (even_below target b) (even_is target)) risen.below risen.whole) (omega arith);

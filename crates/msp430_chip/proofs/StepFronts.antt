@@ -26,7 +26,7 @@ use Rattle.msp430_chip.specs.declared.device.Device.{Device}
 use Rattle.msp430_chip.specs.declared.state.ChipState.{ChipState}
 use Rattle.choosing.specs.Asking.{answer, ask_if, and_then}
 use Rattle.msp430_chip.specs.Interrupts.{may_come, coming, enter}
-use Rattle.msp430_chip.specs.Memory.{read_outside, read_byte, read_word, read}
+use Rattle.msp430_chip.specs.Memory.{aligned, read_outside, read_byte, read_word, read}
 use Rattle.msp430_chip.specs.Step.{Left, behind, is_formed_by_stack, with_lowered, destination_value, status_bits, double_left, counter, double, single_left, single, pushed_word, pushed, push_left, push, one_operand, return, executed, run, taken, step_of}
 use Rattle.choosing.specs.Fronts.{AsksAtMost, answer_asks, more_asks, ask_asks, ask_if_asks, if_asks, choose_asks, then_asks}
 
@@ -46,7 +46,7 @@ word_asks device ram at = then_asks 1 1 _ _ (byte_asks device ram _) (λ (low : 
 
 read_asks : (device : Device) (ram : List ℕ) (width : Width) (at : ℕ) → AsksAtMost 2 (read device ram width at)
 read_asks device ram Word at = word_asks device ram at
-read_asks device ram Byte at = more_asks 1 2 _ (omega arith) (byte_asks device ram at)
+read_asks device ram Byte at = more_asks 1 2 _ (omega arith) (byte_asks device ram (aligned device Byte at))
 
 enter_asks : (device : Device) (s : ChipState) (vector : ℕ) → AsksAtMost 1 (enter device s vector)
 unfolding enter

@@ -8,7 +8,7 @@ use Rattle.msp430_decode.specs.declared.instr.Width.TheVariants.{Word}
 use Rattle.msp430_chip.specs.declared.device.Device.{Device}
 use Rattle.msp430_chip.specs.declared.state.ChipState.{ChipState}
 use Rattle.choosing.specs.Asking.{Asking, answer, ask, ◌>>=◌}
-use Rattle.msp430_chip.specs.Memory.{with_stored, program_hit}
+use Rattle.msp430_chip.specs.Memory.{aligned, with_stored, program_hit}
 use Rattle.msp430_chip.specs.Outcome.{Outcome, unless_hit}
 use Rattle.msp430_chip.specs.State.{even, register_of, allows_interrupts, image_word}
 
@@ -49,7 +49,8 @@ entry device s vector bits =
     let first = (sp + 65534) % 65536 in
     let second = (sp + 65532) % 65536 in
     unless_hit (first_hit (program_hit device Word first) (program_hit device Word second))
-    (Stack pc sp ∷ Access pc Mem true 2 first ∷ Access pc Mem true 2 second ∷ Edge pc (handler_of device vector) ∷ [])
+    (Stack pc sp ∷ Access pc Mem true 2 (aligned device Word first) ∷ Access pc Mem true 2 (aligned device Word second)
+    ∷ Edge pc (handler_of device vector) ∷ [])
     (record {
       registers = entered device s vector;
       ram = with_stored device (with_stored device s.ram Word first pc) Word second (register_of s 2 + 512 * bits);

@@ -25,7 +25,7 @@ use Rattle.msp430_chip.specs.declared.state.ChipState.{ChipState}
 use Rattle.msp430_chip.specs.declared.state.Wild.TheVariants.{NoInstr}
 use Rattle.msp430_chip.specs.Arithmetic.{Made, modulus, digits_of, top_place, made, result_of, single_result, sets_flags, single_sets_flags, writes_result, reads_destination}
 use Rattle.msp430_chip.specs.Interrupts.{coming, entry}
-use Rattle.msp430_chip.specs.Memory.{is_ram}
+use Rattle.msp430_chip.specs.Memory.{aligned, is_ram}
 use Rattle.msp430_chip.specs.Operands.{value_in, grown, source_place, destination_place, is_status, has_free_bits, with_free_bits, access_to}
 use Rattle.msp430_chip.specs.Outcome.{Outcome}
 use Rattle.msp430_chip.specs.State.{even, register_of}
@@ -42,13 +42,13 @@ pub data MayReadByte (device : Device) (ram : List ℕ) (at byte : ℕ) : Type 0
 pub record MayReadWord (device : Device) (ram : List ℕ) (at word : ℕ) : Type 0 where
   pub low : ℕ
   pub high : ℕ
-  pub reads_low : MayReadByte device ram (even at) low
-  pub reads_high : MayReadByte device ram (even at + 1) high
+  pub reads_low : MayReadByte device ram (aligned device Word at) low
+  pub reads_high : MayReadByte device ram (aligned device Word at + 1) high
   pub word_is : word ≡ low + 256 * high
 
 abbrev pub MayRead : Device → List ℕ → Width → (at x : ℕ) → Type 0
 MayRead device ram Word at x = MayReadWord device ram at x
-MayRead device ram Byte at x = MayReadByte device ram at x
+MayRead device ram Byte at x = MayReadByte device ram (aligned device Byte at) x
 
 -- what may stand at a place, but for the bits of SR that nothing holds
 abbrev pub MayStandAt : Device → List ℕ → List ℕ → Width → Place → ℕ → Type 0
@@ -128,7 +128,7 @@ pub record MayDouble (device : Device) (s : ChipState) (len : ℕ) (operation : 
   pub leaves : MayLeaveDouble device s.ram (slice_set (behind_source s counted width source) 0 (behind s len)) operation width (place_of s len counted width source destination)
       (with_free_bits width (origin_of s counted source) bits x) (with_free_bits width (place_of s len counted width source destination) bits y) (register_of s 2 % 2) left
   pub outcome_is : outcome ≡ done s (Double operation width source destination)
-      (double_accesses (register_of s 0) operation width (origin_of s counted source) (place_of s len counted width source destination)) left
+      (double_accesses device (register_of s 0) operation width (origin_of s counted source) (place_of s len counted width source destination)) left
 
 -- ONE OPERAND
 
@@ -147,7 +147,7 @@ pub record MaySingle (device : Device) (s : ChipState) (len : ℕ) (operation : 
   pub leaves : MayLeaveSingle device s.ram (behind_source s (behind s len) width operand) operation width (origin_of s (behind s len) operand)
       (with_free_bits width (origin_of s (behind s len) operand) bits x) (register_of s 2 % 2) left
   pub outcome_is : outcome ≡ done s (OneOperand operation width operand)
-      (access_to (register_of s 0) false width (origin_of s (behind s len) operand) ++ access_to (register_of s 0) true width (origin_of s (behind s len) operand)) left
+      (access_to device (register_of s 0) false width (origin_of s (behind s len) operand) ++ access_to device (register_of s 0) true width (origin_of s (behind s len) operand)) left
 
 -- PUSH AND CALL
 
@@ -174,8 +174,8 @@ pub record MayPush (device : Device) (s : ChipState) (len : ℕ) (operation : Si
   pub free : IsOption (has_free_bits width (pushed_place s len option operand)) 128 bits
   pub leaves : MayLeavePush device s.ram (behind_source s (behind s len) width operand) operation width
       (with_free_bits width (pushed_place s len option operand) bits x) (behind s len) left
-  pub outcome_is : outcome ≡ done s (OneOperand operation width operand) (access_to (register_of s 0) false width (pushed_place s len option operand)
-      ++ access_to (register_of s 0) true Word (InMemory (lowered (slice_index (behind_source s (behind s len) width operand) 1)))) left
+  pub outcome_is : outcome ≡ done s (OneOperand operation width operand) (access_to device (register_of s 0) false width (pushed_place s len option operand)
+      ++ access_to device (register_of s 0) true Word (InMemory (lowered (slice_index (behind_source s (behind s len) width operand) 1)))) left
 
 -- RETI
 
@@ -184,7 +184,7 @@ pub record MayReturn (device : Device) (s : ChipState) (outcome : Outcome ChipSt
   pub target : ℕ
   pub reads_status : MayReadWord device s.ram (register_of s 1) status
   pub reads_target : MayReadWord device s.ram ((register_of s 1 + 2) % 65536) target
-  pub outcome_is : outcome ≡ returned s status target
+  pub outcome_is : outcome ≡ returned device s status target
 
 -- STEPS
 

@@ -87,6 +87,6 @@ abbrev pub with_free_bits : Width → Place → ℕ → ℕ → ℕ
 with_free_bits width place bits value = if has_free_bits width place then value + 512 * bits else value
 
 -- the access of an operand in memory
-abbrev pub access_to : ℕ → Bool → Width → Place → List Single
-access_to pc write width (InMemory address) = Access pc Mem write (size_of width) (aligned width address) ∷ []
-access_to pc write width other = []
+abbrev pub access_to : Device → ℕ → Bool → Width → Place → List Single
+access_to device pc write width (InMemory address) = Access pc Mem write (size_of width) (aligned device width address) ∷ []
+access_to device pc write width other = []

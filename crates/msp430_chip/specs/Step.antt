@@ -31,7 +31,7 @@ use Rattle.msp430_chip.specs.declared.state.Wild.TheVariants.{NoInstr}
 use Rattle.msp430_chip.specs.Arithmetic.{result_of, single_result, sets_flags, single_sets_flags, writes_result, reads_destination, with_made_flags}
 use Rattle.choosing.specs.Asking.{Asking, answer, ask, ask_if, and_then, ◌>>=◌}
 use Rattle.msp430_chip.specs.Interrupts.{coming, enter}
-use Rattle.msp430_chip.specs.Memory.{read_word, with_stored, program_hit}
+use Rattle.msp430_chip.specs.Memory.{aligned, read_word, with_stored, program_hit}
 use Rattle.msp430_chip.specs.Operands.{with_register, grown, source_place, destination_place, value_at, is_status, has_free_bits, with_free_bits, access_to}
 use Rattle.msp430_chip.specs.Outcome.{Outcome, unless_hit}
 use Rattle.choosing.specs.Outcome.Outcome.{Wild}
@@ -107,19 +107,19 @@ double_left device ram registers operation width place x y carry choices =
     else and_then (result_of operation width x y carry) (λ made.
     answer (with_status made.1 (put_if (writes_result operation) device registers ram width place made.0))) choices
 
-abbrev pub reads_if : Bool → ℕ → Width → Place → List Single
-reads_if true pc width place = access_to pc false width place
-reads_if false pc width place = []
+abbrev pub reads_if : Bool → Device → ℕ → Width → Place → List Single
+reads_if true device pc width place = access_to device pc false width place
+reads_if false device pc width place = []
 
-abbrev pub writes_if : Bool → ℕ → Width → Place → List Single
-writes_if true pc width place = access_to pc true width place
-writes_if false pc width place = []
+abbrev pub writes_if : Bool → Device → ℕ → Width → Place → List Single
+writes_if true device pc width place = access_to device pc true width place
+writes_if false device pc width place = []
 
 -- the source is read, then the destination, and then it is written
-abbrev pub double_accesses : ℕ → Operation → Width → Place → Place → List Single
-double_accesses pc operation width origin place =
-    access_to pc false width origin ++ reads_if (reads_destination operation) pc width place
-    ++ writes_if (writes_result operation) pc width place
+abbrev pub double_accesses : Device → ℕ → Operation → Width → Place → Place → List Single
+double_accesses device pc operation width origin place =
+    access_to device pc false width origin ++ reads_if (reads_destination operation) device pc width place
+    ++ writes_if (writes_result operation) device pc width place
 
 -- As MOV @R5+,0(R5) with 0200h in R5: the word at 0200h is read, R5 is then 0202h, and so the word is written at 0202h.
 unfoldable pub double : Device → ChipState → ℕ → Operation → Width → Source → Destination → Asking (Outcome ChipState)
@@ -137,7 +137,7 @@ double device s len operation width source destination = do
   let first = with_free_bits width origin bits x
   let second = with_free_bits width place bits y
   left ← double_left device s.ram at_write operation width place first second (register_of s 2 % 2)
-  answer (done s (Double operation width source destination) (double_accesses pc operation width origin place) left)
+  answer (done s (Double operation width source destination) (double_accesses device pc operation width origin place) left)
 
 -- ONE OPERAND
 
@@ -161,7 +161,7 @@ single device s len operation width operand = do
   bits ← ask_if (has_free_bits width place) 128
   let value = with_free_bits width place bits x
   left ← single_left device s.ram behind_operand operation width place value (register_of s 2 % 2)
-  answer (done s (OneOperand operation width operand) (access_to pc false width place ++ access_to pc true width place) left)
+  answer (done s (OneOperand operation width operand) (access_to device pc false width place ++ access_to device pc true width place) left)
 
 -- PUSH AND CALL
 
@@ -210,7 +210,7 @@ push device s len operation width operand = do
   let value = with_free_bits width place bits x
   left ← push_left device s.ram at_push operation width value (behind s len)
   let slot = InMemory (lowered (slice_index at_push 1))
-  answer (done s (OneOperand operation width operand) (access_to pc false width place ++ access_to pc true Word slot) left)
+  answer (done s (OneOperand operation width operand) (access_to device pc false width place ++ access_to device pc true Word slot) left)
 
 abbrev pub one_operand : Device → ChipState → ℕ → SingleOperation → Width → Source → Asking (Outcome ChipState)
 one_operand device s len Push width operand = push device s len Push width operand
@@ -236,11 +236,13 @@ jump s condition offset =
     done s (Jump condition offset) [] (record { registers = slice_set s.registers 0 next; ram = s.ram; hit = None })
 
 -- RETI takes SR from the stack, and then PC
-abbrev pub returned : ChipState → (status target : ℕ) → Outcome ChipState
-returned s status target =
+abbrev pub returned : Device → ChipState → (status target : ℕ) → Outcome ChipState
+returned device s status target =
     let pc = register_of s 0 in
     let sp = register_of s 1 in
-    done s ReturnFromInterrupt (Access pc Mem false 2 sp ∷ Access pc Mem false 2 ((sp + 2) % 65536) ∷ []) (record {
+    let first = aligned device Word sp in
+    let second = aligned device Word ((sp + 2) % 65536) in
+    done s ReturnFromInterrupt (Access pc Mem false 2 first ∷ Access pc Mem false 2 second ∷ []) (record {
       registers = slice_set (slice_set (slice_set s.registers 0 (even target)) 1 ((sp + 4) % 65536)) 2 (status % 512);
       ram = s.ram;
       hit = None;
@@ -250,7 +252,7 @@ unfoldable pub return : Device → ChipState → Asking (Outcome ChipState)
 return device s = do
   status ← read_word device s.ram (register_of s 1)
   target ← read_word device s.ram ((register_of s 1 + 2) % 65536)
-  answer (returned s status target)
+  answer (returned device s status target)
 
 -- STEPS
 

@@ -1,10 +1,12 @@
 //! What holds of all steps.
 
-ghost use Rattle.std.specs.Prelude.{◌≡◌, ◌++◌, ◌-◌, ◌<◌, ◌≤◌, ℕ, All, IsSome, List, Some, length, slice_index};
+ghost use Rattle.std.specs.Prelude.{◌≡◌, ◌++◌, ◌+◌, ◌-◌, ◌%◌, ◌<◌, ◌≤◌, ℕ, All, IsSome, List, Some, length, slice_index};
 ghost use Rattle.image.specs.Image.{IsByte};
 ghost use Rattle.chip_numbers.specs.Single.{Single};
 ghost use Rattle.msp430_decode.specs.declared.instr.Instr.{Instr as AnInstr};
 ghost use Rattle.msp430_decode.specs.declared.instr.Register.{Register as ARegister};
+ghost use Rattle.msp430_decode.specs.declared.instr.Width.{Width as AWidth};
+ghost use Rattle.msp430_decode.specs.declared.instr.Width.TheVariants.{Word};
 ghost use Rattle.msp430_decode.specs.declared.refusal.NoInstr.TheVariants.{Excluded, OffImage};
 ghost use Rattle.msp430_decode.specs.Standing.{IsExcluded, Lacks, Stands};
 ghost use Rattle.choosing.specs.Gives.{Gives};
@@ -16,6 +18,7 @@ ghost use Rattle.msp430_chip.specs.declared.state.Wild.TheVariants.{NoInstr};
 ghost use Rattle.msp430_chip.specs.Interrupts.{coming, enter};
 ghost use Rattle.msp430_chip.specs.Kinds.{Kind};
 ghost use Rattle.msp430_chip.specs.Leading.{MayLead, MayRun};
+ghost use Rattle.msp430_chip.specs.Memory.{aligned, size_of, HasRam};
 ghost use Rattle.msp430_chip.specs.State.{IsChipState, IsResetOf, first_state, register_of};
 ghost use Rattle.msp430_chip.specs.Step.{Step, executed, interrupt_option, step_of};
 
@@ -72,6 +75,12 @@ pub fn the_table_decides()
 {
     decoded_is_the_answer();
 }
+
+/// On a device with RAM the access at an address is made in memory, and that of a word at an even address.
+pub fn accesses_are_in_memory()
+    ensures even { (device : ADevice) (at : ℕ) → HasRam device → aligned device Word at % 2 ≡ 0 }
+    ensures fits { (device : ADevice) (width : AWidth) (at : ℕ) → HasRam device → at < 65536 → aligned device width at + size_of width ≤ 65536 }
+{}
 
 /// A register is PC, SP, SR or R3, or it is one of R4 to R15, which are alike.
 pub fn registers_of_five_kinds()

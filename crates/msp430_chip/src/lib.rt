@@ -23,8 +23,8 @@ mod state;
 
 pub use device::Device;
 pub use law::{
-    a_reset_exists, one_front, registers_of_five_kinds, steps_are_taken, steps_keep_form,
-    steps_lead, the_table_decides,
+    a_reset_exists, accesses_are_in_memory, one_front, registers_of_five_kinds, steps_are_taken,
+    steps_keep_form, steps_lead, the_table_decides,
 };
 pub use place::{Flags, Place};
 pub use ram::Ram;

@@ -32,10 +32,12 @@ fn copies_of_devices(rt: HostRuntime) -> Result<(), Fail> {
         image,
         lo: 0x0200,
         hi: 0x02FF,
+        mirror: Some((0x1000, 0x10FF)),
     };
     let copy = device.copy(rt.alloc())?;
     assert_eq!(rt; copy.lo, 0x0200);
     assert_eq!(rt; copy.hi, 0x02FF);
+    assert_eq!(rt; copy.mirror, Some((0x1000, 0x10FF)));
     assert_eq!(rt; copy.image.byte(0xFFFE), Some(0x40));
     assert_eq!(rt; copy.image.byte(0xFFFF), None);
     Ok(())

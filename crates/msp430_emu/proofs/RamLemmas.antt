@@ -22,4 +22,4 @@ pub bytes_kept : (device : Device) (ram : List ℕ) (width : Width) (at value : 
     → All (λ b. b < 256) (with_stored device ram width at value)
 bytes_kept device ram Word at value below bytes =
     byte_kept device _ _ (value / 256) (omega arith) (byte_kept device ram _ (value % 256) (omega arith) bytes)
-bytes_kept device ram Byte at value below bytes = byte_kept device ram at value below bytes
+bytes_kept device ram Byte at value below bytes = byte_kept device ram _ value below bytes

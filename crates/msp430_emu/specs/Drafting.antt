@@ -11,7 +11,7 @@ use Rattle.msp430_decode.specs.declared.instr.Source.{Source}
 use Rattle.msp430_decode.specs.declared.instr.Width.{Width}
 use Rattle.msp430_chip.specs.declared.device.Device.{Device}
 use Rattle.msp430_chip.specs.declared.state.ChipState.{ChipState}
-use Rattle.msp430_chip.specs.Memory.{with_stored, program_hit, size_of}
+use Rattle.msp430_chip.specs.Memory.{aligned, with_stored, program_hit, size_of}
 use Rattle.msp430_chip.specs.Outcome.{Outcome}
 use Rattle.msp430_chip.specs.State.{register_of}
 use Rattle.choosing.specs.Asking.{Asking, answer, and_then}
@@ -40,20 +40,22 @@ left_by device ram effect = record {
 }
 
 -- accesses in their order
-abbrev pub shown : ℕ → Option Access → List Single
-shown pc None = []
-shown pc (Some access) = Accessed pc Mem access.write (size_of access.width) access.at ∷ []
+abbrev pub shown : Device → ℕ → Option Access → List Single
+shown device pc None = []
+shown device pc (Some access) =
+    Accessed pc Mem access.write (size_of access.width) (aligned device access.width access.at) ∷ []
 
-abbrev pub all_shown : ℕ → Accesses → List Single
-all_shown pc accesses = shown pc accesses.first ++ shown pc accesses.second ++ shown pc accesses.third
+abbrev pub all_shown : Device → ℕ → Accesses → List Single
+all_shown device pc accesses =
+    shown device pc accesses.first ++ shown device pc accesses.second ++ shown device pc accesses.third
 
 -- what an instruction comes to
 abbrev pub drafted : Device → ChipState → Instr → Draft → Outcome ChipState
 drafted device s instr draft =
-    done s instr (all_shown (register_of s 0) draft.accesses) (left_by device s.ram draft.effect)
+    done s instr (all_shown device (register_of s 0) draft.accesses) (left_by device s.ram draft.effect)
 
 -- an instruction on two operands, behind them
 abbrev pub double_behind : Device → ChipState → Operation → Width → Source → Destination → Operands → Asking (Outcome ChipState)
 double_behind device s operation width source destination operands =
     and_then (double_left device s.ram operands.registers operation width operands.place operands.x operands.y (register_of s 2 % 2)) (λ left.
-    answer (done s (Double operation width source destination) (double_accesses (register_of s 0) operation width operands.origin operands.place) left))
+    answer (done s (Double operation width source destination) (double_accesses device (register_of s 0) operation width operands.origin operands.place) left))

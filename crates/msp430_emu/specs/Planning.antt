@@ -22,9 +22,9 @@ abbrev pub ran : ℕ → Option (ArrayVec ℕ) → List Single
 ran pc None = []
 ran pc (Some bytes) = Instr pc bytes.items ∷ []
 
-abbrev pub singles_of : ChipState → Plan → List Single
-singles_of s plan = let pc = register_of s 0 in
-    Stack pc (register_of s 1) ∷ [] ++ ran pc plan.bytes ++ all_shown pc plan.accesses ++ Edge pc (slice_index plan.registers 0) ∷ []
+abbrev pub singles_of : Device → ChipState → Plan → List Single
+singles_of device s plan = let pc = register_of s 0 in
+    Stack pc (register_of s 1) ∷ [] ++ ran pc plan.bytes ++ all_shown device pc plan.accesses ++ Edge pc (slice_index plan.registers 0) ∷ []
 
 -- the lowest byte of the program that the first store with such a byte would write
 abbrev pub plan_hit : Device → Plan → Option ℕ
@@ -38,7 +38,7 @@ state_after device s plan = record {
 }
 
 abbrev pub planned : Device → ChipState → Plan → Outcome ChipState
-planned device s plan = unless_hit (plan_hit device plan) (singles_of s plan) (state_after device s plan)
+planned device s plan = unless_hit (plan_hit device plan) (singles_of device s plan) (state_after device s plan)
 
 -- what a step comes to, where an instruction stands and where none does
 abbrev pub outcome_of : Device → ChipState → Result Plan ANoInstr → Outcome ChipState

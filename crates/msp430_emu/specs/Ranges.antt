@@ -1,7 +1,18 @@
--- The range of RAM.
-use Rattle.std.specs.Prelude.{ℕ, []}
+-- The range of RAM, with its mirror.
+use Rattle.std.specs.Prelude.{ℕ, Option, None, Some, []}
+use Rattle.std.proofs.Props.{props}
+use Rattle.image.specs.Kept.{HasMirror}
 use Rattle.msp430_chip.specs.declared.device.Device.{Device}
+use Rattle.msp430_chip.specs.Memory.{HasRam}
 
--- a device of which only the range of RAM matters
-abbrev pub range : ℕ → ℕ → Device
-range lo hi = record { image = []; lo = lo; hi = hi }
+-- a device of which only RAM matters
+abbrev pub range : (lo hi : ℕ) → (mirror : Option (ℕ × ℕ)) → Device
+range lo hi mirror = record { image = []; lo = lo; hi = hi; mirror = mirror }
+
+HasMirror-prop : (lo hi : ℕ) → (mirror : Option (ℕ × ℕ)) → IsProp (HasMirror lo hi mirror)
+HasMirror-prop lo hi None = hlevel props
+HasMirror-prop lo hi (Some (first, last)) = hlevel props
+
+-- that a device has RAM is told in one way, so a machine keeps it
+pub HasRam-prop : (device : Device) → IsProp (HasRam device)
+HasRam-prop device = hlevel (HasMirror-prop, props)

@@ -1,16 +1,18 @@
 -- What a step of the machine says of the chip.
-use Rattle.std.specs.Prelude.{◌≡◌, ◌≤◌, ℕ, Option, None, Some, List, map}
+use Rattle.std.specs.Prelude.{◌≡◌, ℕ, Option, None, Some, List, map}
 use Rattle.chip_numbers.specs.Single.{Single}
 use Rattle.image.specs.declared.rule_set.Rules.{Rules}
 use Rattle.image.specs.declared.rule_set.Rules.TheVariants.{Msp430, Mcs51}
 use Rattle.msp430_chip.specs.declared.device.Device.{Device}
 use Rattle.msp430_chip.specs.declared.state.ChipState.{ChipState}
+use Rattle.msp430_chip.specs.Memory.{HasRam}
 use Rattle.msp430_chip.specs.Outcome.{Outcome}
 use Rattle.choosing.specs.Outcome.Outcome.{Next, Wild as LeavesModel}
 use Rattle.msp430_chip.specs.Step.{step_of}
 use Rattle.msp430_emu.specs.declared.stepped.Stepped.{Stepped}
 use Rattle.msp430_emu.specs.declared.stepped.Stepped.TheVariants.{Met, Wild, NeedChoice}
 use Rattle.msp430_emu.specs.Planning.{item_of}
+use Rattle.msp430_emu.specs.Ranges.{range}
 
 -- a step from s with these choices left, to t with that many left
 abbrev pub Steps : Device → ChipState → List ℕ → Stepped → ChipState → List ℕ → Type 0
@@ -26,19 +28,19 @@ IsStill (Met items) = ⊥
 IsStill (Wild cause) = Unit {0}
 IsStill NeedChoice = Unit {0}
 
--- the device of an image and a range of RAM
-abbrev pub device_of : List (Option ℕ) → ℕ → ℕ → Device
-device_of image lo hi = record { image = image; lo = lo; hi = hi }
+-- the device of an image and RAM
+abbrev pub device_of : List (Option ℕ) → (lo hi : ℕ) → (mirror : Option (ℕ × ℕ)) → Device
+device_of image lo hi mirror = record { image = image; lo = lo; hi = hi; mirror = mirror }
 
 -- the rules are those of an MSP430 with RAM
 abbrev pub IsMsp430 : Rules → Type 0
-IsMsp430 (Msp430 lo hi) = lo ≤ hi
+IsMsp430 (Msp430 lo hi mirror) = HasRam (range lo hi mirror)
 IsMsp430 Mcs51 = ⊥
 
 -- the device of an image under rules; those of another chip have none
 abbrev pub device_under : Rules → List (Option ℕ) → Device
-device_under (Msp430 lo hi) image = device_of image lo hi
-device_under Mcs51 image = device_of image 0 0
+device_under (Msp430 lo hi mirror) image = device_of image lo hi mirror
+device_under Mcs51 image = device_of image 0 0 None
 
 -- the answer for an outcome, and the state behind it
 abbrev pub Ends : Outcome ChipState → Stepped → ChipState → Type 0

@@ -106,7 +106,8 @@ fn status_bits(
 
 /// The accesses of an instruction: the source is read, then the destination, and then it is written.
 fn double_accesses(operation: Operation, width: Width, origin: Place, place: Place) -> Accesses
-    ensures { (pc : ℕ) → all_shown pc result ≡ steps.double_accesses pc operation width origin place }
+    ensures { (device : Device) (pc : ℕ) → all_shown device pc result ≡
+        steps.double_accesses device pc operation width origin place }
 {
     Accesses {
         first: access_to(false, width, origin),
@@ -117,8 +118,9 @@ fn double_accesses(operation: Operation, width: Width, origin: Place, place: Pla
 
 /// An access of an operand in memory in some cases.
 fn access_if(is_made: bool, write: bool, width: Width, place: Place) -> Option<Access>
-    ensures made { (pc : ℕ) → is_made ≡ true → shown pc result ≡ operands.access_to pc write width place }
-    ensures none { (pc : ℕ) → is_made ≡ false → shown pc result ≡ [] }
+    ensures made { (device : Device) (pc : ℕ) → is_made ≡ true →
+        shown device pc result ≡ operands.access_to device pc write width place }
+    ensures none { (device : Device) (pc : ℕ) → is_made ≡ false → shown device pc result ≡ [] }
 {
     if is_made {
         access_to(write, width, place)

@@ -15,7 +15,7 @@ pub(crate) struct Store {
     ghost fits: { value < modulus width },
 }
 
-/// A read or a write of a word or a byte, by its lowest address.
+/// A read or a write of a word or a byte at an address.
 #[derive(Clone, Copy)]
 pub(crate) struct Access {
     pub write: bool,

@@ -6,7 +6,7 @@ ghost use Rattle.msp430_emu.specs.Drafting.{shown};
 ghost use Rattle.msp430_emu.specs.Planning.{item_of, ran, singles_of};
 
 use crate::effect::{Access, Plan};
-use crate::memory::size_of;
+use crate::memory::{Layout, size_of};
 use arrayvec::ArrayVec;
 use call_context::{InstrBytes, Item, Set, Space};
 use msp430_chip::ChipState;
@@ -30,9 +30,9 @@ fn push_instr(items: &mut ArrayVec<Item, ROOM>, pc: u16, bytes: &Option<ArrayVec
 }
 
 /// Adds an access, if there is one.
-fn push_access(items: &mut ArrayVec<Item, ROOM>, pc: u16, access: Option<Access>)
+fn push_access(items: &mut ArrayVec<Item, ROOM>, layout: &Layout, pc: u16, access: Option<Access>)
     requires { array_vec_len items.old < 12 }
-    ensures items { items.new.items ≡ items.old.items ++ map item_of (shown pc access) }
+    ensures items { items.new.items ≡ items.old.items ++ map item_of (shown layout.now pc access) }
     ensures len { array_vec_len items.new ≤ array_vec_len items.old + 1 }
 {
     if let Some(access) = access {
@@ -41,14 +41,14 @@ fn push_access(items: &mut ArrayVec<Item, ROOM>, pc: u16, access: Option<Access>
             space: Space::Mem,
             write: access.write,
             size: size_of(access.width),
-            at: Set::W(Vs16::one(access.at)),
+            at: Set::W(Vs16::one(layout.aligned(access.width, access.at))),
         });
     }
 }
 
 /// What a step does, in order.
-pub(crate) fn items_of(s: &ChipState, plan: &Plan) -> ArrayVec<Item, ROOM>
-    ensures { result.items ≡ map item_of (singles_of s.now plan.now) }
+pub(crate) fn items_of(layout: &Layout, s: &ChipState, plan: &Plan) -> ArrayVec<Item, ROOM>
+    ensures { result.items ≡ map item_of (singles_of layout.now s.now plan.now) }
 {
     let pc = s.registers[0];
     let mut items = ArrayVec::new();
@@ -57,9 +57,9 @@ pub(crate) fn items_of(s: &ChipState, plan: &Plan) -> ArrayVec<Item, ROOM>
         at: Set::W(Vs16::one(s.registers[1])),
     });
     push_instr(&mut items, pc, &plan.bytes);
-    push_access(&mut items, pc, plan.accesses.first);
-    push_access(&mut items, pc, plan.accesses.second);
-    push_access(&mut items, pc, plan.accesses.third);
+    push_access(&mut items, layout, pc, plan.accesses.first);
+    push_access(&mut items, layout, pc, plan.accesses.second);
+    push_access(&mut items, layout, pc, plan.accesses.third);
     items.push(Item::Edge {
         from: pc,
         to: plan.registers[0],

@@ -23,10 +23,10 @@ impl Machine {
         ensures zeros { IfOk result (λ machine. machine.state ≡ first_state (device_under rules image.now)) }
         ensures lo { IfOk result (λ machine. machine.lo ≡ (device_under rules image.now).lo) }
         ensures hi { IfOk result (λ machine. machine.hi ≡ (device_under rules image.now).hi) }
+        ensures mirror { IfOk result (λ machine. machine.mirror ≡ (device_under rules image.now).mirror) }
     {
-        let (lo, hi) = match rules {
-            Rules::Msp430 { lo, hi } => (lo, hi),
-            Rules::Mcs51 => (0, 0),
+        let Rules::Msp430 { lo, hi, mirror } = rules else {
+            unreachable!()
         };
         let mut registers = [0; 16];
         registers[0] = even(image_word(image, 0xFFFE));
@@ -34,6 +34,7 @@ impl Machine {
         Ok(Machine {
             lo,
             hi,
+            mirror,
             state: ChipState {
                 registers,
                 ram,
@@ -44,17 +45,19 @@ impl Machine {
 
     /// One step under an image, by the next choices. Where no step is done, machine and choices are as before.
     pub fn step(&mut self, image: &Image, choices: &mut Choices) -> Stepped
-        ensures steps { Steps (device_of image.now self.old.lo self.old.hi) self.old.state choices.old result self.new.state choices.new }
-        ensures form { IsChipState (device_of image.now self.old.lo self.old.hi) self.new.state }
+        ensures steps { Steps (device_of image.now self.old.lo self.old.hi self.old.mirror) self.old.state choices.old result self.new.state choices.new }
+        ensures form { IsChipState (device_of image.now self.old.lo self.old.hi self.old.mirror) self.new.state }
         ensures still { IsStill result → self.new ≡ self.old }
         ensures unused { IsStill result → choices.new ≡ choices.old }
         ensures lo { self.new.lo ≡ self.old.lo }
         ensures hi { self.new.hi ≡ self.old.hi }
+        ensures mirror { self.new.mirror ≡ self.old.mirror }
     {
         let layout = Layout {
             image,
             lo: self.lo,
             hi: self.hi,
+            mirror: self.mirror,
         };
         let mut unused = choices.unused();
         let stepped = advance(&layout, &mut self.state, &mut unused);

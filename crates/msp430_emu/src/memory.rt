@@ -1,31 +1,36 @@
 //! Bytes and words of RAM and of the program.
 
-ghost use Rattle.std.specs.Prelude.{◌≡◌, ◌<◌, IfSome, length};
+ghost use Rattle.std.specs.Prelude.{◌≡◌, ◌+◌, ◌<◌, ◌≤◌, IfSome, length};
 ghost use Rattle.msp430_chip.specs.Arithmetic.{modulus};
 ghost use Rattle.msp430_chip.specs.Memory as memory;
+ghost use Rattle.msp430_chip.specs.Memory.{HasRam};
 ghost use Rattle.msp430_chip.specs.State as state;
 ghost use Rattle.choosing.specs.Choosing.{asked};
 
 use choosing::Unused;
 use image::Image;
-use msp430_chip::Ram;
+use msp430_chip::{Ram, accesses_are_in_memory};
 use msp430_decode::Width;
 use std::marker::Model;
 
-/// A program and where RAM stands. Contracts see the device.
+/// A program, and where RAM stands and its mirror. Contracts see the device.
 #[derive(Drop)]
 pub(crate) struct Layout<'a> {
     pub image: &'a Image,
     pub lo: u16,
     pub hi: u16,
+    pub mirror: Option<(u16, u16)>,
 }
 
 impl<'a> Model for Layout<'a> {
     ghost use Rattle.msp430_chip.specs.declared.device.Device.{Device};
+    ghost use Rattle.msp430_chip.specs.Memory.{HasRam};
 
     ghost Value = { Device };
 
-    ghost view = { λ l. record { image = l.image.now; lo = l.lo; hi = l.hi } };
+    ghost view = { λ l. record { image = l.image.now; lo = l.lo; hi = l.hi; mirror = l.mirror } };
+
+    ghost invariant = { λ l. HasRam (record { image = l.image.now; lo = l.lo; hi = l.hi; mirror = l.mirror }) };
 }
 
 /// A word without bit 0.
@@ -33,16 +38,6 @@ pub(crate) fn even(word: u16) -> u16
     ensures { result ≡ state.even word }
 {
     word - word % 2
-}
-
-/// The address of an access: that of a word is even.
-pub(crate) fn aligned(width: Width, at: u16) -> u16
-    ensures { result ≡ memory.aligned width at }
-{
-    match width {
-        Width::Word => even(at),
-        Width::Byte => at,
-    }
 }
 
 /// How many bytes an access has.
@@ -56,6 +51,37 @@ pub(crate) fn size_of(width: Width) -> u8
 }
 
 impl<'a> Layout<'a> {
+    /// RAM of whole words.
+    fn keeps_ram(&self)
+        ensures { HasRam self.now }
+    {
+        let _lo = self.lo;
+    }
+
+    /// An address of the mirror as that of RAM.
+    fn canon(&self, at: u16) -> u16
+        ensures { result ≡ memory.canon self.now at }
+    {
+        self.keeps_ram();
+        match self.mirror {
+            Some((first, last)) if first <= at && at <= last => self.lo + (at - first),
+            _ => at,
+        }
+    }
+
+    /// Where an access is made: bit 0 of a word's address doesn't count.
+    pub(crate) fn aligned(&self, width: Width, at: u16) -> u16
+        ensures value { result ≡ memory.aligned self.now width at }
+        ensures room { result + memory.size_of width ≤ 65536 }
+    {
+        self.keeps_ram();
+        accesses_are_in_memory();
+        match width {
+            Width::Word => self.canon(even(at)),
+            Width::Byte => self.canon(at),
+        }
+    }
+
     fn is_ram(&self, at: u16) -> bool
         ensures { result ≡ memory.is_ram self.now at }
     {
@@ -85,14 +111,15 @@ pub(crate) fn read_byte(layout: &Layout, ram: &Ram, at: u16, choices: &mut Unuse
     }
 }
 
-/// A word. Bit 0 of its address doesn't count.
+/// A word.
 #[tactic(auto, unfolding(msp430_chip::specs::Memory::read_word))]
 pub(crate) fn read_word(layout: &Layout, ram: &Ram, at: u16, choices: &mut Unused) -> Option<u16>
     requires { length ram.now ≡ state.ram_size layout.now }
     ensures exact { asked result choices.new ≡ memory.read_word layout.now ram.now at choices.old }
 {
-    let low = read_byte(layout, ram, even(at), choices)?;
-    let high = read_byte(layout, ram, even(at) + 1, choices)?;
+    let first = layout.aligned(Width::Word, at);
+    let low = read_byte(layout, ram, first, choices)?;
+    let high = read_byte(layout, ram, first + 1, choices)?;
     Some(low + 256 * high)
 }
 
@@ -110,7 +137,7 @@ pub(crate) fn read(
 {
     match width {
         Width::Word => read_word(layout, ram, at, choices),
-        Width::Byte => read_byte(layout, ram, at, choices),
+        Width::Byte => read_byte(layout, ram, layout.aligned(width, at), choices),
     }
 }
 
@@ -132,26 +159,27 @@ pub(crate) fn store(layout: &Layout, ram: &mut Ram, width: Width, at: u16, value
     ensures stored { ram.new ≡ memory.with_stored layout.now ram.old width at value }
     ensures length { length ram.new ≡ length ram.old }
 {
+    let first = layout.aligned(width, at);
     match width {
         Width::Word => {
-            store_byte(layout, ram, even(at), (value % 256) as u8);
-            store_byte(layout, ram, even(at) + 1, (value / 256) as u8);
+            store_byte(layout, ram, first, (value % 256) as u8);
+            store_byte(layout, ram, first + 1, (value / 256) as u8);
         }
-        Width::Byte => store_byte(layout, ram, at, value as u8),
+        Width::Byte => store_byte(layout, ram, first, value as u8),
     }
 }
 
 /// The lowest byte of the program that a store would write.
-#[tactic(auto, unfolding(msp430_chip::specs::Memory::program_hit))]
+#[tactic(auto, unfolding(msp430_chip::specs::Memory::hit_at))]
 pub(crate) fn program_hit(layout: &Layout, width: Width, at: u16) -> Option<u16>
     ensures { result ≡ memory.program_hit layout.now width at }
 {
-    let first = aligned(width, at);
+    let first = layout.aligned(width, at);
     if layout.is_program(first) {
         return Some(first);
     }
     match width {
-        Width::Word if layout.is_program(first + 1) => Some(first + 1),
+        Width::Word if layout.is_program(first.wrapping_add(1)) => Some(first + 1),
         _ => None,
     }
 }

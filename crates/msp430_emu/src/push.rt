@@ -111,8 +111,8 @@ fn push_left(
 
 /// The accesses of a push: the operand is read, and a word is written below SP.
 fn push_accesses(width: Width, place: Place, sp: u16) -> Accesses
-    ensures { (pc : ℕ) → all_shown pc result ≡
-        operands.access_to pc false width place ++ operands.access_to pc true widths.Word (places.InMemory (steps.lowered sp)) }
+    ensures { (device : Device) (pc : ℕ) → all_shown device pc result ≡ operands.access_to device pc false width place
+        ++ operands.access_to device pc true widths.Word (places.InMemory (steps.lowered sp)) }
 {
     Accesses {
         first: None,

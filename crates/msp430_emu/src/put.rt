@@ -12,7 +12,6 @@ ghost use Rattle.msp430_emu.specs.Registers.{AreRegisters};
 
 use crate::arithmetic::with_made_flags;
 use crate::effect::{Access, Effect, Store};
-use crate::memory::aligned;
 use crate::operands::with_register;
 use choosing::Unused;
 use msp430_chip::{Flags, Place};
@@ -78,14 +77,10 @@ pub(crate) fn with_status(flags: Option<Flags>, effect: Effect) -> Effect
 
 /// The access of an operand in memory.
 pub(crate) fn access_to(write: bool, width: Width, place: Place) -> Option<Access>
-    ensures { (pc : ℕ) → shown pc result ≡ operands.access_to pc write width place }
+    ensures { (device : Device) (pc : ℕ) → shown device pc result ≡ operands.access_to device pc write width place }
 {
     match place {
-        Place::InMemory(address) => Some(Access {
-            write,
-            width,
-            at: aligned(width, address),
-        }),
+        Place::InMemory(at) => Some(Access { write, width, at }),
         _ => None,
     }
 }

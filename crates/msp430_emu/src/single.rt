@@ -51,7 +51,8 @@ fn single_left(
 
 /// The accesses of an operand that is read and written.
 fn single_accesses(width: Width, place: Place) -> Accesses
-    ensures { (pc : ℕ) → all_shown pc result ≡ operands.access_to pc false width place ++ operands.access_to pc true width place }
+    ensures { (device : Device) (pc : ℕ) → all_shown device pc result ≡
+        operands.access_to device pc false width place ++ operands.access_to device pc true width place }
 {
     Accesses {
         first: None,

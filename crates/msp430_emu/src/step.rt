@@ -171,7 +171,7 @@ fn finish(layout: &Layout, state: &mut ChipState, found: Result<Plan, NoInstr>) 
     match plan_hit(layout, &plan) {
         Some(at) => Stepped::Wild(Wild::Store(at)),
         None => {
-            let items = items_of(state, &plan);
+            let items = items_of(layout, state, &plan);
             commit(layout, state, &plan);
             Stepped::Met(items)
         }

@@ -17,6 +17,9 @@ const LO: u16 = 0x0200;
 
 const HI: u16 = 0x027F;
 
+/// Where the lower half of RAM answers a second time.
+const MIRROR: (u16, u16) = (0x0A00, 0x0A3F);
+
 /// The byte of RAM at an address.
 fn ram_byte(machine: &Machine, at: u16) -> Option<u8> {
     if machine.lo <= at && at <= machine.hi {
@@ -115,7 +118,12 @@ fn stepped(
     choices: &mut Choices,
     steps: u8,
 ) -> Result<Option<(Machine, ArrayVec<Item, 12>)>, AllocError> {
-    let Ok(mut machine) = Machine::reset(alloc, image, Rules::Msp430 { lo: LO, hi: HI }) else {
+    let rules = Rules::Msp430 {
+        lo: LO,
+        hi: HI,
+        mirror: Some(MIRROR),
+    };
+    let Ok(mut machine) = Machine::reset(alloc, image, rules) else {
         return Err(AllocError);
     };
     let mut items = ArrayVec::new();
