@@ -79,7 +79,7 @@ zero_operand : (laws : Premises) (first : Option Suspended) (width : Width) → 
 zero_operand laws first Words = let is = single_is laws 65536 0 (omega arith) in record { values = is; holds = λ e. (is.has, tt) }
 zero_operand laws first Byte =
     let is = single_is laws 65536 0 (omega arith) in
-    record { values = record { normal = laws.low_normal (single 0) is.normal; has = laws.low 0 (single 0) is.normal is.has }; holds = λ e. absurd (cc) }
+    record { values = record { normal = laws.known.bits.low_normal (single 0) is.normal; has = laws.known.bits.low 0 (single 0) is.normal is.has }; holds = λ e. absurd (cc) }
 
 target_held : (laws : Premises) (device : Device) (framed : Bool) (a : Known) (counted : Form) (first : Option ChipState) (registers ram : List ℕ) → IsOnTheWay device framed a counted first registers ram
     → AreKinds → IsDevice device → (reads : Bool) (width : Width) (reach : Reach) (stands : Place) (y bits : ℕ) → IsReached reach stands → is_status stands ≡ false → MayStandIf reads device ram registers width stands y → bits < 128
@@ -149,7 +149,7 @@ doubled_row laws first device ram registers pc len done width origin target one 
     let d = with_free_bits width (place.InRegister register) bits y in
     let same : s ≡ d = same_values device ram registers pc len width register x y bits these.stands these.held in
     let is : sum width d s 0 ≡ made_so = same_Some (sum width d s 0) made_so made_by in
-    subst (HoldsOfMade width (twice_flags width (values_of width other))) (ap (λ n. sum width d n 0) (sym same) ∙ is) (laws.twice_result width d (values_of width other) these.target_so.values) in
+    subst (HoldsOfMade width (twice_flags width (values_of width other))) (ap (λ n. sum width d n 0) (sym same) ∙ is) (laws.results.twice width d (values_of width other) these.target_so.values) in
     subst (λ o. P o origin target) (sym is_add)
     (subst (λ f. P operation.Add f target) (sym from) (subst (λ t. P operation.Add (source.Register register) t) (sym to) plain)) are may
 
@@ -160,7 +160,7 @@ pub made_holds : (laws : Premises) (first : Option Suspended) (device : Device) 
 made_holds laws first device ram registers pc len done width origin target one other x y bits carry c made_so bit are may =
     cond_both (is_doubled done origin target) (twice_flags width (values_of width other)) (double_made done width (values_of width one) (values_of width other) c) (λ (set_so : MadeSet). HoldsOfMade width set_so made_so)
     (λ e. doubled_row laws first device ram registers pc len done width origin target one other x y bits carry made_so (doubled_is done origin target e) are may)
-    (λ e. laws.double_result done width (with_free_bits width (source_place pc registers origin) bits x) (with_free_bits width (destination_place pc len (grown registers width origin) target) bits y) carry
+    (λ e. laws.results.double done width (with_free_bits width (source_place pc registers origin) bits x) (with_free_bits width (destination_place pc len (grown registers width origin) target) bits y) carry
     (values_of width one) (values_of width other) c made_so are.source.values are.target_so.values bit may)
 
 -- the relation of the result
@@ -204,7 +204,7 @@ double_leaves laws kinds device framed a s first len counted done width origin t
     let suspended = option_map suspended_of first in
     let counted_so = counter_set pc len origin target in
     let count_is = counter_is laws s len origin target counted counts in
-    let small = laws.below 65536 counted counted_so count_is.normal count_is.has in
+    let small = laws.known.sets.below 65536 counted counted_so count_is.normal count_is.has in
     let on = on_the_way device framed a counted_so first s counted under.form under.holds small count_is in
     let grown_so = grown_known a counted_so width origin in
     let on_grown = grown_on laws device framed a counted_so first (at_source s counted) s.ram on kinds width origin from_so in

@@ -45,13 +45,13 @@ joined_first : (laws : Premises) (x y : ℕ) → x < 65536 → y < 65536 → IsR
 joined_first laws x y h k =
     let one = single_is laws 65536 x h in
     let other = single_is laws 65536 y k in
-    record { normal = laws.join_normal 65536 (single x) (single y) one.normal other.normal; has = laws.join_first 65536 (single x) (single y) one.normal other.normal x one.has }
+    record { normal = laws.known.sets.join_normal 65536 (single x) (single y) one.normal other.normal; has = laws.known.sets.join_first 65536 (single x) (single y) one.normal other.normal x one.has }
 
 joined_second : (laws : Premises) (x y : ℕ) → x < 65536 → y < 65536 → IsResult 65536 (join 65536 (single x) (single y)) y
 joined_second laws x y h k =
     let one = single_is laws 65536 x h in
     let other = single_is laws 65536 y k in
-    record { normal = laws.join_normal 65536 (single x) (single y) one.normal other.normal; has = laws.join_second 65536 (single x) (single y) one.normal other.normal y other.has }
+    record { normal = laws.known.sets.join_normal 65536 (single x) (single y) one.normal other.normal; has = laws.known.sets.join_second 65536 (single x) (single y) one.normal other.normal y other.has }
 
 pub two_options : (option : ℕ) → option < 2 → (option ≡ 0) ⊎ (option ≡ 1)
 two_options zero h = inl refl
@@ -83,18 +83,18 @@ counter_is laws s len origin target counted (Within reads option few e) =
 and_related : (laws : Premises) (first : Option Suspended) (constant : Option ℕ) (entry : Option Entry) (s d : ℕ) → ((m : ℕ) → constant ≡ Some m → s ≡ m) → IsFromEntry first entry d
     → IsFromEntry first (masked_and constant entry) (bit_and d s)
 and_related laws first None entry s d is holds = tt
-and_related laws first (Some m) entry s d is holds = subst (λ n. IsFromEntry first (masked_and (Some m) entry) (bit_and d n)) (sym (is m refl)) (laws.entry_and first entry d m holds)
+and_related laws first (Some m) entry s d is holds = subst (λ n. IsFromEntry first (masked_and (Some m) entry) (bit_and d n)) (sym (is m refl)) (laws.known.values.entries.and first entry d m holds)
 
 clear_related : (laws : Premises) (first : Option Suspended) (constant : Option ℕ) (entry : Option Entry) (s d : ℕ) → ((m : ℕ) → constant ≡ Some m → s ≡ m) → IsFromEntry first entry d
     → IsFromEntry first (masked_clear constant entry) (bit_and d (65535 - s))
 clear_related laws first None entry s d is holds = tt
 clear_related laws first (Some m) entry s d is holds =
-    subst (λ n. IsFromEntry first (masked_clear (Some m) entry) (bit_and d (65535 - n))) (sym (is m refl)) (laws.entry_and first entry d (65535 - m) holds)
+    subst (λ n. IsFromEntry first (masked_clear (Some m) entry) (bit_and d (65535 - n))) (sym (is m refl)) (laws.known.values.entries.and first entry d (65535 - m) holds)
 
 or_related : (laws : Premises) (first : Option Suspended) (constant : Option ℕ) (entry : Option Entry) (s d : ℕ) → ((m : ℕ) → constant ≡ Some m → s ≡ m) → IsFromEntry first entry d
     → IsFromEntry first (masked_or constant entry) (bit_or d s)
 or_related laws first None entry s d is holds = tt
-or_related laws first (Some m) entry s d is holds = subst (λ n. IsFromEntry first (masked_or (Some m) entry) (bit_or d n)) (sym (is m refl)) (laws.entry_or first entry d m holds)
+or_related laws first (Some m) entry s d is holds = subst (λ n. IsFromEntry first (masked_or (Some m) entry) (bit_or d n)) (sym (is m refl)) (laws.known.values.entries.or first entry d m holds)
 
 result_of_made : (one other : Made) → one ≡ other → one.0 ≡ other.0
 result_of_made one other e = ap (λ (made_so : Made). made_so.0) e
@@ -149,10 +149,10 @@ byte_word laws first set_so v is =
     let same : v + 0 * 256 ≡ v = omega arith in
     record {
       held = record {
-        normal = laws.pair_normal set_so (single 0) is.normal none.normal;
-        holds = (subst (Has 65536 (pair_set set_so (single 0))) same (laws.pair v 0 set_so (single 0) is.normal none.normal is.has none.has), tt);
+        normal = laws.known.bits.pair_normal set_so (single 0) is.normal none.normal;
+        holds = (subst (Has 65536 (pair_set set_so (single 0))) same (laws.known.bits.pair v 0 set_so (single 0) is.normal none.normal is.has none.has), tt);
       };
-      byte = λ e n h. laws.pair_byte set_so n is.normal h;
+      byte = λ e n h. laws.known.bits.pair_byte set_so n is.normal h;
     }
 
 pub written_is : (laws : Premises) (first : Option Suspended) (width : Width) (set_so : Form) (entry : Option Entry) (v : ℕ) → IsResult (modulus width) set_so v → (width ≡ Words → IsFromEntry first entry v)

@@ -1,5 +1,6 @@
 pub mod Numbers
 pub mod Parts
+pub mod WhereAccesses
 pub mod StatusWord
 pub mod ReadingLemmas
 pub mod Storing

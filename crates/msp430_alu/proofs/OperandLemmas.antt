@@ -63,7 +63,7 @@ general_word a counted other low = refl
 pub word_normal : (laws : Premises) (lo hi : ℕ) (framed : Bool) (a : Known) → IsKnown lo hi framed a → (register : ℕ) → IsNormal 65536 (word_of a register).set
 word_normal laws lo hi framed a form register = elim (cases_lt (register - 4) (length a.registers)) [
   | inl inside ↦ (All-get_or (IsWord framed) a.registers (register - 4) (unknown 2) inside form.registers).normal
-  | inr past ↦ subst (λ word. IsNormal 65536 word.set) (sym (get_or_past a.registers (register - 4) (unknown 2) past)) (laws.whole_normal 65536 (omega arith))
+  | inr past ↦ subst (λ word. IsNormal 65536 word.set) (sym (get_or_past a.registers (register - 4) (unknown 2) past)) (laws.known.sets.whole_normal 65536 (omega arith))
 ]
 
 -- registers on the way through an instruction, in which PC counts so
@@ -165,7 +165,7 @@ of_word first word v held = record { values = record { normal = held.normal; has
 
 of_byte : (laws : Premises) (first : Option Suspended) (word : Word) (v x : ℕ) → IsHeld first word v → x ≡ v % 256 → IsOperand first Byte word x
 of_byte laws first word v x held is = record {
-  values = record { normal = laws.low_normal word.set held.normal; has = subst (Has 256 (low_set word.set)) (sym is) (laws.low v word.set held.normal held.holds.0) };
+  values = record { normal = laws.known.bits.low_normal word.set held.normal; has = subst (Has 256 (low_set word.set)) (sym is) (laws.known.bits.low v word.set held.normal held.holds.0) };
   holds = λ e. absurd (cc);
 }
 
@@ -218,11 +218,11 @@ operand_held laws device framed a counted first registers ram on kinds is Byte (
     (register_held laws device framed a counted first registers ram on register 0 (omega arith) (λ no_status. refl) (kinds register)) low
 operand_held laws device framed a counted first registers ram on kinds is Words (InMemory set_so) (place.InMemory address) x bits reached stands few =
     let memory : IsMemory device a (option_map suspended_of first) ram = record { device_so = is; cells = on.form.cells; stands = on.parts.cells } in
-    of_word (option_map suspended_of first) (read_known device a Words (located Words set_so)) x (known_held laws device a (option_map suspended_of first) ram memory Words set_so address x reached stands)
+    of_word (option_map suspended_of first) (read_known device a Words (located device Words set_so)) x (known_held laws device a (option_map suspended_of first) ram memory Words set_so address x reached stands)
 operand_held laws device framed a counted first registers ram on kinds is Byte (InMemory set_so) (place.InMemory address) x bits reached stands few =
     let memory : IsMemory device a (option_map suspended_of first) ram = record { device_so = is; cells = on.form.cells; stands = on.parts.cells } in
     let small = read_below device is ram on.parts.cells.0 Byte address x stands in
-    of_byte laws (option_map suspended_of first) (read_known device a Byte (located Byte set_so)) x x (known_held laws device a (option_map suspended_of first) ram memory Byte set_so address x reached stands)
+    of_byte laws (option_map suspended_of first) (read_known device a Byte (located device Byte set_so)) x x (known_held laws device a (option_map suspended_of first) ram memory Byte set_so address x reached stands)
     (omega (arith, small))
 operand_held laws device framed a counted first registers ram on kinds is Words (Fixed value) (place.Fixed other) x bits reached stands few =
     let one = single_is laws 65536 value reached.1 in

@@ -105,18 +105,21 @@ without_bit v small =
     let masked : bit_and v 65534 ≡ v / 2 * 2 = and_high_mask 16 1 (omega arith) v small in
     masked ∙ omega arith
 
+even_word : (laws : Premises) (v : ℕ) → Has 65536 even_words v → v % 2 ≡ 0
+even_word laws = laws.known.sets.run_remainder 65536 2 0 2 32768 refl refl
+
 -- a number without bit 0 is one of the even parts, which are even
 pub even_parts_is : (laws : Premises) (set : Form) (v : ℕ) → IsResult 65536 set v → IsResult 65536 (even_parts set) (even v)
 even_parts_is laws set v is =
-    let small : v < 65536 = laws.below 65536 v set is.normal is.has in
-    let mask = laws.single 65536 65534 (omega arith) in
+    let small : v < 65536 = laws.known.sets.below 65536 v set is.normal is.has in
+    let mask = laws.known.sets.single 65536 65534 (omega arith) in
     cond_both (is_within 65536 set even_words) set (logic_set 16 And set (single 65534)) (λ parts. IsResult 65536 parts (even v))
-    (λ e. let no_bit : v % 2 ≡ 0 = laws.even_words v ((laws.tested 65536 set even_words).0 e v is.has) in
+    (λ e. let no_bit : v % 2 ≡ 0 = even_word laws v ((laws.known.sets.tested 65536 set even_words).0 e v is.has) in
     let same : v ≡ v - v % 2 = omega (arith, no_bit) in
     record { normal = is.normal; has = subst (Has 65536 set) same is.has })
     (λ e. record {
-      normal = laws.logic_normal 16 And set (single 65534) is.normal mask.0;
-      has = subst (Has 65536 (logic_set 16 And set (single 65534))) (without_bit v small) (laws.logic 16 v 65534 And set (single 65534) is.normal mask.0 is.has mask.1);
+      normal = laws.known.bits.logic_normal 16 And set (single 65534) is.normal mask.0;
+      has = subst (Has 65536 (logic_set 16 And set (single 65534))) (without_bit v small) (laws.known.bits.logic 16 v 65534 And set (single 65534) is.normal mask.0 is.has mask.1);
     })
 
 mask_even : HasRemainder 65536 2 0 (single 65534)
@@ -125,12 +128,12 @@ mask_even v (suc k, lt, is) = absurd (omega (arith, lt))
 
 pub even_parts_form : (laws : Premises) (set : Form) → IsNormal 65536 set → AreEvenWords (even_parts set)
 even_parts_form laws set normal =
-    let mask = laws.single 65536 65534 (omega arith) in
+    let mask = laws.known.sets.single 65536 65534 (omega arith) in
     cond_both (is_within 65536 set even_words) set (logic_set 16 And set (single 65534)) AreEvenWords
-    (λ e. record { normal = normal; even = λ v h. laws.even_words v ((laws.tested 65536 set even_words).0 e v h) })
+    (λ e. record { normal = normal; even = λ v h. even_word laws v ((laws.known.sets.tested 65536 set even_words).0 e v h) })
     (λ e. record {
-      normal = laws.logic_normal 16 And set (single 65534) normal mask.0;
-      even = laws.even_and 16 set (single 65534) (omega arith) normal mask.0 mask_even;
+      normal = laws.known.bits.logic_normal 16 And set (single 65534) normal mask.0;
+      even = laws.known.bits.even_and 16 set (single 65534) (omega arith) normal mask.0 mask_even;
     })
 
 fact_beside_sp : (fact : Option FlagFact) (registers : List ℕ) (value : ℕ) → IsFact fact → HoldsOfFact fact registers → HoldsOfFact fact (set registers 1 value)

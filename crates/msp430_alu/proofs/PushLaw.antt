@@ -67,7 +67,7 @@ sp_seen laws device framed a counted first registers ram set_so on is =
 sp_set : (laws : Premises) (device : Device) (framed : Bool) (a : Known) (counted : Form) (first : Option ChipState) (registers ram : List ℕ) (set_so : Form) (value : ℕ) → IsOnTheWay device framed a counted first registers ram
     → IsResult 65536 set_so value → even value ≡ value → IsOnTheWay device framed (with_sp a set_so) counted first (set registers 1 value) ram
 sp_set laws device framed a counted first registers ram set_so value on is same =
-    let small = laws.below 65536 value set_so is.normal is.has in
+    let small = laws.known.sets.below 65536 value set_so is.normal is.has in
     record {
       form = sp_form laws device.lo device.hi framed a set_so is.normal on.form;
       are = subst (λ v. AreRegisters (set registers 1 v)) same (sp_are registers value small on.are);
@@ -96,14 +96,14 @@ both_seen : (laws : Premises) (device : Device) (framed : Bool) (a : Known) (cou
 both_seen laws device framed a counted first registers ram option few on =
     let less = add 65536 a.sp (single 65534) in
     let less_is = lowered_is laws device framed a counted first registers ram on in
-    let normal = laws.join_normal 65536 a.sp less on.form.sp.normal less_is.normal in
+    let normal = laws.known.sets.join_normal 65536 a.sp less on.form.sp.normal less_is.normal in
     elim (two_options option few) [
       | inl none ↦ subst (λ n. IsOnTheWay device framed (with_sp a (join 65536 a.sp less)) counted first (with_lowered n registers) ram) (sym none)
           (sp_seen laws device framed a counted first registers ram (join 65536 a.sp less) on
-          (record { normal = normal; has = laws.join_first 65536 a.sp less on.form.sp.normal less_is.normal (get_or registers 1 0) on.parts.sp }))
+          (record { normal = normal; has = laws.known.sets.join_first 65536 a.sp less on.form.sp.normal less_is.normal (get_or registers 1 0) on.parts.sp }))
       | inr some ↦ subst (λ n. IsOnTheWay device framed (with_sp a (join 65536 a.sp less)) counted first (with_lowered n registers) ram) (sym some)
           (sp_set laws device framed a counted first registers ram (join 65536 a.sp less) (lowered (get_or registers 1 0)) on
-          (record { normal = normal; has = laws.join_second 65536 a.sp less on.form.sp.normal less_is.normal (lowered (get_or registers 1 0)) less_is.has }) (lowered_even registers on.are))
+          (record { normal = normal; has = laws.known.sets.join_second 65536 a.sp less on.form.sp.normal less_is.normal (lowered (get_or registers 1 0)) less_is.has }) (lowered_even registers on.are))
     ]
 
 pub forming_on : (laws : Premises) (device : Device) (framed : Bool) (a : Known) (counted : Form) (first : Option ChipState) (registers ram : List ℕ) (operand : Source) (option : ℕ) → IsOption (is_formed_by_stack operand) 2 option
@@ -119,12 +119,12 @@ byte_pushed : (laws : Premises) (first : Option Suspended) (x : Word) (v word : 
     → IsWritten first Words (record { set = pair_set (values_of Byte x) (make 256 0 1 256); entry = None }) word
 byte_pushed laws first x v word held (high, few, is) =
     let above = make 256 0 1 256 in
-    let normal = laws.whole_normal 256 (omega arith) in
+    let normal = laws.known.sets.whole_normal 256 (omega arith) in
     let same : v + high * 256 ≡ word = omega (arith, is) in
     record {
       held = record {
-        normal = laws.pair_normal (values_of Byte x) above held.values.normal normal;
-        holds = (subst (Has 65536 (pair_set (values_of Byte x) above)) same (laws.pair v high (values_of Byte x) above held.values.normal normal held.values.has (laws.whole 256 high few)), tt);
+        normal = laws.known.bits.pair_normal (values_of Byte x) above held.values.normal normal;
+        holds = (subst (Has 65536 (pair_set (values_of Byte x) above)) same (laws.known.bits.pair v high (values_of Byte x) above held.values.normal normal held.values.has (laws.known.sets.whole 256 high few)), tt);
       };
       byte = λ e. absurd (omega (arith, e));
     }
@@ -202,7 +202,7 @@ call_left laws kinds device framed b counted first registers ram after width x v
     let suspended = option_map suspended_of first in
     let target = written_word width (values_of width x) None in
     let value = written_is laws suspended width (values_of width x) None v held.values (λ e. tt) in
-    let value_small = laws.below 65536 v target.set value.held.normal value.held.holds.0 in
+    let value_small = laws.known.sets.below 65536 v target.set value.held.normal value.held.holds.0 in
     let goes = even_parts_is laws target.set v (record { normal = value.held.normal; has = value.held.holds.0 }) in
     let even_small : even v < 65536 = omega (arith, value_small) in
     let stored : get_or (set registers 0 (even v)) 0 0 ≡ even v = get_or-set_same registers 0 (even v) 0 (omega (arith, on.are.count)) in

@@ -35,9 +35,10 @@ use Rattle.msp430_alu.specs.Memory.{IsDevice, IsRam, located}
 use Rattle.msp430_alu.specs.Operands.{IsReached}
 use Rattle.msp430_alu.specs.Premises.{Premises}
 use Rattle.msp430_alu.specs.Registers.{AreRegisters, even_parts, put_register, with_word}
+use Rattle.msp430_alu.proofs.WhereAccesses.{located_is}
 use Rattle.msp430_alu.proofs.Numbers.{single_is}
 use Rattle.msp430_alu.proofs.Parts.{parts_counted, word_written, sp_written, even_parts_is}
-use Rattle.msp430_alu.proofs.ReadingLemmas.{IsHeld, located_is}
+use Rattle.msp430_alu.proofs.ReadingLemmas.{IsHeld}
 use Rattle.msp430_alu.proofs.Storing.{IsStorable, store_holds}
 
 -- THE REGISTERS BEHIND A WRITE
@@ -130,7 +131,7 @@ register_put laws device framed a first registers ram register word value form a
     (word_written device a first registers ram (number register) value word are.count form.count is.above is.below held.holds holds))
 
 value_below : (laws : Premises) (first : Option Suspended) (width : Width) (word : Word) (value : ℕ) → IsWritten first width word value → value < modulus width
-value_below laws first Words word value is = laws.below 65536 value word.set is.held.normal is.held.holds.0
+value_below laws first Words word value is = laws.known.sets.below 65536 value word.set is.held.normal is.held.holds.0
 value_below laws first Byte word value is = is.byte refl value is.held.holds.0
 
 storable_is : (first : Option Suspended) (width : Width) (word : Word) (value : ℕ) → IsWritten first width word value → IsStorable width word
@@ -187,15 +188,15 @@ pub put_is : (laws : Premises) (device : Device) (framed : Bool) (a : Known) (fi
     → IsPut laws device (put_known device framed a width reach word) first (next_by reach word behind_so) (put device registers ram width stands value)
 put_is laws device framed a first registers ram behind_so ready kinds width (InRegister register) (place.InRegister other) word value reached no_status is =
     subst (λ r. IsPut laws device (put_register a register word) first (next_by (InRegister register) word behind_so) (put device registers ram width (place.InRegister r) value)) reached record {
-      are = written_are registers register value (laws.below 65536 value word.set is.held.normal is.held.holds.0) (kinds register) ready.are;
+      are = written_are registers register value (laws.known.sets.below 65536 value word.set is.held.normal is.held.holds.0) (kinds register) ready.are;
       next_is = register_next laws (option_map suspended_of first) registers register word value behind_so ready.are ready.pc ready.small (kinds register) is.held;
       parts = register_put laws device framed a first registers ram register word value ready.form ready.are (ap (λ r. is_status (place.InRegister r)) reached ∙ no_status) (kinds register) is.held ready.parts;
     }
 put_is laws device framed a first registers ram behind_so ready kinds width (InMemory set_so) (place.InMemory address) word value reached no_status is = record {
   are = ready.are;
   next_is = subst (IsResult 65536 (single behind_so)) (sym ready.pc) (single_is laws 65536 behind_so ready.small);
-  parts = store_holds laws device framed a first registers ram width address value (located width set_so) word ready.device_so ready.ram_is ready.base ready.form
-      (laws.below 65536 address set_so reached.normal reached.has) (located_is laws width set_so address reached) (value_below laws (option_map suspended_of first) width word value is)
+  parts = store_holds laws device framed a first registers ram width address value (located device width set_so) word ready.device_so ready.ram_is ready.base ready.form
+      (laws.known.sets.below 65536 address set_so reached.normal reached.has) (located_is laws device ready.device_so.ram width set_so address reached) (value_below laws (option_map suspended_of first) width word value is)
       (storable_is (option_map suspended_of first) width word value is) is.held.holds ready.parts;
 }
 put_is laws device framed a first registers ram behind_so ready kinds width (Fixed fixed) (place.Fixed other) word value reached no_status is = record {

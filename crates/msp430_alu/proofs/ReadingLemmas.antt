@@ -21,14 +21,13 @@ use Rattle.msp430_chip.specs.Arithmetic.{modulus}
 use Rattle.msp430_chip.specs.Leading.{MayRead, MayReadByte}
 use Rattle.msp430_chip.specs.Leading.MayReadByte.{OfRam, OfProgram, OfNeither}
 use Rattle.msp430_chip.specs.Memory.{is_ram, size_of, aligned}
-use Rattle.msp430_chip.specs.State.{even}
 use Rattle.msp430_state.specs.Holding.{ram_byte}
 use Rattle.msp430_state.specs.Known.{Known}
 use Rattle.msp430_results.specs.FlagSets.{IsResult}
 use Rattle.msp430_alu.specs.Memory.{IsDevice, located, word_by, byte_by, program_word, read_one, read_each, read_list, read_known}
 use Rattle.msp430_alu.specs.Premises.{Premises}
+use Rattle.msp430_alu.proofs.WhereAccesses.{aligned_even, aligned_fits, located_is}
 use Rattle.msp430_alu.proofs.Numbers.{single_is}
-use Rattle.msp430_alu.proofs.Parts.{even_parts_is}
 
 -- UNKNOWN VALUES
 
@@ -40,12 +39,12 @@ pub record IsHeld (first : Option Suspended) (word : Word) (v : ℕ) : Type 0 wh
 unknown_byte : (laws : Premises) (first : Option Suspended) (v : ℕ) → v < 256 → IsHeld first (unknown 1) v
 unfolding read
 unknown_byte laws first v small = record {
-  normal = laws.read_normal 0 0 0 0 1 [] tt;
-  holds = laws.reads first (λ at. v) 0 0 0 0 1 [] tt (omega arith) (inl refl) (λ at. small, λ cell h. absurd (in_none cell h));
+  normal = laws.known.cells.read_normal 0 0 0 0 1 [] tt;
+  holds = laws.known.cells.reads first (λ at. v) 0 0 0 0 1 [] tt (omega arith) (inl refl) (λ at. small, λ cell h. absurd (in_none cell h));
 }
 
 unknown_word : (laws : Premises) (first : Option Suspended) (v : ℕ) → v < 65536 → IsHeld first (unknown 2) v
-unknown_word laws first v small = record { normal = laws.whole_normal 65536 (omega arith); holds = (laws.whole 65536 v small, tt) }
+unknown_word laws first v small = record { normal = laws.known.sets.whole_normal 65536 (omega arith); holds = (laws.known.sets.whole 65536 v small, tt) }
 
 unknown_normal : (laws : Premises) (width : Width) → IsNormal 65536 (unknown (size_of width)).set
 unknown_normal laws Words = (unknown_word laws None 0 (omega arith)).normal
@@ -66,7 +65,7 @@ both_in_ram device is at no_bit = elim (cases_Bool (is_ram device at)) [
       let ends = and_parts (nat_le device.lo at) (nat_le at device.hi) inside in
       let low : device.lo ≤ at = leb-true device.lo at ends.0 in
       let high : at ≤ device.hi = leb-true at device.hi ends.1 in
-      let above : at + 1 ≤ device.hi = omega (arith, is.high, no_bit) in
+      let above : at + 1 ≤ device.hi = omega (arith, is.ram.high, no_bit) in
       and_from (nat_le device.lo (at + 1)) (nat_le (at + 1) device.hi) (le-leb device.lo (at + 1) (omega arith)) (le-leb (at + 1) device.hi above) ∙ sym inside
   | inr outside ↦ elim (cases_Bool (is_ram device (at + 1))) [
     | inr other ↦ other ∙ sym outside
@@ -74,7 +73,7 @@ both_in_ram device is at no_bit = elim (cases_Bool (is_ram device at)) [
         let ends = and_parts (nat_le device.lo (at + 1)) (nat_le (at + 1) device.hi) inside in
         let low : device.lo ≤ at + 1 = leb-true device.lo (at + 1) ends.0 in
         let high : at + 1 ≤ device.hi = leb-true (at + 1) device.hi ends.1 in
-        let below : device.lo ≤ at = omega (arith, is.low, no_bit) in
+        let below : device.lo ≤ at = omega (arith, is.ram.low, no_bit) in
         let there : is_ram device at ≡ true = and_from (nat_le device.lo at) (nat_le at device.hi) (le-leb device.lo at below) (le-leb at device.hi (omega arith)) in
         absurd (cc)
   ]
@@ -129,40 +128,44 @@ word_image_held laws first low high (Some b) (Some c) small few (inr e) k = absu
 word_image_held laws first low high (Some b) (Some c) small few (inl e) (inr g) = absurd (cc)
 
 pub one_held : (laws : Premises) (device : Device) (a : Known) (first : Option Suspended) (ram : List ℕ) → IsMemory device a first ram → (width : Width) (address x : ℕ) → address < 65536
-    → MayRead device ram width address x → IsHeld first (read_one device a width (aligned width address)) x
-one_held laws device a first ram memory Byte address x below reads = elim (cases_Bool (is_ram device address)) [
-  | inl inside ↦
-      let is = byte_of_ram device ram address x inside reads in
-      let held : IsHeld first (read a.cells.cells address 1) x = record {
-        normal = laws.read_normal device.lo device.hi device.lo address 1 a.cells.cells memory.cells;
-        holds = subst (HoldsOfWord first (read a.cells.cells address 1)) (sym is)
-            (laws.reads first (ram_byte device ram) device.lo device.hi device.lo address 1 a.cells.cells memory.cells below (inl refl) memory.stands);
-      } in
-      subst (λ word. IsHeld first word x) (sym (cond-true (is_ram device address) (read a.cells.cells address 1) (program_word device Byte address) inside)) held
-  | inr outside ↦
-      let small = read_small device memory.device_so ram memory.stands.0 address x reads in
-      subst (λ word. IsHeld first word x) (sym (cond-false (is_ram device address) (read a.cells.cells address 1) (program_word device Byte address) outside))
-      (byte_image_held laws first x (byte_at device.image address) small (either_image device address x (byte_of_image device ram address x outside reads)))
-]
+    → MayRead device ram width address x → IsHeld first (read_one device a width (aligned device width address)) x
+one_held laws device a first ram memory Byte address x below reads =
+    let at = aligned device Byte address in
+    let fits = aligned_fits laws device memory.device_so.ram Byte address below in
+    elim (cases_Bool (is_ram device at)) [
+      | inl inside ↦
+          let is = byte_of_ram device ram at x inside reads in
+          let held : IsHeld first (read a.cells.cells at 1) x = record {
+            normal = laws.known.cells.read_normal device.lo device.hi device.lo at 1 a.cells.cells memory.cells;
+            holds = subst (HoldsOfWord first (read a.cells.cells at 1)) (sym is)
+                (laws.known.cells.reads first (ram_byte device ram) device.lo device.hi device.lo at 1 a.cells.cells memory.cells (omega (arith, fits)) (inl refl) memory.stands);
+          } in
+          subst (λ word. IsHeld first word x) (sym (cond-true (is_ram device at) (read a.cells.cells at 1) (program_word device Byte at) inside)) held
+      | inr outside ↦
+          let small = read_small device memory.device_so ram memory.stands.0 at x reads in
+          subst (λ word. IsHeld first word x) (sym (cond-false (is_ram device at) (read a.cells.cells at 1) (program_word device Byte at) outside))
+          (byte_image_held laws first x (byte_at device.image at) small (either_image device at x (byte_of_image device ram at x outside reads)))
+    ]
 one_held laws device a first ram memory Words address x below reads =
-    let at = even address in
+    let at = aligned device Words address in
     let low = reads.low in
     let high = reads.high in
-    let no_bit : at % 2 ≡ 0 = omega arith in
-    let small : at < 65535 = omega arith in
+    let no_bit = aligned_even laws device memory.device_so.ram address in
+    let fits = aligned_fits laws device memory.device_so.ram Words address below in
+    let small : at < 65535 = omega (arith, fits) in
     let together = both_in_ram device memory.device_so at no_bit in
     elim (cases_Bool (is_ram device at)) [
       | inl inside ↦
           let first_byte = byte_of_ram device ram at low inside reads.reads_low in
           let second_byte = byte_of_ram device ram (at + 1) high (together ∙ inside) reads.reads_high in
-          let next : (at + 1) % 65536 ≡ at + 1 = omega arith in
+          let next : (at + 1) % 65536 ≡ at + 1 = omega (arith, small) in
           let is : number_at (ram_byte device ram) at 2 ≡ x =
           ap (λ n. ram_byte device ram at + 256 * ram_byte device ram n) next
           ∙ omega (arith, first_byte, second_byte, reads.word_is) in
           let held : IsHeld first (read a.cells.cells at 2) x = record {
-            normal = laws.read_normal device.lo device.hi device.lo at 2 a.cells.cells memory.cells;
+            normal = laws.known.cells.read_normal device.lo device.hi device.lo at 2 a.cells.cells memory.cells;
             holds = subst (HoldsOfWord first (read a.cells.cells at 2)) is
-                (laws.reads first (ram_byte device ram) device.lo device.hi device.lo at 2 a.cells.cells memory.cells (omega arith) (inr refl) memory.stands);
+                (laws.known.cells.reads first (ram_byte device ram) device.lo device.hi device.lo at 2 a.cells.cells memory.cells (omega (arith, small)) (inr refl) memory.stands);
           } in
           subst (λ word. IsHeld first word x) (sym (cond-true (is_ram device at) (read a.cells.cells at 2) (program_word device Words at) inside)) held
       | inr outside ↦
@@ -178,13 +181,13 @@ one_held laws device a first ram memory Words address x below reads =
 -- SEVERAL ADDRESSES
 
 word_normal : (laws : Premises) (one other : Option ℕ) → ((b : ℕ) → one ≡ Some b → b < 256) → ((b : ℕ) → other ≡ Some b → b < 256) → IsNormal 65536 (word_by one other).set
-word_normal laws None other small few = laws.whole_normal 65536 (omega arith)
-word_normal laws (Some b) None small few = laws.whole_normal 65536 (omega arith)
-word_normal laws (Some b) (Some c) small few = let low = small b refl in let high = few c refl in (laws.single 65536 (b + 256 * c) (omega (arith, low, high))).0
+word_normal laws None other small few = laws.known.sets.whole_normal 65536 (omega arith)
+word_normal laws (Some b) None small few = laws.known.sets.whole_normal 65536 (omega arith)
+word_normal laws (Some b) (Some c) small few = let low = small b refl in let high = few c refl in (laws.known.sets.single 65536 (b + 256 * c) (omega (arith, low, high))).0
 
 byte_normal : (laws : Premises) (found : Option ℕ) → ((b : ℕ) → found ≡ Some b → b < 256) → IsNormal 65536 (byte_by found).set
 byte_normal laws None small = (unknown_byte laws None 0 (omega arith)).normal
-byte_normal laws (Some b) small = let low = small b refl in (laws.single 65536 b (omega (arith, low))).0
+byte_normal laws (Some b) small = let low = small b refl in (laws.known.sets.single 65536 b (omega (arith, low))).0
 
 image_normal : (laws : Premises) (device : Device) → IsDevice device → (width : Width) (at : ℕ) → IsNormal 65536 (program_word device width at).set
 image_normal laws device is Words at = word_normal laws (byte_at device.image at) (byte_at device.image (at + 1)) (byte_small device is at) (byte_small device is (at + 1))
@@ -193,14 +196,14 @@ image_normal laws device is Byte at = byte_normal laws (byte_at device.image at)
 one_normal : (laws : Premises) (device : Device) (a : Known) → IsDevice device → AreCells device.lo device.hi device.lo a.cells.cells → (width : Width) (at : ℕ) → IsNormal 65536 (read_one device a width at).set
 one_normal laws device a is cells width at =
     cond_both (is_ram device at) (read a.cells.cells at (size_of width)) (program_word device width at) (λ word. IsNormal 65536 word.set)
-    (λ e. laws.read_normal device.lo device.hi device.lo at (size_of width) a.cells.cells cells)
+    (λ e. laws.known.cells.read_normal device.lo device.hi device.lo at (size_of width) a.cells.cells cells)
     (λ e. image_normal laws device is width at)
 
 each_normal : (laws : Premises) (device : Device) (a : Known) → IsDevice device → AreCells device.lo device.hi device.lo a.cells.cells → (width : Width) (set : Form) (list : List ℕ) → IsNormal 65536 set
     → IsNormal 65536 (read_each device a width set list)
 each_normal laws device a is cells width set [] normal = normal
 each_normal laws device a is cells width set (at ∷ rest) normal =
-    each_normal laws device a is cells width (join 65536 set (read_one device a width at).set) rest (laws.join_normal 65536 set (read_one device a width at).set normal (one_normal laws device a is cells width at))
+    each_normal laws device a is cells width (join 65536 set (read_one device a width at).set) rest (laws.known.sets.join_normal 65536 set (read_one device a width at).set normal (one_normal laws device a is cells width at))
 
 each_keeps : (laws : Premises) (device : Device) (a : Known) → IsDevice device → AreCells device.lo device.hi device.lo a.cells.cells → (width : Width) (set : Form) (list : List ℕ) (v : ℕ) → IsNormal 65536 set
     → Has 65536 set v → Has 65536 (read_each device a width set list) v
@@ -208,7 +211,7 @@ each_keeps laws device a is cells width set [] v normal has = has
 each_keeps laws device a is cells width set (at ∷ rest) v normal has =
     let next = (read_one device a width at).set in
     let next_normal = one_normal laws device a is cells width at in
-    each_keeps laws device a is cells width (join 65536 set next) rest v (laws.join_normal 65536 set next normal next_normal) (laws.join_first 65536 set next normal next_normal v has)
+    each_keeps laws device a is cells width (join 65536 set next) rest v (laws.known.sets.join_normal 65536 set next normal next_normal) (laws.known.sets.join_first 65536 set next normal next_normal v has)
 
 each_has : (laws : Premises) (device : Device) (a : Known) → IsDevice device → AreCells device.lo device.hi device.lo a.cells.cells → (width : Width) (set : Form) (list : List ℕ) (at v : ℕ) → IsNormal 65536 set
     → Contains list at → Has 65536 (read_one device a width at).set v → Has 65536 (read_each device a width set list) v
@@ -216,10 +219,10 @@ each_has laws device a is cells width set [] at v normal there has = absurd (in_
 each_has laws device a is cells width set (first ∷ rest) at v normal there has =
     let next = (read_one device a width first).set in
     let next_normal = one_normal laws device a is cells width first in
-    let joined = laws.join_normal 65536 set next normal next_normal in
+    let joined = laws.known.sets.join_normal 65536 set next normal next_normal in
     elim (in_cons first rest at there) [
       | inl same ↦ each_keeps laws device a is cells width (join 65536 set next) rest v joined
-          (laws.join_second 65536 set next normal next_normal v (subst (λ n. Has 65536 (read_one device a width n).set v) (sym same) has))
+          (laws.known.sets.join_second 65536 set next normal next_normal v (subst (λ n. Has 65536 (read_one device a width n).set v) (sym same) has))
       | inr later ↦ each_has laws device a is cells width (join 65536 set next) rest at v joined later has
     ]
 
@@ -261,21 +264,17 @@ pub read_known_normal : (laws : Premises) (device : Device) (a : Known) → IsDe
 read_known_normal laws device a is cells width set = list_normal laws device a is cells width (members 65536 set)
 
 pub read_below : (device : Device) → IsDevice device → (ram : List ℕ) → ((at : ℕ) → ram_byte device ram at < 256) → (width : Width) (address x : ℕ) → MayRead device ram width address x → x < modulus width
-read_below device is ram small Byte address x reads = read_small device is ram small address x reads
+read_below device is ram small Byte address x reads = read_small device is ram small (aligned device Byte address) x reads
 read_below device is ram small Words address x reads =
-    let low = read_small device is ram small (even address) reads.low reads.reads_low in
-    let high = read_small device is ram small (even address + 1) reads.high reads.reads_high in
+    let low = read_small device is ram small (aligned device Words address) reads.low reads.reads_low in
+    let high = read_small device is ram small (aligned device Words address + 1) reads.high reads.reads_high in
     omega (arith, low, high, reads.word_is)
-
-pub located_is : (laws : Premises) (width : Width) (set : Form) (address : ℕ) → IsResult 65536 set address → IsResult 65536 (located width set) (aligned width address)
-located_is laws Words set address is = even_parts_is laws set address is
-located_is laws Byte set address is = is
 
 -- what may be read at an address of a set
 pub known_held : (laws : Premises) (device : Device) (a : Known) (first : Option Suspended) (ram : List ℕ) → IsMemory device a first ram → (width : Width) (set : Form) (address x : ℕ) → IsResult 65536 set address
-    → MayRead device ram width address x → IsHeld first (read_known device a width (located width set)) x
+    → MayRead device ram width address x → IsHeld first (read_known device a width (located device width set)) x
 known_held laws device a first ram memory width set address x is reads =
-    let at = located_is laws width set address is in
-    let one = one_held laws device a first ram memory width address x (laws.below 65536 address set is.normal is.has) reads in
-    list_held laws device a first memory.device_so memory.cells width (members 65536 (located width set)) (aligned width address) x
+    let at = located_is laws device memory.device_so.ram width set address is in
+    let one = one_held laws device a first ram memory width address x (laws.known.sets.below 65536 address set is.normal is.has) reads in
+    list_held laws device a first memory.device_so memory.cells width (members 65536 (located device width set)) (aligned device width address) x
     (read_below device memory.device_so ram memory.stands.0 width address x reads) at.has one

@@ -224,10 +224,10 @@ pub store_form : (laws : Premises) (device : Device) (framed : Bool) (a : Known)
 store_form laws device framed a width at word is some even_so cell form =
     let map = a.cells in
     let size = size_of width in
-    let top : map.hi < 65536 = subst (λ n. n < 65536) (sym form.up_to) is.top in
+    let top : map.hi < 65536 = subst (λ n. n < 65536) (sym form.up_to) is.ram.top in
     let are : AreCells map.lo map.hi map.lo map.cells =
     subst (λ lo. AreCells lo map.hi lo map.cells) (sym form.from) (subst (λ hi. AreCells device.lo hi device.lo map.cells) (sym form.up_to) form.cells) in
-    let after = laws.store_form map.lo size map at word top (omega arith) are (size_is width) cell.storable.normal cell.storable.byte in
+    let after = laws.known.cells.store_form map.lo size map at word top (omega arith) are (size_is width) cell.storable.normal cell.storable.byte in
     record {
       sp = form.sp;
       bits = form.bits;
@@ -235,10 +235,10 @@ store_form laws device framed a width at word is some even_so cell form =
       count = form.count;
       registers = form.registers;
       fact = form.fact;
-      from = laws.store_lo size map at word ∙ form.from;
-      up_to = laws.store_hi size map at word ∙ form.up_to;
+      from = laws.known.cells.store_lo size map at word ∙ form.from;
+      up_to = laws.known.cells.store_hi size map at word ∙ form.up_to;
       cells = subst (λ lo. AreCells lo device.hi lo (write_any map at size word).cells) form.from (subst (λ hi. AreCells map.lo hi map.lo (write_any map at size word).cells) form.up_to after);
       each_cell = any_cell_form framed map at width word some even_so cell form.each_cell;
-      touched = store_touched laws device framed width at a.touched (omega (arith, is.some)) form.touched;
+      touched = store_touched laws device framed width at a.touched (omega (arith, is.ram.some)) form.touched;
       none_touched = store_none device framed width at a.touched form.none_touched;
     }

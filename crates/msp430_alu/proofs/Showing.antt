@@ -30,7 +30,7 @@ use Rattle.msp430_chip.specs.Arithmetic.{writes_result, reads_destination}
 use Rattle.msp430_chip.specs.Leading.{MayLeaveDouble, MayDouble, MayLeaveSingle, MaySingle, MayLeavePush, MayPush, at_source, behind_source, origin_of, place_of, pushed_place}
 use Rattle.msp430_chip.specs.Leading.MayLeaveDouble.{FreeStatus, OfResult}
 use Rattle.msp430_chip.specs.Leading.MayLeaveSingle.{FreeStatus as SingleFree, OfResult as SingleResult}
-use Rattle.msp430_chip.specs.Memory.{aligned, size_of}
+use Rattle.msp430_chip.specs.Memory.{aligned, size_of, HasRam}
 use Rattle.msp430_chip.specs.Operands.{access_to}
 use Rattle.msp430_chip.specs.Outcome.{Outcome}
 use Rattle.msp430_chip.specs.State.{register_of}
@@ -48,7 +48,7 @@ use Rattle.msp430_alu.proofs.Doubles.{counter_is}
 use Rattle.msp430_alu.proofs.Growth.{on_the_way, grown_on}
 use Rattle.msp430_alu.proofs.OperandLemmas.{AreKinds, IsOnTheWay, source_reached, destination_reached}
 use Rattle.msp430_alu.proofs.PushLaw.{forming_on, lowered_on}
-use Rattle.msp430_alu.proofs.ReadingLemmas.{located_is}
+use Rattle.msp430_alu.proofs.WhereAccesses.{located_is}
 
 -- LISTS
 
@@ -76,47 +76,47 @@ shown_both items others xs ys h k x within = elim (one_of xs ys x within) [
 
 -- ACCESSES
 
-access_shown : (laws : Premises) (pc : ℕ) (write : Bool) (width : Width) (reach : Reach) (stands : Place) → IsReached reach stands → AreShown (access_of pc write width reach) (access_to pc write width stands)
-access_shown laws pc write width (InMemory set_so) (place.InMemory address) reached x within = (
-  item.Access pc Mem write (size_of width) (W (located width set_so)),
+access_shown : (laws : Premises) (device : Device) → HasRam device → (pc : ℕ) (write : Bool) (width : Width) (reach : Reach) (stands : Place) → IsReached reach stands → AreShown (access_of device pc write width reach) (access_to device pc write width stands)
+access_shown laws device is pc write width (InMemory set_so) (place.InMemory address) reached x within = (
+  item.Access pc Mem write (size_of width) (W (located device width set_so)),
   (0, omega arith, refl),
-  subst (Shows (item.Access pc Mem write (size_of width) (W (located width set_so)))) (only (Access pc Mem write (size_of width) (aligned width address)) x within) (refl, refl, refl, refl, (located_is laws width set_so address reached).has),
+  subst (Shows (item.Access pc Mem write (size_of width) (W (located device width set_so)))) (only (Access pc Mem write (size_of width) (aligned device width address)) x within) (refl, refl, refl, refl, (located_is laws device is width set_so address reached).has),
 )
-access_shown laws pc write width (InMemory set_so) (place.InRegister other) reached x within = absurd (none_in x within)
-access_shown laws pc write width (InMemory set_so) (place.Fixed other) reached x within = absurd (none_in x within)
-access_shown laws pc write width (InRegister register) (place.InMemory address) reached x within = absurd reached
-access_shown laws pc write width (InRegister register) (place.InRegister other) reached x within = absurd (none_in x within)
-access_shown laws pc write width (InRegister register) (place.Fixed other) reached x within = absurd (none_in x within)
-access_shown laws pc write width (Fixed value) (place.InMemory address) reached x within = absurd reached
-access_shown laws pc write width (Fixed value) (place.InRegister other) reached x within = absurd (none_in x within)
-access_shown laws pc write width (Fixed value) (place.Fixed other) reached x within = absurd (none_in x within)
+access_shown laws device is pc write width (InMemory set_so) (place.InRegister other) reached x within = absurd (none_in x within)
+access_shown laws device is pc write width (InMemory set_so) (place.Fixed other) reached x within = absurd (none_in x within)
+access_shown laws device is pc write width (InRegister register) (place.InMemory address) reached x within = absurd reached
+access_shown laws device is pc write width (InRegister register) (place.InRegister other) reached x within = absurd (none_in x within)
+access_shown laws device is pc write width (InRegister register) (place.Fixed other) reached x within = absurd (none_in x within)
+access_shown laws device is pc write width (Fixed value) (place.InMemory address) reached x within = absurd reached
+access_shown laws device is pc write width (Fixed value) (place.InRegister other) reached x within = absurd (none_in x within)
+access_shown laws device is pc write width (Fixed value) (place.Fixed other) reached x within = absurd (none_in x within)
 
-read_shown : (laws : Premises) (reads : Bool) (pc : ℕ) (width : Width) (reach : Reach) (stands : Place) → IsReached reach stands → AreShown (access_if reads pc false width reach) (reads_if reads pc width stands)
-read_shown laws true pc width reach stands reached x within = access_shown laws pc false width reach stands reached x within
-read_shown laws false pc width reach stands reached x within = absurd (none_in x within)
+read_shown : (laws : Premises) (device : Device) → HasRam device → (reads : Bool) (pc : ℕ) (width : Width) (reach : Reach) (stands : Place) → IsReached reach stands → AreShown (access_if reads device pc false width reach) (reads_if reads device pc width stands)
+read_shown laws device is true pc width reach stands reached x within = access_shown laws device is pc false width reach stands reached x within
+read_shown laws device is false pc width reach stands reached x within = absurd (none_in x within)
 
-write_shown : (laws : Premises) (writes : Bool) (pc : ℕ) (width : Width) (reach : Reach) (stands : Place) → IsReached reach stands → AreShown (access_if writes pc true width reach) (writes_if writes pc width stands)
-write_shown laws true pc width reach stands reached x within = access_shown laws pc true width reach stands reached x within
-write_shown laws false pc width reach stands reached x within = absurd (none_in x within)
+write_shown : (laws : Premises) (device : Device) → HasRam device → (writes : Bool) (pc : ℕ) (width : Width) (reach : Reach) (stands : Place) → IsReached reach stands → AreShown (access_if writes device pc true width reach) (writes_if writes device pc width stands)
+write_shown laws device is true pc width reach stands reached x within = access_shown laws device is pc true width reach stands reached x within
+write_shown laws device is false pc width reach stands reached x within = absurd (none_in x within)
 
 -- STORES
 
-put_hit : (laws : Premises) (device : Device) (registers ram : List ℕ) (width : Width) (reach : Reach) (stands : Place) (value at : ℕ) → IsReached reach stands → (put device registers ram width stands value).hit ≡ Some at
-    → IsHit device width (store_of true width reach) at
-put_hit laws device registers ram width (InMemory set_so) (place.InMemory address) value at reached e = (address, (located_is laws width set_so address reached).has, e)
-put_hit laws device registers ram width (InMemory set_so) (place.InRegister other) value at reached e = absurd reached
-put_hit laws device registers ram width (InMemory set_so) (place.Fixed other) value at reached e = absurd reached
-put_hit laws device registers ram width (InRegister register) (place.InMemory address) value at reached e = absurd reached
-put_hit laws device registers ram width (InRegister register) (place.InRegister other) value at reached e = absurd (cc)
-put_hit laws device registers ram width (InRegister register) (place.Fixed other) value at reached e = absurd (cc)
-put_hit laws device registers ram width (Fixed number) (place.InMemory address) value at reached e = absurd reached
-put_hit laws device registers ram width (Fixed number) (place.InRegister other) value at reached e = absurd (cc)
-put_hit laws device registers ram width (Fixed number) (place.Fixed other) value at reached e = absurd (cc)
+put_hit : (laws : Premises) (device : Device) → HasRam device → (registers ram : List ℕ) (width : Width) (reach : Reach) (stands : Place) (value at : ℕ) → IsReached reach stands → (put device registers ram width stands value).hit ≡ Some at
+    → IsHit device width (store_of true device width reach) at
+put_hit laws device is registers ram width (InMemory set_so) (place.InMemory address) value at reached e = (aligned device width address, (located_is laws device is width set_so address reached).has, e)
+put_hit laws device is registers ram width (InMemory set_so) (place.InRegister other) value at reached e = absurd reached
+put_hit laws device is registers ram width (InMemory set_so) (place.Fixed other) value at reached e = absurd reached
+put_hit laws device is registers ram width (InRegister register) (place.InMemory address) value at reached e = absurd reached
+put_hit laws device is registers ram width (InRegister register) (place.InRegister other) value at reached e = absurd (cc)
+put_hit laws device is registers ram width (InRegister register) (place.Fixed other) value at reached e = absurd (cc)
+put_hit laws device is registers ram width (Fixed number) (place.InMemory address) value at reached e = absurd reached
+put_hit laws device is registers ram width (Fixed number) (place.InRegister other) value at reached e = absurd (cc)
+put_hit laws device is registers ram width (Fixed number) (place.Fixed other) value at reached e = absurd (cc)
 
-put_if_hit : (laws : Premises) (device : Device) (registers ram : List ℕ) (writes : Bool) (width : Width) (reach : Reach) (stands : Place) (value at : ℕ) → IsReached reach stands
-    → (put_if writes device registers ram width stands value).hit ≡ Some at → IsHit device width (store_of writes width reach) at
-put_if_hit laws device registers ram true width reach stands value at reached e = put_hit laws device registers ram width reach stands value at reached e
-put_if_hit laws device registers ram false width reach stands value at reached e = absurd (cc)
+put_if_hit : (laws : Premises) (device : Device) → HasRam device → (registers ram : List ℕ) (writes : Bool) (width : Width) (reach : Reach) (stands : Place) (value at : ℕ) → IsReached reach stands
+    → (put_if writes device registers ram width stands value).hit ≡ Some at → IsHit device width (store_of writes device width reach) at
+put_if_hit laws device is registers ram true width reach stands value at reached e = put_hit laws device is registers ram width reach stands value at reached e
+put_if_hit laws device is registers ram false width reach stands value at reached e = absurd (cc)
 
 -- TWO OPERANDS
 
@@ -132,7 +132,7 @@ double_reached laws kinds device framed a s first len done width origin target o
     let pc = register_of s 0 in
     let counted_so = counter_set pc len origin target in
     let count_is = counter_is laws s len origin target may.counted may.counts in
-    let small = laws.below 65536 may.counted counted_so count_is.normal count_is.has in
+    let small = laws.known.sets.below 65536 may.counted counted_so count_is.normal count_is.has in
     let on = on_the_way device framed a counted_so first s may.counted under.form under.holds small count_is in
     let grown_so = grown_known a counted_so width origin in
     let on_grown = grown_on laws device framed a counted_so first (at_source s may.counted) s.ram on kinds width origin from_so in
@@ -144,7 +144,7 @@ double_reached laws kinds device framed a s first len done width origin target o
 pub double_shown : (laws : Premises) (kinds : AreKinds) (device : Device) (framed : Bool) (a : Known) (s : ChipState) (first : Option ChipState) (len : ℕ) (done : Operation) (width : Width) (origin : Source) (target : Destination) (outcome : Outcome ChipState)
     → IsUnder device framed a s first → IsSource origin → IsDestination target → (may : MayDouble device s len done width origin target outcome)
     → AreShown (double_worked device framed a (register_of s 0) len done width origin target).accesses
-    (double_accesses (register_of s 0) done width (origin_of s may.counted origin) (place_of s len may.counted width origin target))
+    (double_accesses device (register_of s 0) done width (origin_of s may.counted origin) (place_of s len may.counted width origin target))
 unfolding double_worked
 double_shown laws kinds device framed a s first len done width origin target outcome under from_so to_so may =
     let pc = register_of s 0 in
@@ -154,18 +154,18 @@ double_shown laws kinds device framed a s first len done width origin target out
     let one = origin_of s may.counted origin in
     let two = place_of s len may.counted width origin target in
     let reached = double_reached laws kinds device framed a s first len done width origin target outcome under from_so to_so may in
-    let reads = access_if (reads_destination done) pc false width to in
-    let reads_so = reads_if (reads_destination done) pc width two in
-    shown_both (access_of pc false width from ++ reads) (access_if (writes_result done) pc true width to) (access_to pc false width one ++ reads_so) (writes_if (writes_result done) pc width two)
-    (shown_both (access_of pc false width from) reads (access_to pc false width one) reads_so (access_shown laws pc false width from one reached.source)
-    (read_shown laws (reads_destination done) pc width to two reached.goal)) (write_shown laws (writes_result done) pc width to two reached.goal)
+    let reads = access_if (reads_destination done) device pc false width to in
+    let reads_so = reads_if (reads_destination done) device pc width two in
+    shown_both (access_of device pc false width from ++ reads) (access_if (writes_result done) device pc true width to) (access_to device pc false width one ++ reads_so) (writes_if (writes_result done) device pc width two)
+    (shown_both (access_of device pc false width from) reads (access_to device pc false width one) reads_so (access_shown laws device under.device_so.ram pc false width from one reached.source)
+    (read_shown laws device under.device_so.ram (reads_destination done) pc width to two reached.goal)) (write_shown laws device under.device_so.ram (writes_result done) pc width to two reached.goal)
 
-double_left_hit : (laws : Premises) (device : Device) (ram registers : List ℕ) (done : Operation) (width : Width) (reach : Reach) (stands : Place) (x y carry at : ℕ) (left : Left) → IsReached reach stands
-    → MayLeaveDouble device ram registers done width stands x y carry left → left.hit ≡ Some at → IsHit device width (store_of (writes_result done) width reach) at
-double_left_hit laws device ram registers done width reach stands x y carry at left reached (FreeStatus free freed) e =
+double_left_hit : (laws : Premises) (device : Device) → HasRam device → (ram registers : List ℕ) (done : Operation) (width : Width) (reach : Reach) (stands : Place) (x y carry at : ℕ) (left : Left) → IsReached reach stands
+    → MayLeaveDouble device ram registers done width stands x y carry left → left.hit ≡ Some at → IsHit device width (store_of (writes_result done) device width reach) at
+double_left_hit laws device known ram registers done width reach stands x y carry at left reached (FreeStatus free freed) e =
     let none : None ≡ Some at = sym (ap (λ (l : Left). l.hit) freed.left_is) ∙ e in absurd (cc)
-double_left_hit laws device ram registers done width reach stands x y carry at left reached (OfResult other made_so may is) e =
-    put_if_hit laws device registers ram (writes_result done) width reach stands made_so.0 at reached (sym (ap (λ (l : Left). l.hit) is) ∙ e)
+double_left_hit laws device known ram registers done width reach stands x y carry at left reached (OfResult other made_so may is) e =
+    put_if_hit laws device known registers ram (writes_result done) width reach stands made_so.0 at reached (sym (ap (λ (l : Left). l.hit) is) ∙ e)
 
 pub double_hit : (laws : Premises) (kinds : AreKinds) (device : Device) (framed : Bool) (a : Known) (s : ChipState) (first : Option ChipState) (len : ℕ) (done : Operation) (width : Width) (origin : Source) (target : Destination) (outcome : Outcome ChipState) (at : ℕ)
     → IsUnder device framed a s first → IsSource origin → IsDestination target → (may : MayDouble device s len done width origin target outcome) → may.left.hit ≡ Some at
@@ -173,7 +173,7 @@ pub double_hit : (laws : Premises) (kinds : AreKinds) (device : Device) (framed 
 unfolding double_worked
 double_hit laws kinds device framed a s first len done width origin target outcome at under from_so to_so may e =
     let reached = double_reached laws kinds device framed a s first len done width origin target outcome under from_so to_so may in
-    double_left_hit laws device s.ram (set (behind_source s may.counted width origin) 0 (behind s len)) done width _ (place_of s len may.counted width origin target) _ _ (register_of s 2 % 2) at may.left reached.goal may.leaves e
+    double_left_hit laws device under.device_so.ram s.ram (set (behind_source s may.counted width origin) 0 (behind s len)) done width _ (place_of s len may.counted width origin target) _ _ (register_of s 2 % 2) at may.left reached.goal may.leaves e
 
 -- ONE OPERAND
 
@@ -187,29 +187,29 @@ single_reached laws kinds device framed a s first len operand under from_so =
 pub single_shown : (laws : Premises) (kinds : AreKinds) (device : Device) (framed : Bool) (a : Known) (s : ChipState) (first : Option ChipState) (len : ℕ) (done : SingleOperation) (width : Width) (operand : Source)
     → IsUnder device framed a s first → IsSource operand
     → AreShown (single_worked device framed a (register_of s 0) len done width operand).accesses
-    (access_to (register_of s 0) false width (origin_of s (behind s len) operand) ++ access_to (register_of s 0) true width (origin_of s (behind s len) operand))
+    (access_to device (register_of s 0) false width (origin_of s (behind s len) operand) ++ access_to device (register_of s 0) true width (origin_of s (behind s len) operand))
 unfolding single_worked
 single_shown laws kinds device framed a s first len done width operand under from_so =
     let pc = register_of s 0 in
     let from = source_reach pc a (single (behind s len)) operand in
     let one = origin_of s (behind s len) operand in
     let reached = single_reached laws kinds device framed a s first len operand under from_so in
-    shown_both (access_of pc false width from) (access_of pc true width from) (access_to pc false width one) (access_to pc true width one)
-    (access_shown laws pc false width from one reached) (access_shown laws pc true width from one reached)
+    shown_both (access_of device pc false width from) (access_of device pc true width from) (access_to device pc false width one) (access_to device pc true width one)
+    (access_shown laws device under.device_so.ram pc false width from one reached) (access_shown laws device under.device_so.ram pc true width from one reached)
 
-single_left_hit : (laws : Premises) (device : Device) (ram registers : List ℕ) (done : SingleOperation) (width : Width) (reach : Reach) (stands : Place) (x carry at : ℕ) (left : Left) → IsReached reach stands
-    → MayLeaveSingle device ram registers done width stands x carry left → left.hit ≡ Some at → IsHit device width (store_of true width reach) at
-single_left_hit laws device ram registers done width reach stands x carry at left reached (SingleFree free freed) e =
+single_left_hit : (laws : Premises) (device : Device) → HasRam device → (ram registers : List ℕ) (done : SingleOperation) (width : Width) (reach : Reach) (stands : Place) (x carry at : ℕ) (left : Left) → IsReached reach stands
+    → MayLeaveSingle device ram registers done width stands x carry left → left.hit ≡ Some at → IsHit device width (store_of true device width reach) at
+single_left_hit laws device known ram registers done width reach stands x carry at left reached (SingleFree free freed) e =
     let none : None ≡ Some at = sym (ap (λ (l : Left). l.hit) freed.left_is) ∙ e in absurd (cc)
-single_left_hit laws device ram registers done width reach stands x carry at left reached (SingleResult other made_so may is) e =
-    put_hit laws device registers ram width reach stands made_so.0 at reached (sym (ap (λ (l : Left). l.hit) is) ∙ e)
+single_left_hit laws device known ram registers done width reach stands x carry at left reached (SingleResult other made_so may is) e =
+    put_hit laws device known registers ram width reach stands made_so.0 at reached (sym (ap (λ (l : Left). l.hit) is) ∙ e)
 
 pub single_hit : (laws : Premises) (kinds : AreKinds) (device : Device) (framed : Bool) (a : Known) (s : ChipState) (first : Option ChipState) (len : ℕ) (done : SingleOperation) (width : Width) (operand : Source) (outcome : Outcome ChipState) (at : ℕ)
     → IsUnder device framed a s first → IsSource operand → (may : MaySingle device s len done width operand outcome) → may.left.hit ≡ Some at
     → IsHit device width (single_worked device framed a (register_of s 0) len done width operand).store at
 unfolding single_worked
 single_hit laws kinds device framed a s first len done width operand outcome at under from_so may e =
-    single_left_hit laws device s.ram (behind_source s (behind s len) width operand) done width _ (origin_of s (behind s len) operand) _ (register_of s 2 % 2) at may.left
+    single_left_hit laws device under.device_so.ram s.ram (behind_source s (behind s len) width operand) done width _ (origin_of s (behind s len) operand) _ (register_of s 2 % 2) at may.left
     (single_reached laws kinds device framed a s first len operand under from_so) may.leaves e
 
 -- PUSH AND CALL
@@ -245,8 +245,8 @@ push_reached laws kinds device framed a s first len done width operand outcome u
 pub push_shown : (laws : Premises) (kinds : AreKinds) (device : Device) (framed : Bool) (a : Known) (s : ChipState) (first : Option ChipState) (len : ℕ) (done : SingleOperation) (width : Width) (operand : Source) (outcome : Outcome ChipState)
     → IsUnder device framed a s first → IsSource operand → (may : MayPush device s len done width operand outcome)
     → AreShown (push_worked device framed a (register_of s 0) len done width operand).accesses
-    (access_to (register_of s 0) false width (pushed_place s len may.option operand)
-    ++ access_to (register_of s 0) true Words (place.InMemory (lowered (get_or (behind_source s (behind s len) width operand) 1 0))))
+    (access_to device (register_of s 0) false width (pushed_place s len may.option operand)
+    ++ access_to device (register_of s 0) true Words (place.InMemory (lowered (get_or (behind_source s (behind s len) width operand) 1 0))))
 unfolding push_worked
 push_shown laws kinds device framed a s first len done width operand outcome under from_so may =
     let pc = register_of s 0 in
@@ -255,29 +255,29 @@ push_shown laws kinds device framed a s first len done width operand outcome und
     let one = pushed_place s len may.option operand in
     let two = place.InMemory (lowered (get_or (behind_source s (behind s len) width operand) 1 0)) in
     let reached = push_reached laws kinds device framed a s first len done width operand outcome under from_so may in
-    shown_both (access_of pc false width from) (access_of pc true Words slot) (access_to pc false width one) (access_to pc true Words two)
-    (access_shown laws pc false width from one reached.source) (access_shown laws pc true Words slot two reached.goal)
+    shown_both (access_of device pc false width from) (access_of device pc true Words slot) (access_to device pc false width one) (access_to device pc true Words two)
+    (access_shown laws device under.device_so.ram pc false width from one reached.source) (access_shown laws device under.device_so.ram pc true Words slot two reached.goal)
 
-plain_hit : (laws : Premises) (device : Device) (registers ram : List ℕ) (width : Width) (x word at : ℕ) (left : Left) (slot : Form) → IsResult 65536 slot (lowered (get_or registers 1 0))
-    → left ≡ pushed device registers ram word → left.hit ≡ Some at → IsHit device Words (store_of true Words (InMemory slot)) at
-plain_hit laws device registers ram width x word at left slot goal is e =
-    put_hit laws device (set registers 1 (lowered (get_or registers 1 0))) ram Words (InMemory slot) (place.InMemory (lowered (get_or registers 1 0))) word at goal (sym (ap (λ (l : Left). l.hit) is) ∙ e)
+plain_hit : (laws : Premises) (device : Device) → HasRam device → (registers ram : List ℕ) (width : Width) (x word at : ℕ) (left : Left) (slot : Form) → IsResult 65536 slot (lowered (get_or registers 1 0))
+    → left ≡ pushed device registers ram word → left.hit ≡ Some at → IsHit device Words (store_of true device Words (InMemory slot)) at
+plain_hit laws device known registers ram width x word at left slot goal is e =
+    put_hit laws device known (set registers 1 (lowered (get_or registers 1 0))) ram Words (InMemory slot) (place.InMemory (lowered (get_or registers 1 0))) word at goal (sym (ap (λ (l : Left). l.hit) is) ∙ e)
 
-either_hit : (laws : Premises) (device : Device) (registers ram : List ℕ) (done : SingleOperation) (width : Width) (x after at : ℕ) (left : Left) (slot : Form) → IsResult 65536 slot (lowered (get_or registers 1 0))
-    → MayLeavePush device ram registers done width x after left → left.hit ≡ Some at → IsHit device Words (store_of true Words (InMemory slot)) at
-either_hit laws device registers ram Call width x after at left slot goal is e =
+either_hit : (laws : Premises) (device : Device) → HasRam device → (registers ram : List ℕ) (done : SingleOperation) (width : Width) (x after at : ℕ) (left : Left) (slot : Form) → IsResult 65536 slot (lowered (get_or registers 1 0))
+    → MayLeavePush device ram registers done width x after left → left.hit ≡ Some at → IsHit device Words (store_of true device Words (InMemory slot)) at
+either_hit laws device known registers ram Call width x after at left slot goal is e =
     let kept : lowered (get_or registers 1 0) ≡ lowered (get_or (set registers 0 (x - x % 2)) 1 0) = ap lowered (sym (get_or-set_other registers 0 1 (x - x % 2) 0 (λ f. omega (arith, f)))) in
-    plain_hit laws device (set registers 0 (x - x % 2)) ram width x after at left slot (subst (IsResult 65536 slot) kept goal) is e
-either_hit laws device registers ram Push width x after at left slot goal (word, may, is) e = plain_hit laws device registers ram width x word at left slot goal is e
-either_hit laws device registers ram Rrc width x after at left slot goal (word, may, is) e = plain_hit laws device registers ram width x word at left slot goal is e
-either_hit laws device registers ram Swpb width x after at left slot goal (word, may, is) e = plain_hit laws device registers ram width x word at left slot goal is e
-either_hit laws device registers ram Rra width x after at left slot goal (word, may, is) e = plain_hit laws device registers ram width x word at left slot goal is e
-either_hit laws device registers ram Sxt width x after at left slot goal (word, may, is) e = plain_hit laws device registers ram width x word at left slot goal is e
+    plain_hit laws device known (set registers 0 (x - x % 2)) ram width x after at left slot (subst (IsResult 65536 slot) kept goal) is e
+either_hit laws device known registers ram Push width x after at left slot goal (word, may, is) e = plain_hit laws device known registers ram width x word at left slot goal is e
+either_hit laws device known registers ram Rrc width x after at left slot goal (word, may, is) e = plain_hit laws device known registers ram width x word at left slot goal is e
+either_hit laws device known registers ram Swpb width x after at left slot goal (word, may, is) e = plain_hit laws device known registers ram width x word at left slot goal is e
+either_hit laws device known registers ram Rra width x after at left slot goal (word, may, is) e = plain_hit laws device known registers ram width x word at left slot goal is e
+either_hit laws device known registers ram Sxt width x after at left slot goal (word, may, is) e = plain_hit laws device known registers ram width x word at left slot goal is e
 
 pub push_hit : (laws : Premises) (kinds : AreKinds) (device : Device) (framed : Bool) (a : Known) (s : ChipState) (first : Option ChipState) (len : ℕ) (done : SingleOperation) (width : Width) (operand : Source) (outcome : Outcome ChipState) (at : ℕ)
     → IsUnder device framed a s first → IsSource operand → (may : MayPush device s len done width operand outcome) → may.left.hit ≡ Some at
     → IsHit device Words (push_worked device framed a (register_of s 0) len done width operand).store at
 unfolding push_worked
 push_hit laws kinds device framed a s first len done width operand outcome at under from_so may e =
-    either_hit laws device (behind_source s (behind s len) width operand) s.ram done width _ (behind s len) at may.left (lowered_known (grown_known a (single (behind s len)) width operand)).sp
+    either_hit laws device under.device_so.ram (behind_source s (behind s len) width operand) s.ram done width _ (behind s len) at may.left (lowered_known (grown_known a (single (behind s len)) width operand)).sp
     (push_reached laws kinds device framed a s first len done width operand outcome under from_so may).goal may.leaves e

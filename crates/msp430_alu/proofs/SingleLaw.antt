@@ -72,7 +72,7 @@ single_leaves laws kinds device framed a s first len done width operand under fr
     let from_is = source_reached laws device framed a counted_so first (at_source s counted) s.ram on kinds pc operand from_so in
     let held = operand_held laws device framed a counted_so first (at_source s counted) s.ram on kinds under.device_so width from (origin_of s counted operand) x bits from_is reads few in
     let made_set = single_made done width (values_of width one) (carry_of a) in
-    let made_is = laws.single_result done width (with_free_bits width (origin_of s counted operand) bits x) (register_of s 2 % 2) (values_of width one) (carry_of a) made_so fits held.values
+    let made_is = laws.results.single done width (with_free_bits width (origin_of s counted operand) bits x) (register_of s 2 % 2) (values_of width one) (carry_of a) made_so fits held.values
     (carry_bit device framed a s first under) may in
     let word = written_word width made_set.0 None in
     let written = written_is laws suspended width made_set.0 None made_so.0 (record { normal = made_is.normal; has = made_is.result }) (λ e. tt) in

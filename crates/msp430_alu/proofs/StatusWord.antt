@@ -81,6 +81,6 @@ status_set_is laws framed first status sr x long form small few holds =
     let power : 2 ^ length status.bits ≡ 512 = ap (λ n. 2 ^ n) long in
     let number : sr + 2 ^ length status.bits * x ≡ sr + 512 * x = ap (λ n. sr + n * x) power in
     let agrees : Agrees bits (sr + 512 * x) = subst (Agrees bits) number (append_agrees status.bits (replicate 7 Either) sr x holds.bits (any_agree 7 x few)) in (
-      laws.from_normal 16 bits count,
-      (laws.from 16 (sr + 512 * x) bits count agrees, relation_under framed first status.entry sr x form small few holds.entry),
+      laws.known.bits.from_normal 16 bits count,
+      (laws.known.bits.from 16 (sr + 512 * x) bits count agrees, relation_under framed first status.entry sr x form small few holds.entry),
     )

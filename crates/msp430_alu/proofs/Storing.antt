@@ -1,5 +1,5 @@
 -- What is known of memory behind a store holds of it.
-use Rattle.std.proofs.Common.{◌≡◌, ℕ, ◌+◌, ◌-◌, ◌*◌, ◌/◌, ◌%◌, ◌<◌, ◌≤◌, ◌==◌, ◌||◌, Bool, true, false, Option, None, Some, List, [], ◌∷◌, length, get_or, set, min, max, refl, sym, ap, ◌∙◌, subst, inl, inr, arith, All, Contains, get_or-set_same, get_or-set_other}
+use Rattle.std.proofs.Common.{◌≡◌, ℕ, ◌+◌, ◌-◌, ◌*◌, ◌/◌, ◌%◌, ◌<◌, ◌≤◌, ◌==◌, ◌||◌, Bool, true, false, Option, None, Some, List, [], ◌∷◌, length, get_or, set, min, max, refl, sym, ap, ◌∙◌, subst, inl, inr, arith, Contains, get_or-set_same, get_or-set_other}
 use Rattle.std.specs.Prelude.{◌⊎◌, nat_le, nat_lt, if◌then◌else◌}
 use Rattle.std.specs.Option.{option_map}
 use Rattle.std.proofs.lemmas.Bool.{and_parts, and_from, or_right, or_left, or_from, or_parts, cond_both, cond-true, cond-false, cases_Bool, cases_eq, leb-true, leb-false, le-leb, ltb-false, le-ltb, eq-eqb, ne_eqb, false_from_ne_true, both_ways}
@@ -7,6 +7,7 @@ use Rattle.std.proofs.Math.Nat.{mod-eq_of_lt, mul-le-mul_right}
 use Rattle.std.proofs.lemmas.List.FromFn.{length-map-range_with_len, get_or-map-range_with_len}
 use Rattle.std.proofs.lemmas.List.{length-set}
 use Rattle.std.proofs.lemmas.List.Elements.{All-get_or, All-set}
+use Rattle.msp430_alu.proofs.WhereAccesses.{aligned_fits}
 use Rattle.msp430_alu.proofs.Members.{in_none, in_cons}
 use Rattle.entry_value.specs.declared.word.Word.{Word}
 use Rattle.entry_value.specs.Cells.{CellMap, AreCells, StandsUnder, write_any, written}
@@ -20,8 +21,7 @@ use Rattle.msp430_decode.specs.declared.instr.Width.TheVariants.{Word as Words, 
 use Rattle.msp430_chip.specs.declared.device.Device.{Device}
 use Rattle.msp430_chip.specs.declared.state.ChipState.{ChipState}
 use Rattle.msp430_chip.specs.Arithmetic.{modulus}
-use Rattle.msp430_chip.specs.Memory.{is_ram, size_of, aligned, with_byte, with_stored}
-use Rattle.msp430_chip.specs.State.{even}
+use Rattle.msp430_chip.specs.Memory.{is_ram, size_of, aligned, with_byte, with_stored, HasRam}
 use Rattle.msp430_state.specs.Forms.{IsKnown}
 use Rattle.msp430_state.specs.Holding.{suspended_of, ram_byte, KeepsUntouched, HoldsOfParts}
 use Rattle.msp430_state.specs.Known.{Known}
@@ -89,25 +89,28 @@ ram_small device ram is at =
 
 pub stored_ram : (device : Device) (ram : List ℕ) (width : Width) (address value : ℕ) → value < modulus width → IsRam device ram → IsRam device (with_stored device ram width address value)
 stored_ram device ram Words address value small is =
-    byte_ram device (with_byte device ram (even address) (value % 256)) (even address + 1) (value / 256) (omega (arith, small))
-    (byte_ram device ram (even address) (value % 256) (omega arith) is)
-stored_ram device ram Byte address value small is = byte_ram device ram address value small is
+    let at = aligned device Words address in
+    byte_ram device (with_byte device ram at (value % 256)) (at + 1) (value / 256) (omega (arith, small)) (byte_ram device ram at (value % 256) (omega arith) is)
+stored_ram device ram Byte address value small is = byte_ram device ram (aligned device Byte address) value small is
 
 -- a RAM behind a store and behind a write of cells agree
-agrees_there : (device : Device) (ram : List ℕ) (width : Width) (address value : ℕ) → address < 65536 → value < modulus width → IsRam device ram → (b : ℕ) → device.lo ≤ b → b ≤ device.hi
-    → written (ram_byte device ram) (aligned width address) (size_of width) value b ≡ ram_byte device (with_stored device ram width address value) b
+agrees_there : (laws : Premises) (device : Device) → HasRam device → (ram : List ℕ) (width : Width) (address value : ℕ) → address < 65536 → value < modulus width → IsRam device ram → (b : ℕ) → device.lo ≤ b → b ≤ device.hi
+    → written (ram_byte device ram) (aligned device width address) (size_of width) value b ≡ ram_byte device (with_stored device ram width address value) b
 unfolding written
-agrees_there device ram Byte address value below small is b low high = elim (cases_eq b address) [
-  | inl same ↦
-      let inside : is_ram device address ≡ true = in_ram device address (subst (λ n. device.lo ≤ n) same low) (subst (λ n. n ≤ device.hi) same high) in
-      let whole : value % 256 ≡ value = omega (arith, small) in
-      cond-true (b == address) (value % 256) (ram_byte device ram b) (eq-eqb b address same)
-      ∙ whole ∙ sym (byte_there device ram address value inside is) ∙ ap (ram_byte device (with_byte device ram address value)) (sym same)
-  | inr other ↦ cond-false (b == address) (value % 256) (ram_byte device ram b) (ne_eqb b address other) ∙ sym (byte_elsewhere device ram address value b other)
-]
-agrees_there device ram Words address value below small is b low high =
-    let at = even address in
-    let next : (at + 1) % 65536 ≡ at + 1 = omega (arith, below) in
+agrees_there laws device where_so ram Byte address value below small is b low high =
+    let at = aligned device Byte address in
+    elim (cases_eq b at) [
+      | inl same ↦
+          let inside : is_ram device at ≡ true = in_ram device at (subst (λ n. device.lo ≤ n) same low) (subst (λ n. n ≤ device.hi) same high) in
+          let whole : value % 256 ≡ value = omega (arith, small) in
+          cond-true (b == at) (value % 256) (ram_byte device ram b) (eq-eqb b at same)
+          ∙ whole ∙ sym (byte_there device ram at value inside is) ∙ ap (ram_byte device (with_byte device ram at value)) (sym same)
+      | inr other ↦ cond-false (b == at) (value % 256) (ram_byte device ram b) (ne_eqb b at other) ∙ sym (byte_elsewhere device ram at value b other)
+    ]
+agrees_there laws device where_so ram Words address value below small is b low high =
+    let at = aligned device Words address in
+    let fits = aligned_fits laws device where_so Words address below in
+    let next : (at + 1) % 65536 ≡ at + 1 = omega (arith, fits) in
     let first = with_byte device ram at (value % 256) in
     let rest = if b == (at + 1) % 65536 then value / 256 else ram_byte device ram b in
     elim (cases_eq b at) [
@@ -144,27 +147,27 @@ pub record IsStorable (width : Width) (word : Word) : Type 0 where
   pub byte : size_of width ≡ 1 → (n : ℕ) → Has 65536 word.set n → n < 256
 
 cells_stored : (laws : Premises) (device : Device) (map : CellMap) (first : Option Suspended) (ram : List ℕ) (width : Width) (set_so : Form) (address value : ℕ) (word : Word) → IsDevice device → IsRam device ram
-    → map.lo ≡ device.lo → map.hi ≡ device.hi → AreCells device.lo device.hi device.lo map.cells → address < 65536 → IsResult 65536 set_so (aligned width address)
+    → map.lo ≡ device.lo → map.hi ≡ device.hi → AreCells device.lo device.hi device.lo map.cells → address < 65536 → IsResult 65536 set_so (aligned device width address)
     → value < modulus width → IsStorable width word → HoldsOfWord first word value → StandsUnder first map.cells (ram_byte device ram)
     → StandsUnder first (write_any map set_so (size_of width) word).cells (ram_byte device (with_stored device ram width address value))
 cells_stored laws device map first ram width set_so address value word is ram_is from up_to cells below at small storable holds stands =
     let size = size_of width in
-    let top : map.hi < 65536 = subst (λ n. n < 65536) (sym up_to) is.top in
+    let top : map.hi < 65536 = subst (λ n. n < 65536) (sym up_to) is.ram.top in
     let are : AreCells map.lo map.hi map.lo map.cells =
     subst (λ lo. AreCells lo map.hi lo map.cells) (sym from) (subst (λ hi. AreCells device.lo hi device.lo map.cells) (sym up_to) cells) in
-    let after = laws.store_form map.lo size map set_so word top (omega arith) are (size_is width) storable.normal storable.byte in
-    let written_so = laws.store first (ram_byte device ram) map.lo size (aligned width address) value map set_so word top are at.normal (size_is width) storable.normal storable.byte stands at.has holds in
-    laws.agree first (written (ram_byte device ram) (aligned width address) size value) (ram_byte device (with_stored device ram width address value)) map.lo map.hi map.lo
+    let after = laws.known.cells.store_form map.lo size map set_so word top (omega arith) are (size_is width) storable.normal storable.byte in
+    let written_so = laws.known.cells.store first (ram_byte device ram) map.lo size (aligned device width address) value map set_so word top are at.normal (size_is width) storable.normal storable.byte stands at.has holds in
+    laws.known.cells.agree first (written (ram_byte device ram) (aligned device width address) size value) (ram_byte device (with_stored device ram width address value)) map.lo map.hi map.lo
     (write_any map set_so size word).cells top after (ram_small device (with_stored device ram width address value) (stored_ram device ram width address value small ram_is))
-    (λ b low high. agrees_there device ram width address value below small ram_is b (subst (λ n. n ≤ b) from low) (subst (λ n. b ≤ n) up_to high)) written_so
+    (λ b low high. agrees_there laws device is.ram ram width address value below small ram_is b (subst (λ n. n ≤ b) from low) (subst (λ n. b ≤ n) up_to high)) written_so
 
 -- TOUCHED BYTES
 
 has_more : (from hi b low high : ℕ) (ranges : List (ℕ × ℕ)) → (laws : Premises) → low ≤ high → AreRanges from hi ranges → has_address ranges b ≡ true → has_address (with_range low high ranges) b ≡ true
-has_more from hi b low high ranges laws le are has = laws.range from hi b low high ranges le are ∙ or_left (has_address ranges b) (lies_in (b, b) (low, high)) has
+has_more from hi b low high ranges laws le are has = laws.known.ranges.add from hi b low high ranges le are ∙ or_left (has_address ranges b) (lies_in (b, b) (low, high)) has
 
 has_new : (from hi b low high : ℕ) (ranges : List (ℕ × ℕ)) → (laws : Premises) → AreRanges from hi ranges → low ≤ b → b ≤ high → has_address (with_range low high ranges) b ≡ true
-has_new from hi b low high ranges laws are h k = laws.range from hi b low high ranges (omega arith) are
+has_new from hi b low high ranges laws are h k = laws.known.ranges.add from hi b low high ranges (omega arith) are
     ∙ or_right (has_address ranges b) (lies_in (b, b) (low, high)) (and_from (nat_le low b) (nat_le b high) (le-leb low b h) (le-leb b high k))
 
 -- ranges in RAM that have what was touched before
@@ -184,7 +187,7 @@ touch_grows laws lo hi first last touched le up are =
     let begins : first ≤ hi = ltb-false hi first parts.1 in
     let ordered : max lo first ≤ min hi last = omega arith in
     record {
-      form = laws.range_form lo hi (max lo first) (min hi last) touched (omega arith) ordered (omega arith) are;
+      form = laws.known.ranges.add_form lo hi (max lo first) (min hi last) touched (omega arith) ordered (omega arith) are;
       keeps = λ b has. has_more lo hi b (max lo first) (min hi last) touched laws ordered are has;
     })
 
@@ -225,7 +228,7 @@ pub behind_grows : (laws : Premises) (lo hi size : ℕ) (set_so : Form) (touched
 behind_grows laws lo hi size (Values xs) touched le some are = each_grows laws lo hi size xs touched le some are
 behind_grows laws lo hi size (Run p) touched le some are =
     cond_both (nat_le 65536 (p.base + reach p)) (with_range lo hi touched) (touch lo hi p.base (p.base + reach p + size - 1) touched) (Grows lo hi touched)
-    (λ e. record { form = laws.range_form lo hi lo hi touched (omega arith) le (omega arith) are; keeps = λ b has. has_more lo hi b lo hi touched laws le are has })
+    (λ e. record { form = laws.known.ranges.add_form lo hi lo hi touched (omega arith) le (omega arith) are; keeps = λ b has. has_more lo hi b lo hi touched laws le are has })
     (λ e. touch_grows laws lo hi p.base (p.base + reach p + size - 1) touched le (omega arith) are)
 
 steps_from : (m base stride count v : ℕ) → Contains (steps m base stride count) v → (i : ℕ) × (i < count) × (v ≡ (base + i * stride) % m)
@@ -248,12 +251,13 @@ behind_touched laws lo hi size at b (Run p) touched some are there low high afte
     touch_has laws lo hi p.base (p.base + reach p + size - 1) b touched are low high (omega (arith, plain, after)) (omega (arith, plain, most, before)))
 
 -- a byte that a store doesn't write stays
-unwritten : (device : Device) (ram : List ℕ) (width : Width) (address value b : ℕ) → (aligned width address ≤ b → b ≤ aligned width address + size_of width - 1 → ⊥)
+unwritten : (device : Device) (ram : List ℕ) (width : Width) (address value b : ℕ) → (aligned device width address ≤ b → b ≤ aligned device width address + size_of width - 1 → ⊥)
     → ram_byte device (with_stored device ram width address value) b ≡ ram_byte device ram b
-unwritten device ram Byte address value b other = byte_elsewhere device ram address value b (λ e. other (omega (arith, e)) (omega (arith, e)))
+unwritten device ram Byte address value b other = byte_elsewhere device ram (aligned device Byte address) value b (λ e. other (omega (arith, e)) (omega (arith, e)))
 unwritten device ram Words address value b other =
-    byte_elsewhere device (with_byte device ram (even address) (value % 256)) (even address + 1) (value / 256) b (λ e. other (omega (arith, e)) (omega (arith, e)))
-    ∙ byte_elsewhere device ram (even address) (value % 256) b (λ e. other (omega (arith, e)) (omega (arith, e)))
+    let at = aligned device Words address in
+    byte_elsewhere device (with_byte device ram at (value % 256)) (at + 1) (value / 256) b (λ e. other (omega (arith, e)) (omega (arith, e)))
+    ∙ byte_elsewhere device ram at (value % 256) b (λ e. other (omega (arith, e)) (omega (arith, e)))
 
 outside_same : (device : Device) (one other : List ℕ) (b : ℕ) → is_ram device b ≡ false → ram_byte device one b ≡ ram_byte device other b
 outside_same device one other b outside =
@@ -264,21 +268,21 @@ some_size Words = omega arith
 some_size Byte = omega arith
 
 stays_untouched : (laws : Premises) (device : Device) (ram : List ℕ) (width : Width) (address value : ℕ) (set_so : Form) (touched : List (ℕ × ℕ)) (f : ChipState) → IsDevice device
-    → AreRanges device.lo device.hi touched → Has 65536 set_so (aligned width address) → KeepsUntouched device touched ram (Some f) → (b : ℕ)
+    → AreRanges device.lo device.hi touched → Has 65536 set_so (aligned device width address) → KeepsUntouched device touched ram (Some f) → (b : ℕ)
     → has_address (touched_behind device.lo device.hi (size_of width) set_so touched) b ≡ false → ram_byte device (with_stored device ram width address value) b ≡ ram_byte device f.ram b
 stays_untouched laws device ram width address value set_so touched f is are has keeps b none =
-    let grows = behind_grows laws device.lo device.hi (size_of width) set_so touched (omega (arith, is.some)) (some_size width) are in
+    let grows = behind_grows laws device.lo device.hi (size_of width) set_so touched (omega (arith, is.ram.some)) (some_size width) are in
     let before : has_address touched b ≡ false = false_from_ne_true (has_address touched b) (λ there. both_ways (has_address (touched_behind device.lo device.hi (size_of width) set_so touched) b) none (grows.keeps b there)) in
     let same : ram_byte device (with_stored device ram width address value) b ≡ ram_byte device ram b = elim (cases_Bool (is_ram device b)) [
       | inr outside ↦ outside_same device (with_stored device ram width address value) ram b outside
       | inl inside ↦ unwritten device ram width address value b (λ after last.
           both_ways (has_address (touched_behind device.lo device.hi (size_of width) set_so touched) b) none
-          (behind_touched laws device.lo device.hi (size_of width) (aligned width address) b set_so touched (some_size width) are has (ram_low device b inside) (ram_high device b inside) after last))
+          (behind_touched laws device.lo device.hi (size_of width) (aligned device width address) b set_so touched (some_size width) are has (ram_low device b inside) (ram_high device b inside) after last))
     ] in
     same ∙ keeps b before
 
 store_untouched : (laws : Premises) (device : Device) (framed : Bool) (ram : List ℕ) (width : Width) (address value : ℕ) (set_so : Form) (touched : List (ℕ × ℕ)) (first : Option ChipState) → IsDevice device
-    → (framed ≡ false → first ≡ None) → AreRanges device.lo device.hi touched → Has 65536 set_so (aligned width address) → KeepsUntouched device touched ram first
+    → (framed ≡ false → first ≡ None) → AreRanges device.lo device.hi touched → Has 65536 set_so (aligned device width address) → KeepsUntouched device touched ram first
     → KeepsUntouched device (if framed then touched_behind device.lo device.hi (size_of width) set_so touched else touched) (with_stored device ram width address value) first
 store_untouched laws device framed ram width address value set_so touched None is base are has keeps = tt
 store_untouched laws device true ram width address value set_so touched (Some f) is base are has keeps = stays_untouched laws device ram width address value set_so touched f is are has keeps
@@ -286,7 +290,7 @@ store_untouched laws device false ram width address value set_so touched (Some f
 
 -- what is known behind a store holds behind it
 pub store_holds : (laws : Premises) (device : Device) (framed : Bool) (a : Known) (first : Option ChipState) (registers ram : List ℕ) (width : Width) (address value : ℕ) (set_so : Form) (word : Word) → IsDevice device → IsRam device ram
-    → (framed ≡ false → first ≡ None) → IsKnown device.lo device.hi framed a → address < 65536 → IsResult 65536 set_so (aligned width address) → value < modulus width → IsStorable width word
+    → (framed ≡ false → first ≡ None) → IsKnown device.lo device.hi framed a → address < 65536 → IsResult 65536 set_so (aligned device width address) → value < modulus width → IsStorable width word
     → HoldsOfWord (option_map suspended_of first) word value → HoldsOfParts device a first registers ram
     → HoldsOfParts device (with_store device framed a width set_so word) first registers (with_stored device ram width address value)
 store_holds laws device framed a first registers ram width address value set_so word is ram_is base form below at small storable has holds = record {

@@ -57,6 +57,7 @@ use Rattle.msp430_alu.specs.Registers.{even_parts, status_set, register_word, wi
 use Rattle.msp430_results.specs.Results.{double_made, single_made, twice_flags, HasWidth}
 use Rattle.msp430_alu.proofs.Growth.{growth_small}
 use Rattle.msp430_alu.proofs.OperandLemmas.{AreKinds, constant_small, general_word}
+use Rattle.msp430_alu.proofs.WhereAccesses.{located_even, located_normal}
 use Rattle.msp430_alu.proofs.Parts.{even_parts_form}
 use Rattle.msp430_alu.proofs.ReadingLemmas.{read_known_normal}
 use Rattle.msp430_alu.proofs.Shapes.{IsCellWord, no_relation, register_form, sp_form, flags_form, store_form}
@@ -66,7 +67,7 @@ use Rattle.msp430_alu.proofs.Shapes.{IsCellWord, no_relation, register_form, sp_
 pub status_normal : (laws : Premises) (status : StatusBits) → length status.bits ≡ 9 → IsNormal 65536 (status_set status)
 status_normal laws status long =
     let count : length (status.bits ++ replicate 7 Either) ≡ 16 = length-append status.bits (replicate 7 Either) ∙ omega (arith, long, length-replicate 7 Either) in
-    laws.from_normal 16 (status.bits ++ replicate 7 Either) count
+    laws.known.bits.from_normal 16 (status.bits ++ replicate 7 Either) count
 
 pub status_relation : (framed : Bool) (entry : Option Entry) → IsStatusRelation framed entry → IsRelation framed entry
 status_relation framed None form = tt
@@ -76,7 +77,7 @@ status_relation true (Some entry) (place, and_small, high, or_small) = (ap is_pl
 word_of_form : (laws : Premises) (lo hi : ℕ) (framed : Bool) (a : Known) → IsKnown lo hi framed a → (register : ℕ) → IsWord framed (word_of a register)
 word_of_form laws lo hi framed a form register = elim (cases_lt (register - 4) (length a.registers)) [
   | inl inside ↦ All-get_or (IsWord framed) a.registers (register - 4) (unknown 2) inside form.registers
-  | inr past ↦ subst (IsWord framed) (sym (get_or_past a.registers (register - 4) (unknown 2) past)) (record { normal = laws.whole_normal 65536 (omega arith); entry = no_relation framed })
+  | inr past ↦ subst (IsWord framed) (sym (get_or_past a.registers (register - 4) (unknown 2) past)) (record { normal = laws.known.sets.whole_normal 65536 (omega arith); entry = no_relation framed })
 ]
 
 register_word_form : (laws : Premises) (lo hi : ℕ) (framed : Bool) (a : Known) (counted : Form) → IsKnown lo hi framed a → IsNormal 65536 counted → (register : Register) → Kind register → IsWord framed (register_word a counted register)
@@ -85,7 +86,7 @@ register_word_form laws lo hi framed a counted form normal register (Stack e) = 
 register_word_form laws lo hi framed a counted form normal register (Status e) =
     subst (λ r. IsWord framed (register_word a counted r)) (sym e) (record { normal = status_normal laws a.status form.bits; entry = status_relation framed a.status.entry form.status })
 register_word_form laws lo hi framed a counted form normal register (Empty e) =
-    subst (λ r. IsWord framed (register_word a counted r)) (sym e) (record { normal = (laws.single 65536 0 (omega arith)).0; entry = no_relation framed })
+    subst (λ r. IsWord framed (register_word a counted r)) (sym e) (record { normal = (laws.known.sets.single 65536 0 (omega arith)).0; entry = no_relation framed })
 register_word_form laws lo hi framed a counted form normal register (General is) =
     subst (IsWord framed) (sym (general_word a counted register is.above)) (word_of_form laws lo hi framed a form (number register))
 
@@ -99,7 +100,7 @@ IsReachNormal (Fixed value) = Unit {0}
 beside_form : (laws : Premises) (lo hi : ℕ) (framed : Bool) (a : Known) (counted : Form) → IsKnown lo hi framed a → IsNormal 65536 counted → AreKinds → (register : Register) (offset : ℕ) → offset < 65536
     → IsNormal 65536 (beside a counted register offset)
 beside_form laws lo hi framed a counted form normal kinds register offset small =
-    laws.add_normal 65536 (register_word a counted register).set (single offset) (register_word_form laws lo hi framed a counted form normal register (kinds register)).normal (laws.single 65536 offset small).0
+    laws.known.sets.add_normal 65536 (register_word a counted register).set (single offset) (register_word_form laws lo hi framed a counted form normal register (kinds register)).normal (laws.known.sets.single 65536 offset small).0
 
 pub source_form : (laws : Premises) (lo hi : ℕ) (framed : Bool) (a : Known) (counted : Form) → IsKnown lo hi framed a → IsNormal 65536 counted → AreKinds → (pc : ℕ) (origin : Source) → IsSource origin
     → IsReachNormal (source_reach pc a counted origin)
@@ -108,16 +109,16 @@ source_form laws lo hi framed a counted form normal kinds pc (source.Indexed reg
 source_form laws lo hi framed a counted form normal kinds pc (source.Indirect register) is = (register_word_form laws lo hi framed a counted form normal register (kinds register)).normal
 source_form laws lo hi framed a counted form normal kinds pc (source.IndirectIncrement register) is = (register_word_form laws lo hi framed a counted form normal register (kinds register)).normal
 source_form laws lo hi framed a counted form normal kinds pc (source.Immediate value) is = tt
-source_form laws lo hi framed a counted form normal kinds pc (source.Symbolic offset) is = (laws.single 65536 ((pc + 2 + offset) % 65536) (omega arith)).0
-source_form laws lo hi framed a counted form normal kinds pc (source.Absolute address) is = (laws.single 65536 address is).0
+source_form laws lo hi framed a counted form normal kinds pc (source.Symbolic offset) is = (laws.known.sets.single 65536 ((pc + 2 + offset) % 65536) (omega arith)).0
+source_form laws lo hi framed a counted form normal kinds pc (source.Absolute address) is = (laws.known.sets.single 65536 address is).0
 source_form laws lo hi framed a counted form normal kinds pc (source.Constant constant) is = tt
 
 pub destination_form : (laws : Premises) (lo hi : ℕ) (framed : Bool) (a : Known) (counted : Form) → IsKnown lo hi framed a → IsNormal 65536 counted → AreKinds → (pc len : ℕ) (target : Destination) → IsDestination target
     → IsReachNormal (destination_reach pc len a counted target)
 destination_form laws lo hi framed a counted form normal kinds pc len (destination.Register register) is = tt
 destination_form laws lo hi framed a counted form normal kinds pc len (destination.Indexed register offset) is = beside_form laws lo hi framed a counted form normal kinds register offset is.1
-destination_form laws lo hi framed a counted form normal kinds pc len (destination.Symbolic offset) is = (laws.single 65536 ((pc + len - 2 + offset) % 65536) (omega arith)).0
-destination_form laws lo hi framed a counted form normal kinds pc len (destination.Absolute address) is = (laws.single 65536 address is).0
+destination_form laws lo hi framed a counted form normal kinds pc len (destination.Symbolic offset) is = (laws.known.sets.single 65536 ((pc + len - 2 + offset) % 65536) (omega arith)).0
+destination_form laws lo hi framed a counted form normal kinds pc len (destination.Absolute address) is = (laws.known.sets.single 65536 address is).0
 
 pub grown_form : (laws : Premises) (lo hi : ℕ) (framed : Bool) (a : Known) (counted : Form) → IsKnown lo hi framed a → IsNormal 65536 counted → AreKinds → (width : Width) (origin : Source)
     → IsKnown lo hi framed (grown_known a counted width origin)
@@ -125,8 +126,8 @@ grown_form laws lo hi framed a counted form normal kinds width (source.IndirectI
     let more = growth width register in
     register_form laws lo hi framed a register (record { set = add 65536 (register_word a counted register).set (single more); entry = None }) (kinds register)
     (record {
-      normal = laws.add_normal 65536 (register_word a counted register).set (single more) (register_word_form laws lo hi framed a counted form normal register (kinds register)).normal
-          (laws.single 65536 more (growth_small width register (kinds register))).0;
+      normal = laws.known.sets.add_normal 65536 (register_word a counted register).set (single more) (register_word_form laws lo hi framed a counted form normal register (kinds register)).normal
+          (laws.known.sets.single 65536 more (growth_small width register (kinds register))).0;
       entry = no_relation framed;
     }) form
 grown_form laws lo hi framed a counted form normal kinds width (source.Register register) = form
@@ -200,14 +201,14 @@ pub operand_form : (laws : Premises) (device : Device) (framed : Bool) (a : Know
     → IsReachSmall reach → IsWord framed (operand_word device a counted width reach)
 operand_form laws device framed a counted is form normal kinds width (InRegister register) small = register_word_form laws device.lo device.hi framed a counted form normal register (kinds register)
 operand_form laws device framed a counted is form normal kinds width (InMemory set_so) small = record {
-  normal = read_known_normal laws device a is form.cells width (located width set_so);
-  entry = list_relation framed device a width (members 65536 (located width set_so)) form;
+  normal = read_known_normal laws device a is form.cells width (located device width set_so);
+  entry = list_relation framed device a width (members 65536 (located device width set_so)) form;
 }
-operand_form laws device framed a counted is form normal kinds width (Fixed value) small = record { normal = (laws.single 65536 value small).0; entry = no_relation framed }
+operand_form laws device framed a counted is form normal kinds width (Fixed value) small = record { normal = (laws.known.sets.single 65536 value small).0; entry = no_relation framed }
 
 pub values_form : (laws : Premises) (framed : Bool) (width : Width) (word : Word) → IsWord framed word → IsNormal (modulus width) (values_of width word)
 values_form laws framed Words word is = is.normal
-values_form laws framed Byte word is = laws.low_normal word.set is.normal
+values_form laws framed Byte word is = laws.known.bits.low_normal word.set is.normal
 
 -- RELATIONS OF RESULTS
 
@@ -278,30 +279,22 @@ written_form laws framed Words set_so entry normal form = record {
   };
 }
 written_form laws framed Byte set_so entry normal form =
-    let paired = laws.pair_normal set_so (single 0) normal (laws.single 256 0 (omega arith)).0 in
+    let paired = laws.known.bits.pair_normal set_so (single 0) normal (laws.known.sets.single 256 0 (omega arith)).0 in
     record {
       word_so = record { normal = paired; entry = no_relation framed };
       cell = record {
-        storable = record { normal = paired; byte = λ e n h. laws.pair_byte set_so n normal h };
+        storable = record { normal = paired; byte = λ e n h. laws.known.bits.pair_byte set_so n normal h };
         byte = λ e. refl;
         entry = no_relation framed;
       };
     }
 
-located_normal : (laws : Premises) (width : Width) (set_so : Form) → IsNormal 65536 set_so → IsNormal 65536 (located width set_so)
-located_normal laws Words set_so normal = (even_parts_form laws set_so normal).normal
-located_normal laws Byte set_so normal = normal
-
-located_even : (laws : Premises) (width : Width) (set_so : Form) → IsNormal 65536 set_so → size_of width ≡ 2 → HasRemainder 65536 2 0 (located width set_so)
-located_even laws Words set_so normal e = (even_parts_form laws set_so normal).even
-located_even laws Byte set_so normal e = absurd (omega (arith, e))
-
 pub put_form : (laws : Premises) (device : Device) (framed : Bool) (a : Known) → IsDevice device → IsKnown device.lo device.hi framed a → AreKinds → (width : Width) (reach : Reach) (word : Word) → IsReachNormal reach
     → IsWritable framed width word → IsKnown device.lo device.hi framed (put_known device framed a width reach word)
 put_form laws device framed a is form kinds width (InRegister register) word normal writable = register_form laws device.lo device.hi framed a register word (kinds register) writable.word_so form
 put_form laws device framed a is form kinds width (InMemory set_so) word normal writable =
-    let there = located_normal laws width set_so normal in
-    store_form laws device framed a width (located width set_so) word is (laws.some 65536 (located width set_so) there) (located_even laws width set_so normal) writable.cell form
+    let there = located_normal laws device is.ram width set_so normal in
+    store_form laws device framed a width (located device width set_so) word is (laws.known.sets.some 65536 (located device width set_so) there) (located_even laws device is.ram width set_so normal) writable.cell form
 put_form laws device framed a is form kinds width (Fixed value) word normal writable = form
 
 pub put_if_form : (laws : Premises) (device : Device) (framed : Bool) (a : Known) → IsDevice device → IsKnown device.lo device.hi framed a → AreKinds → (writes : Bool) (width : Width) (reach : Reach) (word : Word) → IsReachNormal reach
@@ -316,7 +309,7 @@ pub record AreNext (ahead : ℕ) (next : Form) : Type 0 where
 
 ahead_next : (laws : Premises) (ahead : ℕ) → ahead < 65536 → AreNext ahead (single ahead)
 ahead_next laws ahead small = record {
-  normal = (laws.single 65536 ahead small).0;
+  normal = (laws.known.sets.single 65536 ahead small).0;
   even = λ even v h. elim (in_cons ahead [] v h) [
     | inl same ↦ subst (λ n. n % 2 ≡ 0) same even
     | inr none ↦ absurd (in_none v none)
@@ -340,24 +333,24 @@ next_if_form laws false reach word ahead normal small = ahead_next laws ahead sm
 
 counter_form : (laws : Premises) (pc len : ℕ) (origin : Source) (target : Destination) → IsNormal 65536 (counter_set pc len origin target)
 counter_form laws pc len origin target =
-    let one = laws.single 65536 ((pc + 2) % 65536) (omega arith) in
-    let two = laws.single 65536 ((pc + 4) % 65536) (omega arith) in
+    let one = laws.known.sets.single 65536 ((pc + 2) % 65536) (omega arith) in
+    let two = laws.known.sets.single 65536 ((pc + 4) % 65536) (omega arith) in
     cond_both (reads_counter origin target) (join 65536 (single ((pc + 2) % 65536)) (single ((pc + 4) % 65536))) (single ((pc + len) % 65536)) (IsNormal 65536)
-    (λ e. laws.join_normal 65536 (single ((pc + 2) % 65536)) (single ((pc + 4) % 65536)) one.0 two.0) (λ e. (laws.single 65536 ((pc + len) % 65536) (omega arith)).0)
+    (λ e. laws.known.sets.join_normal 65536 (single ((pc + 2) % 65536)) (single ((pc + 4) % 65536)) one.0 two.0) (λ e. (laws.known.sets.single 65536 ((pc + len) % 65536) (omega arith)).0)
 
 target_form : (laws : Premises) (device : Device) (framed : Bool) (a : Known) (counted : Form) → IsDevice device → IsKnown device.lo device.hi framed a → IsNormal 65536 counted → AreKinds → (done : Operation) (width : Width) (reach : Reach)
     → IsReachSmall reach → IsWord framed (destination_word device a counted done width reach)
 target_form laws device framed a counted is form normal kinds done width reach small =
     cond_both (reads_destination done) (operand_word device a counted width reach) (record { set = single 0; entry = None }) (IsWord framed)
     (λ e. operand_form laws device framed a counted is form normal kinds width reach small)
-    (λ e. record { normal = (laws.single 65536 0 (omega arith)).0; entry = no_relation framed })
+    (λ e. record { normal = (laws.known.sets.single 65536 0 (omega arith)).0; entry = no_relation framed })
 
 made_form : (laws : Premises) (framed : Bool) (done : Operation) (width : Width) (origin : Source) (target : Destination) (one other : Word) (c : Tri) → IsWord framed one → IsWord framed other
     → IsNormal (modulus width) (made_of done width origin target one other c).0
 made_form laws framed done width origin target one other c h k =
     cond_both (is_doubled done origin target) (twice_flags width (values_of width other)) (double_made done width (values_of width one) (values_of width other) c) (λ (made_so : MadeSet). IsNormal (modulus width) made_so.0)
-    (λ e. laws.twice_result_normal width (values_of width other) (values_form laws framed width other k))
-    (λ e. laws.double_result_normal done width (values_of width one) (values_of width other) c (values_form laws framed width one h) (values_form laws framed width other k))
+    (λ e. laws.results.twice_normal width (values_of width other) (values_form laws framed width other k))
+    (λ e. laws.results.double_normal done width (values_of width one) (values_of width other) c (values_form laws framed width one h) (values_form laws framed width other k))
 
 -- the parts of what an instruction with two operands makes of a state
 pub record DoubleForms (device : Device) (framed : Bool) (width : Width) (one other word : Word) (put_so after : Known) (ahead : ℕ) (next : Form) : Type 0 where
@@ -439,7 +432,7 @@ pub single_forms : (laws : Premises) (device : Device) (framed : Bool) (a : Know
     SingleForms device framed put_so (with_flag_bits put_so made_so.1) ((pc + len) % 65536) (next_by from word ((pc + len) % 65536))
 single_forms laws device framed a is form kinds pc len done width operand from_so fits =
     let counted = single ((pc + len) % 65536) in
-    let counted_so = (laws.single 65536 ((pc + len) % 65536) (omega arith)).0 in
+    let counted_so = (laws.known.sets.single 65536 ((pc + len) % 65536) (omega arith)).0 in
     let grown_so = grown_known a counted width operand in
     let grown_is = grown_form laws device.lo device.hi framed a counted form counted_so kinds width operand in
     let from = source_reach pc a counted operand in
@@ -447,7 +440,7 @@ single_forms laws device framed a is form kinds pc len done width operand from_s
     let one_is = operand_form laws device framed a counted is form counted_so kinds width from (source_small pc a counted operand from_so) in
     let made_so = single_made done width (values_of width one) (carry_of a) in
     let word = written_word width made_so.0 None in
-    let writable = written_form laws framed width made_so.0 None (laws.single_result_normal done width (values_of width one) (carry_of a) fits (values_form laws framed width one one_is)) (no_relation framed) in
+    let writable = written_form laws framed width made_so.0 None (laws.results.single_normal done width (values_of width one) (carry_of a) fits (values_form laws framed width one one_is)) (no_relation framed) in
     let put_is = put_form laws device framed grown_so is grown_is kinds width from word (source_form laws device.lo device.hi framed a counted form counted_so kinds pc operand from_so) writable in
     let put_so = put_known device framed grown_so width from word in
     record {
@@ -467,14 +460,14 @@ single_worked_form laws kinds device framed a pc len done width operand is form 
 -- PUSH AND CALL
 
 lowered_form : (laws : Premises) (lo hi : ℕ) (framed : Bool) (a : Known) → IsKnown lo hi framed a → IsKnown lo hi framed (lowered_known a)
-lowered_form laws lo hi framed a form = sp_form laws lo hi framed a (add 65536 a.sp (single 65534)) (laws.add_normal 65536 a.sp (single 65534) form.sp.normal (laws.single 65536 65534 (omega arith)).0) form
+lowered_form laws lo hi framed a form = sp_form laws lo hi framed a (add 65536 a.sp (single 65534)) (laws.known.sets.add_normal 65536 a.sp (single 65534) form.sp.normal (laws.known.sets.single 65536 65534 (omega arith)).0) form
 
 forming_form : (laws : Premises) (lo hi : ℕ) (framed : Bool) (a : Known) (operand : Source) → IsKnown lo hi framed a → IsKnown lo hi framed (forming_known operand a)
 forming_form laws lo hi framed a operand form =
     let less = add 65536 a.sp (single 65534) in
-    let less_normal = laws.add_normal 65536 a.sp (single 65534) form.sp.normal (laws.single 65536 65534 (omega arith)).0 in
+    let less_normal = laws.known.sets.add_normal 65536 a.sp (single 65534) form.sp.normal (laws.known.sets.single 65536 65534 (omega arith)).0 in
     cond_both (is_formed_by_stack operand) (with_sp a (join 65536 a.sp less)) a (IsKnown lo hi framed)
-    (λ e. sp_form laws lo hi framed a (join 65536 a.sp less) (laws.join_normal 65536 a.sp less form.sp.normal less_normal) form) (λ e. form)
+    (λ e. sp_form laws lo hi framed a (join 65536 a.sp less) (laws.known.sets.join_normal 65536 a.sp less form.sp.normal less_normal) form) (λ e. form)
 
 word_writable : (framed : Bool) (word : Word) → IsWord framed word → IsWritable framed Words word
 word_writable framed word is = record {
@@ -488,12 +481,12 @@ word_writable framed word is = record {
 
 byte_form : (laws : Premises) (framed : Bool) (x : Word) → IsWord framed x → IsWord framed (record { set = pair_set (values_of Byte x) (make 256 0 1 256); entry = None })
 byte_form laws framed x is = record {
-  normal = laws.pair_normal (values_of Byte x) (make 256 0 1 256) (values_form laws framed Byte x is) (laws.whole_normal 256 (omega arith));
+  normal = laws.known.bits.pair_normal (values_of Byte x) (make 256 0 1 256) (values_form laws framed Byte x is) (laws.known.sets.whole_normal 256 (omega arith));
   entry = no_relation framed;
 }
 
 pushed_form : (laws : Premises) (framed : Bool) (done : SingleOperation) (width : Width) (x : Word) (after : ℕ) → after < 65536 → IsWord framed x → IsWord framed (pushed_known done width x after)
-pushed_form laws framed Call width x after small is = record { normal = (laws.single 65536 after small).0; entry = no_relation framed }
+pushed_form laws framed Call width x after small is = record { normal = (laws.known.sets.single 65536 after small).0; entry = no_relation framed }
 pushed_form laws framed Push Words x after small is = is
 pushed_form laws framed Rrc Words x after small is = is
 pushed_form laws framed Swpb Words x after small is = is
@@ -519,7 +512,7 @@ push_worked_form laws kinds device framed a pc len done width operand is form fr
     let after = (pc + len) % 65536 in
     let small : after < 65536 = omega arith in
     let counted = single after in
-    let counted_so = (laws.single 65536 after small).0 in
+    let counted_so = (laws.known.sets.single 65536 after small).0 in
     let forming = forming_known operand a in
     let forming_is = forming_form laws device.lo device.hi framed a operand form in
     let from = source_reach pc forming counted operand in

@@ -31,7 +31,7 @@ use Rattle.msp430_decode.specs.declared.instr.Width.TheVariants.{Word as Words, 
 use Rattle.msp430_decode.specs.Codes.{number}
 use Rattle.msp430_chip.specs.declared.device.Device.{Device}
 use Rattle.msp430_chip.specs.Arithmetic.{writes_result, reads_destination}
-use Rattle.msp430_chip.specs.Memory.{aligned, program_hit, size_of}
+use Rattle.msp430_chip.specs.Memory.{hit_at, size_of}
 use Rattle.msp430_decode.specs.Operands.{constant_value}
 use Rattle.msp430_chip.specs.Step.{reads_counter, is_formed_by_stack, Left}
 use Rattle.msp430_chip.specs.declared.state.ChipState.{ChipState}
@@ -51,7 +51,7 @@ use Rattle.msp430_results.specs.Results.{double_made, single_made, twice_flags}
 
 abbrev pub put_known : Device → (framed : Bool) → Known → Width → Reach → Word → Known
 put_known device framed a width (InRegister register) word = put_register a register word
-put_known device framed a width (InMemory set) word = with_store device framed a width (located width set) word
+put_known device framed a width (InMemory set) word = with_store device framed a width (located device width set) word
 put_known device framed a width (Fixed value) word = a
 
 abbrev pub put_known_if : Bool → Device → (framed : Bool) → Known → Width → Reach → Word → Known
@@ -134,20 +134,20 @@ pub record Worked : Type 0 where
   pub accesses : List Item
   pub store : Option Form
 
-abbrev pub access_of : (pc : ℕ) → (write : Bool) → Width → Reach → List Item
-access_of pc write width (InMemory set) = Access pc Mem write (size_of width) (W (located width set)) ∷ []
-access_of pc write width (InRegister register) = []
-access_of pc write width (Fixed value) = []
+abbrev pub access_of : Device → (pc : ℕ) → (write : Bool) → Width → Reach → List Item
+access_of device pc write width (InMemory set) = Access pc Mem write (size_of width) (W (located device width set)) ∷ []
+access_of device pc write width (InRegister register) = []
+access_of device pc write width (Fixed value) = []
 
-abbrev pub access_if : Bool → (pc : ℕ) → (write : Bool) → Width → Reach → List Item
-access_if true pc write width reach = access_of pc write width reach
-access_if false pc write width reach = []
+abbrev pub access_if : Bool → Device → (pc : ℕ) → (write : Bool) → Width → Reach → List Item
+access_if true device pc write width reach = access_of device pc write width reach
+access_if false device pc write width reach = []
 
-abbrev pub store_of : Bool → Width → Reach → Option Form
-store_of true width (InMemory set) = Some (located width set)
-store_of true width (InRegister register) = None
-store_of true width (Fixed value) = None
-store_of false width reach = None
+abbrev pub store_of : Bool → Device → Width → Reach → Option Form
+store_of true device width (InMemory set) = Some (located device width set)
+store_of true device width (InRegister register) = None
+store_of true device width (Fixed value) = None
+store_of false device width reach = None
 
 -- by the stages: where the operands stand, what they hold, the result, and what it leaves
 abbrev pub double_behind : Device → (framed : Bool) → (pc len : ℕ) → Operation → Width → Source → Destination → (counted : Form) → (grown_so : Known) → (origin target_so : Reach) → (s d : Word) → (carry : Tri) → Worked
@@ -157,8 +157,8 @@ double_behind device framed pc len done width origin target counted grown_so fro
     record {
       after = with_flag_bits (put_known_if (writes_result done) device framed grown_so width to word) made_so.1;
       next = next_if (writes_result done) to word ((pc + len) % 65536);
-      accesses = access_of pc false width from ++ access_if (reads_destination done) pc false width to ++ access_if (writes_result done) pc true width to;
-      store = store_of (writes_result done) width to;
+      accesses = access_of device pc false width from ++ access_if (reads_destination done) device pc false width to ++ access_if (writes_result done) device pc true width to;
+      store = store_of (writes_result done) device width to;
     }
 
 unfoldable pub double_worked : Device → (framed : Bool) → Known → (pc len : ℕ) → Operation → Width → Source → Destination → Worked
@@ -179,8 +179,8 @@ single_behind device framed pc len done width grown_so from x carry =
     record {
       after = with_flag_bits (put_known device framed grown_so width from word) made_so.1;
       next = next_by from word ((pc + len) % 65536);
-      accesses = access_of pc false width from ++ access_of pc true width from;
-      store = store_of true width from;
+      accesses = access_of device pc false width from ++ access_of device pc true width from;
+      store = store_of true device width from;
     }
 
 unfoldable pub single_worked : Device → (framed : Bool) → Known → (pc len : ℕ) → SingleOperation → Width → Source → Worked
@@ -220,8 +220,8 @@ push_behind device framed pc len done width grown_so from x =
     record {
       after = put_known device framed at Words (InMemory at.sp) (pushed_known done width x ((pc + len) % 65536));
       next = called_next done width x ((pc + len) % 65536);
-      accesses = access_of pc false width from ++ access_of pc true Words (InMemory at.sp);
-      store = store_of true Words (InMemory at.sp);
+      accesses = access_of device pc false width from ++ access_of device pc true Words (InMemory at.sp);
+      store = store_of true device Words (InMemory at.sp);
     }
 
 unfoldable pub push_worked : Device → (framed : Bool) → Known → (pc len : ℕ) → SingleOperation → Width → Source → Worked
@@ -253,7 +253,7 @@ pub record IsLeft (device : Device) (after : Known) (first : Option ChipState) (
 -- a store at one of the addresses of an open store's set hits the program at this byte
 abbrev pub IsHit : Device → Width → (store : Option Form) → (at : ℕ) → Type 0
 IsHit device width None at = ⊥
-IsHit device width (Some set) at = (address : ℕ) × Has 65536 set (aligned width address) × (program_hit device width address ≡ Some at)
+IsHit device width (Some set) at = (address : ℕ) × Has 65536 set address × (hit_at device width address ≡ Some at)
 
 -- the items show each access
 abbrev pub AreShown : List Item → List Single → Type 0

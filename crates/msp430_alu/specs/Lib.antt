@@ -3,3 +3,4 @@ pub mod Memory
 pub mod Operands
 pub mod Formats
 pub mod Premises
+pub mod Laws

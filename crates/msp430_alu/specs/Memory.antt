@@ -7,12 +7,13 @@ use Rattle.entry_value.specs.Cells.{unknown, read, write_any}
 use Rattle.value_set.specs.declared.form.Form.{Form}
 use Rattle.value_set.specs.declared.form.Form.TheVariants.{Values, Run}
 use Rattle.value_set.specs.Form.{members}
+use Rattle.value_set.specs.Cutting.{cut, join_parts}
 use Rattle.value_set.specs.Joining.{join, reach}
-use Rattle.value_set.specs.Summing.{single}
+use Rattle.value_set.specs.Summing.{add, single}
 use Rattle.msp430_decode.specs.declared.instr.Width.{Width}
 use Rattle.msp430_decode.specs.declared.instr.Width.TheVariants.{Word as Words, Byte}
 use Rattle.msp430_chip.specs.declared.device.Device.{Device}
-use Rattle.msp430_chip.specs.Memory.{is_ram, size_of}
+use Rattle.msp430_chip.specs.Memory.{is_ram, size_of, HasRam}
 use Rattle.msp430_chip.specs.State.{ram_size}
 use Rattle.msp430_state.specs.Known.{Known}
 use Rattle.irq_frames.specs.Ranges.{with_range}
@@ -23,20 +24,38 @@ pub record IsDevice (device : Device) : Type 0 where
   pub size : length device.image ≡ 65536
   pub bytes : All IsByte device.image
   pub apart : (at : ℕ) → device.lo ≤ at → at ≤ device.hi → byte_at device.image at ≡ None
-  pub low : device.lo % 2 ≡ 0
-  pub high : device.hi % 2 ≡ 1
-  pub some : device.lo < device.hi
-  pub top : device.hi < 65536
+  pub ram : HasRam device
 
 -- the bytes of a device's RAM
 pub record IsRam (device : Device) (ram : List ℕ) : Type 0 where
   pub count : length ram ≡ ram_size device
   pub bytes : All (λ b. b < 256) ram
 
--- bit 0 of a word's address doesn't count
-abbrev pub located : Width → Form → Form
-located Words set = even_parts set
-located Byte set = set
+-- addresses that are moved by a number, if there are some
+abbrev pub moved : (by : ℕ) → Option Form → Option Form
+moved by None = None
+moved by (Some set) = Some (add 65536 set (single by))
+
+-- what there is of both, which is something
+abbrev pub of_both : (set : Form) → Option Form → Form
+of_both set None = set
+of_both set (Some all) = all
+
+-- the addresses outside the mirror, and those in it as addresses of RAM
+abbrev pub canonical_by : (lo : ℕ) → (mirror : Option (ℕ × ℕ)) → Form → Form
+canonical_by lo None set = set
+canonical_by lo (Some (first, last)) set =
+    let len = last + 1 - first in
+    of_both set (join_parts 65536 (cut 65536 set ((last + 1) % 65536) (65536 - len))
+    (moved ((lo + 65536 - first) % 65536) (cut 65536 set first len)))
+
+abbrev pub canonical : Device → Form → Form
+canonical device set = canonical_by device.lo device.mirror set
+
+-- where accesses at these addresses are made: bit 0 of a word's doesn't count
+abbrev pub located : Device → Width → Form → Form
+located device Words set = canonical device (even_parts set)
+located device Byte set = canonical device set
 
 -- READS
 

@@ -68,5 +68,5 @@ grown_known a counted width other = a
 -- as a word, with the bits 9 to 15 of SR any
 abbrev pub operand_word : Device → Known → (counted : Form) → Width → Reach → Word
 operand_word device a counted width (InRegister register) = register_word a counted register
-operand_word device a counted width (InMemory set) = read_known device a width (located width set)
+operand_word device a counted width (InMemory set) = read_known device a width (located device width set)
 operand_word device a counted width (Fixed value) = record { set = single value; entry = None }

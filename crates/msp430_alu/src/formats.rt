@@ -4,6 +4,7 @@ ghost use Rattle.std.specs.Prelude.{◌≡◌, ℕ, ◌<◌, ◌≤◌, ◌++◌
 ghost use Rattle.value_set.specs.Form.{Has};
 ghost use Rattle.msp430_chip.specs.Arithmetic as arithmetic;
 ghost use Rattle.msp430_chip.specs.Memory as chip;
+ghost use Rattle.msp430_chip.specs.Memory.{HasRam};
 ghost use Rattle.msp430_chip.specs.Step as step;
 ghost use Rattle.msp430_alu.specs.Formats as formats;
 
@@ -46,7 +47,7 @@ pub(crate) fn put<M: Cells>(
     reach: &Reach,
     word: Word,
 ) -> Result<(), Memory>
-    requires ram { device.now.lo ≤ device.now.hi }
+    requires ram { HasRam device.now }
     requires byte { chip.size_of width ≡ 1 → (v : ℕ) → Has 65536 word.set v → v < 256 }
     ensures { OnOk result (state.new ≡ formats.put_known device.now framed state.old width reach.now word) }
 {
@@ -55,7 +56,10 @@ pub(crate) fn put<M: Cells>(
             put_register(state, *register, word);
             Ok(())
         }
-        Reach::InMemory(set) => store(device, framed, state, width, &located(width, set), word),
+        Reach::InMemory(set) => {
+            let at = located(device, width, set);
+            store(device, framed, state, width, &at, word)
+        }
         Reach::Fixed(_) => Ok(()),
     }
 }
@@ -71,11 +75,12 @@ pub(crate) fn next_by(reach: &Reach, word: &Word, behind: u16) -> Vs16
 }
 
 /// The addresses of a store.
-pub(crate) fn store_of(width: Width, reach: &Reach) -> Option<Vs16>
-    ensures { result ≡ formats.store_of true width reach.now }
+pub(crate) fn store_of(device: &Device, width: Width, reach: &Reach) -> Option<Vs16>
+    requires { HasRam device.now }
+    ensures { result ≡ formats.store_of true device.now width reach.now }
 {
     match reach {
-        Reach::InMemory(set) => Some(located(width, set)),
+        Reach::InMemory(set) => Some(located(device, width, set)),
         _ => None,
     }
 }
@@ -83,12 +88,14 @@ pub(crate) fn store_of(width: Width, reach: &Reach) -> Option<Vs16>
 /// Adds the access to a place, if that is in memory.
 pub(crate) fn show(
     accesses: &mut Sequence<Item>,
+    device: &Device,
     pc: u16,
     write: bool,
     width: Width,
     reach: &Reach,
 ) -> Result<(), Memory>
-    ensures { OnOk result (accesses.new ≡ accesses.old ++ formats.access_of pc write width reach.now) }
+    requires { HasRam device.now }
+    ensures { OnOk result (accesses.new ≡ accesses.old ++ formats.access_of device.now pc write width reach.now) }
 {
     if let Reach::InMemory(set) = reach {
         accesses.push(Item::Access {
@@ -96,7 +103,7 @@ pub(crate) fn show(
             space: Space::Mem,
             write,
             size: size_of(width),
-            at: Set::W(located(width, set)),
+            at: Set::W(located(device, width, set)),
         })?;
     }
     Ok(())

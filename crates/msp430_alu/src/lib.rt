@@ -3,9 +3,9 @@
 //! The stages of an instruction, each exact by a formula of `specs`:
 //!
 //! - [`counter_set`]: what PC may be as an operand.
-//! - [`source_reach`] and [`destination_reach`]: where operands may stand, as a [`Reach`]; [`located`]: the addresses there.
+//! - [`source_reach`] and [`destination_reach`]: where operands may stand, as a [`Reach`]; [`located`]: where the accesses there are made.
 //! - [`register_word`], [`read_one`], [`read_known`] and [`known_operand`]: what operands may hold.
-//! - [`grow`], [`put_register`] and [`set_flag_bits`]: writes to registers and to flags.
+//! - [`grow`], [`put_register`] and [`set_flag_bits`]: writes to registers and to flags. PC and SP hold the [`even_parts`].
 //! - [`store`]: stores to memory.
 //!
 //! [`double`], [`single`] and [`push`] run them around the operations of `msp430_results`, as an instruction with two operands
@@ -17,7 +17,7 @@
 //! one of its next addresses, each access is shown, and a store that hits the program is at one of the addresses of the
 //! formula's store.
 //!
-//! [`words_in_memory`] is the law of words at even addresses and of SR as a word, for whoever pushes them and reads them back.
+//! [`words_in_memory`] is the law of words in memory and of SR as a word, for whoever pushes them and reads them back.
 #![tactic(auto)]
 
 mod counting;
@@ -32,11 +32,11 @@ mod worked;
 mod writing;
 
 pub use counting::counter_set;
-pub use laws::{doubles_hold, pushes_hold, singles_hold, words_in_memory};
+pub use laws::{doubles_hold, memory_laws, pushes_hold, singles_hold, words_in_memory};
 pub use operands::{destination_reach, located, source_reach};
 pub use reach::Reach;
-pub use reading::{read_known, read_one};
-pub use registers::register_word;
+pub use reading::{known_operand, read_known, read_one};
+pub use registers::{even_parts, register_word};
 pub use stores::store;
-pub use worked::{Worked, double, known_operand, push, single};
+pub use worked::{Worked, double, push, single};
 pub use writing::{grow, put_register, set_flag_bits};

@@ -1,12 +1,17 @@
 //! Where operands stand.
 
-ghost use Rattle.std.specs.Prelude.{◌≡◌, ◌≤◌};
+ghost use Rattle.std.specs.Prelude.{◌≡◌, ◌+◌, ◌≤◌, ℕ};
+ghost use Rattle.value_set.specs.Form.{Has};
+ghost use Rattle.msp430_chip.specs.Memory as chip;
+ghost use Rattle.msp430_chip.specs.Memory.{HasRam};
 ghost use Rattle.msp430_alu.specs.Memory as memory;
 ghost use Rattle.msp430_alu.specs.Operands as operands;
 
+use crate::laws::premises_hold;
 use crate::reach::Reach;
 use crate::registers::{even_parts, register_word};
 use entry_value::Cells;
+use msp430_chip::Device;
 use msp430_decode::{Destination, Register, Source, Width};
 use msp430_state::State;
 use value_set::Vs16;
@@ -65,12 +70,35 @@ pub fn destination_reach<M: Cells>(
     }
 }
 
-/// The addresses of an access: those of a word are even.
-pub fn located(width: Width, set: &Vs16) -> Vs16
-    ensures { result ≡ memory.located width set.now }
+/// The addresses of a set, with those of the mirror as addresses of RAM.
+fn canonical(device: &Device, set: &Vs16) -> Vs16
+    requires { HasRam device.now }
+    ensures { result ≡ memory.canonical device.now set.now }
 {
+    let Some((first, last)) = device.mirror else {
+        return *set;
+    };
+    let len = last as u32 + 1 - first as u32;
+    let by = Vs16::one(device.lo.wrapping_sub(first));
+    let outside = set.cut(last.wrapping_add(1), 65536 - len);
+    match (outside, set.cut(first, len)) {
+        (Some(outside), Some(inside)) => outside.join(&inside.add(&by)),
+        (Some(outside), None) => outside,
+        (None, Some(inside)) => inside.add(&by),
+        (None, None) => *set,
+    }
+}
+
+/// Where accesses at some addresses are made: bit 0 of a word's address doesn't count. All of their bytes are in memory.
+pub fn located(device: &Device, width: Width, set: &Vs16) -> Vs16
+    requires { HasRam device.now }
+    ensures value { result ≡ memory.located device.now width set.now }
+    ensures fits { (v : ℕ) → Has 65536 result v → v + chip.size_of width ≤ 65536 }
+{
+    premises_hold();
+    let _form = set.form();
     match width {
-        Width::Word => even_parts(set),
-        Width::Byte => *set,
+        Width::Word => canonical(device, &even_parts(set)),
+        Width::Byte => canonical(device, set),
     }
 }

@@ -4,10 +4,9 @@ ghost use Rattle.std.specs.Prelude.{◌≡◌, ℕ, ◌+◌, ◌≤◌, drop};
 ghost use Rattle.value_set.specs.Form.{Has, members};
 ghost use Rattle.entry_value.specs.Cells as the_cells;
 ghost use Rattle.msp430_chip.specs.Memory as chip;
+ghost use Rattle.msp430_chip.specs.Memory.{HasRam};
 ghost use Rattle.msp430_alu.specs.Memory as memory;
 ghost use Rattle.msp430_alu.specs.Operands as operands;
-ghost use Rattle.value_set.specs.declared.form.Form.{Form};
-ghost use Rattle.msp430_alu.specs.declared.reach.Reach.TheVariants as the_reach;
 
 use crate::operands::located;
 use crate::reach::Reach;
@@ -100,19 +99,19 @@ pub fn read_known<M: Cells>(device: &Device, state: &State<M>, width: Width, at:
 }
 
 /// What an operand may hold as a word, with the bits 9 to 15 of SR any.
-pub fn operand_word<M: Cells>(
+pub fn known_operand<M: Cells>(
     device: &Device,
     state: &State<M>,
     counted: &Vs16,
     width: Width,
-    reach: Reach,
+    reach: &Reach,
 ) -> Word
-    requires { (set : Form) (v : ℕ) → reach ≡ the_reach.InMemory set → Has 65536 (memory.located width set) v → v + chip.size_of width ≤ 65536 }
-    ensures { result ≡ operands.operand_word device.now state.now counted.now width reach }
+    requires { HasRam device.now }
+    ensures { result ≡ operands.operand_word device.now state.now counted.now width reach.now }
 {
     match reach {
-        Reach::InRegister(register) => register_word(state, counted, register),
-        Reach::InMemory(set) => read_known(device, state, width, &located(width, &set)),
-        Reach::Fixed(value) => plain(Vs16::one(value)),
+        Reach::InRegister(register) => register_word(state, counted, *register),
+        Reach::InMemory(set) => read_known(device, state, width, &located(device, width, set)),
+        Reach::Fixed(value) => plain(Vs16::one(*value)),
     }
 }

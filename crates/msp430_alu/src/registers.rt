@@ -23,7 +23,7 @@ fn even_words() -> Vs16
 }
 
 /// The numbers of a set without bit 0.
-pub(crate) fn even_parts(set: &Vs16) -> Vs16
+pub fn even_parts(set: &Vs16) -> Vs16
     ensures { result ≡ registers.even_parts set.now }
 {
     if set.within(&even_words()) {

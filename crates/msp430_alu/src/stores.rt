@@ -3,6 +3,7 @@
 ghost use Rattle.std.specs.Prelude.{◌≡◌, ℕ, ◌<◌, ◌≤◌, OnOk};
 ghost use Rattle.value_set.specs.Form.{Has, IsNormalRun};
 ghost use Rattle.msp430_chip.specs.Memory as chip;
+ghost use Rattle.msp430_chip.specs.Memory.{HasRam};
 ghost use Rattle.msp430_alu.specs.Memory as memory;
 
 use crate::reading::size_of;
@@ -80,7 +81,7 @@ pub fn store<M: Cells>(
     at: &Vs16,
     word: Word,
 ) -> Result<(), Memory>
-    requires ram { device.now.lo ≤ device.now.hi }
+    requires ram { HasRam device.now }
     requires byte { chip.size_of width ≡ 1 → (v : ℕ) → Has 65536 word.set v → v < 256 }
     ensures { OnOk result (state.new ≡ memory.with_store device.now framed state.old width at.now word) }
 {

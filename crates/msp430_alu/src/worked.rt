@@ -5,8 +5,8 @@ ghost use Rattle.value_bits.specs.declared.tri.Tri.TheVariants.{Either};
 ghost use Rattle.value_set.specs.Form.{Has, IsNormal};
 ghost use Rattle.msp430_chip.specs.Arithmetic as arithmetic;
 ghost use Rattle.msp430_chip.specs.Memory as chip;
+ghost use Rattle.msp430_chip.specs.Memory.{HasRam};
 ghost use Rattle.msp430_alu.specs.Formats as formats;
-ghost use Rattle.msp430_alu.specs.Memory as memory;
 ghost use Rattle.msp430_alu.specs.Operands as operands;
 ghost use Rattle.msp430_results.specs.Results as results;
 ghost use Rattle.msp430_results.specs.Words as words;
@@ -17,9 +17,9 @@ use crate::formats::{
     see_lowered, show, store_of, writes_result,
 };
 use crate::laws::premises_hold;
-use crate::operands::{destination_reach, located, source_reach};
+use crate::operands::{destination_reach, source_reach};
 use crate::reach::Reach;
-use crate::reading::{operand_word, read_known};
+use crate::reading::known_operand;
 use crate::registers::plain;
 use crate::writing::{grow, set_flag_bits};
 use call_context::{Item, Sequence};
@@ -62,33 +62,6 @@ fn keeps_form(word: &Word)
     let _form = word.set.form();
 }
 
-/// The bytes of an access stand below 65536.
-fn accesses_fit(width: Width, set: &Vs16)
-    ensures { (v : ℕ) → Has 65536 (memory.located width set.now) v → v + chip.size_of width ≤ 65536 }
-{
-    premises_hold();
-    let _form = set.form();
-}
-
-/// What an operand may hold as a word.
-pub fn known_operand<M: Cells>(
-    device: &Device,
-    state: &State<M>,
-    counted: &Vs16,
-    width: Width,
-    reach: &Reach,
-) -> Word
-    ensures { result ≡ operands.operand_word device.now state.now counted.now width reach.now }
-{
-    match reach {
-        Reach::InMemory(set) => {
-            accesses_fit(width, set);
-            read_known(device, state, width, &located(width, set))
-        }
-        _ => operand_word(device, state, counted, width, *reach),
-    }
-}
-
 /// What a destination holds, where the operation reads it.
 fn destination_word<M: Cells>(
     device: &Device,
@@ -98,6 +71,7 @@ fn destination_word<M: Cells>(
     width: Width,
     reach: &Reach,
 ) -> Word
+    requires { HasRam device.now }
     ensures { result ≡ formats.destination_word device.now state.now counted.now operation width reach.now }
 {
     if reads_destination(operation) {
@@ -157,7 +131,7 @@ fn put_result<M: Cells>(
     reach: &Reach,
     word: Word,
 ) -> Result<(), Memory>
-    requires ram { device.now.lo ≤ device.now.hi }
+    requires ram { HasRam device.now }
     requires byte { chip.size_of width ≡ 1 → (v : ℕ) → Has 65536 word.set v → v < 256 }
     ensures { OnOk result (state.new ≡ formats.put_known_if (arithmetic.writes_result operation) device.now framed state.old width reach.now word) }
 {
@@ -178,11 +152,12 @@ fn double_next(operation: Operation, reach: &Reach, word: &Word, behind: u16) ->
 }
 
 /// The addresses of the store of an operation with two operands.
-fn double_store(operation: Operation, width: Width, reach: &Reach) -> Option<Vs16>
-    ensures { result ≡ formats.store_of (arithmetic.writes_result operation) width reach.now }
+fn double_store(device: &Device, operation: Operation, width: Width, reach: &Reach) -> Option<Vs16>
+    requires { HasRam device.now }
+    ensures { result ≡ formats.store_of (arithmetic.writes_result operation) device.now width reach.now }
 {
     if writes_result(operation) {
-        return store_of(width, reach);
+        return store_of(device, width, reach);
     }
     None
 }
@@ -191,15 +166,17 @@ fn double_store(operation: Operation, width: Width, reach: &Reach) -> Option<Vs1
 fn show_if(
     accesses: &mut Sequence<Item>,
     is_one: bool,
+    device: &Device,
     pc: u16,
     write: bool,
     width: Width,
     reach: &Reach,
 ) -> Result<(), Memory>
-    ensures { OnOk result (accesses.new ≡ accesses.old ++ formats.access_if is_one pc write width reach.now) }
+    requires { HasRam device.now }
+    ensures { OnOk result (accesses.new ≡ accesses.old ++ formats.access_if is_one device.now pc write width reach.now) }
 {
     if is_one {
-        return show(accesses, pc, write, width, reach);
+        return show(accesses, device, pc, write, width, reach);
     }
     Ok(())
 }
@@ -207,37 +184,44 @@ fn show_if(
 /// The accesses of an operation with two operands.
 fn double_accesses(
     alloc: Global,
+    device: &Device,
     pc: u16,
     operation: Operation,
     width: Width,
     from: &Reach,
     to: &Reach,
 ) -> Result<Sequence<Item>, Memory>
-    ensures { IfOk result (λ all. all ≡ formats.access_of pc false width from.now ++ formats.access_if (arithmetic.reads_destination operation) pc false width to.now ++ formats.access_if (arithmetic.writes_result operation) pc true width to.now) }
+    requires { HasRam device.now }
+    ensures { IfOk result (λ all. all ≡ formats.access_of device.now pc false width from.now
+        ++ formats.access_if (arithmetic.reads_destination operation) device.now pc false width to.now
+        ++ formats.access_if (arithmetic.writes_result operation) device.now pc true width to.now) }
 {
     let mut all = Sequence::new(alloc);
-    show(&mut all, pc, false, width, from)?;
+    show(&mut all, device, pc, false, width, from)?;
     let reads = reads_destination(operation);
-    show_if(&mut all, reads, pc, false, width, to)?;
+    show_if(&mut all, reads, device, pc, false, width, to)?;
     let writes = writes_result(operation);
-    show_if(&mut all, writes, pc, true, width, to)?;
+    show_if(&mut all, writes, device, pc, true, width, to)?;
     Ok(all)
 }
 
 /// The accesses of an instruction that reads at one place and writes at another.
 fn two_accesses(
     alloc: Global,
+    device: &Device,
     pc: u16,
     width: Width,
     from: &Reach,
     wide: Width,
     to: &Reach,
 ) -> Result<Sequence<Item>, Memory>
-    ensures { IfOk result (λ all. all ≡ formats.access_of pc false width from.now ++ formats.access_of pc true wide to.now) }
+    requires { HasRam device.now }
+    ensures { IfOk result (λ all. all ≡ formats.access_of device.now pc false width from.now
+        ++ formats.access_of device.now pc true wide to.now) }
 {
     let mut all = Sequence::new(alloc);
-    show(&mut all, pc, false, width, from)?;
-    show(&mut all, pc, true, wide, to)?;
+    show(&mut all, device, pc, false, width, from)?;
+    show(&mut all, device, pc, true, wide, to)?;
     Ok(all)
 }
 
@@ -270,7 +254,7 @@ pub fn double<M: Cells>(
     source: Source,
     destination: Destination,
 ) -> Result<Worked<M>, Memory>
-    requires ram { device.now.lo ≤ device.now.hi }
+    requires ram { HasRam device.now }
     requires long { 2 ≤ len }
     ensures { IfOk result (λ worked. worked ≡ formats.double_worked device.now framed state.now pc len operation width source destination) }
 {
@@ -296,8 +280,8 @@ pub fn double<M: Cells>(
     Ok(Worked {
         after,
         next: double_next(operation, &to, &word, pc.wrapping_add(len as u16)),
-        accesses: double_accesses(alloc, pc, operation, width, &from, &to)?,
-        store: double_store(operation, width, &to),
+        accesses: double_accesses(alloc, device, pc, operation, width, &from, &to)?,
+        store: double_store(device, operation, width, &to),
     })
 }
 
@@ -315,7 +299,7 @@ pub fn single<M: Cells>(
     width: Width,
     operand: Source,
 ) -> Result<Worked<M>, Memory>
-    requires ram { device.now.lo ≤ device.now.hi }
+    requires ram { HasRam device.now }
     requires width { results.HasWidth operation width }
     ensures { IfOk result (λ worked. worked ≡ formats.single_worked device.now framed state.now pc len operation width operand) }
 {
@@ -331,8 +315,8 @@ pub fn single<M: Cells>(
     Ok(Worked {
         after,
         next: next_by(&from, &word, behind),
-        accesses: two_accesses(alloc, pc, width, &from, width, &from)?,
-        store: store_of(width, &from),
+        accesses: two_accesses(alloc, device, pc, width, &from, width, &from)?,
+        store: store_of(device, width, &from),
     })
 }
 
@@ -345,6 +329,7 @@ fn formed<M: Cells>(
     width: Width,
     operand: Source,
 ) -> (Reach, Word)
+    requires { HasRam device.now }
     ensures kept { state.new ≡ state.old }
     ensures reach { result.0 ≡ operands.source_reach pc (formats.forming_known operand state.old) counted.now operand }
     ensures word { result.1 ≡ operands.operand_word device.now (formats.forming_known operand state.old) counted.now width result.0 }
@@ -370,7 +355,7 @@ pub fn push<M: Cells>(
     width: Width,
     operand: Source,
 ) -> Result<Worked<M>, Memory>
-    requires ram { device.now.lo ≤ device.now.hi }
+    requires ram { HasRam device.now }
     ensures { IfOk result (λ worked. worked ≡ formats.push_worked device.now framed state.now pc len operation width operand) }
 {
     let behind = pc.wrapping_add(len as u16);
@@ -391,7 +376,7 @@ pub fn push<M: Cells>(
     Ok(Worked {
         after,
         next: called_next(operation, width, &word, behind),
-        accesses: two_accesses(alloc, pc, width, &from, Width::Word, &top)?,
-        store: store_of(Width::Word, &top),
+        accesses: two_accesses(alloc, device, pc, width, &from, Width::Word, &top)?,
+        store: store_of(device, Width::Word, &top),
     })
 }

@@ -18,7 +18,7 @@ use Rattle.msp430_chip.specs.Arithmetic.{modulus}
 use Rattle.msp430_state.specs.declared.fact.FlagFact.{FlagFact}
 use Rattle.msp430_branch.specs.declared.window.Window.{Window}
 use Rattle.msp430_branch.specs.Cuts.{value_for, window_of, equal_window, other_window, upper_window, lower_window, greater_window, less_window, words_of, cut_set}
-use Rattle.msp430_branch.specs.Premises.{Premises}
+use Rattle.irq_frames.specs.KnownLaws.{KnownLaws}
 use Rattle.msp430_branch.proofs.FlagNumbers.{modulus_some}
 use Rattle.msp430_branch.proofs.WindowLemmas.{IsInside}
 
@@ -34,33 +34,34 @@ mapped f (Some x) y e = (x, refl, same_Some (f x) y e)
 
 -- MEMBERS
 
-part_of : (laws : Premises) (m v : ℕ) (set : Form) (window : Window) → IsNormal m set → Has m set v → IsInside m v window
+part_of : (laws : KnownLaws) (m v : ℕ) (set : Form) (window : Window) → IsNormal m set → Has m set v → IsInside m v window
     → (part : Form) × (cut m set window.low window.len ≡ Some part) × Has m part v
 part_of laws m v set window normal has inside =
-    let found = some_part (cut m set window.low window.len) (λ none. let out = laws.cut_none m window.low window.len v set normal inside.low none has in omega (arith, out, inside.inside)) in
-    (found.0, found.1, laws.cut_holds m window.low window.len v set found.0 normal inside.low found.1 has inside.inside)
+    let found = some_part (cut m set window.low window.len) (λ none. let out = laws.sets.cut_none m window.low window.len v set normal inside.low none has in omega (arith, out, inside.inside)) in
+    (found.0, found.1, laws.sets.cut_holds m window.low window.len v set found.0 normal inside.low found.1 has inside.inside)
 
 -- a member in the window is in what is left
-pub cut_has : (laws : Premises) (width : Width) (v : ℕ) (set : Form) (window : Window) → IsNormal 65536 set → Has 65536 set v → (width ≡ Byte → v < 256) → IsInside (modulus width) v window
+pub cut_has : (laws : KnownLaws) (width : Width) (v : ℕ) (set : Form) (window : Window) → IsNormal 65536 set → Has 65536 set v → (width ≡ Byte → v < 256) → IsInside (modulus width) v window
     → (part : Form) × (cut_set width set window ≡ Some part) × Has 65536 part v
 cut_has laws Word v set window normal has small inside = part_of laws 65536 v set window normal has inside
 cut_has laws Byte v set window normal has small inside =
     let byte : v < 256 = small refl in
     let low : v % 256 ≡ v = omega (arith, byte) in
-    let low_normal = laws.low_normal set normal in
-    let found = part_of laws 256 v (low_set set) window low_normal (subst (Has 256 (low_set set)) low (laws.low v set normal has)) inside in
-    let part_normal = laws.cut_normal 256 window.low window.len (low_set set) found.0 low_normal inside.low found.1 in
-    let whole = laws.pair v 0 found.0 (single 0) part_normal laws.zero_normal found.2 laws.zero in
+    let low_normal = laws.bits.low_normal set normal in
+    let found = part_of laws 256 v (low_set set) window low_normal (subst (Has 256 (low_set set)) low (laws.bits.low v set normal has)) inside in
+    let part_normal = laws.sets.cut_normal 256 window.low window.len (low_set set) found.0 low_normal inside.low found.1 in
+    let zero = laws.sets.single 256 0 (omega arith) in
+    let whole = laws.bits.pair v 0 found.0 (single 0) part_normal zero.0 found.2 zero.1 in
     (words_of found.0, ap (option_map words_of) found.1, subst (Has 65536 (words_of found.0)) (omega arith) whole)
 
 -- FORM
 
-pub cut_form : (laws : Premises) (width : Width) (set part : Form) (window : Window) → IsNormal 65536 set → window.low < modulus width → cut_set width set window ≡ Some part → IsNormal 65536 part
-cut_form laws Word set part window normal low e = laws.cut_normal 65536 window.low window.len set part normal low e
+pub cut_form : (laws : KnownLaws) (width : Width) (set part : Form) (window : Window) → IsNormal 65536 set → window.low < modulus width → cut_set width set window ≡ Some part → IsNormal 65536 part
+cut_form laws Word set part window normal low e = laws.sets.cut_normal 65536 window.low window.len set part normal low e
 cut_form laws Byte set part window normal low e =
     let found = mapped words_of (cut 256 (low_set set) window.low window.len) part e in
-    let part_normal = laws.cut_normal 256 window.low window.len (low_set set) found.0 (laws.low_normal set normal) low found.1 in
-    subst (IsNormal 65536) found.2 (laws.pair_normal found.0 (single 0) part_normal laws.zero_normal)
+    let part_normal = laws.sets.cut_normal 256 window.low window.len (low_set set) found.0 (laws.bits.low_normal set normal) low found.1 in
+    subst (IsNormal 65536) found.2 (laws.bits.pair_normal found.0 (single 0) part_normal (laws.sets.single 256 0 (omega arith)).0)
 
 -- windows begin below the modulus
 abbrev pub IsLow : (m : ℕ) → Option Window → Type 0

@@ -33,7 +33,7 @@ use Rattle.msp430_state.specs.Forms.{IsFact}
 use Rattle.msp430_state.specs.Holding.{HasFlagsOf, HoldsOfFact, HoldsOfParts}
 use Rattle.msp430_state.specs.Known.{Known, word_of}
 use Rattle.msp430_branch.specs.Facts.{compared_register, constant_of, fact_behind, fact_of, general_number, is_told}
-use Rattle.msp430_branch.specs.Premises.{Premises}
+use Rattle.irq_frames.specs.KnownLaws.{KnownLaws}
 use Rattle.msp430_branch.proofs.FlagNumbers.{compared, compared_flags, flags_again, modulus_some}
 
 -- FLAGS THAT STAND
@@ -103,11 +103,11 @@ sub_compares device registers ram width register k d carry left general long sma
 
 -- FACTS
 
-told_byte : (laws : Premises) (device : Device) (a : Known) (first : Option ChipState) (registers ram : List ℕ) (width : Width) (register : ℕ) → 3 < register → register < 16
+told_byte : (laws : KnownLaws) (device : Device) (a : Known) (first : Option ChipState) (registers ram : List ℕ) (width : Width) (register : ℕ) → 3 < register → register < 16
     → is_told width (word_of a register).set ≡ true → HoldsOfParts device a first registers ram → width ≡ Byte → get_or registers register 0 < 256
 told_byte laws device a first registers ram Word register low high told holds byte = absurd (cc)
 told_byte laws device a first registers ram Byte register low high told holds byte =
-    laws.bytes (get_or registers register 0) (laws.tested 65536 (word_of a register).set _ told (get_or registers register 0) (holds.words register low high).0)
+    laws.cells.byte_any (get_or registers register 0) ((laws.sets.tested 65536 (word_of a register).set _).0 told (get_or registers register 0) (holds.words register low high).0)
 
 -- a general register has its number, and others have none
 numbered : (register : Register) → 3 < number register → general_number register ≡ Some (number register)
@@ -133,7 +133,7 @@ no_free_register Word register bits y none = cond-false (is_status (InRegister r
 no_free_register Byte register bits y none = refl
 
 -- with a constant and a register
-register_told : (laws : Premises) (device : Device) (a : Known) (s : ChipState) (first : Option ChipState) (len counted : ℕ) (done : Operation) (added : ℕ → ℕ) (width : Width) (n : ℕ) (register : Register) (x y bits carry : ℕ) (left : Left)
+register_told : (laws : KnownLaws) (device : Device) (a : Known) (s : ChipState) (first : Option ChipState) (len counted : ℕ) (done : Operation) (added : ℕ → ℕ) (width : Width) (n : ℕ) (register : Register) (x y bits carry : ℕ) (left : Left)
     → IsChipState device s → Compares device done added → IsGeneral register → x ≡ n % modulus width → y ≡ value_in (set s.registers 0 counted) register % modulus width
     → MayLeaveDouble device s.ram (set (set s.registers 0 counted) 0 (behind s len)) done width (InRegister register) (with_free_bits width (Fixed n) bits x) (with_free_bits width (InRegister register) bits y) carry left
     → HoldsOfParts device a first left.registers left.ram → HoldsOfFact (fact_of a width (Some n) (Some (number register)) added) left.registers
@@ -155,7 +155,7 @@ register_told laws device a s first len counted done added width n register x y 
     (λ told. (flags, told_byte laws device a first left.registers left.ram width r general.above general.below told holds))
     (λ e. tt)
 
-constant_told : (laws : Premises) → ((register : Register) → Kind register) → (device : Device) (a : Known) (s : ChipState) (first : Option ChipState) (len counted : ℕ) (done : Operation) (added : ℕ → ℕ) (width : Width) (n : ℕ) (target : Destination) (x y bits carry : ℕ) (left : Left)
+constant_told : (laws : KnownLaws) → ((register : Register) → Kind register) → (device : Device) (a : Known) (s : ChipState) (first : Option ChipState) (len counted : ℕ) (done : Operation) (added : ℕ → ℕ) (width : Width) (n : ℕ) (target : Destination) (x y bits carry : ℕ) (left : Left)
     → IsChipState device s → Compares device done added → x ≡ n % modulus width
     → MayStandAt device s.ram (set s.registers 0 counted) width (destination_place (register_of s 0) len (set s.registers 0 counted) target) y
     → MayLeaveDouble device s.ram (set (set s.registers 0 counted) 0 (behind s len)) done width (destination_place (register_of s 0) len (set s.registers 0 counted) target)
@@ -170,7 +170,7 @@ constant_told laws kinds device a s first len counted done added width n (destin
 constant_told laws kinds device a s first len counted done added width n (destination.Symbolic offset) x y bits carry left state compares reads held leaves holds = tt
 constant_told laws kinds device a s first len counted done added width n (destination.Absolute address) x y bits carry left state compares reads held leaves holds = tt
 
-cmp_told : (laws : Premises) → ((register : Register) → Kind register) → (device : Device) (a : Known) (s : ChipState) (first : Option ChipState) (len : ℕ) (width : Width) (origin : Source) (target : Destination) (outcome : Outcome ChipState)
+cmp_told : (laws : KnownLaws) → ((register : Register) → Kind register) → (device : Device) (a : Known) (s : ChipState) (first : Option ChipState) (len : ℕ) (width : Width) (origin : Source) (target : Destination) (outcome : Outcome ChipState)
     → IsChipState device s → (may : MayDouble device s len operation.Cmp width origin target outcome) → HoldsOfParts device a first may.left.registers may.left.ram
     → HoldsOfFact (fact_behind operation.Cmp width origin target a) may.left.registers
 cmp_told laws kinds device a s first len width (source.Immediate n) target outcome state may holds =
@@ -184,7 +184,7 @@ cmp_told laws kinds device a s first len width (source.IndirectIncrement registe
 cmp_told laws kinds device a s first len width (source.Symbolic offset) target outcome state may holds = tt
 cmp_told laws kinds device a s first len width (source.Absolute address) target outcome state may holds = tt
 
-sub_told : (laws : Premises) → ((register : Register) → Kind register) → (device : Device) (a : Known) (s : ChipState) (first : Option ChipState) (len : ℕ) (width : Width) (origin : Source) (target : Destination) (outcome : Outcome ChipState)
+sub_told : (laws : KnownLaws) → ((register : Register) → Kind register) → (device : Device) (a : Known) (s : ChipState) (first : Option ChipState) (len : ℕ) (width : Width) (origin : Source) (target : Destination) (outcome : Outcome ChipState)
     → IsChipState device s → (may : MayDouble device s len operation.Sub width origin target outcome) → HoldsOfParts device a first may.left.registers may.left.ram
     → HoldsOfFact (fact_behind operation.Sub width origin target a) may.left.registers
 sub_told laws kinds device a s first len width (source.Immediate n) target outcome state may holds =
@@ -198,7 +198,7 @@ sub_told laws kinds device a s first len width (source.IndirectIncrement registe
 sub_told laws kinds device a s first len width (source.Symbolic offset) target outcome state may holds = tt
 sub_told laws kinds device a s first len width (source.Absolute address) target outcome state may holds = tt
 
-pub fact_holds : (laws : Premises) → ((register : Register) → Kind register) → (device : Device) (a : Known) (s : ChipState) (first : Option ChipState) (len : ℕ) (done : Operation) (width : Width) (origin : Source) (target : Destination) (outcome : Outcome ChipState)
+pub fact_holds : (laws : KnownLaws) → ((register : Register) → Kind register) → (device : Device) (a : Known) (s : ChipState) (first : Option ChipState) (len : ℕ) (done : Operation) (width : Width) (origin : Source) (target : Destination) (outcome : Outcome ChipState)
     → IsChipState device s → (may : MayDouble device s len done width origin target outcome) → HoldsOfParts device a first may.left.registers may.left.ram
     → HoldsOfFact (fact_behind done width origin target a) may.left.registers
 fact_holds laws kinds device a s first len operation.Cmp width origin target outcome state may holds = cmp_told laws kinds device a s first len width origin target outcome state may holds

@@ -1,5 +1,4 @@
 pub mod FlagNumbers
-pub mod Bytes
 pub mod WindowLemmas
 pub mod StatusBits
 pub mod CutSets

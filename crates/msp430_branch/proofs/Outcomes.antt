@@ -30,7 +30,7 @@ use Rattle.msp430_state.specs.Known.{Known, word_of}
 use Rattle.msp430_branch.specs.declared.window.Window.{Window}
 use Rattle.msp430_branch.specs.Conditions.{bit_of, bits_where, known_flag, known_or, may_be, taken_by, with_less}
 use Rattle.msp430_branch.specs.Cuts.{window_of, cut_set, is_held, with_set, cut_to, register_cut, with_bits, known_cut}
-use Rattle.msp430_branch.specs.Premises.{Premises}
+use Rattle.irq_frames.specs.KnownLaws.{KnownLaws}
 use Rattle.msp430_branch.proofs.CutSets.{cut_form, cut_has, mapped, window_low, IsLow}
 use Rattle.msp430_branch.proofs.FlagNumbers.{compared_byte, compared_word}
 use Rattle.msp430_branch.proofs.StatusBits.{bits_agree, bits_long, taken_may}
@@ -119,7 +119,7 @@ allowed condition Byte register k n v sr ks ns vs flags small = byte_allows cond
 held_so : (a : Known) (register : ℕ) → length a.registers ≡ 12 → 3 < register → register < 16 → is_held a register ≡ true
 held_so a register long low high = subst (λ n. nat_lt (register - 4) n ≡ true) (sym long) (grind (arith, nat_tests))
 
-cut_to_holds : (laws : Premises) (device : Device) (lo hi : ℕ) (framed : Bool) (a : Known) (first : Option ChipState) (registers ram : List ℕ) (fact : FlagFact) (window : Option Window) → IsKnown lo hi framed a
+cut_to_holds : (laws : KnownLaws) (device : Device) (lo hi : ℕ) (framed : Bool) (a : Known) (first : Option ChipState) (registers ram : List ℕ) (fact : FlagFact) (window : Option Window) → IsKnown lo hi framed a
     → 3 < fact.register → fact.register < 16 → (fact.width ≡ Byte → get_or registers fact.register 0 < 256) → Allows (modulus fact.width) (get_or registers fact.register 0) window
     → HoldsOfParts device a first registers ram → (b : Known) × (cut_to fact window a ≡ Some b) × HoldsOfParts device b first registers ram
 cut_to_holds laws device lo hi framed a first registers ram fact None form low high small allows holds = (a, refl, holds)
@@ -129,7 +129,7 @@ cut_to_holds laws device lo hi framed a first registers ram fact (Some window) f
     let held = cond-true (is_held a fact.register) (option_map (with_set a fact.register) (cut_set fact.width (word_of a fact.register).set window)) (Some a) (held_so a fact.register form.count low high) in
     (with_set a fact.register found.0, held ∙ ap (option_map (with_set a fact.register)) found.1, with_set_holds device a first registers ram fact.register found.0 form.count low high found.2 holds)
 
-register_cut_holds : (laws : Premises) (device : Device) (lo hi : ℕ) (framed : Bool) (a : Known) (first : Option ChipState) (registers ram : List ℕ) (fact : Option FlagFact) (condition : Condition) → IsKnown lo hi framed a
+register_cut_holds : (laws : KnownLaws) (device : Device) (lo hi : ℕ) (framed : Bool) (a : Known) (first : Option ChipState) (registers ram : List ℕ) (fact : Option FlagFact) (condition : Condition) → IsKnown lo hi framed a
     → IsFact fact → HoldsOfFact fact registers → HoldsOfParts device a first registers ram
     → (b : Known) × (register_cut fact condition (is_taken condition (get_or registers 2 0)) a ≡ Some b) × HoldsOfParts device b first registers ram
 register_cut_holds laws device lo hi framed a first registers ram None condition form is told holds = (a, refl, holds)
@@ -137,11 +137,11 @@ register_cut_holds laws device lo hi framed a first registers ram (Some fact) co
     let (low, high, ks, ns) = is in
     let v = get_or registers fact.register 0 in
     let sr = get_or registers 2 0 in
-    let vs : v < 65536 = laws.below 65536 v (word_of a fact.register).set (word_form lo hi framed a fact.register form low high).normal (holds.words fact.register low high).0 in
+    let vs : v < 65536 = laws.sets.below 65536 v (word_of a fact.register).set (word_form lo hi framed a fact.register form low high).normal (holds.words fact.register low high).0 in
     cut_to_holds laws device lo hi framed a first registers ram fact (window_of condition (is_taken condition sr) fact) form low high told.1
     (allowed condition fact.width fact.register fact.added fact.compared v sr ks ns vs told.0 told.1) holds
 
-cut_to_form : (laws : Premises) (lo hi : ℕ) (framed : Bool) (a b : Known) (fact : FlagFact) (window : Option Window) → IsKnown lo hi framed a → 3 < fact.register → fact.register < 16
+cut_to_form : (laws : KnownLaws) (lo hi : ℕ) (framed : Bool) (a b : Known) (fact : FlagFact) (window : Option Window) → IsKnown lo hi framed a → 3 < fact.register → fact.register < 16
     → IsLow (modulus fact.width) window → cut_to fact window a ≡ Some b → IsKnown lo hi framed b
 cut_to_form laws lo hi framed a b fact None form low high begins e = subst (IsKnown lo hi framed) (same_Some a b e) form
 cut_to_form laws lo hi framed a b fact (Some window) form low high begins e =
@@ -152,7 +152,7 @@ cut_to_form laws lo hi framed a b fact (Some window) form low high begins e =
     let normal = cut_form laws fact.width held.set found.0 window (word_form lo hi framed a fact.register form low high).normal begins found.1 in
     subst (IsKnown lo hi framed) found.2 (with_set_form lo hi framed a fact.register found.0 low high normal form)
 
-register_cut_form : (laws : Premises) (lo hi : ℕ) (framed : Bool) (a b : Known) (fact : Option FlagFact) (condition : Condition) (taken : Bool) → IsKnown lo hi framed a → IsFact fact
+register_cut_form : (laws : KnownLaws) (lo hi : ℕ) (framed : Bool) (a b : Known) (fact : Option FlagFact) (condition : Condition) (taken : Bool) → IsKnown lo hi framed a → IsFact fact
     → register_cut fact condition taken a ≡ Some b → IsKnown lo hi framed b
 register_cut_form laws lo hi framed a b None condition taken form is e = subst (IsKnown lo hi framed) (same_Some a b e) form
 register_cut_form laws lo hi framed a b (Some fact) condition taken form is e =
@@ -160,7 +160,7 @@ register_cut_form laws lo hi framed a b (Some fact) condition taken form is e =
 
 -- OUTCOMES
 
-pub cut_holds : (laws : Premises) (device : Device) (lo hi : ℕ) (framed : Bool) (a : Known) (first : Option ChipState) (registers ram : List ℕ) (condition : Condition) → IsKnown lo hi framed a
+pub cut_holds : (laws : KnownLaws) (device : Device) (lo hi : ℕ) (framed : Bool) (a : Known) (first : Option ChipState) (registers ram : List ℕ) (condition : Condition) → IsKnown lo hi framed a
     → HoldsOfParts device a first registers ram → (b : Known) × (known_cut condition (is_taken condition (get_or registers 2 0)) a ≡ Some b) × HoldsOfParts device b first registers ram
 unfolding known_cut
 cut_holds laws device lo hi framed a first registers ram condition form holds =
@@ -199,7 +199,7 @@ outcome_of condition taken a b e =
       | inr not_so ↦ let none : None ≡ Some b = sym (cond-false test some None not_so) ∙ e in absurd (cc)
     ]
 
-pub state_cut : (laws : Premises) (device : Device) (lo hi : ℕ) (framed : Bool) (a : Known) (s : ChipState) (first : Option ChipState) (condition : Condition) → IsKnown lo hi framed a
+pub state_cut : (laws : KnownLaws) (device : Device) (lo hi : ℕ) (framed : Bool) (a : Known) (s : ChipState) (first : Option ChipState) (condition : Condition) → IsKnown lo hi framed a
     → HoldsOf device a s first → (b : Known) × (known_cut condition (is_taken condition (get_or s.registers 2 0)) a ≡ Some b) × HoldsOf device b s first
 state_cut laws device lo hi framed a s first condition form holds =
     let taken = is_taken condition (get_or s.registers 2 0) in
@@ -208,7 +208,7 @@ state_cut laws device lo hi framed a s first condition form holds =
     let late : a.late ≡ b.late = sym (late_of_register a.fact condition taken a c cut_so) ∙ ap (λ (known : Known). known.late) with_so in
     (b, is, record { state = holds.state; suspended = holds.suspended; late = subst (λ t. IsFlag t s.late) late holds.late; parts = parts })
 
-pub cut_in_form : (laws : Premises) (lo hi : ℕ) (framed : Bool) (a b : Known) (condition : Condition) (taken : Bool) → IsKnown lo hi framed a → known_cut condition taken a ≡ Some b → IsKnown lo hi framed b
+pub cut_in_form : (laws : KnownLaws) (lo hi : ℕ) (framed : Bool) (a b : Known) (condition : Condition) (taken : Bool) → IsKnown lo hi framed a → known_cut condition taken a ≡ Some b → IsKnown lo hi framed b
 cut_in_form laws lo hi framed a b condition taken form e =
     let (c, cut_so, with_so) = outcome_of condition taken a b e in
     subst (IsKnown lo hi framed) with_so

@@ -1,4 +1,4 @@
 pub mod Facts
 pub mod Conditions
 pub mod Cuts
-pub mod Premises
+pub mod Laws

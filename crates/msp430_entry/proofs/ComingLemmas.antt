@@ -16,7 +16,7 @@ use Rattle.value_set.specs.Summing.{single}
 use Rattle.msp430_chip.specs.declared.device.Device.{Device}
 use Rattle.msp430_chip.specs.declared.state.ChipState.{ChipState}
 use Rattle.msp430_chip.specs.Interrupts.{coming, handler_of, may_come, vector_address}
-use Rattle.msp430_chip.specs.State.{allows_interrupts, even, register_of, word_from}
+use Rattle.msp430_chip.specs.State.{allows_interrupts, register_of, word_from}
 use Rattle.msp430_state.specs.Forms.{AreEvenWords, IsEntrySp, IsEvenWord, IsFrame, IsKnown}
 use Rattle.msp430_state.specs.Holding.{CameAt}
 use Rattle.msp430_state.specs.Known.{Known}
@@ -24,7 +24,7 @@ use Rattle.msp430_alu.specs.Formats.{IsUnder}
 use Rattle.msp430_alu.specs.Memory.{IsDevice}
 use Rattle.msp430_entry.specs.declared.coming.Coming.{Coming}
 use Rattle.msp430_entry.specs.Entry.{ComesSo, comings_at, comings_of, frame_of_coming, may_be_set, may_interrupt, vectors_of}
-use Rattle.msp430_entry.proofs.EntryLaws.{EntryLaws}
+use Rattle.msp430_alu.specs.Laws.{MemoryLaws}
 use Rattle.msp430_entry.proofs.Members.{in_none, in_first, in_map, from_map, in_flat_map, from_flat_map, only, from_filter, in_range}
 
 -- WHERE INTERRUPTS ARE ALLOWED
@@ -122,15 +122,15 @@ record IsOneOf (vector : ℕ) (coming_so : Coming) : Type 0 where
   pub words : AreEvenWords coming_so.sp
   pub entry : IsEntrySp coming_so.known_sp
 
-one_of : (laws : EntryLaws) (sp : Form) (vector : ℕ) (coming_so : Coming) → AreEvenWords sp → Contains (comings_at sp vector) coming_so → IsOneOf vector coming_so
+one_of : (laws : MemoryLaws) (sp : Form) (vector : ℕ) (coming_so : Coming) → AreEvenWords sp → Contains (comings_at sp vector) coming_so → IsOneOf vector coming_so
 one_of laws (Values sps) vector coming_so words h =
     let made : ℕ → Coming = λ sp. record { vector = vector; known_sp = Some sp; sp = single sp } in
     let found = from_map made sps coming_so h in
-    let below = laws.below 65536 found.0 (Values sps) words.normal found.1 in
+    let below = laws.known.sets.below 65536 found.0 (Values sps) words.normal found.1 in
     let even_so = words.even found.0 found.1 in
     let one : IsOneOf vector (made found.0) = record {
       vector_is = refl;
-      words = record { normal = (laws.single 65536 found.0 below).0; even = λ v has. subst (λ n. n % 2 ≡ 0) (only found.0 v has) even_so };
+      words = record { normal = (laws.known.sets.single 65536 found.0 below).0; even = λ v has. subst (λ n. n % 2 ≡ 0) (only found.0 v has) even_so };
       entry = (below, even_so);
     } in
     subst (IsOneOf vector) found.2 one
@@ -146,7 +146,7 @@ pub record IsListed (device : Device) (coming_so : Coming) : Type 0 where
   pub words : AreEvenWords coming_so.sp
   pub entry : IsEntrySp coming_so.known_sp
 
-pub is_listed : (laws : EntryLaws) (device : Device) (framed : Bool) (a : Known) (coming_so : Coming) → IsKnown device.lo device.hi framed a → Contains (comings_of device a) coming_so → IsListed device coming_so
+pub is_listed : (laws : MemoryLaws) (device : Device) (framed : Bool) (a : Known) (coming_so : Coming) → IsKnown device.lo device.hi framed a → Contains (comings_of device a) coming_so → IsListed device coming_so
 is_listed laws device framed a coming_so form h = elim (cases_Bool (may_interrupt a)) [
   | inr off ↦ absurd (in_none coming_so (subst (λ list. Contains list coming_so) (none_listed device a off) h))
   | inl on ↦
@@ -161,7 +161,7 @@ is_listed laws device framed a coming_so form h = elim (cases_Bool (may_interrup
       }
 ]
 
-pub frame_so : (laws : EntryLaws) (device : Device) (framed : Bool) (a : Known) (coming_so : Coming) → IsKnown device.lo device.hi framed a → Contains (comings_of device a) coming_so
+pub frame_so : (laws : MemoryLaws) (device : Device) (framed : Bool) (a : Known) (coming_so : Coming) → IsKnown device.lo device.hi framed a → Contains (comings_of device a) coming_so
     → IsFrame (frame_of_coming coming_so) × (may_come device coming_so.vector ≡ true)
 frame_so laws device framed a coming_so form h = let is = is_listed laws device framed a coming_so form h in ((is.below, is.entry, refl), is.may)
 

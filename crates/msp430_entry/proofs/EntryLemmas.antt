@@ -1,6 +1,6 @@
 -- What is known where the handler begins holds of the state that the entry leaves, over the one that it suspends.
 use Prim.Native.Nat.{zero, suc}
-use Rattle.std.proofs.Common.{◌≡◌, ℕ, ◌+◌, ◌-◌, ◌*◌, ◌/◌, ◌%◌, ◌<◌, ◌≤◌, Bool, true, false, Option, Some, None, List, [], ◌∷◌, length, get_or, set, refl, sym, ap, ◌∙◌, subst, arith, Contains, get_or-set_same, get_or-set_other}
+use Rattle.std.proofs.Common.{◌≡◌, ℕ, ◌+◌, ◌*◌, ◌/◌, ◌%◌, ◌<◌, ◌≤◌, Bool, true, false, Option, Some, None, List, [], ◌∷◌, length, get_or, set, refl, sym, ap, ◌∙◌, subst, arith, Contains, get_or-set_same, get_or-set_other}
 use Rattle.std.specs.Prelude.{bit_and, bit_or}
 use Rattle.std.specs.List.{slice_index_or}
 use Rattle.std.specs.Int.Bits.{or_zero_r}
@@ -33,26 +33,26 @@ use Rattle.msp430_alu.specs.Formats.{IsUnder}
 use Rattle.msp430_alu.specs.Memory.{IsDevice, IsRam, with_store}
 use Rattle.msp430_alu.specs.Registers.{status_set}
 use Rattle.msp430_entry.specs.declared.coming.Coming.{Coming}
-use Rattle.msp430_entry.specs.Entry.{ComesSo, comings_of, counter_slot, entered_known, frame_of_coming, handed, itself, status_entered, status_slot}
+use Rattle.msp430_entry.specs.Entry.{ComesSo, comings_of, counted_sp, counter_slot, entered_known, entered_sp, frame_of_coming, handed, itself, status_entered, status_slot}
 use Rattle.msp430_entry.proofs.ComingLemmas.{is_listed}
-use Rattle.msp430_entry.proofs.EntryLaws.{EntryLaws}
+use Rattle.msp430_alu.specs.Laws.{MemoryLaws}
 use Rattle.msp430_entry.proofs.HandingLemmas.{from_itself, handed_form, handed_parts}
 use Rattle.msp430_entry.proofs.Members.{only}
 
 -- THE SLOTS
 
-pub slot_words : (laws : EntryLaws) (sp : Form) (offset : ℕ) → AreEvenWords sp → offset < 65536 → offset % 2 ≡ 0 → AreEvenWords (add 65536 sp (single offset))
+pub slot_words : (laws : MemoryLaws) (sp : Form) (offset : ℕ) → AreEvenWords sp → offset < 65536 → offset % 2 ≡ 0 → AreEvenWords (add 65536 sp (single offset))
 slot_words laws sp offset words small no_bit =
-    let one = (laws.single 65536 offset small).0 in
+    let one = (laws.known.sets.single 65536 offset small).0 in
     record {
-      normal = laws.add_normal 65536 sp (single offset) words.normal one;
-      even = laws.add_rest 65536 2 0 0 sp (single offset) refl words.normal one words.even (λ v has. subst (λ n. n % 2 ≡ 0) (only offset v has) no_bit);
+      normal = laws.known.sets.add_normal 65536 sp (single offset) words.normal one;
+      even = laws.known.sets.add_rest 65536 2 0 0 sp (single offset) refl words.normal one words.even (λ v has. subst (λ n. n % 2 ≡ 0) (only offset v has) no_bit);
     }
 
-pub slot_has : (laws : EntryLaws) (sp : Form) (offset v : ℕ) → AreEvenWords sp → offset < 65536 → Has 65536 sp v → Has 65536 (add 65536 sp (single offset)) ((v + offset) % 65536)
+pub slot_has : (laws : MemoryLaws) (sp : Form) (offset v : ℕ) → AreEvenWords sp → offset < 65536 → Has 65536 sp v → Has 65536 (add 65536 sp (single offset)) ((v + offset) % 65536)
 slot_has laws sp offset v words small has =
-    let one = laws.single 65536 offset small in
-    laws.add 65536 v offset sp (single offset) words.normal one.0 has one.1
+    let one = laws.known.sets.single 65536 offset small in
+    laws.known.sets.add 65536 v offset sp (single offset) words.normal one.0 has one.1
 
 -- SR
 
@@ -119,30 +119,30 @@ are_entered registers handler sp sr long =
 
 -- behind the store of PC, and behind that of SR
 abbrev counted_known : Device → Known → (pc : ℕ) → (sp : Form) → Known
-counted_known device a pc sp = with_store device true (handed a) Words (counter_slot sp) (record { set = single pc; entry = Some (itself 0) })
+counted_known device a pc sp = with_store device true (handed a) Words (counter_slot device sp) (record { set = single pc; entry = Some (itself 0) })
 
 abbrev stored_known : Device → Known → (pc : ℕ) → (sp : Form) → Known
-stored_known device a pc sp = with_store device true (counted_known device a pc sp) Words (status_slot sp) (record { set = status_set a.status; entry = Some (itself 2) })
+stored_known device a pc sp = with_store device true (counted_known device a pc sp) Words (status_slot device sp) (record { set = status_set a.status; entry = Some (itself 2) })
 
-counter_word_form : (laws : EntryLaws) (pc : ℕ) → pc < 65536 → IsWord true (record { set = single pc; entry = Some (itself 0) })
-counter_word_form laws pc small = record { normal = (laws.single 65536 pc small).0; entry = (refl, omega arith, omega arith) }
+counter_word_form : (laws : MemoryLaws) (pc : ℕ) → pc < 65536 → IsWord true (record { set = single pc; entry = Some (itself 0) })
+counter_word_form laws pc small = record { normal = (laws.known.sets.single 65536 pc small).0; entry = (refl, omega arith, omega arith) }
 
-status_word_form : (laws : EntryLaws) (status : Status) → length status.bits ≡ 9 → IsWord true (record { set = status_set status; entry = Some (itself 2) })
-status_word_form laws status long = laws.status_form true (record { bits = status.bits; entry = Some (itself 2) }) long (refl, omega arith, refl, omega arith)
+status_word_form : (laws : MemoryLaws) (status : Status) → length status.bits ≡ 9 → IsWord true (record { set = status_set status; entry = Some (itself 2) })
+status_word_form laws status long = laws.words.status_form true (record { bits = status.bits; entry = Some (itself 2) }) long (refl, omega arith, refl, omega arith)
 
-counted_form : (laws : EntryLaws) (device : Device) (framed : Bool) (a : Known) (pc : ℕ) (sp : Form) → IsDevice device → IsKnown device.lo device.hi framed a → pc < 65536 → AreEvenWords sp
+counted_form : (laws : MemoryLaws) (device : Device) (framed : Bool) (a : Known) (pc : ℕ) (sp : Form) → IsDevice device → IsKnown device.lo device.hi framed a → pc < 65536 → AreEvenWords sp
     → IsKnown device.lo device.hi true (counted_known device a pc sp)
 counted_form laws device framed a pc sp is form small words =
-    laws.stored_form device true (handed a) (counter_slot sp) (record { set = single pc; entry = Some (itself 0) }) is (handed_form laws device.lo device.hi framed a form)
-    (slot_words laws sp 65534 words (omega arith) refl) (counter_word_form laws pc small)
+    laws.words.stored_form device true (handed a) (counted_sp sp) (record { set = single pc; entry = Some (itself 0) }) is (handed_form laws device.lo device.hi framed a form)
+    (slot_words laws sp 65534 words (omega arith) refl).normal (counter_word_form laws pc small)
 
-stored_form : (laws : EntryLaws) (device : Device) (framed : Bool) (a : Known) (pc : ℕ) (sp : Form) → IsDevice device → IsKnown device.lo device.hi framed a → pc < 65536 → AreEvenWords sp
+stored_form : (laws : MemoryLaws) (device : Device) (framed : Bool) (a : Known) (pc : ℕ) (sp : Form) → IsDevice device → IsKnown device.lo device.hi framed a → pc < 65536 → AreEvenWords sp
     → IsKnown device.lo device.hi true (stored_known device a pc sp)
 stored_form laws device framed a pc sp is form small words =
-    laws.stored_form device true (counted_known device a pc sp) (status_slot sp) (record { set = status_set a.status; entry = Some (itself 2) }) is
-    (counted_form laws device framed a pc sp is form small words) (slot_words laws sp 65532 words (omega arith) refl) (status_word_form laws a.status form.bits)
+    laws.words.stored_form device true (counted_known device a pc sp) (entered_sp sp) (record { set = status_set a.status; entry = Some (itself 2) }) is
+    (counted_form laws device framed a pc sp is form small words) (slot_words laws sp 65532 words (omega arith) refl).normal (status_word_form laws a.status form.bits)
 
-pub entered_form : (laws : EntryLaws) (device : Device) (framed : Bool) (a : Known) (pc : ℕ) (coming_so : Coming) → IsDevice device → IsKnown device.lo device.hi framed a → IsEvenWord pc
+pub entered_form : (laws : MemoryLaws) (device : Device) (framed : Bool) (a : Known) (pc : ℕ) (coming_so : Coming) → IsDevice device → IsKnown device.lo device.hi framed a → IsEvenWord pc
     → Contains (comings_of device a) coming_so → IsKnown device.lo device.hi true (entered_known device a pc coming_so.sp)
 unfolding entered_known
 entered_form laws device framed a pc coming_so is form word listed =
@@ -170,7 +170,7 @@ abbrev pushed_ram : Device → ChipState → (bits : ℕ) → List ℕ
 pushed_ram device s bits = let sp = register_of s 1 in
     with_stored device (with_stored device s.ram Words ((sp + 65534) % 65536) (register_of s 0)) Words ((sp + 65532) % 65536) (register_of s 2 + 512 * bits)
 
-stored_parts : (laws : EntryLaws) (device : Device) (framed : Bool) (a : Known) (s : ChipState) (first : Option ChipState) (sp : Form) (bits : ℕ) → IsUnder device framed a s first → AreEvenWords sp
+stored_parts : (laws : MemoryLaws) (device : Device) (framed : Bool) (a : Known) (s : ChipState) (first : Option ChipState) (sp : Form) (bits : ℕ) → IsUnder device framed a s first → AreEvenWords sp
     → Has 65536 sp (register_of s 1) → bits < 128 → HoldsOfParts device (stored_known device a (register_of s 0) sp) (Some s) s.registers (pushed_ram device s bits)
 stored_parts laws device framed a s first sp bits under words has few =
     let is = under.device_so in
@@ -183,21 +183,21 @@ stored_parts laws device framed a s first sp bits under words has few =
     let small : pc < 65536 = All-get_or (λ r. r < 65536) s.registers 0 0 (omega (arith, state.registers)) state.words in
     let ram_is : IsRam device s.ram = record { count = state.ram; bytes = state.bytes } in
     let counter_ram = with_stored device s.ram Words counter_at pc in
-    let counter_holds : HoldsOfWord (Some (suspended_of s)) (record { set = single pc; entry = Some (itself 0) }) pc = ((laws.single 65536 pc small).1, from_itself s 0 pc refl small) in
-    let counted = laws.stored device true (handed a) (Some s) s.registers s.ram (counter_slot sp) counter_at pc (record { set = single pc; entry = Some (itself 0) }) is ram_is (λ e. absurd (cc))
-    (handed_form laws device.lo device.hi framed a form) (slot_words laws sp 65534 words (omega arith) refl) (slot_has laws sp 65534 (register_of s 1) words (omega arith) has)
+    let counter_holds : HoldsOfWord (Some (suspended_of s)) (record { set = single pc; entry = Some (itself 0) }) pc = ((laws.known.sets.single 65536 pc small).1, from_itself s 0 pc refl small) in
+    let counted = laws.words.stored device true (handed a) (Some s) s.registers s.ram (counted_sp sp) counter_at pc (record { set = single pc; entry = Some (itself 0) }) is ram_is (λ e. absurd (cc))
+    (handed_form laws device.lo device.hi framed a form) (slot_words laws sp 65534 words (omega arith) refl).normal (slot_has laws sp 65534 (register_of s 1) words (omega arith) has)
     (counter_word_form laws pc small) counter_holds (handed_parts laws device framed a s first under) in
-    let status_holds = laws.status true (Some s) (record { bits = a.status.bits; entry = Some (itself 2) }) sr bits form.bits (refl, omega arith, refl, omega arith) state.status few
+    let status_holds = laws.words.status true (Some s) (record { bits = a.status.bits; entry = Some (itself 2) }) sr bits form.bits (refl, omega arith, refl, omega arith) state.status few
     (record { bits = under.holds.parts.status.bits; entry = from_itself s 2 sr refl (omega (arith, state.status)) }) in
-    laws.stored device true (counted_known device a pc sp) (Some s) s.registers counter_ram (status_slot sp) status_at (sr + 512 * bits) (record { set = status_set a.status; entry = Some (itself 2) })
-    is (laws.ram device s.ram counter_at pc small ram_is) (λ e. absurd (cc)) (counted_form laws device framed a pc sp is form small words)
-    (slot_words laws sp 65532 words (omega arith) refl) (slot_has laws sp 65532 (register_of s 1) words (omega arith) has) (status_word_form laws a.status form.bits) status_holds counted
+    laws.words.stored device true (counted_known device a pc sp) (Some s) s.registers counter_ram (entered_sp sp) status_at (sr + 512 * bits) (record { set = status_set a.status; entry = Some (itself 2) })
+    is (laws.words.ram device s.ram counter_at pc small ram_is) (λ e. absurd (cc)) (counted_form laws device framed a pc sp is form small words)
+    (slot_words laws sp 65532 words (omega arith) refl).normal (slot_has laws sp 65532 (register_of s 1) words (omega arith) has) (status_word_form laws a.status form.bits) status_holds counted
 
 -- the state that an entry leaves
 abbrev left_state : Device → ChipState → (vector bits : ℕ) → ChipState
 left_state device s vector bits = record { registers = entered device s vector; ram = pushed_ram device s bits; late = false }
 
-entered_parts : (laws : EntryLaws) (device : Device) (framed : Bool) (a : Known) (s : ChipState) (first : Option ChipState) (sp : Form) (vector bits : ℕ) → IsUnder device framed a s first
+entered_parts : (laws : MemoryLaws) (device : Device) (framed : Bool) (a : Known) (s : ChipState) (first : Option ChipState) (sp : Form) (vector bits : ℕ) → IsUnder device framed a s first
     → AreEvenWords sp → Has 65536 sp (register_of s 1) → bits < 128
     → HoldsOfParts device (entered_known device a (register_of s 0) sp) (Some s) (entered device s vector) (pushed_ram device s bits)
 unfolding entered_known
@@ -208,7 +208,7 @@ entered_parts laws device framed a s first sp vector bits under words has few =
     let left = are_entered s.registers (handler_of device vector) status_at (register_of s 2 / 64 % 2 * 64) state.registers in
     let known = entered_known device a (register_of s 0) sp in
     record {
-      sp = subst (Has 65536 (status_slot sp)) (sym left.stack) (slot_has laws sp 65532 (register_of s 1) words (omega arith) has);
+      sp = subst (Has 65536 (entered_sp sp)) (sym left.stack) (slot_has laws sp 65532 (register_of s 1) words (omega arith) has);
       status = subst (HoldsOfStatus (Some (suspended_of s)) (status_entered a.status)) (sym left.status) (status_so s a.status state.status under.holds.parts.status.bits);
       words = λ register low high. subst (HoldsOfWord (Some (suspended_of s)) (word_of known register)) (sym (left.others register low)) (stored.words register low high);
       fact = tt;
@@ -226,7 +226,7 @@ entry_leaves device s t vector bits items e = left_by
     (first_hit (program_hit device Words ((register_of s 1 + 65534) % 65536)) (program_hit device Words ((register_of s 1 + 65532) % 65536)))
     _ items (left_state device s vector bits) t e
 
-pub covered : (laws : EntryLaws) (device : Device) (framed : Bool) (a : Known) (s t : ChipState) (first : Option ChipState) (coming_so : Coming) (bits : ℕ) (items : List Single)
+pub covered : (laws : MemoryLaws) (device : Device) (framed : Bool) (a : Known) (s t : ChipState) (first : Option ChipState) (coming_so : Coming) (bits : ℕ) (items : List Single)
     → IsUnder device framed a s first → ComesSo device a s coming_so → bits < 128 → entry device s coming_so.vector bits ≡ Next items t → IsChipState device t
     → Covers device (At (handler_of device coming_so.vector) [] (frame_of_coming coming_so)) (entered_known device a (register_of s 0) coming_so.sp) t (Some s)
 unfolding entered_known

@@ -1,17 +1,16 @@
 -- What the handler is handed holds of the state that is suspended, over that state itself.
 use Prim.Native.Nat.{zero, suc}
-use Rattle.std.proofs.Common.{◌≡◌, ℕ, ◌+◌, ◌-◌, ◌<◌, ◌≤◌, Bool, true, Option, Some, None, List, [], ◌∷◌, length, get_or, refl, sym, ap, ◌∙◌, subst, inl, inr, arith, All, Contains}
+use Rattle.std.proofs.Common.{◌≡◌, ℕ, ◌+◌, ◌-◌, ◌<◌, Bool, true, Option, Some, List, [], ◌∷◌, length, get_or, refl, sym, ap, ◌∙◌, subst, arith, All, Contains}
 use Rattle.std.specs.Prelude.{◌==◌, ◌&&◌, ◌||◌, nat_lt, bit_and, bit_or}
 use Rattle.std.specs.Option.{option_map}
 use Rattle.std.specs.Int.Bits.{or_zero_r}
-use Rattle.std.proofs.lemmas.Bool.{and_from, or_right, cases_Bool, cond-true, cond-false, lt-ltb}
+use Rattle.std.proofs.lemmas.Bool.{and_from, or_right, lt-ltb}
 use Rattle.std.proofs.lemmas.List.Elements.{All-get_or, All-from_get_or}
 use Rattle.std.proofs.lemmas.Nat.{and_mask}
-use Rattle.std.proofs.lemmas.Option.{same_Some}
 use Rattle.entry_value.specs.declared.cells.Cell.{Cell}
 use Rattle.entry_value.specs.declared.word.Word.{Word}
-use Rattle.entry_value.specs.Cells.{AreCells, IsCell, StandsUnder, is_nothing, kept, number_at, unknown}
-use Rattle.entry_value.specs.Words.{Suspended, HoldsOfWord, IsFromEntry}
+use Rattle.entry_value.specs.Cells.{kept, unknown}
+use Rattle.entry_value.specs.Words.{HoldsOfWord, IsFromEntry}
 use Rattle.msp430_chip.specs.declared.device.Device.{Device}
 use Rattle.msp430_chip.specs.declared.state.ChipState.{ChipState}
 use Rattle.msp430_chip.specs.State.{register_of}
@@ -21,7 +20,7 @@ use Rattle.msp430_state.specs.Known.{Known, word_of}
 use Rattle.msp430_alu.specs.Formats.{IsUnder}
 use Rattle.irq_frames.specs.Unrelated.{plain_cell, unrelated}
 use Rattle.msp430_entry.specs.Entry.{all_related, handed, itself}
-use Rattle.msp430_entry.proofs.EntryLaws.{EntryLaws}
+use Rattle.msp430_alu.specs.Laws.{MemoryLaws}
 
 -- RELATIONS TO ITSELF
 
@@ -55,7 +54,7 @@ handed_word a register count low high =
 
 -- PARTS
 
-pub handed_parts : (laws : EntryLaws) (device : Device) (framed : Bool) (a : Known) (s : ChipState) (first : Option ChipState) → IsUnder device framed a s first
+pub handed_parts : (laws : MemoryLaws) (device : Device) (framed : Bool) (a : Known) (s : ChipState) (first : Option ChipState) → IsUnder device framed a s first
     → HoldsOfParts device (handed a) (Some s) s.registers s.ram
 handed_parts laws device framed a s first under =
     let parts = under.holds.parts in
@@ -68,15 +67,15 @@ handed_parts laws device framed a s first under =
       words = λ register low high. subst (λ word. HoldsOfWord (Some (suspended_of s)) word (register_of s register)) (sym (handed_word a register under.form.count low high))
           ((parts.words register low high).0, from_itself s register (register_of s register) refl (small register high));
       fact = tt;
-      cells = laws.plain_stands (option_map suspended_of first) (Some (suspended_of s)) (ram_byte device s.ram) a.cells.cells parts.cells;
+      cells = laws.known.frames.plain_stands (option_map suspended_of first) (Some (suspended_of s)) (ram_byte device s.ram) a.cells.cells parts.cells;
       untouched = λ at none. refl;
     }
 
 -- FORM
 
-each_kept : (laws : EntryLaws) (framed : Bool) (cells : List Cell) → ((c : Cell) → Contains cells c → IsChipCell framed c) → (c : Cell) → Contains (kept unrelated cells) c → IsChipCell true c
+each_kept : (laws : MemoryLaws) (framed : Bool) (cells : List Cell) → ((c : Cell) → Contains cells c → IsChipCell framed c) → (c : Cell) → Contains (kept unrelated cells) c → IsChipCell true c
 each_kept laws framed cells forms c there =
-    let (held, among, is) = laws.plain_each cells c there in
+    let (held, among, is) = laws.known.frames.plain_each cells c there in
     let form = forms held among in
     let one : IsChipCell true (plain_cell held) = record { even = form.even; byte = λ e. refl; entry = tt } in
     subst (IsChipCell true) is one
@@ -94,7 +93,7 @@ related_word words framed count all =
     let one : IsWord true (record { set = (get_or words i (unknown 2)).set; entry = Some (itself (4 + i)) }) = record { normal = form.normal; entry = (named, omega arith, omega arith) } in
     subst (IsWord true) (sym (related_at 4 words i (unknown 2) (unknown 2) place)) one)
 
-pub handed_form : (laws : EntryLaws) (lo hi : ℕ) (framed : Bool) (a : Known) → IsKnown lo hi framed a → IsKnown lo hi true (handed a)
+pub handed_form : (laws : MemoryLaws) (lo hi : ℕ) (framed : Bool) (a : Known) → IsKnown lo hi framed a → IsKnown lo hi true (handed a)
 handed_form laws lo hi framed a form = record {
   sp = form.sp;
   bits = form.bits;
@@ -104,7 +103,7 @@ handed_form laws lo hi framed a form = record {
   fact = tt;
   from = form.from;
   up_to = form.up_to;
-  cells = laws.plain_form lo hi lo a.cells.cells form.cells;
+  cells = laws.known.frames.plain_form lo hi lo a.cells.cells form.cells;
   each_cell = each_kept laws framed a.cells.cells form.each_cell;
   touched = tt;
   none_touched = λ e. refl;

@@ -1,5 +1,4 @@
 pub mod Members
-pub mod EntryLaws
 pub mod ComingLemmas
 pub mod HandingLemmas
 pub mod EntryLemmas

@@ -1,5 +1,5 @@
 -- What the entry of an interrupt makes of what is known of a state (SLAU049, chapter 2, "Interrupt Processing").
-use Rattle.std.specs.Prelude.{ℕ, ◌+◌, ◌%◌, ◌||◌, if◌then◌else◌, Bool, true, false, Option, None, Some, List, [], ◌∷◌, Contains, map}
+use Rattle.std.specs.Prelude.{ℕ, ◌+◌, ◌%◌, ◌||◌, if◌then◌else◌, Bool, true, false, None, Some, List, [], ◌∷◌, Contains, map}
 use Prim.Native.Nat.{suc}
 use Rattle.std.specs.List.{filter, flat_map, range_with_len, slice_index_or}
 use Rattle.chip_numbers.specs.Single.{Single}
@@ -23,11 +23,12 @@ use Rattle.msp430_decode.specs.declared.instr.Width.TheVariants.{Word as Words}
 use Rattle.msp430_chip.specs.declared.device.Device.{Device}
 use Rattle.msp430_chip.specs.declared.state.ChipState.{ChipState}
 use Rattle.msp430_chip.specs.Interrupts.{handler_of, may_come}
+use Rattle.msp430_chip.specs.Memory.{aligned}
 use Rattle.msp430_chip.specs.State.{register_of}
 use Rattle.msp430_state.specs.declared.status.Status.{Status}
 use Rattle.msp430_state.specs.Holding.{CameAt}
 use Rattle.msp430_state.specs.Known.{Known}
-use Rattle.msp430_alu.specs.Memory.{with_store}
+use Rattle.msp430_alu.specs.Memory.{located, with_store}
 use Rattle.msp430_alu.specs.Registers.{status_set}
 use Rattle.msp430_entry.specs.declared.coming.Coming.{Coming}
 
@@ -87,12 +88,19 @@ handed a = record {
   touched = [];
 }
 
--- PC is stored at SP - 2, SR at SP - 4, and SP is SP - 4
-abbrev pub counter_slot : (sp : Form) → Form
-counter_slot sp = add 65536 sp (single 65534)
+-- SP behind the push of PC is SP - 2, and behind that of SR SP - 4
+abbrev pub counted_sp : (sp : Form) → Form
+counted_sp sp = add 65536 sp (single 65534)
 
-abbrev pub status_slot : (sp : Form) → Form
-status_slot sp = add 65536 sp (single 65532)
+abbrev pub entered_sp : (sp : Form) → Form
+entered_sp sp = add 65536 sp (single 65532)
+
+-- where PC is stored, and where SR is
+abbrev pub counter_slot : Device → (sp : Form) → Form
+counter_slot device sp = located device Words (counted_sp sp)
+
+abbrev pub status_slot : Device → (sp : Form) → Form
+status_slot device sp = located device Words (entered_sp sp)
 
 -- SR but SCG0, bit 6, is cleared; SR's relation has the bits in its AND mask that SR doesn't hold
 abbrev pub status_entered : Status → Status
@@ -104,10 +112,10 @@ status_entered status = record {
 -- behind both stores, where SP is one of a set
 unfoldable pub entered_known : Device → Known → (pc : ℕ) → (sp : Form) → Known
 entered_known device a pc sp =
-    let counted = with_store device true (handed a) Words (counter_slot sp) (record { set = single pc; entry = Some (itself 0) }) in
-    let stored = with_store device true counted Words (status_slot sp) (record { set = status_set a.status; entry = Some (itself 2) }) in
+    let counted = with_store device true (handed a) Words (counter_slot device sp) (record { set = single pc; entry = Some (itself 0) }) in
+    let stored = with_store device true counted Words (status_slot device sp) (record { set = status_set a.status; entry = Some (itself 2) }) in
     record {
-      sp = status_slot sp;
+      sp = entered_sp sp;
       status = status_entered a.status;
       late = Zero;
       registers = stored.registers;
@@ -120,13 +128,13 @@ entered_known device a pc sp =
 
 abbrev pub entry_items : Device → (pc : ℕ) → Coming → List Item
 entry_items device pc coming =
-    items.Access pc Mem true 2 (W (counter_slot coming.sp))
-    ∷ items.Access pc Mem true 2 (W (status_slot coming.sp))
+    items.Access pc Mem true 2 (W (counter_slot device coming.sp))
+    ∷ items.Access pc Mem true 2 (W (status_slot device coming.sp))
     ∷ items.Edge pc (handler_of device coming.vector) ∷ []
 
 -- what an entry in a single state shows, but for its stack pointer
 abbrev pub entry_shows : Device → ChipState → (vector : ℕ) → List Single
 entry_shows device s vector =
-    Access (register_of s 0) Mem true 2 ((register_of s 1 + 65534) % 65536)
-    ∷ Access (register_of s 0) Mem true 2 ((register_of s 1 + 65532) % 65536)
+    Access (register_of s 0) Mem true 2 (aligned device Words ((register_of s 1 + 65534) % 65536))
+    ∷ Access (register_of s 0) Mem true 2 (aligned device Words ((register_of s 1 + 65532) % 65536))
     ∷ Edge (register_of s 0) (handler_of device vector) ∷ []

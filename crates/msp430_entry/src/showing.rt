@@ -4,6 +4,7 @@ ghost use Rattle.std.specs.Prelude.{◌≡◌, ◌<◌, ◌++◌, OnOk, true};
 ghost use Rattle.call_context.specs.declared.shown.Item.TheVariants.{Access};
 ghost use Rattle.call_context.specs.declared.shown.Set.TheVariants.{W};
 ghost use Rattle.chip_numbers.specs.declared.space.Space.TheVariants.{Mem};
+ghost use Rattle.msp430_chip.specs.Memory.{HasRam};
 ghost use Rattle.msp430_entry.specs.Entry as entry;
 
 use crate::coming::{Coming, handler_of};
@@ -34,11 +35,12 @@ pub fn add_entry_items(
     pc: u16,
     coming: &Coming,
 ) -> Result<(), Memory>
-    requires { coming.now.vector < 14 }
+    requires vector { coming.now.vector < 14 }
+    requires ram { HasRam device.now }
     ensures { OnOk result (items.new ≡ items.old ++ entry.entry_items device.now pc coming.now) }
 {
-    items.push(pushed(pc, counter_slot(&coming.sp)))?;
-    items.push(pushed(pc, status_slot(&coming.sp)))?;
+    items.push(pushed(pc, counter_slot(device, &coming.sp)))?;
+    items.push(pushed(pc, status_slot(device, &coming.sp)))?;
     items.push(Item::Edge {
         from: pc,
         to: handler_of(device, coming.vector),

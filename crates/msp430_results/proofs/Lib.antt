@@ -2,5 +2,5 @@ pub mod FlagLemmas
 pub mod Carries
 pub mod Rows
 pub mod DecimalLemmas
-pub mod Pairs
+pub mod Differences
 pub mod Twice

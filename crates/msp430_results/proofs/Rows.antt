@@ -18,11 +18,12 @@ use Rattle.value_bits.specs.declared.tri.Logic.TheVariants.{And, Or, Xor}
 use Rattle.value_bits.specs.declared.tri.Top.{Top}
 use Rattle.value_bits.specs.declared.tri.Top.TheVariants.{Sign, Put}
 use Rattle.value_bits.specs.declared.tri.Tri.{Tri}
-use Rattle.value_bits.specs.declared.tri.Tri.TheVariants.{Zero, One, Either}
+use Rattle.value_bits.specs.declared.tri.Tri.TheVariants.{Zero, Either}
 use Rattle.value_bits.specs.Bits.{IsBit, Agrees, known_bits, from_bits, logic_of, tri_and, tri_not}
 use Rattle.value_bits.specs.Flags.{IsFlag}
 use Rattle.chip_numbers.specs.Numbers.{shifted_right, exchanged, sign_extended, is_decimal, decimal_sum, decimal_carry}
 use Rattle.value_bits.specs.Sets.{IsTop, chosen, logic_set, shift_set, sign_extend_set, are_decimal, decimal_add_set}
+use Rattle.irq_frames.specs.KnownLaws.{KnownLaws}
 use Rattle.msp430_decode.specs.declared.instr.Width.{Width}
 use Rattle.msp430_decode.specs.declared.instr.Width.TheVariants.{Word, Byte}
 use Rattle.msp430_decode.specs.declared.instr.Operation.{Operation}
@@ -35,21 +36,14 @@ use Rattle.msp430_chip.specs.Leading.{MayMake, MayMakeDecimal, MayMakeSingle}
 use Rattle.msp430_chip.specs.Leading.MayMakeDecimal.{Decimal, NotDecimal}
 use Rattle.value_bits.specs.Pointwise.{each_with}
 use Rattle.msp430_results.specs.FlagSets.{IsResult, AreFlags, HoldsOfMade, bits_of, shown_flags, shown_logic, flags_or, free_overflow, no_flags}
-use Rattle.msp430_results.specs.Premises.{Premises}
 use Rattle.msp430_results.specs.Results.{flags_in, add_carry, sub_carry, sum_made, twice_flags, logic_made, clear_answer, clear_set, decimal_flags, decimal_made, double_made, rotated_flags, halved_flags, single_made, HasWidth}
 use Rattle.msp430_results.proofs.Carries.{combined, single_is, chosen_is, add_is, sub_is, carry_is, borrow_is}
-use Rattle.msp430_results.proofs.FlagLemmas.{known_length, shown_hold, shown_logic_hold, all_hold, either_hold, free_hold, none_hold}
-
--- WIDTHS
-
-some_numbers : (width : Width) → 2 < modulus width
-some_numbers Word = omega arith
-some_numbers Byte = omega arith
+use Rattle.msp430_results.proofs.FlagLemmas.{some_numbers, shown_hold, shown_logic_hold, all_hold, either_hold, free_hold, none_hold}
 
 -- SUMS
 
 -- the flags of a sum, over all combinations or as the result shows them
-sum_row : (laws : Premises) (width : Width) (set : Form) (flags : ℕ → ℕ → ℕ → Flags) (a b c : Form) (x y z p q : ℕ) → IsResult (modulus width) set ((x + p + q) % modulus width)
+sum_row : (laws : KnownLaws) (width : Width) (set : Form) (flags : ℕ → ℕ → ℕ → Flags) (a b c : Form) (x y z p q : ℕ) → IsResult (modulus width) set ((x + p + q) % modulus width)
     → flags x y z ≡ flags_in (sum width x p q) → Has (modulus width) a x → Has (modulus width) b y → Has (modulus width) c z
     → HoldsOfMade width (sum_made width set flags a b c) (sum width x p q)
 unfolding sum
@@ -69,46 +63,46 @@ sum_row laws width set flags a b c x y z p q is same h k l =
 difference : (m x y : ℕ) → y < m → x + m - y ≡ x + (m - 1 - y) + 1
 difference m x y small = omega arith
 
-sub_row : (laws : Premises) (width : Width) (s d : ℕ) (a b : Form) → IsResult (modulus width) a s → IsResult (modulus width) b d
+sub_row : (laws : KnownLaws) (width : Width) (s d : ℕ) (a b : Form) → IsResult (modulus width) a s → IsResult (modulus width) b d
     → HoldsOfMade width (sum_made width (sub (modulus width) b a) (λ x y z. flags_in (sum width x (complement width y) 1)) b a (single 0)) (sum width d (complement width s) 1)
 sub_row laws width s d a b h k =
     let m = modulus width in
-    let small : s < m = laws.below m s a h.normal h.has in
+    let small : s < m = laws.sets.below m s a h.normal h.has in
     let is = subst (λ v. IsResult m (sub m b a) (v % m)) (difference m d s small) (sub_is laws m d s b a k h) in
     sum_row laws width (sub m b a) (λ x y z. flags_in (sum width x (complement width y) 1)) b a (single 0) d s 0 (complement width s) 1 is refl k.has h.has
     (single_is laws m 0 (omega (arith, some_numbers width))).has
 
 -- ADD of a register to itself
-pub twice_row : (laws : Premises) (width : Width) (x : ℕ) (set : Form) → IsResult (modulus width) set x → HoldsOfMade width (twice_flags width set) (sum width x x 0)
+pub twice_row : (laws : KnownLaws) (width : Width) (x : ℕ) (set : Form) → IsResult (modulus width) set x → HoldsOfMade width (twice_flags width set) (sum width x x 0)
 unfolding sum
 twice_row laws width x (Values xs) is =
     let m = modulus width in
     let plain : x + x + 0 ≡ x + x = omega arith in
     let none = (single_is laws m 0 (omega (arith, some_numbers width))).has in
     record {
-      normal = laws.twice_normal m (Values xs) is.normal;
-      result = subst (λ v. Has m (twice m (Values xs)) (v % m)) (sym plain) (laws.twice m x (Values xs) is.normal is.has);
+      normal = laws.sets.twice_normal m (Values xs) is.normal;
+      result = subst (λ v. Has m (twice m (Values xs)) (v % m)) (sym plain) (laws.sets.twice m x (Values xs) is.normal is.has);
       flags = all_hold laws m (λ x y z. flags_in (sum width x x 0)) (Values xs) (single 0) (single 0) x 0 0 is.has none none;
     }
 twice_row laws width x (Run p) is =
     let m = modulus width in
     let plain : x + x + 0 ≡ x + x = omega arith in
-    let has : Has m (twice m (Run p)) ((x + x + 0) % m) = subst (λ v. Has m (twice m (Run p)) (v % m)) (sym plain) (laws.twice m x (Run p) is.normal is.has) in
+    let has : Has m (twice m (Run p)) ((x + x + 0) % m) = subst (λ v. Has m (twice m (Run p)) (v % m)) (sym plain) (laws.sets.twice m x (Run p) is.normal is.has) in
     record {
-      normal = laws.twice_normal m (Run p) is.normal;
+      normal = laws.sets.twice_normal m (Run p) is.normal;
       result = has;
       flags = shown_hold laws width (twice m (Run p)) ((x + x + 0) % m) Either Either (nat_le m (x + x + 0))
-          (overflows (is_negative width x) (is_negative width x) (is_negative width ((x + x + 0) % m))) (laws.twice_normal m (Run p) is.normal) has tt tt;
+          (overflows (is_negative width x) (is_negative width x) (is_negative width ((x + x + 0) % m))) (laws.sets.twice_normal m (Run p) is.normal) has tt tt;
     }
 
 -- LOGIC
 
-logic_is : (laws : Premises) (width : Width) (logic : Logic) (x y : ℕ) (a b : Form) → IsResult (modulus width) a x → IsResult (modulus width) b y
+logic_is : (laws : KnownLaws) (width : Width) (logic : Logic) (x y : ℕ) (a b : Form) → IsResult (modulus width) a x → IsResult (modulus width) b y
     → IsResult (modulus width) (logic_set (bits_of width) logic a b) (logic_of logic x y)
-logic_is laws Word logic x y a b h k = record { normal = laws.logic_normal 16 logic a b h.normal k.normal; has = laws.logic 16 x y logic a b h.normal k.normal h.has k.has }
-logic_is laws Byte logic x y a b h k = record { normal = laws.logic_normal 8 logic a b h.normal k.normal; has = laws.logic 8 x y logic a b h.normal k.normal h.has k.has }
+logic_is laws Word logic x y a b h k = record { normal = laws.bits.logic_normal 16 logic a b h.normal k.normal; has = laws.bits.logic 16 x y logic a b h.normal k.normal h.has k.has }
+logic_is laws Byte logic x y a b h k = record { normal = laws.bits.logic_normal 8 logic a b h.normal k.normal; has = laws.bits.logic 8 x y logic a b h.normal k.normal h.has k.has }
 
-logic_row : (laws : Premises) (width : Width) (set : Form) (flags : ℕ → ℕ → ℕ → Flags) (a b : Form) (x y v : ℕ) (o : Tri) (overflow : Bool) → IsResult (modulus width) set v
+logic_row : (laws : KnownLaws) (width : Width) (set : Form) (flags : ℕ → ℕ → ℕ → Flags) (a b : Form) (x y v : ℕ) (o : Tri) (overflow : Bool) → IsResult (modulus width) set v
     → flags x y 0 ≡ flags_of width v (not (v == 0)) overflow → IsFlag o overflow → Has (modulus width) a x → Has (modulus width) b y
     → HoldsOfMade width (logic_made width set flags a b o) (made width v (not (v == 0)) overflow)
 logic_row laws width set flags a b x y v o overflow is same last h k =
@@ -124,28 +118,14 @@ logic_row laws width set flags a b x y v o overflow is same last h k =
 
 -- BIC
 
-and_bit : (a b : Tri) (x y : ℕ) → IsBit a x → IsBit b y → IsBit (tri_and a b) (min x y)
-and_bit Zero b x y h k = omega (arith, h)
-and_bit One Zero x y h k = omega (arith, h, k)
-and_bit One One x y h k = omega (arith, h, k)
-and_bit One Either x y h k = omega (arith, h, k)
-and_bit Either Zero x y h k = omega (arith, h, k)
-and_bit Either One x y h k = omega (arith, h, k)
-and_bit Either Either x y h k = omega (arith, h, k)
-
-not_bit : (b : Tri) (y : ℕ) → IsBit b y → IsBit (tri_not b) (1 - y)
-not_bit Zero y h = omega (arith, h)
-not_bit One y h = omega (arith, h)
-not_bit Either y h = omega (arith, h)
-
 -- numbers with the bits of two lists as long: the bits of x AND NOT y
-clear_agrees : (as' bs : List Tri) (x y top : ℕ) → length as' ≡ length bs → top + 1 ≡ 2 ^ length bs → Agrees as' x → Agrees bs y → y ≤ top
+clear_agrees : (laws : KnownLaws) (as' bs : List Tri) (x y top : ℕ) → length as' ≡ length bs → top + 1 ≡ 2 ^ length bs → Agrees as' x → Agrees bs y → y ≤ top
     → Agrees (each_with tri_and as' (map tri_not bs)) (bit_and x (top - y))
-clear_agrees [] [] x y top long whole h k le =
+clear_agrees laws [] [] x y top long whole h k le =
     let none : x ≡ 0 = h in let under = and_le_l x (top - y) in omega (arith, none, under)
-clear_agrees [] (b ∷ bs) x y top long whole h k le = absurd (omega arith)
-clear_agrees (a ∷ as') [] x y top long whole h k le = absurd (omega arith)
-clear_agrees (a ∷ as') (b ∷ bs) x y top long whole h k le =
+clear_agrees laws [] (b ∷ bs) x y top long whole h k le = absurd (omega arith)
+clear_agrees laws (a ∷ as') [] x y top long whole h k le = absurd (omega arith)
+clear_agrees laws (a ∷ as') (b ∷ bs) x y top long whole h k le =
     let step = and_step x (top - y) in
     let power : 2 ^ suc (length bs) ≡ 2 ^ length bs * 2 = pow-suc 2 (length bs) in
     let half : top / 2 + 1 ≡ 2 ^ length bs = omega (arith, whole, power) in
@@ -153,9 +133,9 @@ clear_agrees (a ∷ as') (b ∷ bs) x y top long whole h k le =
     let rest : (top - y) / 2 ≡ top / 2 - y / 2 = omega (arith, whole, power) in
     let low : bit_and x (top - y) % 2 ≡ min (x % 2) (1 - y % 2) = omega (arith, step, odd) in
     let high : bit_and x (top - y) / 2 ≡ bit_and (x / 2) (top / 2 - y / 2) = omega (arith, step, odd, ap (bit_and (x / 2)) rest) in (
-      subst (IsBit (tri_and a (tri_not b))) (sym low) (and_bit a (tri_not b) (x % 2) (1 - y % 2) h.0 (not_bit b (y % 2) k.0)),
+      subst (IsBit (tri_and a (tri_not b))) (sym low) (laws.bits.bit_and a (tri_not b) (x % 2) (1 - y % 2) h.0 (laws.bits.bit_not b (y % 2) k.0)),
       subst (Agrees (each_with tri_and as' (map tri_not bs))) (sym high)
-          (clear_agrees as' bs (x / 2) (y / 2) (top / 2) (omega arith) half h.1 k.1 (omega (arith, le))),
+          (clear_agrees laws as' bs (x / 2) (y / 2) (top / 2) (omega arith) half h.1 k.1 (omega (arith, le))),
     )
 
 length-each_with : (f : Tri → Tri → Tri) (xs ys : List Tri) → length xs ≡ length ys → length (each_with f xs ys) ≡ length xs
@@ -167,27 +147,27 @@ length-not : (bits : List Tri) → length (map tri_not bits) ≡ length bits
 length-not [] = refl
 length-not (bit ∷ bits) = ap suc (length-not bits)
 
-clear_bits : (laws : Premises) (w x y top : ℕ) (a b : Form) → top + 1 ≡ 2 ^ w → IsResult (2 ^ w) a x → IsResult (2 ^ w) b y
+clear_bits : (laws : KnownLaws) (w x y top : ℕ) (a b : Form) → top + 1 ≡ 2 ^ w → IsResult (2 ^ w) a x → IsResult (2 ^ w) b y
     → IsResult (2 ^ w) (from_bits w (each_with tri_and (known_bits w a) (map tri_not (known_bits w b)))) (bit_and x (top - y))
 clear_bits laws w x y top a b whole h k =
     let bits = each_with tri_and (known_bits w a) (map tri_not (known_bits w b)) in
-    let first = known_length w a in
-    let second = known_length w b in
+    let first = laws.bits.known_long w a in
+    let second = laws.bits.known_long w b in
     let as_long : length (known_bits w a) ≡ length (map tri_not (known_bits w b)) = omega (arith, first, second, length-not (known_bits w b)) in
     let long : length bits ≡ w = length-each_with tri_and (known_bits w a) (map tri_not (known_bits w b)) as_long ∙ first in
-    let small = laws.below (2 ^ w) y b k.normal k.has in
+    let small = laws.sets.below (2 ^ w) y b k.normal k.has in
     let same : length (known_bits w a) ≡ length (known_bits w b) = omega (arith, first, second) in
     let power : top + 1 ≡ 2 ^ length (known_bits w b) = whole ∙ ap (λ n. 2 ^ n) (sym second) in
     record {
-      normal = laws.from_normal w bits long;
-      has = laws.from w (bit_and x (top - y)) bits long (clear_agrees (known_bits w a) (known_bits w b) x y top same power
-          (laws.bits w x a h.normal h.has) (laws.bits w y b k.normal k.has) (omega (arith, small, whole)));
+      normal = laws.bits.from_normal w bits long;
+      has = laws.bits.from w (bit_and x (top - y)) bits long (clear_agrees laws (known_bits w a) (known_bits w b) x y top same power
+          (laws.bits.known w x a h.normal h.has) (laws.bits.known w y b k.normal k.has) (omega (arith, small, whole)));
     }
 
-clear_stays : (laws : Premises) (width : Width) (x y z : ℕ) → x < modulus width → y < modulus width → z < modulus width → clear_answer width x y z < modulus width
+clear_stays : (laws : KnownLaws) (width : Width) (x y z : ℕ) → x < modulus width → y < modulus width → z < modulus width → clear_answer width x y z < modulus width
 clear_stays laws width x y z h k l = let under = and_le_l x (complement width y) in omega (arith, under, h)
 
-clear_is : (laws : Premises) (width : Width) (x y : ℕ) (a b : Form) → IsResult (modulus width) a x → IsResult (modulus width) b y
+clear_is : (laws : KnownLaws) (width : Width) (x y : ℕ) (a b : Form) → IsResult (modulus width) a x → IsResult (modulus width) b y
     → IsResult (modulus width) (clear_set width a b) (bit_and x (complement width y))
 clear_is laws Word x y a b h k = combined laws 65536 (clear_answer Word) a b (single 0) (from_bits 16 (each_with tri_and (known_bits 16 a) (map tri_not (known_bits 16 b)))) x y 0 (clear_stays laws Word) h k (single_is laws 65536 0 (omega arith))
     (clear_bits laws 16 x y 65535 a b refl h k)
@@ -215,22 +195,22 @@ record DecimalSet (width : Width) (set : Form) (x y z : ℕ) (a b : Form) : Type
   free : (is_decimal (digits_of width) x && is_decimal (digits_of width) y) ≡ false → (v : ℕ) → v < modulus width → Has (modulus width) set v
   both : (are_decimal (digits_of width) a && are_decimal (digits_of width) b) ≡ true → (is_decimal (digits_of width) x && is_decimal (digits_of width) y) ≡ true
 
-decimal_is : (laws : Premises) (width : Width) (x y z : ℕ) (a b : Form) (carry : Tri) → IsResult (modulus width) a x → IsResult (modulus width) b y → IsBit carry z
+decimal_is : (laws : KnownLaws) (width : Width) (x y z : ℕ) (a b : Form) (carry : Tri) → IsResult (modulus width) a x → IsResult (modulus width) b y → IsBit carry z
     → DecimalSet width (decimal_add_set (digits_of width) a b carry) x y z a b
 decimal_is laws Word x y z a b carry h k bit = record {
-  normal = laws.decimal_normal 4 a b carry h.normal k.normal;
-  has = laws.decimal 4 x y z a b carry h.normal k.normal h.has k.has bit;
-  free = λ none v small. laws.decimal_free 4 x y v a b carry h.has k.has none small;
+  normal = laws.bits.decimal_normal 4 a b carry h.normal k.normal;
+  has = laws.bits.decimal 4 x y z a b carry h.normal k.normal h.has k.has bit;
+  free = λ none v small. laws.bits.decimal_free 4 x y v a b carry h.has k.has none small;
   both = both_decimal 4 x y a b h.has k.has;
 }
 decimal_is laws Byte x y z a b carry h k bit = record {
-  normal = laws.decimal_normal 2 a b carry h.normal k.normal;
-  has = laws.decimal 2 x y z a b carry h.normal k.normal h.has k.has bit;
-  free = λ none v small. laws.decimal_free 2 x y v a b carry h.has k.has none small;
+  normal = laws.bits.decimal_normal 2 a b carry h.normal k.normal;
+  has = laws.bits.decimal 2 x y z a b carry h.normal k.normal h.has k.has bit;
+  free = λ none v small. laws.bits.decimal_free 2 x y v a b carry h.has k.has none small;
   both = both_decimal 2 x y a b h.has k.has;
 }
 
-decimal_row : (laws : Premises) (width : Width) (x y z : ℕ) (a b : Form) (carry : Tri) (made_so : Made) → IsResult (modulus width) a x → IsResult (modulus width) b y → IsBit carry z
+decimal_row : (laws : KnownLaws) (width : Width) (x y z : ℕ) (a b : Form) (carry : Tri) (made_so : Made) → IsResult (modulus width) a x → IsResult (modulus width) b y → IsBit carry z
     → MayMakeDecimal width x y z made_so → HoldsOfMade width (decimal_made width a b carry) made_so
 decimal_row laws width x y z a b carry made_so h k bit (Decimal decimal overflow e) =
     let m = modulus width in
@@ -265,7 +245,7 @@ plain_sum : (m x y : ℕ) → (x + y + 0) % m ≡ (x + y) % m
 plain_sum m x y = ap (λ n. n % m) (omega arith)
 
 -- Where the sets have the values, the set of results has the result, and the flags hold.
-pub double_holds : (laws : Premises) (done : Operation) (width : Width) (s d carry : ℕ) (a b : Form) (c : Tri) (made_so : Made) → IsResult (modulus width) a s → IsResult (modulus width) b d → IsBit c carry
+pub double_holds : (laws : KnownLaws) (done : Operation) (width : Width) (s d carry : ℕ) (a b : Form) (c : Tri) (made_so : Made) → IsResult (modulus width) a s → IsResult (modulus width) b d → IsBit c carry
     → MayMake done width s d carry made_so → HoldsOfMade width (double_made done width a b c) made_so
 double_holds laws operation.Mov width s d carry a b c made_so h k bit may =
     subst (HoldsOfMade width (a, None)) (same_Some (s, None) made_so may) (record { normal = h.normal; result = h.has; flags = tt })
@@ -308,12 +288,12 @@ double_holds laws operation.And width s d carry a b c made_so h k bit may =
 
 -- ONE OPERAND
 
-shift_is : (laws : Premises) (width : Width) (x bit : ℕ) (set : Form) (top : Top) → IsResult (modulus width) set x → IsTop (top_place width) top x bit
+shift_is : (laws : KnownLaws) (width : Width) (x bit : ℕ) (set : Form) (top : Top) → IsResult (modulus width) set x → IsTop (top_place width) top x bit
     → IsResult (modulus width) (shift_set (top_place width) set top) (shifted_right (top_place width) x bit)
-shift_is laws Word x bit set top h is = record { normal = laws.shift_normal 15 set top h.normal; has = laws.shift 15 x bit set top h.normal h.has is }
-shift_is laws Byte x bit set top h is = record { normal = laws.shift_normal 7 set top h.normal; has = laws.shift 7 x bit set top h.normal h.has is }
+shift_is laws Word x bit set top h is = record { normal = laws.bits.shift_normal 15 set top h.normal; has = laws.bits.shift 15 x bit set top h.normal h.has is }
+shift_is laws Byte x bit set top h is = record { normal = laws.bits.shift_normal 7 set top h.normal; has = laws.bits.shift 7 x bit set top h.normal h.has is }
 
-rotated_row : (laws : Premises) (width : Width) (x carry : ℕ) (set : Form) (c : Tri) (made_so : Made) → IsResult (modulus width) set x → IsBit c carry
+rotated_row : (laws : KnownLaws) (width : Width) (x carry : ℕ) (set : Form) (c : Tri) (made_so : Made) → IsResult (modulus width) set x → IsBit c carry
     → MayMakeSingle Rrc width x carry made_so → HoldsOfMade width (single_made Rrc width set c) made_so
 rotated_row laws width x carry set c made_so h bit (overflow, e) =
     let m = modulus width in
@@ -332,7 +312,7 @@ rotated_row laws width x carry set c made_so h bit (overflow, e) =
       flags = free_hold width (flags_or m (rotated_flags width) set (single 0) (chosen c) shown) v (x % 2 == 1) false overflow few_hold;
     }
 
-halved_row : (laws : Premises) (width : Width) (x carry : ℕ) (set : Form) (c : Tri) (made_so : Made) → IsResult (modulus width) set x
+halved_row : (laws : KnownLaws) (width : Width) (x carry : ℕ) (set : Form) (c : Tri) (made_so : Made) → IsResult (modulus width) set x
     → MayMakeSingle Rra width x carry made_so → HoldsOfMade width (single_made Rra width set c) made_so
 halved_row laws width x carry set c made_so h may =
     let m = modulus width in
@@ -349,17 +329,17 @@ halved_row laws width x carry set c made_so h may =
     }
 
 -- Where the set has the value, the set of results has the result, and the flags hold.
-pub single_holds : (laws : Premises) (done : SingleOperation) (width : Width) (x carry : ℕ) (set : Form) (c : Tri) (made_so : Made) → HasWidth done width → IsResult (modulus width) set x → IsBit c carry
+pub single_holds : (laws : KnownLaws) (done : SingleOperation) (width : Width) (x carry : ℕ) (set : Form) (c : Tri) (made_so : Made) → HasWidth done width → IsResult (modulus width) set x → IsBit c carry
     → MayMakeSingle done width x carry made_so → HoldsOfMade width (single_made done width set c) made_so
 single_holds laws Rrc width x carry set c made_so fits h bit may = rotated_row laws width x carry set c made_so h bit may
 single_holds laws Swpb Word x carry set c made_so fits h bit may =
     subst (HoldsOfMade Word (single_made Swpb Word set c)) (same_Some (exchanged 256 x, None) made_so may)
-    (record { normal = laws.exchange_normal 8 set h.normal; result = laws.exchange 8 x set h.normal h.has; flags = tt })
+    (record { normal = laws.bits.exchange_normal 8 set h.normal; result = laws.bits.exchange 8 x set h.normal h.has; flags = tt })
 single_holds laws Swpb Byte x carry set c made_so fits h bit may = absurd fits
 single_holds laws Rra width x carry set c made_so fits h bit may = halved_row laws width x carry set c made_so h may
 single_holds laws Sxt Word x carry set c made_so fits h bit may =
     let none = (single_is laws 65536 0 (omega arith)).has in
-    let is : IsResult 65536 (sign_extend_set set) (sign_extended x) = record { normal = laws.sign_normal set h.normal; has = laws.sign x set h.normal h.has } in
+    let is : IsResult 65536 (sign_extend_set set) (sign_extended x) = record { normal = laws.bits.sign_normal set h.normal; has = laws.bits.sign x set h.normal h.has } in
     subst (HoldsOfMade Word (single_made Sxt Word set c)) (same_Some (logic Word (sign_extended x)) made_so may)
     (logic_row laws Word (sign_extend_set set) (λ x y z. flags_in (logic Word (sign_extended x))) set (single 0) x 0 (sign_extended x) Zero false is refl refl h.has none)
 single_holds laws Sxt Byte x carry set c made_so fits h bit may = absurd fits
@@ -370,52 +350,47 @@ single_holds laws Call width x carry set c made_so fits h bit may =
 
 -- FORMS
 
--- a member of a set, and what a bit may be
-member : (laws : Premises) (m : ℕ) (set : Form) → IsNormal m set → (v : ℕ) × IsResult m set v
-member laws m set normal = let some = laws.some m set normal in
+-- a member of a set
+member : (laws : KnownLaws) (m : ℕ) (set : Form) → IsNormal m set → (v : ℕ) × IsResult m set v
+member laws m set normal = let some = laws.sets.some m set normal in
     (get_or (members m set) 0 0, record { normal = normal; has = Contains-get_or (members m set) 0 0 (omega (arith, some)) })
 
-bit_value : (t : Tri) → (bit : ℕ) × IsBit t bit
-bit_value Zero = (0, refl)
-bit_value One = (1, refl)
-bit_value Either = (0, omega arith)
-
-rows_form : (laws : Premises) (done : Operation) (width : Width) (s d carry : ℕ) (a b : Form) (c : Tri) → IsResult (modulus width) a s → IsResult (modulus width) b d → IsBit c carry
+rows_form : (laws : KnownLaws) (done : Operation) (width : Width) (s d carry : ℕ) (a b : Form) (c : Tri) → IsResult (modulus width) a s → IsResult (modulus width) b d → IsBit c carry
     → IsNormal (modulus width) (double_made done width a b c).0
 rows_form laws operation.Dadd width s d carry a b c h k bit = (decimal_is laws width d s carry b a c k h bit).normal
 rows_form laws operation.Mov width s d carry a b c h k bit = h.normal
-rows_form laws operation.Add width s d carry a b c h k bit = laws.add_normal (modulus width) b a k.normal h.normal
+rows_form laws operation.Add width s d carry a b c h k bit = laws.sets.add_normal (modulus width) b a k.normal h.normal
 rows_form laws operation.Addc width s d carry a b c h k bit = (carry_is laws (modulus width) d s carry b a c (some_numbers width) k h bit).normal
 rows_form laws operation.Subc width s d carry a b c h k bit = (borrow_is laws (modulus width) d s carry b a c (some_numbers width) k h bit).normal
-rows_form laws operation.Sub width s d carry a b c h k bit = laws.sub_normal (modulus width) b a k.normal h.normal
-rows_form laws operation.Cmp width s d carry a b c h k bit = laws.sub_normal (modulus width) b a k.normal h.normal
+rows_form laws operation.Sub width s d carry a b c h k bit = laws.sets.sub_normal (modulus width) b a k.normal h.normal
+rows_form laws operation.Cmp width s d carry a b c h k bit = laws.sets.sub_normal (modulus width) b a k.normal h.normal
 rows_form laws operation.Bit width s d carry a b c h k bit = (logic_is laws width And d s b a k h).normal
 rows_form laws operation.Bic width s d carry a b c h k bit = (clear_is laws width d s b a k h).normal
 rows_form laws operation.Bis width s d carry a b c h k bit = (logic_is laws width Or d s b a k h).normal
 rows_form laws operation.Xor width s d carry a b c h k bit = (logic_is laws width Xor d s b a k h).normal
 rows_form laws operation.And width s d carry a b c h k bit = (logic_is laws width And d s b a k h).normal
 
-pub double_form : (laws : Premises) (done : Operation) (width : Width) (a b : Form) (c : Tri) → IsNormal (modulus width) a → IsNormal (modulus width) b → IsNormal (modulus width) (double_made done width a b c).0
+pub double_form : (laws : KnownLaws) (done : Operation) (width : Width) (a b : Form) (c : Tri) → IsNormal (modulus width) a → IsNormal (modulus width) b → IsNormal (modulus width) (double_made done width a b c).0
 double_form laws done width a b c n k =
     let m = modulus width in
     let (s, h) = member laws m a n in
     let (d, l) = member laws m b k in
-    let (carry, bit) = bit_value c in
+    let (carry, bit) = laws.bits.bit_some c in
     rows_form laws done width s d carry a b c h l bit
 
-pub twice_form : (laws : Premises) (width : Width) (a : Form) → IsNormal (modulus width) a → IsNormal (modulus width) (twice_flags width a).0
+pub twice_form : (laws : KnownLaws) (width : Width) (a : Form) → IsNormal (modulus width) a → IsNormal (modulus width) (twice_flags width a).0
 twice_form laws width a n = let (x, h) = member laws (modulus width) a n in (twice_row laws width x a h).normal
 
-pub single_form : (laws : Premises) (done : SingleOperation) (width : Width) (a : Form) (c : Tri) → HasWidth done width → IsNormal (modulus width) a → IsNormal (modulus width) (single_made done width a c).0
+pub single_form : (laws : KnownLaws) (done : SingleOperation) (width : Width) (a : Form) (c : Tri) → HasWidth done width → IsNormal (modulus width) a → IsNormal (modulus width) (single_made done width a c).0
 single_form laws Rrc width a c fits n =
     let (x, h) = member laws (modulus width) a n in
-    let (carry, bit) = bit_value c in
+    let (carry, bit) = laws.bits.bit_some c in
     (rotated_row laws width x carry a c (made width (shifted_right (top_place width) x carry) (x % 2 == 1) false) h bit (false, refl)).normal
-single_form laws Swpb Word a c fits n = laws.exchange_normal 8 a n
+single_form laws Swpb Word a c fits n = laws.bits.exchange_normal 8 a n
 single_form laws Swpb Byte a c fits n = absurd fits
 single_form laws Rra width a c fits n = let (x, h) = member laws (modulus width) a n in
     (halved_row laws width x 0 a c (made width (shifted_right (top_place width) x (bit_at x (top_place width))) (x % 2 == 1) false) h refl).normal
-single_form laws Sxt Word a c fits n = laws.sign_normal a n
+single_form laws Sxt Word a c fits n = laws.bits.sign_normal a n
 single_form laws Sxt Byte a c fits n = absurd fits
 single_form laws Push width a c fits n = n
 single_form laws Call width a c fits n = n

@@ -1,7 +1,8 @@
 -- What is known of the flags of results (SLAU049, chapter 3, "Status Register").
-use Rattle.std.specs.Prelude.{ℕ, ◌*◌, nat_le, if◌then◌else◌, Bool, Option, None, Some, List, [], ◌∷◌}
+use Rattle.std.specs.Prelude.{ℕ, ◌*◌, ◌==◌, nat_le, if◌then◌else◌, Bool, true, false, Option, None, Some, List, [], ◌∷◌}
 use Rattle.value_set.specs.Form.{Has, IsNormal}
-use Rattle.value_set.specs.Summing.{count_of}
+use Rattle.value_set.specs.Joining.{is_in}
+use Rattle.value_set.specs.Summing.{count_of, single}
 use Rattle.value_set.specs.declared.form.Form.{Form}
 use Rattle.value_bits.specs.declared.tri.Tri.{Tri}
 use Rattle.value_bits.specs.declared.tri.Tri.TheVariants.{Zero, One, Either}
@@ -47,19 +48,15 @@ abbrev pub bits_of : Width → ℕ
 bits_of Word = 16
 bits_of Byte = 8
 
-abbrev pub unless_clear : Tri → Tri
-unless_clear Zero = Zero
-unless_clear One = Either
-unless_clear Either = Either
+-- Z, by the numbers of a set of results: clear where 0 isn't one of them, and set where it is the only one
+abbrev pub zero_by : (has_zero : Bool) → (count : ℕ) → Tri
+zero_by true count = if count == 1 then One else Either
+zero_by false count = Zero
 
--- Z, by the known bits of a result: clear where one of them is set, and set where all are clear
-abbrev pub zero_by : List Tri → Tri
-zero_by [] = One
-zero_by (One ∷ bits) = Zero
-zero_by (Zero ∷ bits) = zero_by bits
-zero_by (Either ∷ bits) = unless_clear (zero_by bits)
+abbrev pub zero_of : Width → Form → Tri
+zero_of width set = zero_by (is_in (modulus width) set 0) (count_of (modulus width) set)
 
--- N is the last one of them
+-- N is the last of the known bits of a result
 abbrev pub last_or : Tri → List Tri → Tri
 last_or bit [] = bit
 last_or bit (next ∷ bits) = last_or next bits
@@ -67,9 +64,6 @@ last_or bit (next ∷ bits) = last_or next bits
 abbrev pub negative_by : List Tri → Tri
 negative_by [] = Zero
 negative_by (bit ∷ bits) = last_or bit bits
-
-abbrev pub zero_of : Width → Form → Tri
-zero_of width set = zero_by (known_bits (bits_of width) set)
 
 abbrev pub negative_of : Width → Form → Tri
 negative_of width set = negative_by (known_bits (bits_of width) set)
@@ -99,6 +93,21 @@ all_agree m flags a b c = record {
 
 abbrev pub flags_or : (m : ℕ) → (ℕ → ℕ → ℕ → Flags) → (a b c : Form) → FlagBits → FlagBits
 flags_or m flags a b c shown = if is_few m a b c then all_agree m flags a b c else shown
+
+-- all numbers of two sets are negative, or none is
+abbrev pub is_one_sign : (first second : Tri) → Bool
+is_one_sign Zero Zero = true
+is_one_sign One One = true
+is_one_sign first second = false
+
+-- then, of differences, N is the opposite of C, and V is clear
+abbrev pub compared : (m : ℕ) → (a b : Form) → FlagBits
+compared m a b = record {
+  carry = agreed m (λ x y z. nat_le y x) a b (single 0);
+  zero = agreed m (λ x y z. x == y) a b (single 0);
+  negative = tri_not (agreed m (λ x y z. nat_le y x) a b (single 0));
+  overflow = Zero;
+}
 
 -- V is free
 abbrev pub free_overflow : FlagBits → FlagBits

@@ -1,5 +1,5 @@
 pub mod FlagSets
+pub mod Laws
 pub mod Results
 pub mod Rules
 pub mod Words
-pub mod Premises

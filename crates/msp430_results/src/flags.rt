@@ -1,10 +1,11 @@
 //! What is known of the flags that results set.
 
-ghost use Rattle.std.specs.Prelude.{◌≡◌, ◌<◌};
-ghost use Rattle.value_bits.specs.Flags as agreeing;
+ghost use Rattle.std.specs.Prelude.{◌≡◌, ◌<◌, true};
+ghost use Rattle.value_set.specs.Summing.{single};
 ghost use Rattle.value_bits.specs.Bits.{tri_not};
 ghost use Rattle.value_bits.specs.Sets.{chosen};
 ghost use Rattle.msp430_chip.specs.Arithmetic.{modulus};
+ghost use Rattle.msp430_results.specs.declared.flags.FlagRule.TheVariants.{Difference};
 ghost use Rattle.msp430_results.specs.FlagSets as flag_sets;
 ghost use Rattle.msp430_results.specs.Results as results;
 ghost use Rattle.msp430_results.specs.Rules as rules;
@@ -16,9 +17,10 @@ use crate::numbers::{
     sum_flags,
 };
 use crate::sets::Sets;
+use irq_frames::known_laws;
 use msp430_chip::Flags;
 use msp430_decode::Width;
-use value_bits::{Flag, Tri};
+use value_bits::{AllFlags, FourFlags, Tri};
 
 /// By which rule an operation on two numbers and a carry sets flags.
 #[derive(Clone, Copy)]
@@ -40,43 +42,29 @@ pub(crate) enum FlagRule {
     Extended,
 }
 
+/// The flags as an operation sets them: C, Z, N and V.
 #[derive(Clone, Copy)]
-pub(crate) enum FlagName {
-    Carry,
-    Zero,
-    Negative,
-    Overflow,
-}
-
-/// A flag as an operation sets it.
-#[derive(Clone, Copy)]
-struct RuleFlag {
+struct RuleFlags {
     width: Width,
     rule: FlagRule,
-    name: FlagName,
 }
 
-impl Flag for RuleFlag {
+impl AllFlags for RuleFlags {
     ghost use Rattle.msp430_chip.specs.Arithmetic as chip;
     ghost use Rattle.msp430_results.specs.Rules as rules;
 
-    ghost modulus = { λ flag. chip.modulus flag.width };
+    ghost modulus = { λ flags. chip.modulus flags.width };
 
-    ghost value = { λ flag x y carry. rules.flag_of flag.name (rules.flags_by flag.rule flag.width x y carry) };
+    ghost value = { λ flags place x y carry. rules.flag_of place (rules.flags_by flags.rule flags.width x y carry) };
 
-    fn is_set(&self, x: u16, y: u16, carry: u16) -> bool {
-        flag_of(self.name, flags_by(self.rule, self.width, x, y, carry))
-    }
-}
-
-fn flag_of(name: FlagName, flags: Flags) -> bool
-    ensures { result ≡ rules.flag_of name flags }
-{
-    match name {
-        FlagName::Carry => flags.carry,
-        FlagName::Zero => flags.zero,
-        FlagName::Negative => flags.negative,
-        FlagName::Overflow => flags.overflow,
+    fn are_set(&self, x: u16, y: u16, carry: u16) -> FourFlags {
+        let flags = flags_by(self.rule, self.width, x, y, carry);
+        FourFlags {
+            first: flags.carry,
+            second: flags.zero,
+            third: flags.negative,
+            fourth: flags.overflow,
+        }
     }
 }
 
@@ -107,23 +95,54 @@ fn decimal_flags(width: Width, x: u16, y: u16, carry: u16) -> Flags
     flags_of(width, sum, out, false)
 }
 
-/// What is known of a flag over at most 256 combinations.
-fn known<S: Sets>(rule: FlagRule, name: FlagName, first: &S, second: &S, carry: Tri) -> Tri
-    ensures { result ≡ agreeing.agreed (modulus S.width) (λ x y z. rules.flag_of name (rules.flags_by rule S.width x y z)) (S.form first.now) (S.form second.now) (chosen carry) }
-{
-    let width = S::own_width();
-    S::agreed(&RuleFlag { width, rule, name }, first, second, carry)
-}
-
-/// Each flag is known where all combinations agree.
+/// Each flag is known where all of at most 256 combinations agree.
 pub(crate) fn all_agree<S: Sets>(rule: FlagRule, first: &S, second: &S, carry: Tri) -> FlagBits
     ensures { result ≡ flag_sets.all_agree (modulus S.width) (rules.flags_by rule S.width) (S.form first.now) (S.form second.now) (chosen carry) }
 {
+    let width = S::own_width();
+    let known = S::all_agreed(&RuleFlags { width, rule }, first, second, carry);
     FlagBits {
-        carry: known(rule, FlagName::Carry, first, second, carry),
-        zero: known(rule, FlagName::Zero, first, second, carry),
-        negative: known(rule, FlagName::Negative, first, second, carry),
-        overflow: known(rule, FlagName::Overflow, first, second, carry),
+        carry: known.first,
+        zero: known.second,
+        negative: known.third,
+        overflow: known.fourth,
+    }
+}
+
+/// The flags of differences over at most 256 combinations. Where no number is negative, or each is, V is clear and N is the
+/// opposite of C: then the ends of the sets tell C, and a walk of both tells Z.
+pub(crate) fn differences_agree<S: Sets>(first: &S, second: &S) -> FlagBits
+    requires { flag_sets.is_few (modulus S.width) (S.form first.now) (S.form second.now) (single 0) ≡ true }
+    ensures { result ≡ flag_sets.all_agree (modulus S.width) (rules.flags_by Difference S.width) (S.form first.now) (S.form second.now) (single 0) }
+{
+    known_laws();
+    first.is_normal();
+    second.is_normal();
+    if is_one_sign(first.sign(), second.sign()) {
+        return ends_tell(first, second);
+    }
+    all_agree(FlagRule::Difference, first, second, Tri::Zero)
+}
+
+fn is_one_sign(first: Tri, second: Tri) -> bool
+    ensures { result ≡ flag_sets.is_one_sign first second }
+{
+    matches!(
+        (first, second),
+        (Tri::Zero, Tri::Zero) | (Tri::One, Tri::One)
+    )
+}
+
+/// Those of differences of numbers with one sign.
+fn ends_tell<S: Sets>(first: &S, second: &S) -> FlagBits
+    ensures { result ≡ flag_sets.compared (modulus S.width) (S.form first.now) (S.form second.now) }
+{
+    let carry = first.at_least(second);
+    FlagBits {
+        carry,
+        zero: first.equal(second),
+        negative: opposite(carry),
+        overflow: Tri::Zero,
     }
 }
 

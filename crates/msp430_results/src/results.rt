@@ -7,6 +7,7 @@ ghost use Rattle.value_bits.specs.Sets.{chosen};
 ghost use Rattle.msp430_decode.specs.declared.instr.Width.TheVariants.{Byte, Word as Words};
 ghost use Rattle.msp430_decode.specs.declared.instr.SingleOperation.TheVariants.{Sxt};
 ghost use Rattle.msp430_chip.specs.Arithmetic.{modulus};
+ghost use Rattle.msp430_results.specs.declared.flags.FlagRule.TheVariants.{Difference};
 ghost use Rattle.msp430_results.specs.FlagSets as flag_sets;
 ghost use Rattle.msp430_results.specs.Words.{values_of, written_word};
 ghost use Rattle.msp430_results.specs.Results as results;
@@ -15,7 +16,8 @@ ghost use Rattle.msp430_results.specs.Rules as rules;
 use crate::carrying::{add_carry, cleared, sub_carry};
 use crate::flag_bits::FlagBits;
 use crate::flags::{
-    FlagRule, all_agree, flags_or, free_overflow, no_flags, shown_flags, shown_logic,
+    FlagRule, all_agree, differences_agree, flags_or, free_overflow, no_flags, shown_flags,
+    shown_logic,
 };
 use crate::sets::Sets;
 use entry_value::{Entry, Word};
@@ -35,6 +37,16 @@ fn sum_flags<S: Sets>(
 {
     let shown = shown_flags(set, Tri::Either, Tri::Either);
     Some(flags_or(rule, first, second, carry, shown))
+}
+
+/// The flags of differences.
+fn difference_flags<S: Sets>(set: &S, first: &S, second: &S) -> Option<FlagBits>
+    ensures { (S.form set.now, result) ≡ results.sum_made S.width (S.form set.now) (rules.flags_by Difference S.width) (S.form first.now) (S.form second.now) (single_set 0) }
+{
+    if S::is_few(first, second, &S::chosen(Tri::Zero)) {
+        return Some(differences_agree(first, second));
+    }
+    Some(shown_flags(set, Tri::Either, Tri::Either))
 }
 
 /// The flags of logic, by a rule over the operands.
@@ -84,7 +96,7 @@ fn double<S: Sets>(operation: Operation, s: &S, d: &S, carry: Tri) -> (S, Option
         }
         Operation::Sub | Operation::Cmp => {
             let set = d.minus(s);
-            (set, sum_flags(FlagRule::Difference, &set, d, s, Tri::Zero))
+            (set, difference_flags(&set, d, s))
         }
         Operation::Dadd => (d.decimal_plus(s, carry), decimal_flags(d, s, carry)),
         Operation::Bit | Operation::And => {

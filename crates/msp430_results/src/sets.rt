@@ -1,24 +1,27 @@
 //! Sets of the numbers of a width.
 
-ghost use Rattle.std.specs.Prelude.{◌≡◌, ◌<◌, true, [], ◌∷◌, length, map};
+ghost use Rattle.std.specs.Prelude.{◌≡◌, ℕ, ◌<◌, ◌==◌, nat_le, true, [], ◌∷◌, length, map};
 ghost use Rattle.value_set.specs.declared.form.Form.{Form};
 ghost use Rattle.value_set.specs.declared.form.Form.TheVariants as the_form;
+ghost use Rattle.value_set.specs.Form.{Has, IsNormal};
 ghost use Rattle.value_set.specs.Summing as sums;
 ghost use Rattle.value_bits.specs.declared.tri.Logic.TheVariants as logic;
+ghost use Rattle.value_bits.specs.AllFlags.{Place, known_at};
 ghost use Rattle.value_bits.specs.Bits as bits;
 ghost use Rattle.value_bits.specs.Flags as flags;
+ghost use Rattle.value_bits.specs.Flags.{IsFlag};
 ghost use Rattle.value_bits.specs.Sets as sets;
 ghost use Rattle.msp430_decode.specs.declared.instr.Width.TheVariants.{Word};
 ghost use Rattle.msp430_decode.specs.declared.instr.Width.{Width as AWidth};
-ghost use Rattle.msp430_chip.specs.Arithmetic.{modulus, top_place, digits_of};
+ghost use Rattle.msp430_chip.specs.Arithmetic.{modulus, is_negative, top_place, digits_of};
 ghost use Rattle.value_bits.specs.Pointwise.{each_with};
 ghost use Rattle.msp430_results.specs.FlagSets as flag_sets;
 ghost use Rattle.msp430_results.specs.Results as results;
 
 use crate::decimal::is_decimal;
 use msp430_decode::Width;
-use value_bits::{Flag, Top, Tri, w8, w16};
-use value_set::{Form, Operation, Vs8, Vs16};
+use value_bits::{AllFlags, FourKnown, Top, Tri, w8, w16};
+use value_set::{Form, Operation, Vs8, Vs16, set_laws};
 
 /// Sets of words, or sets of bytes.
 pub(crate) trait Sets: Copy {
@@ -41,6 +44,10 @@ pub(crate) trait Sets: Copy {
     /// The list or the run.
     fn list_or_run(&self) -> Form
         ensures { result ≡ form self.now };
+
+    /// A law: the set is in its one form.
+    fn is_normal(&self)
+        ensures { IsNormal (modulus width) (form self.now) };
 
     fn plus(&self, other: &Self) -> Self
         ensures { form result ≡ sums.add (modulus width) (form self.now) (form other.now) };
@@ -85,12 +92,24 @@ pub(crate) trait Sets: Copy {
         requires few { flag_sets.is_few (modulus width) (form first.now) (form second.now) (form carry.now) ≡ true }
         ensures { form result ≡ sums.combine (modulus width) (O.answer operation.now) (form first.now) (form second.now) (form carry.now) };
 
-    /// What is known of a flag, over at most 256 combinations.
-    fn agreed<F: Flag>(flag: &F, first: &Self, second: &Self, carry: Tri) -> Tri
-        requires { F.modulus flag.now ≡ modulus width }
-        ensures { result ≡ flags.agreed (modulus width) (F.value flag.now) (form first.now) (form second.now) (sets.chosen carry) };
+    /// What is known of each of the flags of an operation, over at most 256 combinations.
+    fn all_agreed<F: AllFlags>(operation: &F, first: &Self, second: &Self, carry: Tri) -> FourKnown
+        requires { F.modulus operation.now ≡ modulus width }
+        ensures { (place : Place) → known_at place result ≡ flags.agreed (modulus width) (F.value operation.now place) (form first.now) (form second.now) (sets.chosen carry) };
 
-    /// Z, by the known bits.
+    /// Whether numbers are at least those of another set, over at most 256 combinations.
+    fn at_least(&self, other: &Self) -> Tri
+        ensures { result ≡ flags.agreed (modulus width) (λ x y carry. nat_le y x) (form self.now) (form other.now) (sums.single 0) };
+
+    /// Whether numbers are equal to those of another set, over at most 256 combinations.
+    fn equal(&self, other: &Self) -> Tri
+        ensures { result ≡ flags.agreed (modulus width) (λ x y carry. x == y) (form self.now) (form other.now) (sums.single 0) };
+
+    /// Whether the members are negative, where they are at most 256.
+    fn sign(&self) -> Tri
+        ensures { (v : ℕ) → Has (modulus width) (form self.now) v → IsFlag result (is_negative width v) };
+
+    /// Z, by the members.
     fn zero(&self) -> Tri
         ensures { result ≡ flag_sets.zero_of width (form self.now) };
 
@@ -99,18 +118,14 @@ pub(crate) trait Sets: Copy {
         ensures { result ≡ flag_sets.negative_of width (form self.now) };
 }
 
-/// Z: clear where a bit is set, and set where all are clear.
-fn zero_by(bits: &[Tri]) -> Tri
-    ensures { result ≡ flag_sets.zero_by bits.now }
+/// Z of results: clear where 0 is none of them, and set where it is the only one.
+fn zero_by(has_zero: bool, count: u32) -> Tri
+    ensures { result ≡ flag_sets.zero_by has_zero count }
 {
-    match bits {
-        [] => Tri::One,
-        [Tri::One, ..] => Tri::Zero,
-        [Tri::Zero, rest @ ..] => zero_by(rest),
-        [Tri::Either, rest @ ..] => match zero_by(rest) {
-            Tri::Zero => Tri::Zero,
-            _ => Tri::Either,
-        },
+    match (has_zero, count) {
+        (false, _) => Tri::Zero,
+        (true, 1) => Tri::One,
+        (true, _) => Tri::Either,
     }
 }
 
@@ -140,6 +155,7 @@ fn two_words(low: u16, high: u16) -> Vs16
     requires { low < high }
     ensures { result ≡ the_form.Values (low ∷ high ∷ []) }
 {
+    set_laws();
     match Vs16::gather(&[low, high]) {
         Some(set) => set,
         None => unreachable!(),
@@ -151,6 +167,7 @@ fn two_bytes(low: u8, high: u8) -> Vs8
     requires { low < high }
     ensures { result ≡ the_form.Values (low ∷ high ∷ []) }
 {
+    set_laws();
     match Vs8::gather(&[low, high]) {
         Some(set) => set,
         None => unreachable!(),
@@ -212,6 +229,10 @@ impl Sets for Vs16 {
         self.form()
     }
 
+    fn is_normal(&self) {
+        self.form();
+    }
+
     fn plus(&self, other: &Self) -> Self {
         self.add(other)
     }
@@ -262,12 +283,30 @@ impl Sets for Vs16 {
         Vs16::combine(operation, first, second, carry)
     }
 
-    fn agreed<F: Flag>(flag: &F, first: &Self, second: &Self, carry: Tri) -> Tri {
-        w16::agreed(flag, first, second, carry)
+    fn all_agreed<F: AllFlags>(
+        operation: &F,
+        first: &Self,
+        second: &Self,
+        carry: Tri,
+    ) -> FourKnown {
+        w16::all_agreed(operation, first, second, carry)
+    }
+
+    fn at_least(&self, other: &Self) -> Tri {
+        w16::at_least(self, other)
+    }
+
+    fn equal(&self, other: &Self) -> Tri {
+        w16::equal(self, other)
+    }
+
+    fn sign(&self) -> Tri {
+        w16::at_least(self, &Vs16::one(0x8000))
     }
 
     fn zero(&self) -> Tri {
-        zero_by(&w16::bits(self))
+        set_laws();
+        zero_by(self.has(0), self.count())
     }
 
     fn negative(&self) -> Tri {
@@ -304,6 +343,10 @@ impl Sets for Vs8 {
 
     fn list_or_run(&self) -> Form {
         self.form()
+    }
+
+    fn is_normal(&self) {
+        self.form();
     }
 
     fn plus(&self, other: &Self) -> Self {
@@ -356,12 +399,30 @@ impl Sets for Vs8 {
         Vs8::combine(operation, first, second, carry)
     }
 
-    fn agreed<F: Flag>(flag: &F, first: &Self, second: &Self, carry: Tri) -> Tri {
-        w8::agreed(flag, first, second, carry)
+    fn all_agreed<F: AllFlags>(
+        operation: &F,
+        first: &Self,
+        second: &Self,
+        carry: Tri,
+    ) -> FourKnown {
+        w8::all_agreed(operation, first, second, carry)
+    }
+
+    fn at_least(&self, other: &Self) -> Tri {
+        w8::at_least(self, other)
+    }
+
+    fn equal(&self, other: &Self) -> Tri {
+        w8::equal(self, other)
+    }
+
+    fn sign(&self) -> Tri {
+        w8::at_least(self, &Vs8::one(0x80))
     }
 
     fn zero(&self) -> Tri {
-        zero_by(&w8::bits(self))
+        set_laws();
+        zero_by(self.has(0), self.count())
     }
 
     fn negative(&self) -> Tri {

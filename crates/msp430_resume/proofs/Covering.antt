@@ -1,5 +1,5 @@
 -- What a handler left stands where the suspended state goes on, and what is known there is in form.
-use Rattle.std.proofs.Common.{◌≡◌, ℕ, zero, suc, ◌-◌, ◌%◌, ◌<◌, Bool, true, false, Option, None, Some, List, [], ◌∷◌, map, length, get_or, refl, sym, ap, ◌∙◌, subst, arith}
+use Rattle.std.proofs.Common.{◌≡◌, ℕ, zero, suc, ◌-◌, ◌%◌, ◌<◌, Bool, true, false, Option, None, Some, List, [], ◌∷◌, map, get_or, sym, ◌∙◌, subst, arith}
 use Rattle.std.specs.Prelude.{◌==◌, Contains}
 use Rattle.std.specs.List.{list_any}
 use Rattle.std.specs.Option.{option_map}
@@ -21,7 +21,7 @@ use Rattle.msp430_state.specs.Forms.{IsEvenWord, IsKnown, IsWord}
 use Rattle.msp430_state.specs.Holding.{CameAt, GoesOn, HoldsOf, HoldsOfParts, ram_byte, suspended_of}
 use Rattle.msp430_state.specs.Known.{Known, word_of}
 use Rattle.msp430_resume.specs.Resume.{place_word, resumed_known}
-use Rattle.msp430_resume.proofs.Standing.{Laws}
+use Rattle.msp430_alu.specs.Laws.{MemoryLaws}
 use Rattle.msp430_resume.proofs.HeldWords.{IsSuspended, each_resumed, has_masks, length-resumed, place_form, relation_tells, resumed_at, resumed_form, word_of_form}
 use Rattle.msp430_resume.proofs.Facts.{fact_form, fact_holds, status_form, status_holds}
 use Rattle.msp430_resume.proofs.CellParts.{can_resume, cells_form, each_cell, each_tells, map_form, none_touched, touched_form, untouched_behind}
@@ -29,7 +29,7 @@ use Rattle.msp430_resume.proofs.CellParts.{can_resume, cells_form, each_cell, ea
 -- COVER
 
 -- one of R4 to R15
-word_stands : (laws : Laws) (device : Device) (framed : Bool) (a exit : Known) (f : ChipState) (first : Option ChipState) (register v : ℕ) → IsSuspended device framed a f first → IsKnown device.lo device.hi true exit
+word_stands : (laws : MemoryLaws) (device : Device) (framed : Bool) (a exit : Known) (f : ChipState) (first : Option ChipState) (register v : ℕ) → IsSuspended device framed a f first → IsKnown device.lo device.hi true exit
     → register_of f 0 < 65536 → 3 < register → register < 16 → HoldsOfWord (Some (suspended_of f)) (word_of exit register) v
     → HoldsOfWord (option_map suspended_of first) (get_or (map (resumed_word (place_word a (register_of f 0))) exit.registers) (register - 4) (unknown 2)) v
 word_stands laws device framed a exit f first register v is form small above below holds =
@@ -38,10 +38,10 @@ word_stands laws device framed a exit f first register v is form small above bel
     let own = word_of_form laws true exit.registers form.registers (register - 4) in
     subst (λ (word : Word). HoldsOfWord (option_map suspended_of first) word v)
     (sym (resumed_at (resumed_word places) exit.registers (register - 4) (unknown 2) (omega (arith, above, below, form.count))))
-    (laws.resumed.word places (suspended_of f) (option_map suspended_of first) (word_of exit register) v (λ place. (place_form laws device.lo device.hi framed a pc small is.form place).normal)
+    (laws.known.frames.word places (suspended_of f) (option_map suspended_of first) (word_of exit register) v (λ place. (place_form laws device.lo device.hi framed a pc small is.form place).normal)
     (has_masks (word_of exit register).entry own.entry) (relation_tells laws device framed a f first is (word_of exit register).entry own.entry) holds)
 
-parts_stand : (laws : Laws) (device : Device) (framed : Bool) (a exit : Known) (f t : ChipState) (first : Option ChipState) (sp : ℕ) → device.hi < 65536 → (framed ≡ false → first ≡ None)
+parts_stand : (laws : MemoryLaws) (device : Device) (framed : Bool) (a exit : Known) (f t : ChipState) (first : Option ChipState) (sp : ℕ) → device.hi < 65536 → (framed ≡ false → first ≡ None)
     → IsSuspended device framed a f first → IsKnown device.lo device.hi true exit → IsChipState device t → HoldsOfParts device exit (Some f) t.registers t.ram
     → register_of f 0 < 65536 → register_of t 1 ≡ sp → sp < 65536
     → HoldsOfParts device (resumed_known framed a (register_of f 0) sp exit) first t.registers t.ram
@@ -51,11 +51,11 @@ parts_stand laws device framed a exit f t first sp below base is form state left
     let places = place_word a pc in
     let under = option_map suspended_of first in
     record {
-      sp = subst (Has 65536 (single sp)) (sym at) (laws.single 65536 sp sp_small).1;
+      sp = subst (Has 65536 (single sp)) (sym at) (laws.known.sets.single 65536 sp sp_small).1;
       status = status_holds laws device framed a f first exit.status (register_of t 2) is form.status state.status left.status;
       words = λ register above low. word_stands laws device framed a exit f first register (register_of t register) is form small above low (left.words register above low);
       fact = fact_holds device exit f t a.fact is.state state is.form.fact is.parts.fact left.status.entry (λ register above low. (left.words register above low).1);
-      cells = laws.resumed.cells places (suspended_of f) under (ram_byte device f.ram) (ram_byte device t.ram) a.cells exit.cells exit.touched
+      cells = laws.known.frames.untouched places (suspended_of f) under (ram_byte device f.ram) (ram_byte device t.ram) a.cells exit.cells exit.touched
           (map_form device.lo device.hi framed a below is.form) (can_resume laws device.lo device.hi framed a exit pc below small is.form form)
           (each_tells laws device framed a exit f first is form) left.untouched is.parts.cells left.cells;
       untouched = untouched_behind laws device framed a.touched exit.touched f t.ram first base is.parts.untouched left.untouched;
@@ -64,7 +64,7 @@ parts_stand laws device framed a exit f t first sp below base is form state left
 register_small : (device : Device) (s : ChipState) → IsChipState device s → (register : ℕ) → register < 16 → register_of s register < 65536
 register_small device s is register lt = All-get_or (λ r. r < 65536) s.registers register 0 (omega (arith, lt, is.registers)) is.words
 
-pub covers : (laws : Laws) (device : Device) (framed : Bool) (a exit : Known) (f t : ChipState) (first : Option ChipState) (vector sp level : ℕ) → device.hi < 65536
+pub covers : (laws : MemoryLaws) (device : Device) (framed : Bool) (a exit : Known) (f t : ChipState) (first : Option ChipState) (vector sp level : ℕ) → device.hi < 65536
     → (framed ≡ false → first ≡ None) → IsKnown device.lo device.hi framed a → IsKnown device.lo device.hi true exit
     → HoldsOf device a f first → HoldsOf device exit t (Some f) → GoesOn (Irq vector (Some sp) level) t (Some f)
     → HoldsOf device (resumed_known framed a (register_of f 0) sp exit) t first
@@ -94,21 +94,21 @@ single_even : (sp : ℕ) → sp % 2 ≡ 0 → HasRemainder 65536 2 0 (single sp)
 single_even sp even v (zero, lt, is) = let same : sp ≡ v = is in subst (λ n. n % 2 ≡ 0) same even
 single_even sp even v (suc k, lt, is) = absurd (omega (arith, lt))
 
-pub in_form : (laws : Laws) (lo hi : ℕ) (framed : Bool) (a exit : Known) (pc sp : ℕ) → hi < 65536 → IsKnown lo hi framed a → IsKnown lo hi true exit
+pub in_form : (laws : MemoryLaws) (lo hi : ℕ) (framed : Bool) (a exit : Known) (pc sp : ℕ) → hi < 65536 → IsKnown lo hi framed a → IsKnown lo hi true exit
     → IsEvenWord pc → IsEvenWord sp → IsKnown lo hi framed (resumed_known framed a pc sp exit)
 unfolding resumed_known
 in_form laws lo hi framed a exit pc sp below form exit_form pc_so sp_so =
     let places = place_word a pc in
     let status = status_form framed a.status exit.status form.bits exit_form.bits form.status exit_form.status in
     record {
-      sp = record { normal = (laws.single 65536 sp sp_so.0).0; even = single_even sp sp_so.1 };
+      sp = record { normal = (laws.known.sets.single 65536 sp sp_so.0).0; even = single_even sp sp_so.1 };
       bits = status.0;
       status = status.1;
       count = length-resumed (resumed_word places) exit.registers ∙ exit_form.count;
       registers = each_resumed (IsWord true) (IsWord framed) (resumed_word places) exit.registers (λ word. resumed_form laws framed places word (place_form laws lo hi framed a pc pc_so.0 form)) exit_form.registers;
       fact = fact_form exit a.fact form.fact;
-      from = laws.resumed.lo places a.cells exit.cells exit.touched ∙ form.from;
-      up_to = laws.resumed.hi places a.cells exit.cells exit.touched ∙ form.up_to;
+      from = laws.known.frames.untouched_lo places a.cells exit.cells exit.touched ∙ form.from;
+      up_to = laws.known.frames.untouched_hi places a.cells exit.cells exit.touched ∙ form.up_to;
       cells = cells_form laws lo hi framed a exit pc below pc_so.0 form exit_form;
       each_cell = each_cell laws lo hi framed a exit pc pc_so.0 form exit_form;
       touched = touched_form laws lo hi framed a.touched exit.touched form.touched exit_form.touched;

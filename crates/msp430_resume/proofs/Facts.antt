@@ -1,5 +1,5 @@
 -- SR and the flag fact where a suspended state goes on.
-use Rattle.std.proofs.Common.{◌≡◌, ℕ, ◌+◌, ◌*◌, ◌/◌, ◌%◌, ◌^◌, ◌<◌, Bool, true, false, Option, None, Some, List, length, get_or, refl, sym, ap, ◌∙◌, subst, arith, bit_and, bit_or}
+use Rattle.std.proofs.Common.{◌≡◌, ℕ, ◌+◌, ◌*◌, ◌/◌, ◌%◌, ◌^◌, ◌<◌, Bool, true, false, Option, None, Some, length, sym, ap, ◌∙◌, subst, arith, bit_and, bit_or}
 use Rattle.std.specs.Prelude.{◌==◌, ◌&&◌}
 use Rattle.std.specs.Int.Bits.{or_zero_r}
 use Rattle.std.specs.Option.{option_map}
@@ -7,7 +7,7 @@ use Rattle.std.proofs.lemmas.Bool.{and_parts, eqb-true, ne_eqb, cond_both}
 use Rattle.std.proofs.lemmas.Nat.{and_mask, and_le_l, and_assoc, or_lt}
 use Rattle.value_bits.specs.Bits.{Agrees}
 use Rattle.entry_value.specs.declared.word.Entry.{Entry}
-use Rattle.entry_value.specs.Words.{Reads, IsFromEntry, entry_and, entry_or}
+use Rattle.entry_value.specs.Words.{Reads, IsFromEntry, entry_and}
 use Rattle.msp430_chip.specs.Arithmetic.{modulus}
 use Rattle.msp430_chip.specs.declared.device.Device.{Device}
 use Rattle.msp430_chip.specs.declared.state.ChipState.{ChipState}
@@ -15,17 +15,17 @@ use Rattle.msp430_chip.specs.State.{IsChipState, register_of}
 use Rattle.msp430_decode.specs.declared.instr.Width.TheVariants.{Byte}
 use Rattle.msp430_state.specs.declared.fact.FlagFact.{FlagFact}
 use Rattle.msp430_state.specs.declared.status.Status.{Status}
-use Rattle.msp430_state.specs.Forms.{IsFact, IsKnown, IsStatusRelation}
+use Rattle.msp430_state.specs.Forms.{IsFact, IsStatusRelation}
 use Rattle.msp430_state.specs.Holding.{HasFlagsOf, HoldsOfFact, HoldsOfStatus, suspended_of}
 use Rattle.msp430_state.specs.Known.{Known, word_of}
 use Rattle.msp430_resume.specs.Resume.{masked_bits, masked_entry, status_by, status_resumed, is_itself, fact_resumed}
-use Rattle.msp430_resume.proofs.Standing.{Laws}
+use Rattle.msp430_alu.specs.Laws.{MemoryLaws}
 use Rattle.msp430_resume.proofs.HeldWords.{IsSuspended, reads_itself, reads_status, status_held}
 use Rattle.msp430_resume.proofs.StatusBits.{Low, low_from, low_agrees, low_wider, masked_low, masked_length}
 
 -- SR
 
-by_holds : (laws : Laws) (device : Device) (framed : Bool) (a : Known) (f : ChipState) (first : Option ChipState) (exit : Status) (entry : Option Entry) (sr : ℕ) → IsSuspended device framed a f first
+by_holds : (laws : MemoryLaws) (device : Device) (framed : Bool) (a : Known) (f : ChipState) (first : Option ChipState) (exit : Status) (entry : Option Entry) (sr : ℕ) → IsSuspended device framed a f first
     → IsStatusRelation true entry → sr < 512 → Agrees exit.bits sr → IsFromEntry (Some (suspended_of f)) entry sr → HoldsOfStatus (option_map suspended_of first) (status_by a.status exit entry) sr
 by_holds laws device framed a f first exit None sr is form small agrees from = record { bits = agrees; entry = tt }
 by_holds laws device framed a f first exit (Some entry) sr is (place, and_small, and_high, or_small) small agrees (word, reads, made) =
@@ -43,10 +43,10 @@ by_holds laws device framed a f first exit (Some entry) sr is (place, and_small,
     record {
       bits = low_agrees all sr (omega (arith, room, small)) (subst (Low all) (sym made) (masked_low bits entry.and entry.or word low));
       entry = subst (IsFromEntry under (masked_entry entry a.status.entry)) (sym made)
-          (laws.or under (option_map (entry_and entry.and) a.status.entry) (bit_and word entry.and) entry.or (laws.and under a.status.entry word entry.and held.1));
+          (laws.known.values.entries.or under (option_map (entry_and entry.and) a.status.entry) (bit_and word entry.and) entry.or (laws.known.values.entries.and under a.status.entry word entry.and held.1));
     }
 
-pub status_holds : (laws : Laws) (device : Device) (framed : Bool) (a : Known) (f : ChipState) (first : Option ChipState) (exit : Status) (sr : ℕ) → IsSuspended device framed a f first
+pub status_holds : (laws : MemoryLaws) (device : Device) (framed : Bool) (a : Known) (f : ChipState) (first : Option ChipState) (exit : Status) (sr : ℕ) → IsSuspended device framed a f first
     → IsStatusRelation true exit.entry → sr < 512 → HoldsOfStatus (Some (suspended_of f)) exit sr → HoldsOfStatus (option_map suspended_of first) (status_resumed a.status exit) sr
 status_holds laws device framed a f first exit sr is form small holds = by_holds laws device framed a f first exit exit.entry sr is form small holds.bits holds.entry
 

@@ -1,6 +1,6 @@
 -- What is known where a return from an interrupt resumes the state that the interrupt suspended: what the handler left,
 -- told by the state at the place where it came (SLAU049, chapter 2, "Return From Interrupt").
-use Rattle.std.specs.Prelude.{◌≡◌, ℕ, ◌-◌, ◌/◌, ◌%◌, ◌==◌, ◌&&◌, if◌then◌else◌, Bool, true, false, Option, option_map, None, Some, List, [], ◌∷◌, map}
+use Rattle.std.specs.Prelude.{ℕ, ◌-◌, ◌/◌, ◌%◌, ◌==◌, ◌&&◌, if◌then◌else◌, Bool, false, Option, option_map, None, Some, List, [], ◌∷◌, map}
 use Rattle.std.specs.List.{slice_index_or}
 use Rattle.entry_value.specs.declared.word.Entry.{Entry}
 use Rattle.entry_value.specs.declared.word.Word.{Word}

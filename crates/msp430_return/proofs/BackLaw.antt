@@ -23,7 +23,7 @@ use Rattle.msp430_state.specs.Holding.{suspended_of, GoesOn, StandsIn}
 use Rattle.msp430_state.specs.Known.{Known, is_interrupt}
 use Rattle.msp430_alu.specs.Formats.{IsUnder}
 use Rattle.msp430_alu.specs.Memory.{read_known}
-use Rattle.msp430_return.specs.Premises.{Premises}
+use Rattle.msp430_alu.specs.Laws.{MemoryLaws}
 use Rattle.msp430_return.specs.Return.{counter_place, goes_back, is_counter, left_of_return}
 use Rattle.msp430_return.proofs.ReturnLaw.{counter_left, counter_read, stack_left}
 
@@ -46,22 +46,22 @@ counter_is f (Some entry) v small is (word, reads, v_is) =
     let whole : bit_or (bit_and word 65535) 0 ≡ word % 65536 = or_zero_r (bit_and word 65535) ∙ and_mask word 16 in
     v_is ∙ ap (λ m. bit_or (bit_and word m) entry.or) mask ∙ ap (bit_or (bit_and word 65535)) none ∙ whole ∙ same ∙ omega (arith, small)
 
-goes_on : (laws : Premises) (device : Device) (framed : Bool) (a : Known) (s t f : ChipState) (sp : ℕ) (outcome : Outcome ChipState) → IsUnder device framed a s (Some f) → IsChipState device f → register_of f 1 ≡ sp
-    → is_within 65536 a.sp (single ((sp + 65532) % 65536)) ≡ true → is_counter (read_known device a Words (counter_place a.sp)).entry ≡ true → (may : MayReturn device s outcome)
+goes_on : (laws : MemoryLaws) (device : Device) (framed : Bool) (a : Known) (s t f : ChipState) (sp : ℕ) (outcome : Outcome ChipState) → IsUnder device framed a s (Some f) → IsChipState device f → register_of f 1 ≡ sp
+    → is_within 65536 a.sp (single ((sp + 65532) % 65536)) ≡ true → is_counter (read_known device a Words (counter_place device a.sp)).entry ≡ true → (may : MayReturn device s outcome)
     → t.registers ≡ (left_of_return s may.status may.target).registers → (register_of t 0 ≡ register_of f 0) × (register_of t 1 ≡ sp)
 goes_on laws device framed a s t f sp outcome under suspended came at counter may same =
     let long = under.holds.state.registers in
     let stored = counter_read laws device framed a s (Some f) outcome under may in
     let small : register_of f 0 < 65536 = All-get_or (λ r. r < 65536) f.registers 0 0 (omega (arith, suspended.registers)) suspended.words in
-    let target : may.target ≡ register_of f 0 = counter_is f (read_known device a Words (counter_place a.sp)).entry may.target small counter stored.1 in
+    let target : may.target ≡ register_of f 0 = counter_is f (read_known device a Words (counter_place device a.sp)).entry may.target small counter stored.1 in
     let no_bit : register_of f 0 % 2 ≡ 0 = suspended.even_pc in
     let low : register_of f 1 < 65536 = All-get_or (λ r. r < 65536) f.registers 1 0 (omega (arith, suspended.registers)) suspended.words in
-    let before : register_of s 1 ≡ (sp + 65532) % 65536 = one_member ((sp + 65532) % 65536) (register_of s 1) ((laws.tested 65536 a.sp (single ((sp + 65532) % 65536))).0 at (register_of s 1) under.holds.parts.sp) in (
+    let before : register_of s 1 ≡ (sp + 65532) % 65536 = one_member ((sp + 65532) % 65536) (register_of s 1) ((laws.known.sets.tested 65536 a.sp (single ((sp + 65532) % 65536))).0 at (register_of s 1) under.holds.parts.sp) in (
       ap (λ list. get_or list 0 0) same ∙ counter_left s may.status may.target long ∙ omega (arith, target, no_bit),
       ap (λ list. get_or list 1 0) same ∙ stack_left s may.status may.target long ∙ omega (arith, before, low, came),
     )
 
-pub back_law : (laws : Premises) (device : Device) (framed : Bool) (a : Known) (s t : ChipState) (first : Option ChipState) (frame : Frame) (outcome : Outcome ChipState)
+pub back_law : (laws : MemoryLaws) (device : Device) (framed : Bool) (a : Known) (s t : ChipState) (first : Option ChipState) (frame : Frame) (outcome : Outcome ChipState)
     → IsUnder device framed a s first → StandsIn frame first → goes_back device frame a ≡ true → (may : MayReturn device s outcome)
     → t.registers ≡ (left_of_return s may.status may.target).registers → GoesOn frame t first
 unfolding goes_back
@@ -69,7 +69,7 @@ back_law laws device framed a s t first Base outcome under stands back may same 
 back_law laws device framed a s t first (Irq vector None level) outcome under stands back may same = absurd (false≢true back)
 back_law laws device framed a s t None (Irq vector (Some sp) level) outcome under stands back may same = absurd stands
 back_law laws device framed a s t (Some f) (Irq vector (Some sp) level) outcome under stands back may same =
-    let both = and_parts (is_within 65536 a.sp (single ((sp + 65532) % 65536))) (is_counter (read_known device a Words (counter_place a.sp)).entry) back in
+    let both = and_parts (is_within 65536 a.sp (single ((sp + 65532) % 65536))) (is_counter (read_known device a Words (counter_place device a.sp)).entry) back in
     goes_on laws device framed a s t f sp outcome under under.holds.suspended stands both.0 both.1 may same
 
 pub back_base : (device : Device) (frame : Frame) (a : Known) → goes_back device frame a ≡ true → (is_interrupt frame ≡ true) × HasEntry frame

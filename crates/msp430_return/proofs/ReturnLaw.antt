@@ -7,6 +7,7 @@ use Rattle.call_context.specs.declared.shown.Item.TheVariants.{Access}
 use Rattle.call_context.specs.declared.shown.Set.TheVariants.{W}
 use Rattle.chip_numbers.specs.declared.space.Space.TheVariants.{Mem}
 use Rattle.entry_value.specs.Words.{HoldsOfWord}
+use Rattle.value_set.specs.declared.form.Form.{Form}
 use Rattle.value_set.specs.Form.{Has, IsNormal}
 use Rattle.value_set.specs.Remainders.{HasRemainder}
 use Rattle.value_set.specs.Summing.{add, single}
@@ -15,6 +16,7 @@ use Rattle.msp430_chip.specs.declared.device.Device.{Device}
 use Rattle.msp430_chip.specs.declared.state.ChipState.{ChipState}
 use Rattle.msp430_chip.specs.Leading.{MayReturn}
 use Rattle.msp430_chip.specs.Outcome.{Outcome}
+use Rattle.msp430_chip.specs.Memory.{aligned}
 use Rattle.msp430_chip.specs.State.{even, register_of}
 use Rattle.msp430_results.specs.FlagSets.{IsResult}
 use Rattle.msp430_state.specs.Forms.{IsKnown}
@@ -23,35 +25,44 @@ use Rattle.msp430_state.specs.Known.{Known, word_of}
 use Rattle.msp430_alu.specs.Formats.{AreShown, IsLeft, IsUnder}
 use Rattle.msp430_alu.specs.Memory.{IsDevice, read_known}
 use Rattle.msp430_alu.specs.Registers.{even_parts}
-use Rattle.msp430_return.specs.Premises.{Premises}
+use Rattle.msp430_alu.specs.Laws.{MemoryLaws}
 use Rattle.msp430_return.specs.Return.{counter_place, left_of_return, return_accesses, return_items, return_worked, status_from, status_place}
-use Rattle.msp430_return.proofs.Evens.{at_even, even_parts_form, even_parts_is, sum_even, sum_has}
+use Rattle.msp430_return.proofs.Evens.{even_parts_form, even_parts_is, sum_even, sum_has}
 use Rattle.msp430_return.proofs.StatusWord.{status_form, status_holds, status_length}
 
 -- THE SLOTS
 
-sp_is : (laws : Premises) (device : Device) (framed : Bool) (a : Known) (s : ChipState) (first : Option ChipState) → IsUnder device framed a s first → Has 65536 (status_place a.sp) (register_of s 1)
-sp_is laws device framed a s first under = at_even laws a.sp (register_of s 1) under.form.sp under.holds.parts.sp
+abbrev above : Form → Form
+above sp = add 65536 sp (single 2)
 
-above_is : (laws : Premises) (device : Device) (framed : Bool) (a : Known) (s : ChipState) (first : Option ChipState) → IsUnder device framed a s first → Has 65536 (counter_place a.sp) ((register_of s 1 + 2) % 65536)
-above_is laws device framed a s first under =
-    at_even laws (add 65536 a.sp (single 2)) ((register_of s 1 + 2) % 65536) (sum_even laws a.sp 2 (omega arith) refl under.form.sp)
-    (sum_has laws a.sp (register_of s 1) 2 (omega arith) under.form.sp.normal under.holds.parts.sp)
-
-above_normal : (laws : Premises) (lo hi : ℕ) (framed : Bool) (a : Known) → IsKnown lo hi framed a → IsNormal 65536 (add 65536 a.sp (single 2))
+above_normal : (laws : MemoryLaws) (lo hi : ℕ) (framed : Bool) (a : Known) → IsKnown lo hi framed a → IsNormal 65536 (above a.sp)
 above_normal laws lo hi framed a form = (sum_even laws a.sp 2 (omega arith) refl form.sp).normal
 
-status_read : (laws : Premises) (device : Device) (framed : Bool) (a : Known) (s : ChipState) (first : Option ChipState) (outcome : Outcome ChipState) → IsUnder device framed a s first → (may : MayReturn device s outcome)
-    → HoldsOfWord (option_map suspended_of first) (read_known device a Words (status_place a.sp)) may.status
-status_read laws device framed a s first outcome under may =
-    laws.read device framed a first s.registers s.ram (status_place a.sp) (register_of s 1) may.status under.device_so under.form
-    (even_parts_form laws a.sp under.form.sp.normal) (sp_is laws device framed a s first under) under.holds.parts may.reads_status
+above_has : (laws : MemoryLaws) (device : Device) (framed : Bool) (a : Known) (s : ChipState) (first : Option ChipState) → IsUnder device framed a s first
+    → Has 65536 (above a.sp) ((register_of s 1 + 2) % 65536)
+above_has laws device framed a s first under = sum_has laws a.sp (register_of s 1) 2 (omega arith) under.form.sp.normal under.holds.parts.sp
 
-pub counter_read : (laws : Premises) (device : Device) (framed : Bool) (a : Known) (s : ChipState) (first : Option ChipState) (outcome : Outcome ChipState) → IsUnder device framed a s first → (may : MayReturn device s outcome)
-    → HoldsOfWord (option_map suspended_of first) (read_known device a Words (counter_place a.sp)) may.target
+sp_is : (laws : MemoryLaws) (device : Device) (framed : Bool) (a : Known) (s : ChipState) (first : Option ChipState) → IsUnder device framed a s first
+    → Has 65536 (status_place device a.sp) (aligned device Words (register_of s 1))
+sp_is laws device framed a s first under = laws.words.located device a.sp (register_of s 1) under.device_so.ram under.form.sp.normal under.holds.parts.sp
+
+above_is : (laws : MemoryLaws) (device : Device) (framed : Bool) (a : Known) (s : ChipState) (first : Option ChipState) → IsUnder device framed a s first
+    → Has 65536 (counter_place device a.sp) (aligned device Words ((register_of s 1 + 2) % 65536))
+above_is laws device framed a s first under =
+    laws.words.located device (above a.sp) ((register_of s 1 + 2) % 65536) under.device_so.ram (above_normal laws device.lo device.hi framed a under.form)
+    (above_has laws device framed a s first under)
+
+status_read : (laws : MemoryLaws) (device : Device) (framed : Bool) (a : Known) (s : ChipState) (first : Option ChipState) (outcome : Outcome ChipState) → IsUnder device framed a s first → (may : MayReturn device s outcome)
+    → HoldsOfWord (option_map suspended_of first) (read_known device a Words (status_place device a.sp)) may.status
+status_read laws device framed a s first outcome under may =
+    laws.words.read device framed a first s.registers s.ram a.sp (register_of s 1) may.status under.device_so under.form under.form.sp.normal under.holds.parts.sp
+    under.holds.parts may.reads_status
+
+pub counter_read : (laws : MemoryLaws) (device : Device) (framed : Bool) (a : Known) (s : ChipState) (first : Option ChipState) (outcome : Outcome ChipState) → IsUnder device framed a s first → (may : MayReturn device s outcome)
+    → HoldsOfWord (option_map suspended_of first) (read_known device a Words (counter_place device a.sp)) may.target
 counter_read laws device framed a s first outcome under may =
-    laws.read device framed a first s.registers s.ram (counter_place a.sp) ((register_of s 1 + 2) % 65536) may.target under.device_so under.form
-    (even_parts_form laws (add 65536 a.sp (single 2)) (above_normal laws device.lo device.hi framed a under.form)) (above_is laws device framed a s first under) under.holds.parts may.reads_target
+    laws.words.read device framed a first s.registers s.ram (above a.sp) ((register_of s 1 + 2) % 65536) may.target under.device_so under.form
+    (above_normal laws device.lo device.hi framed a under.form) (above_has laws device framed a s first under) under.holds.parts may.reads_target
 
 -- THE REGISTERS BEHIND IT
 
@@ -81,18 +92,18 @@ other_left s status target r high =
 
 -- THE LAW
 
-pub return_law : (laws : Premises) (device : Device) (framed : Bool) (a : Known) (s : ChipState) (first : Option ChipState) (outcome : Outcome ChipState)
+pub return_law : (laws : MemoryLaws) (device : Device) (framed : Bool) (a : Known) (s : ChipState) (first : Option ChipState) (outcome : Outcome ChipState)
     → IsUnder device framed a s first → (may : MayReturn device s outcome)
     → IsLeft device (return_worked device a (register_of s 0)).after first (return_worked device a (register_of s 0)).next (left_of_return s may.status may.target)
 unfolding return_worked
 return_law laws device framed a s first outcome under may =
     let suspended = option_map suspended_of first in
     let long = under.holds.state.registers in
-    let status_word = read_known device a Words (status_place a.sp) in
-    let counter_word = read_known device a Words (counter_place a.sp) in
-    let status_so = status_holds laws framed first status_word may.status (laws.read_form device framed a (status_place a.sp) under.device_so under.form) (status_read laws device framed a s first outcome under may) in
+    let status_word = read_known device a Words (status_place device a.sp) in
+    let counter_word = read_known device a Words (counter_place device a.sp) in
+    let status_so = status_holds laws framed first status_word may.status (laws.words.read_form device framed a (status_place device a.sp) under.device_so under.form) (status_read laws device framed a s first outcome under may) in
     let counter_so : IsResult 65536 counter_word.set may.target = record {
-      normal = (laws.read_form device framed a (counter_place a.sp) under.device_so under.form).normal;
+      normal = (laws.words.read_form device framed a (counter_place device a.sp) under.device_so under.form).normal;
       has = (counter_read laws device framed a s first outcome under may).0;
     } in
     let parts = under.holds.parts in
@@ -109,26 +120,26 @@ return_law laws device framed a s first outcome under may =
     }
 
 -- an access of the list is the first one or the second
-pub return_shown : (laws : Premises) (device : Device) (framed : Bool) (a : Known) (s : ChipState) (first : Option ChipState) → IsUnder device framed a s first
-    → AreShown (return_worked device a (register_of s 0)).accesses (return_accesses s)
+pub return_shown : (laws : MemoryLaws) (device : Device) (framed : Bool) (a : Known) (s : ChipState) (first : Option ChipState) → IsUnder device framed a s first
+    → AreShown (return_worked device a (register_of s 0)).accesses (return_accesses device s)
 unfolding return_worked
 return_shown laws device framed a s first under single_so (zero, lt, is) =
     let pc = register_of s 0 in
-    subst (AreShowing (return_items pc a.sp)) is (Access pc Mem false 2 (W (status_place a.sp)), (0, omega arith, refl), (refl, refl, refl, refl, sp_is laws device framed a s first under))
+    subst (AreShowing (return_items device pc a.sp)) is (Access pc Mem false 2 (W (status_place device a.sp)), (0, omega arith, refl), (refl, refl, refl, refl, sp_is laws device framed a s first under))
 return_shown laws device framed a s first under single_so (suc zero, lt, is) =
     let pc = register_of s 0 in
-    subst (AreShowing (return_items pc a.sp)) is (Access pc Mem false 2 (W (counter_place a.sp)), (1, omega arith, refl), (refl, refl, refl, refl, above_is laws device framed a s first under))
+    subst (AreShowing (return_items device pc a.sp)) is (Access pc Mem false 2 (W (counter_place device a.sp)), (1, omega arith, refl), (refl, refl, refl, refl, above_is laws device framed a s first under))
 return_shown laws device framed a s first under single_so (suc (suc k), lt, is) = absurd (omega (arith, lt))
 
-pub return_form : (laws : Premises) (device : Device) (framed : Bool) (a : Known) (pc : ℕ) → IsDevice device → IsKnown device.lo device.hi framed a
+pub return_form : (laws : MemoryLaws) (device : Device) (framed : Bool) (a : Known) (pc : ℕ) → IsDevice device → IsKnown device.lo device.hi framed a
     → IsKnown device.lo device.hi framed (return_worked device a pc).after
 unfolding return_worked
 return_form laws device framed a pc is form =
-    let word = read_known device a Words (status_place a.sp) in
+    let word = read_known device a Words (status_place device a.sp) in
     record {
       sp = sum_even laws a.sp 4 (omega arith) refl form.sp;
       bits = status_length word;
-      status = status_form framed word.entry (laws.read_form device framed a (status_place a.sp) is form).entry;
+      status = status_form framed word.entry (laws.words.read_form device framed a (status_place device a.sp) is form).entry;
       count = form.count;
       registers = form.registers;
       fact = tt;
@@ -140,12 +151,12 @@ return_form laws device framed a pc is form =
       none_touched = form.none_touched;
     }
 
-pub return_next : (laws : Premises) (device : Device) (framed : Bool) (a : Known) (pc : ℕ) → IsDevice device → IsKnown device.lo device.hi framed a → IsNormal 65536 (return_worked device a pc).next
+pub return_next : (laws : MemoryLaws) (device : Device) (framed : Bool) (a : Known) (pc : ℕ) → IsDevice device → IsKnown device.lo device.hi framed a → IsNormal 65536 (return_worked device a pc).next
 unfolding return_worked
 return_next laws device framed a pc is form =
-    (even_parts_form laws (read_known device a Words (counter_place a.sp)).set (laws.read_form device framed a (counter_place a.sp) is form).normal).normal
+    (even_parts_form laws (read_known device a Words (counter_place device a.sp)).set (laws.words.read_form device framed a (counter_place device a.sp) is form).normal).normal
 
-pub return_even : (laws : Premises) (device : Device) (framed : Bool) (a : Known) (pc : ℕ) → IsDevice device → IsKnown device.lo device.hi framed a → HasRemainder 65536 2 0 (return_worked device a pc).next
+pub return_even : (laws : MemoryLaws) (device : Device) (framed : Bool) (a : Known) (pc : ℕ) → IsDevice device → IsKnown device.lo device.hi framed a → HasRemainder 65536 2 0 (return_worked device a pc).next
 unfolding return_worked
 return_even laws device framed a pc is form =
-    (even_parts_form laws (read_known device a Words (counter_place a.sp)).set (laws.read_form device framed a (counter_place a.sp) is form).normal).even
+    (even_parts_form laws (read_known device a Words (counter_place device a.sp)).set (laws.words.read_form device framed a (counter_place device a.sp) is form).normal).even

@@ -17,7 +17,7 @@ use Rattle.value_bits.specs.Bits.{IsBit, Agrees, known_bit, known_bits}
 use Rattle.msp430_chip.specs.declared.state.ChipState.{ChipState}
 use Rattle.msp430_state.specs.Forms.{IsRelation, IsStatusRelation, IsWord}
 use Rattle.msp430_state.specs.Holding.{suspended_of, HoldsOfStatus}
-use Rattle.msp430_return.specs.Premises.{Premises}
+use Rattle.msp430_alu.specs.Laws.{MemoryLaws}
 use Rattle.msp430_return.specs.Return.{status_from, status_relation}
 
 -- BITS
@@ -71,10 +71,10 @@ status_related (Some f) entry v holds = related f entry v holds
 status_related None None v holds = tt
 status_related None (Some entry) v holds = absurd holds
 
-pub status_holds : (laws : Premises) (framed : Bool) (first : Option ChipState) (word : Word) (v : ℕ) → IsWord framed word → HoldsOfWord (option_map suspended_of first) word v
+pub status_holds : (laws : MemoryLaws) (framed : Bool) (first : Option ChipState) (word : Word) (v : ℕ) → IsWord framed word → HoldsOfWord (option_map suspended_of first) word v
     → HoldsOfStatus (option_map suspended_of first) (status_from word) (v % 512)
 status_holds laws framed first word v form holds = record {
-  bits = take_agrees 9 (known_bits 16 word.set) v (v % 512) (v / 512) (omega arith) (omega arith) (laws.known 16 v word.set form.normal holds.0);
+  bits = take_agrees 9 (known_bits 16 word.set) v (v % 512) (v / 512) (omega arith) (omega arith) (laws.known.bits.known 16 v word.set form.normal holds.0);
   entry = status_related first word.entry v holds.1;
 }
 

@@ -1,2 +1,2 @@
 pub mod Return
-pub mod Premises
+pub mod Laws

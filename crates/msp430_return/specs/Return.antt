@@ -18,6 +18,7 @@ use Rattle.value_bits.specs.Bits.{known_bits}
 use Rattle.msp430_decode.specs.declared.instr.Width.TheVariants.{Word as Words}
 use Rattle.msp430_chip.specs.declared.device.Device.{Device}
 use Rattle.msp430_chip.specs.declared.state.ChipState.{ChipState}
+use Rattle.msp430_chip.specs.Memory.{aligned}
 use Rattle.msp430_chip.specs.State.{even, register_of}
 use Rattle.msp430_chip.specs.Step.{Left}
 use Rattle.msp430_state.specs.declared.status.Status.{Status}
@@ -41,29 +42,30 @@ status_from word = record { bits = take 9 (known_bits 16 word.set); entry = stat
 -- RETI
 
 -- SR is taken from SP, and PC from SP + 2
-abbrev pub status_place : (sp : Form) → Form
-status_place sp = located Words sp
+abbrev pub status_place : Device → (sp : Form) → Form
+status_place device sp = located device Words sp
 
-abbrev pub counter_place : (sp : Form) → Form
-counter_place sp = located Words (add 65536 sp (single 2))
+abbrev pub counter_place : Device → (sp : Form) → Form
+counter_place device sp = located device Words (add 65536 sp (single 2))
 
-abbrev pub return_items : (pc : ℕ) → (sp : Form) → List Item
-return_items pc sp = Access pc Mem false 2 (W (status_place sp)) ∷ Access pc Mem false 2 (W (counter_place sp)) ∷ []
+abbrev pub return_items : Device → (pc : ℕ) → (sp : Form) → List Item
+return_items device pc sp =
+    Access pc Mem false 2 (W (status_place device sp)) ∷ Access pc Mem false 2 (W (counter_place device sp)) ∷ []
 
 -- behind it SP is SP + 4
 unfoldable pub return_worked : Device → Known → (pc : ℕ) → Worked
 return_worked device a pc = record {
   after = record {
     sp = add 65536 a.sp (single 4);
-    status = status_from (read_known device a Words (status_place a.sp));
+    status = status_from (read_known device a Words (status_place device a.sp));
     late = a.late;
     registers = a.registers;
     fact = None;
     cells = a.cells;
     touched = a.touched;
   };
-  next = even_parts (read_known device a Words (counter_place a.sp)).set;
-  accesses = return_items pc a.sp;
+  next = even_parts (read_known device a Words (counter_place device a.sp)).set;
+  accesses = return_items device pc a.sp;
   store = None;
 }
 
@@ -75,9 +77,10 @@ left_of_return s status target = record {
   hit = None;
 }
 
-abbrev pub return_accesses : ChipState → List Single
-return_accesses s =
-    Touched (register_of s 0) Mem false 2 (register_of s 1) ∷ Touched (register_of s 0) Mem false 2 ((register_of s 1 + 2) % 65536) ∷ []
+abbrev pub return_accesses : Device → ChipState → List Single
+return_accesses device s =
+    Touched (register_of s 0) Mem false 2 (aligned device Words (register_of s 1))
+    ∷ Touched (register_of s 0) Mem false 2 (aligned device Words ((register_of s 1 + 2) % 65536)) ∷ []
 
 -- BACK TO THE SUSPENDED STATE
 
@@ -91,4 +94,4 @@ unfoldable pub goes_back : Device → Frame → Known → Bool
 goes_back device Base a = false
 goes_back device (Irq vector None level) a = false
 goes_back device (Irq vector (Some sp) level) a =
-    is_within 65536 a.sp (single ((sp + 65532) % 65536)) && is_counter (read_known device a Words (counter_place a.sp)).entry
+    is_within 65536 a.sp (single ((sp + 65532) % 65536)) && is_counter (read_known device a Words (counter_place device a.sp)).entry

@@ -1,19 +1,18 @@
 //! RETI over what is known of a state.
 
-ghost use Rattle.std.specs.Prelude.{◌≡◌, ℕ, ◌+◌, ◌≤◌, false, IfOk};
+ghost use Rattle.std.specs.Prelude.{◌≡◌, false, IfOk};
 ghost use Rattle.call_context.specs.declared.shown.Item.TheVariants as the_item;
 ghost use Rattle.call_context.specs.declared.shown.Set.TheVariants.{W};
 ghost use Rattle.chip_numbers.specs.declared.space.Space.TheVariants.{Mem};
-ghost use Rattle.value_set.specs.Form.{Has};
 ghost use Rattle.value_set.specs.Summing.{add, single};
 ghost use Rattle.msp430_decode.specs.declared.instr.Width.TheVariants.{Word as Words};
+ghost use Rattle.msp430_chip.specs.Memory.{HasRam};
 ghost use Rattle.msp430_alu.specs.Memory as memory;
 ghost use Rattle.msp430_return.specs.Return as returning;
 
-use crate::laws::premises_hold;
 use call_context::{Frame, Item, Sequence, Set, Space};
 use entry_value::{Cells, Entry, Word};
-use msp430_alu::{Worked, located, read_known};
+use msp430_alu::{Worked, even_parts, located, read_known};
 use msp430_chip::Device;
 use msp430_decode::Width;
 use msp430_state::{State, Status};
@@ -22,20 +21,13 @@ use std::alloc::Global;
 use value_bits::{Tri, w16};
 use value_set::Vs16;
 
-/// The bytes of a word at an even address stand below 65536.
-fn word_fits(at: &Vs16)
-    ensures { (v : ℕ) → Has 65536 (memory.located Words at.now) v → v + 2 ≤ 65536 }
-{
-    premises_hold();
-    let _form = at.form();
-}
-
-/// What may be read as a word at one of some addresses. Bit 0 of them doesn't count.
+/// What may be read as a word at one of some addresses.
 fn word_at<M: Cells>(device: &Device, state: &State<M>, at: &Vs16) -> Word
-    ensures { result ≡ memory.read_known device.now state.now Words (memory.located Words at.now) }
+    requires { HasRam device.now }
+    ensures { result ≡ memory.read_known device.now state.now Words (memory.located device.now Words at.now) }
 {
-    word_fits(at);
-    read_known(device, state, Width::Word, &located(Width::Word, at))
+    let at = located(device, Width::Word, at);
+    read_known(device, state, Width::Word, &at)
 }
 
 /// A relation to SR stays one: the AND mask has the bits that SR doesn't hold, and the OR mask hasn't.
@@ -73,25 +65,32 @@ fn above(sp: &Vs16) -> Vs16
 }
 
 /// The read of a word at one of some addresses.
-fn read_of(pc: u16, at: &Vs16) -> Item
-    ensures { result ≡ the_item.Access pc Mem false 2 (W (memory.located Words at.now)) }
+fn read_of(device: &Device, pc: u16, at: &Vs16) -> Item
+    requires { HasRam device.now }
+    ensures { result ≡ the_item.Access pc Mem false 2 (W (memory.located device.now Words at.now)) }
 {
     Item::Access {
         pc,
         space: Space::Mem,
         write: false,
         size: 2,
-        at: Set::W(located(Width::Word, at)),
+        at: Set::W(located(device, Width::Word, at)),
     }
 }
 
 /// The reads of SR and of PC.
-fn return_items(alloc: Global, pc: u16, sp: &Vs16) -> Result<Sequence<Item>, Memory>
-    ensures { IfOk result (λ items. items ≡ returning.return_items pc sp.now) }
+fn return_items(
+    alloc: Global,
+    device: &Device,
+    pc: u16,
+    sp: &Vs16,
+) -> Result<Sequence<Item>, Memory>
+    requires { HasRam device.now }
+    ensures { IfOk result (λ items. items ≡ returning.return_items device.now pc sp.now) }
 {
     let mut items = Sequence::new(alloc);
-    items.push(read_of(pc, sp))?;
-    items.push(read_of(pc, &above(sp)))?;
+    items.push(read_of(device, pc, sp))?;
+    items.push(read_of(device, pc, &above(sp)))?;
     Ok(items)
 }
 
@@ -103,6 +102,7 @@ pub fn return_from_interrupt<M: Cells>(
     state: &State<M>,
     pc: u16,
 ) -> Result<Worked<M>, Memory>
+    requires { HasRam device.now }
     ensures { IfOk result (λ worked. worked ≡ returning.return_worked device.now state.now pc) }
 {
     let status = word_at(device, state, &state.sp);
@@ -113,8 +113,8 @@ pub fn return_from_interrupt<M: Cells>(
     after.fact = None;
     Ok(Worked {
         after,
-        next: located(Width::Word, &counter.set),
-        accesses: return_items(alloc, pc, &state.sp)?,
+        next: even_parts(&counter.set),
+        accesses: return_items(alloc, device, pc, &state.sp)?,
         store: None,
     })
 }
@@ -132,6 +132,7 @@ fn is_counter(entry: &Option<Entry>) -> bool
 /// Whether RETI in a frame goes back to where its interrupt came. Else it is a jump.
 #[tactic(auto, unfolding(crate::specs::Return::goes_back))]
 pub fn goes_back<M: Cells>(device: &Device, frame: Frame, state: &State<M>) -> bool
+    requires { HasRam device.now }
     ensures { result ≡ returning.goes_back device.now frame state.now }
 {
     match frame {

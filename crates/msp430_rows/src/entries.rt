@@ -1,6 +1,7 @@
 //! Entries against rows worked by hand from SLAU049, chapter 2, "Interrupt Processing".
 
-ghost use Rattle.std.specs.Prelude.{◌≡◌, ◌≤◌, IfOk};
+ghost use Rattle.std.specs.Prelude.{◌≡◌, IfOk};
+ghost use Rattle.msp430_chip.specs.Memory.{HasRam};
 
 use abs_memory::CellList;
 use call_context::{Frame, Item, Sequence, Set, Space};
@@ -17,7 +18,7 @@ use value_set::Vs16;
 
 /// Vector 0 is erased, vector 1 is FFFEh and vector 9 F101h; the others aren't in the image.
 fn device(alloc: Global) -> Result<Device, Fail>
-    ensures { IfOk result (λ device. device.lo ≤ device.hi) }
+    ensures { IfOk result HasRam }
 {
     let mut bytes = Vec::new(alloc);
     bytes.resize(65536, None)?;
@@ -31,6 +32,7 @@ fn device(alloc: Global) -> Result<Device, Fail>
         image: Image::new(bytes),
         lo: 0x0200,
         hi: 0x02FF,
+        mirror: None,
     })
 }
 

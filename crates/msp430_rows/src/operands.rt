@@ -1,5 +1,8 @@
 //! Operands against rows worked by hand.
 
+ghost use Rattle.std.specs.Prelude.{IfOk};
+ghost use Rattle.msp430_chip.specs.Memory.{HasRam};
+
 use abs_memory::CellList;
 use entry_value::{Cells, Word};
 use image::Image;
@@ -16,6 +19,23 @@ use std::test::Fail;
 use value_bits::Tri;
 use value_set::Vs16;
 
+/// RAM from 0200h to 02FFh, and a program of three bytes.
+fn device(alloc: Global) -> Result<Device, Fail>
+    ensures { IfOk result HasRam }
+{
+    let mut bytes = Vec::new(alloc);
+    bytes.resize(65536, None)?;
+    bytes[0xF000] = Some(0x34);
+    bytes[0xF001] = Some(0x12);
+    bytes[0xF002] = Some(0x56);
+    Ok(Device {
+        image: Image::new(bytes),
+        lo: 0x0200,
+        hi: 0x02FF,
+        mirror: None,
+    })
+}
+
 fn plain(set: Vs16) -> Word {
     Word { set, entry: None }
 }
@@ -26,8 +46,15 @@ fn state(alloc: Global) -> Result<State<CellList>, Fail> {
 
 #[test]
 fn words_stand_at_even_addresses(rt: HostRuntime) -> Result<(), Fail> {
-    assert_eq!(rt; located(Width::Word, &Vs16::one(0xFFFF)), Vs16::one(0xFFFE));
-    assert_eq!(rt; located(Width::Byte, &Vs16::one(0xFFFF)), Vs16::one(0xFFFF));
+    let device = device(rt.alloc())?;
+    assert_eq!(rt;
+        located(&device, Width::Word, &Vs16::one(0xFFFF)),
+        Vs16::one(0xFFFE)
+    );
+    assert_eq!(rt;
+        located(&device, Width::Byte, &Vs16::one(0xFFFF)),
+        Vs16::one(0xFFFF)
+    );
     Ok(())
 }
 
@@ -120,16 +147,7 @@ fn flags_drop_the_fact(rt: HostRuntime) -> Result<(), Fail> {
 #[test]
 fn words_of_ram_and_of_the_program(rt: HostRuntime) -> Result<(), Fail> {
     let mut state = state(rt.alloc())?;
-    let mut bytes = Vec::new(rt.alloc());
-    bytes.resize(65536, None)?;
-    bytes[0xF000] = Some(0x34);
-    bytes[0xF001] = Some(0x12);
-    bytes[0xF002] = Some(0x56);
-    let device = Device {
-        image: Image::new(bytes),
-        lo: 0x0200,
-        hi: 0x02FF,
-    };
+    let device = device(rt.alloc())?;
     state.cells.write_one(0x0200, 2, plain(Vs16::one(0x1234)))?;
     let read = read_known(&device, &state, Width::Word, &Vs16::one(0xF000));
     assert_eq!(rt; read, plain(Vs16::one(0x1234)));

@@ -22,6 +22,10 @@ fn two(low: u16, high: u16) -> Word {
     plain(Vs16::one(low).join(&Vs16::one(high)))
 }
 
+fn run(base: u16, stride: u16, count: u32) -> Word {
+    plain(Vs16::run(base, stride, count).unwrap_or(Vs16::any()))
+}
+
 fn tri(bit: char) -> Tri {
     match bit {
         '0' => Tri::Zero,
@@ -128,6 +132,55 @@ fn results_that_are_sets(rt: HostRuntime) -> Result<(), Fail> {
     let (word, bits) = twice_made(Width::Word, &any, None);
     assert_eq!(rt; Some(word.set), Vs16::run(0, 2, 0x8000));
     assert_eq!(rt; bits, flags("????"));
+    Ok(())
+}
+
+/// Flags of differences of sets, of one sign and of both.
+#[test]
+fn flags_of_differences(rt: HostRuntime) -> Result<(), Fail> {
+    use Operation::*;
+    use Width::{Byte, Word};
+    for (operation, width, source, destination, set) in [
+        (Cmp, Word, one(3), two(1, 2), "0010"),
+        (Sub, Word, one(2), two(2, 5), "1?00"),
+        (Cmp, Word, two(1, 9), two(5, 7), "?0?0"),
+        (Cmp, Word, one(8), run(0, 1, 20), "???0"),
+        (Cmp, Word, one(0xF000), two(0xF000, 0xFFFE), "1?00"),
+        (Cmp, Word, one(0x8000), one(0x7FFF), "0011"),
+        (Cmp, Word, one(1), two(0x7FFF, 0x8000), "100?"),
+        (Sub, Byte, one(0x80), two(0x90, 0xFF), "1000"),
+        (Sub, Byte, one(0x7F), two(0x80, 0xFF), "10??"),
+    ] {
+        let (_, bits) = double_made(operation, width, &source, &destination, Tri::Either, None);
+        assert_eq!(rt; bits, flags(set));
+    }
+    Ok(())
+}
+
+/// Flags above 256 combinations: Z by the numbers of the result, and N by its known bits.
+#[test]
+fn flags_of_many_results(rt: HostRuntime) -> Result<(), Fail> {
+    use Operation::*;
+    use Width::{Byte, Word};
+    for (operation, width, source, destination, set) in [
+        (Add, Word, one(1), run(0, 1, 512), "?00?"),
+        (Add, Word, one(1), run(0xFFFF, 1, 512), "??0?"),
+        (Add, Byte, two(1, 2), run(0, 1, 200), "?0??"),
+        (Sub, Word, one(1), run(0x8001, 1, 512), "?01?"),
+        (Sub, Word, one(0x8000), run(0x8000, 1, 512), "??0?"),
+        (Cmp, Word, one(3), run(4, 2, 512), "?00?"),
+        (Addc, Word, one(0), run(0, 1, 512), "??0?"),
+        (Subc, Word, one(0), run(2, 1, 512), "?00?"),
+        (And, Word, one(0x01FF), run(0, 1, 65536), "??00"),
+        (And, Word, one(0), run(0, 1, 65536), "0100"),
+        (Bit, Word, one(0x8000), run(0x8000, 1, 512), "1010"),
+        (Xor, Word, one(1), run(0x0400, 2, 512), "100?"),
+    ] {
+        let (_, bits) = double_made(operation, width, &source, &destination, Tri::Either, None);
+        assert_eq!(rt; bits, flags(set));
+    }
+    let (_, bits) = twice_made(Width::Word, &run(1, 1, 512), None);
+    assert_eq!(rt; bits, flags("?00?"));
     Ok(())
 }
 

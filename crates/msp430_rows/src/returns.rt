@@ -1,5 +1,8 @@
 //! RETI over rows worked by hand from SLAU049, chapters 2 and 3.
 
+ghost use Rattle.std.specs.Prelude.{IfOk};
+ghost use Rattle.msp430_chip.specs.Memory.{HasRam};
+
 use abs_memory::CellList;
 use call_context::{Frame, Item, Set, Space};
 use entry_value::{Cells, Entry, Word};
@@ -37,13 +40,16 @@ fn related(place: u16, and: u16, or: u16) -> Option<Entry> {
     Some(Entry { place, and, or })
 }
 
-fn device(alloc: Global) -> Result<Device, Fail> {
+fn device(alloc: Global) -> Result<Device, Fail>
+    ensures { IfOk result HasRam }
+{
     let mut bytes = Vec::new(alloc);
     bytes.resize(65536, None)?;
     Ok(Device {
         image: Image::new(bytes),
         lo: 0x0200,
         hi: 0x02FF,
+        mirror: None,
     })
 }
 

@@ -1,5 +1,8 @@
 //! SR as a destination against rows worked by hand from SLAU049, chapter 3.
 
+ghost use Rattle.std.specs.Prelude.{IfOk};
+ghost use Rattle.msp430_chip.specs.Memory.{HasRam};
+
 use abs_memory::CellList;
 use call_context::{Item, Set, Space};
 use entry_value::{Cells, Entry, Word};
@@ -39,13 +42,16 @@ fn word(set: Vs16) -> Word {
     Word { set, entry: None }
 }
 
-fn device(alloc: Global) -> Result<Device, Fail> {
+fn device(alloc: Global) -> Result<Device, Fail>
+    ensures { IfOk result HasRam }
+{
     let mut bytes = Vec::new(alloc);
     bytes.resize(65536, None)?;
     Ok(Device {
         image: Image::new(bytes),
         lo: 0x0200,
         hi: 0x02FF,
+        mirror: None,
     })
 }
 

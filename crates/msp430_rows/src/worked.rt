@@ -1,6 +1,7 @@
 //! Instructions over a small state against rows worked by hand from SLAU049, chapter 3.
 
 ghost use Rattle.std.specs.Prelude.{◌≤◌, IfOk};
+ghost use Rattle.msp430_chip.specs.Memory.{HasRam};
 ghost use Rattle.msp430_results.specs.Results.{HasWidth};
 
 use abs_memory::CellList;
@@ -35,7 +36,7 @@ fn bytes_by(stride: u16) -> Vs16 {
 
 /// RAM from 0200h to 02FFh, and a program of two bytes.
 fn device(alloc: Global) -> Result<Device, Fail>
-    ensures { IfOk result (λ device. device.lo ≤ device.hi) }
+    ensures { IfOk result HasRam }
 {
     let mut bytes = Vec::new(alloc);
     bytes.resize(65536, None)?;
@@ -45,6 +46,7 @@ fn device(alloc: Global) -> Result<Device, Fail>
         image: Image::new(bytes),
         lo: 0x0200,
         hi: 0x02FF,
+        mirror: None,
     })
 }
 

@@ -1,5 +1,5 @@
 -- Bits of which one knows what the other knows.
-use Rattle.std.proofs.Common.{◌≡◌, ℕ, zero, suc, ◌/◌, ◌%◌, Bool, true, List, [], ◌∷◌, replicate, refl, arith}
+use Rattle.std.proofs.Common.{◌≡◌, ℕ, ◌/◌, ◌%◌, Bool, true, List, [], ◌∷◌, refl, arith}
 use Rattle.std.proofs.lemmas.Bool.{and_parts}
 use Rattle.value_bits.specs.declared.tri.Tri.{Tri}
 use Rattle.value_bits.specs.declared.tri.Tri.TheVariants.{Zero, One, Either}
@@ -85,7 +85,3 @@ flag_more Zero One flag h is = absurd (cc)
 flag_more One Zero flag h is = absurd (cc)
 flag_more Either Zero flag h is = absurd (cc)
 flag_more Either One flag h is = absurd (cc)
-
-pub zeros_agree : (n : ℕ) → Agrees (replicate n Zero) 0
-zeros_agree zero = refl
-zeros_agree (suc n) = (refl, zeros_agree n)

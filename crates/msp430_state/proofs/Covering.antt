@@ -15,13 +15,13 @@ use Rattle.msp430_chip.specs.declared.device.Device.{Device}
 use Rattle.msp430_chip.specs.declared.state.ChipState.{ChipState}
 use Rattle.msp430_chip.specs.Memory.{is_ram}
 use Rattle.msp430_chip.specs.State.{register_of, reset_address, ram_size, IsResetOf}
+use Rattle.irq_frames.specs.KnownLaws.{KnownLaws}
 use Rattle.msp430_state.specs.Forms.{IsKnown}
 use Rattle.msp430_state.specs.Holding.{suspended_of, ram_byte, HoldsOfStatus, HoldsOfFact, KeepsUntouched, HoldsOfParts, HoldsOf, Covers}
 use Rattle.msp430_state.specs.Known.{Known, word_of, first_known, known_within}
-use Rattle.msp430_state.specs.Premises.{Premises}
 use Rattle.irq_frames.specs.Ranges.{has_address, ranges_within}
 use Rattle.msp430_state.specs.Status.{status_of}
-use Rattle.msp430_state.proofs.BitLemmas.{agrees_more, flag_more, zeros_agree}
+use Rattle.msp430_state.proofs.BitLemmas.{agrees_more, flag_more}
 use Rattle.msp430_state.proofs.EvenWords.{even_words_have}
 use Rattle.msp430_state.proofs.FactLemmas.{fact_more}
 use Rattle.msp430_state.proofs.Orders.{partwise}
@@ -29,17 +29,17 @@ use Rattle.msp430_state.proofs.Pointwise.{passes_at}
 
 -- ONE WITHIN ANOTHER
 
-has_more : Premises → (a b : List (ℕ × ℕ)) (at : ℕ) → ranges_within a b ≡ true → has_address b at ≡ false → has_address a at ≡ false
+has_more : KnownLaws → (a b : List (ℕ × ℕ)) (at : ℕ) → ranges_within a b ≡ true → has_address b at ≡ false → has_address a at ≡ false
 has_more laws a b at within none = elim (cases_Bool (has_address a at)) [
   | inl some ↦ let there : has_address b at ≡ true = laws.ranges.has at a b within some in absurd (cc)
   | inr lacks ↦ lacks
 ]
 
-untouched_more : Premises → (device : Device) (a b : List (ℕ × ℕ)) (ram : List ℕ) (first : Option ChipState) → ranges_within a b ≡ true → KeepsUntouched device a ram first → KeepsUntouched device b ram first
+untouched_more : KnownLaws → (device : Device) (a b : List (ℕ × ℕ)) (ram : List ℕ) (first : Option ChipState) → ranges_within a b ≡ true → KeepsUntouched device a ram first → KeepsUntouched device b ram first
 untouched_more laws device a b ram None within keeps = tt
 untouched_more laws device a b ram (Some f) within keeps = λ at none. keeps at (has_more laws a b at within none)
 
-pub parts_more : (laws : Premises) (device : Device) (lo hi : ℕ) (framed : Bool) (a b : Known) (first : Option ChipState) (registers ram : List ℕ) → IsKnown lo hi framed a → known_within a b ≡ true
+pub parts_more : (laws : KnownLaws) (device : Device) (lo hi : ℕ) (framed : Bool) (a b : Known) (first : Option ChipState) (registers ram : List ℕ) → IsKnown lo hi framed a → known_within a b ≡ true
     → HoldsOfParts device a first registers ram → HoldsOfParts device b first registers ram
 parts_more laws device lo hi framed a b first registers ram form within holds =
     let parts = partwise a b within in
@@ -48,18 +48,18 @@ parts_more laws device lo hi framed a b first registers ram form within holds =
       sp = (laws.sets.tested 65536 a.sp b.sp).0 parts.sp (get_or registers 1 0) holds.sp;
       status = record {
         bits = agrees_more a.status.bits b.status.bits (get_or registers 2 0) parts.bits holds.status.bits;
-        entry = laws.entries.holds under (get_or registers 2 0) a.status.entry b.status.entry parts.status holds.status.entry;
+        entry = laws.values.entries.holds under (get_or registers 2 0) a.status.entry b.status.entry parts.status holds.status.entry;
       };
       words = λ register low high.
           let inside : register - 4 < length a.registers = omega (arith, form.count) in
-          laws.words.holds under (get_or registers register 0) (word_of a register) (word_of b register)
+          laws.values.words.holds under (get_or registers register 0) (word_of a register) (word_of b register)
           (passes_at word_within a.registers b.registers (register - 4) (unknown 2) inside parts.words) (holds.words register low high);
       fact = fact_more (λ fact. HoldsOfFact fact registers) a.fact b.fact parts.fact tt holds.fact;
       cells = laws.cells.holds under (ram_byte device ram) a.cells.cells b.cells.cells parts.cells holds.cells;
       untouched = untouched_more laws device a.touched b.touched ram first parts.touched holds.untouched;
     }
 
-pub holds_more : (laws : Premises) (device : Device) (lo hi : ℕ) (framed : Bool) (a b : Known) (s : ChipState) (first : Option ChipState) → IsKnown lo hi framed a → known_within a b ≡ true
+pub holds_more : (laws : KnownLaws) (device : Device) (lo hi : ℕ) (framed : Bool) (a b : Known) (s : ChipState) (first : Option ChipState) → IsKnown lo hi framed a → known_within a b ≡ true
     → HoldsOf device a s first → HoldsOf device b s first
 holds_more laws device lo hi framed a b s first form within holds = record {
   state = holds.state;
@@ -68,7 +68,7 @@ holds_more laws device lo hi framed a b s first form within holds = record {
   parts = parts_more laws device lo hi framed a b first s.registers s.ram form within holds.parts;
 }
 
-pub covers_more : (laws : Premises) (device : Device) (lo hi : ℕ) (framed : Bool) (node : Node) (a b : Known) (s : ChipState) (first : Option ChipState) → IsKnown lo hi framed a → known_within a b ≡ true
+pub covers_more : (laws : KnownLaws) (device : Device) (lo hi : ℕ) (framed : Bool) (node : Node) (a b : Known) (s : ChipState) (first : Option ChipState) → IsKnown lo hi framed a → known_within a b ≡ true
     → Covers device node a s first → Covers device node b s first
 covers_more laws device lo hi framed (At pc calls frame) a b s first form within covers =
     (covers.0, holds_more laws device lo hi framed a b s first form within covers.1, covers.2)
@@ -86,17 +86,17 @@ ram_bytes device ram long bytes at =
     All-get_or (λ b. b < 256) ram (at - device.lo) 0 (omega (arith, long)) bytes)
     (λ e. omega arith)
 
-pub reset_holds : (laws : Premises) (device : Device) (s : ChipState) → IsResetOf device s → HoldsOf device (first_known device.lo device.hi) s None
+pub reset_holds : (laws : KnownLaws) (device : Device) (s : ChipState) → IsResetOf device s → HoldsOf device (first_known device.lo device.hi) s None
 reset_holds laws device s reset =
     let long = reset.state.registers in
     let one : 1 < length s.registers = omega arith in
-    let cleared : HoldsOfStatus None (status_of Zero) 0 = record { bits = zeros_agree 9; entry = tt } in
+    let cleared : HoldsOfStatus None (status_of Zero) 0 = record { bits = laws.bits.bits_zero 9; entry = tt } in
     record {
       state = reset.state;
       suspended = tt;
       late = reset.not_late;
       parts = record {
-        sp = even_words_have (register_of s 1) (All-get_or (λ r. r < 65536) s.registers 1 0 one reset.state.words) reset.state.even_sp;
+        sp = even_words_have laws (register_of s 1) (All-get_or (λ r. r < 65536) s.registers 1 0 one reset.state.words) reset.state.even_sp;
         status = subst (HoldsOfStatus None (status_of Zero)) (sym reset.status) cleared;
         words = λ register low high.
             let inside : register < length s.registers = omega arith in
@@ -109,5 +109,5 @@ reset_holds laws device s reset =
       };
     }
 
-pub reset_covered : (laws : Premises) (device : Device) (s : ChipState) → IsResetOf device s → Covers device (At (reset_address device) [] Base) (first_known device.lo device.hi) s None
+pub reset_covered : (laws : KnownLaws) (device : Device) (s : ChipState) → IsResetOf device s → Covers device (At (reset_address device) [] Base) (first_known device.lo device.hi) s None
 reset_covered laws device s reset = (reset.starts, reset_holds laws device s reset, refl)

@@ -3,4 +3,3 @@ pub mod Facts
 pub mod Known
 pub mod Holding
 pub mod Forms
-pub mod Premises

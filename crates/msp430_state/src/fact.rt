@@ -50,7 +50,7 @@ pub(crate) fn common_fact(a: &Option<FlagFact>, b: &Option<FlagFact>) -> Option<
 }
 
 /// Whether the second has no fact that the first one lacks.
-pub(crate) fn is_fact_within(new: &Option<FlagFact>, held: &Option<FlagFact>) -> bool
+pub fn is_fact_within(new: &Option<FlagFact>, held: &Option<FlagFact>) -> bool
     ensures { result ≡ the_facts.is_fact_within new.now held.now }
 {
     match (new, held) {

@@ -1,6 +1,7 @@
 //! What holds of all that is known of states. The chip's laws call these.
 
 ghost use Rattle.std.specs.Prelude.{◌≡◌, ◌≤◌, ◌||◌, ℕ, Bool, true, [], List, None, Option};
+ghost use Rattle.value_set.specs.Laws.{AreMarks};
 ghost use Rattle.call_context.specs.declared.node.Frame.TheVariants.{Base};
 ghost use Rattle.call_context.specs.declared.node.Node.{Node as ANode};
 ghost use Rattle.call_context.specs.declared.node.Node.TheVariants.{At};
@@ -10,37 +11,8 @@ ghost use Rattle.msp430_chip.specs.State.{reset_address, IsResetOf};
 ghost use Rattle.msp430_state.specs.Forms.{IsKnown};
 ghost use Rattle.msp430_state.specs.Holding.{Covers, HoldsOfParts};
 ghost use Rattle.msp430_state.specs.Known.{Known, first_known, top_known, known_joined, known_widened, known_within};
-ghost use Rattle.msp430_state.specs.Premises.{AreMarks, Premises};
 
-use entry_value::{
-    cells_are_ordered, cells_speak_of_ram, inclusion_covers, relations_hold, unions_keep_form,
-    words_are_ordered, words_hold,
-};
-use irq_frames::ranges_hold;
-use value_set::{
-    inclusion_is_tested, joins_include_both, members_are_below, remainders_stay,
-    single_and_whole_sets, widenings_include_both,
-};
-
-/// The laws of sets, words, cells and ranges that those below rest on.
-fn premises_hold()
-    ensures { Premises }
-{
-    members_are_below();
-    single_and_whole_sets();
-    inclusion_is_tested();
-    joins_include_both();
-    widenings_include_both();
-    remainders_stay();
-    words_hold();
-    words_are_ordered();
-    relations_hold();
-    cells_are_ordered();
-    cells_speak_of_ram();
-    inclusion_covers();
-    unions_keep_form();
-    ranges_hold();
-}
+use irq_frames::known_laws;
 
 /// Being within another is an order, in which two states are within their join, within the first one widened by the
 /// second, and within the greatest.
@@ -49,13 +21,13 @@ pub fn states_are_ordered()
     ensures along { (a b c : Known) → known_within a b ≡ true → known_within b c ≡ true → known_within a c ≡ true }
     ensures join_held { (lo hi : ℕ) (framed : Bool) (a b : Known) → IsKnown lo hi framed a → IsKnown lo hi framed b → known_within a (known_joined a b) ≡ true }
     ensures join_new { (lo hi : ℕ) (framed : Bool) (a b : Known) → IsKnown lo hi framed a → IsKnown lo hi framed b → known_within b (known_joined a b) ≡ true }
-    ensures widen_held { (lo hi : ℕ) (framed : Bool) (marks : List ℕ) → AreMarks marks → (a b : Known) → IsKnown lo hi framed a → IsKnown lo hi framed b
+    ensures widen_held { (lo hi : ℕ) (framed : Bool) (marks : List ℕ) → AreMarks 65536 marks → (a b : Known) → IsKnown lo hi framed a → IsKnown lo hi framed b
         → known_within a (known_widened marks a b) ≡ true }
-    ensures widen_new { (lo hi : ℕ) (framed : Bool) (marks : List ℕ) → AreMarks marks → (a b : Known) → IsKnown lo hi framed a → IsKnown lo hi framed b
+    ensures widen_new { (lo hi : ℕ) (framed : Bool) (marks : List ℕ) → AreMarks 65536 marks → (a b : Known) → IsKnown lo hi framed a → IsKnown lo hi framed b
         → known_within b (known_widened marks a b) ≡ true }
     ensures greatest { (lo hi : ℕ) (framed : Bool) (a : Known) → IsKnown lo hi framed a → known_within a (top_known lo hi framed) ≡ true }
 {
-    premises_hold();
+    known_laws();
 }
 
 /// The first state and the greatest have the form, and joins and widenings keep it.
@@ -63,10 +35,10 @@ pub fn states_keep_form()
     ensures first { (lo hi : ℕ) (framed : Bool) → IsKnown lo hi framed (first_known lo hi) }
     ensures greatest { (lo hi : ℕ) (framed : Bool) → lo ≤ hi → IsKnown lo hi framed (top_known lo hi framed) }
     ensures join { (lo hi : ℕ) (framed : Bool) (a b : Known) → IsKnown lo hi framed a → IsKnown lo hi framed b → IsKnown lo hi framed (known_joined a b) }
-    ensures widen { (lo hi : ℕ) (framed : Bool) (marks : List ℕ) → AreMarks marks → (a b : Known) → IsKnown lo hi framed a → IsKnown lo hi framed b
+    ensures widen { (lo hi : ℕ) (framed : Bool) (marks : List ℕ) → AreMarks 65536 marks → (a b : Known) → IsKnown lo hi framed a → IsKnown lo hi framed b
         → IsKnown lo hi framed (known_widened marks a b) }
 {
-    premises_hold();
+    known_laws();
 }
 
 /// What stands under a state stands under all that this is within, and each state of the chip behind a reset under the
@@ -78,5 +50,5 @@ pub fn states_cover()
         → known_within a b ≡ true → Covers device node a s first → Covers device node b s first }
     ensures reset { (device : ADevice) (s : AState) → IsResetOf device s → Covers device (At (reset_address device) [] Base) (first_known device.lo device.hi) s None }
 {
-    premises_hold();
+    known_laws();
 }

@@ -29,7 +29,7 @@ pub(crate) fn common_bit(a: Tri, b: Tri) -> Tri
 }
 
 /// Whether the first knows what the second knows.
-pub(crate) fn is_bit_within(new: Tri, held: Tri) -> bool
+pub fn is_bit_within(new: Tri, held: Tri) -> bool
     ensures { result ≡ the_status.is_bit_within new held }
 {
     match (new, held) {

@@ -1,6 +1,5 @@
 pub mod BitLemmas
 pub mod Swapped
-pub mod Accesses
 pub mod Moves
 pub mod Parts
 pub mod StatusLaw

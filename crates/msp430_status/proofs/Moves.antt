@@ -1,5 +1,5 @@
 -- What MOV of the same source to R3 and to R4 tells: the state behind the growth, and what the source holds.
-use Rattle.std.proofs.Common.{◌≡◌, ℕ, ◌+◌, ◌*◌, ◌%◌, ◌^◌, ◌<◌, ◌||◌, Bool, false, Option, None, List, length, take, get_or, set, refl, sym, ap, ◌∙◌, subst, inl, inr, arith, get_or-set_same, get_or-set_other}
+use Rattle.std.proofs.Common.{◌≡◌, ℕ, ◌+◌, ◌*◌, ◌%◌, ◌<◌, ◌||◌, Bool, false, Option, None, List, length, take, get_or, set, refl, sym, ap, ◌∙◌, subst, inl, inr, arith, get_or-set_same, get_or-set_other}
 use Rattle.std.proofs.lemmas.Bool.{cases_Bool, cond-false, false≢true}
 use Rattle.std.proofs.lemmas.List.{length-set}
 use Rattle.std.proofs.lemmas.List.Elements.{All-get_or}
@@ -7,11 +7,11 @@ use Rattle.choosing.specs.Asking.{IsOption}
 use Rattle.entry_value.specs.declared.word.Entry.{Entry}
 use Rattle.entry_value.specs.declared.word.Word.{Word}
 use Rattle.entry_value.specs.Cells.{unknown}
+use Rattle.irq_frames.specs.KnownLaws.{KnownLaws}
 use Rattle.value_set.specs.declared.form.Form.{Form}
 use Rattle.value_set.specs.Form.{Has, IsNormal}
 use Rattle.value_set.specs.Summing.{single}
 use Rattle.value_bits.specs.Bits.{Agrees, known_bits}
-use Rattle.msp430_decode.specs.declared.instr.Destination.{Destination}
 use Rattle.msp430_decode.specs.declared.instr.Destination.TheVariants as destination
 use Rattle.msp430_decode.specs.declared.instr.Instr.TheVariants.{Double}
 use Rattle.msp430_decode.specs.declared.instr.Operation.{Operation}
@@ -22,14 +22,14 @@ use Rattle.msp430_decode.specs.declared.instr.Source.{Source}
 use Rattle.msp430_decode.specs.declared.instr.Source.TheVariants as source
 use Rattle.msp430_decode.specs.declared.instr.Width.{Width}
 use Rattle.msp430_decode.specs.declared.instr.Width.TheVariants.{Word as Words, Byte}
-use Rattle.msp430_decode.specs.Operands.{IsDestination, IsSource}
+use Rattle.msp430_decode.specs.Operands.{IsSource}
 use Rattle.msp430_chip.specs.declared.device.Device.{Device}
 use Rattle.msp430_chip.specs.declared.place.Place.{Place}
 use Rattle.msp430_chip.specs.declared.place.Place.TheVariants as place
 use Rattle.msp430_chip.specs.declared.state.ChipState.{ChipState}
 use Rattle.msp430_chip.specs.Kinds.{Kind}
 use Rattle.msp430_chip.specs.Kinds.Kind.{Counter, Stack, Status, Empty, General}
-use Rattle.msp430_chip.specs.Leading.{MayCount, MayDouble, at_source, behind_source, origin_of, place_of}
+use Rattle.msp430_chip.specs.Leading.{MayCount, MayDouble, at_source, behind_source, origin_of}
 use Rattle.msp430_chip.specs.Leading.MayCount.{Behind, Within}
 use Rattle.msp430_chip.specs.Leading.MayLeaveDouble.{OfResult}
 use Rattle.msp430_chip.specs.Operands.{grown, growth, has_free_bits, with_free_bits, with_register, value_in}
@@ -40,7 +40,8 @@ use Rattle.msp430_results.specs.Words.{values_of, written_word}
 use Rattle.msp430_state.specs.Forms.{IsKnown, IsWord}
 use Rattle.msp430_state.specs.Holding.{HoldsOfParts}
 use Rattle.msp430_state.specs.Known.{Known, word_of}
-use Rattle.msp430_alu.specs.Formats.{AreShown, IsLeft, IsUnder, LeavesStatus, counter_set, double_worked}
+use Rattle.msp430_alu.specs.Formats.{IsUnder, counter_set, double_worked}
+use Rattle.msp430_alu.specs.Laws.{DoublesHold}
 use Rattle.msp430_alu.specs.Memory.{IsDevice}
 use Rattle.msp430_alu.specs.Operands.{grown_known, operand_word, source_reach}
 use Rattle.msp430_status.specs.Status.{lowest_bits}
@@ -48,20 +49,9 @@ use Rattle.msp430_status.proofs.BitLemmas.{AgreesBelow, places, taken_agrees}
 
 -- the laws of instructions and of bits that the law of SR rests on
 pub record StatusLaws : Type 0 where
-  pub single : (m v : ℕ) → v < m → IsNormal m (single v) × Has m (single v) v
-  pub below : (m v : ℕ) (set : Form) → IsNormal m set → Has m set v → v < m
-  pub known : (width v : ℕ) (a : Form) → IsNormal (2 ^ width) a → Has (2 ^ width) a v → Agrees (known_bits width a) v
+  pub known : KnownLaws
+  pub doubles : DoublesHold
   pub kinds : (register : Register) → Kind register
-  pub left : (device : Device) (framed : Bool) (a : Known) (s : ChipState) (first : Option ChipState) (len : ℕ) (done : Operation) (width : Width) (origin : Source) (target : Destination) (outcome : Outcome ChipState)
-      → IsUnder device framed a s first → IsSource origin → IsDestination target → LeavesStatus target → (may : MayDouble device s len done width origin target outcome)
-      → IsLeft device (double_worked device framed a (register_of s 0) len done width origin target).after first (double_worked device framed a (register_of s 0) len done width origin target).next may.left
-  pub shown : (device : Device) (framed : Bool) (a : Known) (s : ChipState) (first : Option ChipState) (len : ℕ) (done : Operation) (width : Width) (origin : Source) (target : Destination) (outcome : Outcome ChipState)
-      → IsUnder device framed a s first → IsSource origin → IsDestination target → (may : MayDouble device s len done width origin target outcome)
-      → AreShown (double_worked device framed a (register_of s 0) len done width origin target).accesses
-      (double_accesses (register_of s 0) done width (origin_of s may.counted origin) (place_of s len may.counted width origin target))
-  pub form : (device : Device) (framed : Bool) (a : Known) (pc len : ℕ) (done : Operation) (width : Width) (origin : Source) (target : Destination)
-      → IsDevice device → IsKnown device.lo device.hi framed a → IsSource origin → IsDestination target
-      → IsKnown device.lo device.hi framed (double_worked device framed a pc len done width origin target).after
 
 -- PC AS AN OPERAND
 
@@ -133,7 +123,7 @@ moved laws device s len done width origin outcome may target =
     let v = source_number s may.counted width origin free.chosen may.x in
     let left = moved_left device s len may.counted width origin target v in
     record {
-      outcome = ended s (Double Mov width origin (destination.Register target)) (double_accesses (register_of s 0) Mov width (origin_of s may.counted origin) (place.InRegister target)) left;
+      outcome = ended s (Double Mov width origin (destination.Register target)) (double_accesses device (register_of s 0) Mov width (origin_of s may.counted origin) (place.InRegister target)) left;
       may = record {
         counted = may.counted;
         x = may.x;
@@ -156,7 +146,7 @@ pub grown_form : (laws : StatusLaws) (device : Device) (framed : Bool) (a : Know
 unfolding double_worked
 grown_form laws device framed a pc len width origin is form from_so =
     subst (λ counted. IsKnown device.lo device.hi framed (grown_known a counted width origin)) (counter_one laws pc len origin R3)
-    (laws.form device framed a pc len Mov width origin (destination.Register R3) is form from_so tt)
+    (laws.doubles.form device framed a pc len Mov width origin (destination.Register R3) is form from_so tt)
 
 pub grown_parts : (laws : StatusLaws) (device : Device) (framed : Bool) (a : Known) (s : ChipState) (first : Option ChipState) (len : ℕ) (done : Operation) (width : Width) (origin : Source) (outcome : Outcome ChipState)
     → IsUnder device framed a s first → IsSource origin → (may : MayDouble device s len done width origin (destination.Register Sr) outcome) → let registers = registers_behind s len may.counted width origin in
@@ -165,7 +155,7 @@ unfolding double_worked
 grown_parts laws device framed a s first len done width origin outcome under from_so may =
     let by = moved laws device s len done width origin outcome may R3 in
     let v = source_number s may.counted width origin may.bits may.x in
-    let is = laws.left device framed a s first len Mov width origin (destination.Register R3) by.outcome under from_so tt tt by.may in
+    let is = laws.doubles.left device framed a s first len Mov width origin (destination.Register R3) by.outcome under from_so tt tt by.may in
     subst (λ counted. HoldsOfParts device (grown_known a counted width origin) first (moved_left device s len may.counted width origin R3 v).registers s.ram) (counter_one laws (register_of s 0) len origin R3)
     (subst (λ (left : Left). HoldsOfParts device (grown_known a (counter_set (register_of s 0) len origin (destination.Register R3)) width origin) first left.registers left.ram) by.left_is is.parts)
 
@@ -192,7 +182,7 @@ moved_normal : (laws : StatusLaws) (device : Device) (framed : Bool) (a : Known)
     → IsNormal 65536 (word_of (double_worked device framed a pc len Mov width origin (destination.Register R4)).after 4).set
 moved_normal laws device framed a pc len width origin is form from_so =
     let after = (double_worked device framed a pc len Mov width origin (destination.Register R4)).after in
-    let known = laws.form device framed a pc len Mov width origin (destination.Register R4) is form from_so tt in
+    let known = laws.doubles.form device framed a pc len Mov width origin (destination.Register R4) is form from_so tt in
     let word : IsWord framed (word_of after 4) = All-get_or (IsWord framed) after.registers 0 (unknown 2) (omega (arith, known.count)) known.registers in
     word.normal
 
@@ -239,13 +229,13 @@ source_known laws device framed a s first len done width origin outcome under fr
     let pc = register_of s 0 in
     let by = moved laws device s len done width origin outcome may R4 in
     let v = source_number s may.counted width origin may.bits may.x in
-    let is = laws.left device framed a s first len Mov width origin (destination.Register R4) by.outcome under from_so tt tt by.may in
+    let is = laws.doubles.left device framed a s first len Mov width origin (destination.Register R4) by.outcome under from_so tt tt by.may in
     let after = (double_worked device framed a pc len Mov width origin (destination.Register R4)).after in
     let has : Has 65536 (word_of after 4).set (get_or by.may.left.registers 4 0) = (is.parts.words 4 (omega arith) (omega arith)).0 in
     let same : get_or by.may.left.registers 4 0 ≡ v = ap (λ (left : Left). get_or left.registers 4 0) by.left_is ∙ moved_number laws device s len may.counted width origin v under.holds.state.registers in
     let there : Has 65536 (word_of after 4).set v = subst (Has 65536 (word_of after 4).set) same has in
     let normal = moved_normal laws device framed a pc len width origin under.device_so under.form from_so in
-    let agrees : Agrees (known_bits 16 (word_of after 4).set) v = laws.known 16 v (word_of after 4).set normal there in
+    let agrees : Agrees (known_bits 16 (word_of after 4).set) v = laws.known.bits.known 16 v (word_of after 4).set normal there in
     let Bits : Form → Type 0 = λ counted. AgreesBelow (places width) (lowest_bits width (operand_word device a counted width (source_reach pc a counted origin))) v in
     let counted = counter_set pc len origin (destination.Register R4) in
     let word = operand_word device a counted width (source_reach pc a counted origin) in
@@ -253,5 +243,5 @@ source_known laws device framed a s first len done width origin outcome under fr
     ap (λ (w : Word). w.set) (moved_word laws device framed a pc len width origin under.device_so under.form from_so) ∙ written_set width word word.entry in
     record {
       agrees = subst Bits (counter_one laws pc len origin R4) (subst (λ set. AgreesBelow (places width) (take 9 (known_bits 16 set)) v) set_is (taken_agrees width (known_bits 16 (word_of after 4).set) v agrees));
-      below = laws.below 65536 v (word_of after 4).set normal there;
+      below = laws.known.sets.below 65536 v (word_of after 4).set normal there;
     }

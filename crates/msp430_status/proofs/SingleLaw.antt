@@ -87,7 +87,7 @@ single_status_law singles device framed a s first len done width outcome under f
 
 pub single_status_shown : (device : Device) (framed : Bool) (a : Known) (s : ChipState) (len : ℕ) (done : SingleOperation) (width : Width)
     → AreShown (single_status_worked device framed a (register_of s 0) len done width).accesses
-    (access_to (register_of s 0) false width (origin_of s (behind s len) (source.Register Sr)) ++ access_to (register_of s 0) true width (origin_of s (behind s len) (source.Register Sr)))
+    (access_to device (register_of s 0) false width (origin_of s (behind s len) (source.Register Sr)) ++ access_to device (register_of s 0) true width (origin_of s (behind s len) (source.Register Sr)))
 unfolding single_status_worked
 single_status_shown device framed a s len done width single_so (zero, lt, is) = absurd (omega (arith, lt))
 single_status_shown device framed a s len done width single_so (suc k, lt, is) = absurd (omega (arith, lt))

@@ -33,6 +33,7 @@ use Rattle.msp430_chip.specs.Kinds.Kind.{Counter, Stack, Status, Empty, General}
 use Rattle.msp430_chip.specs.Leading.{LeavesFree, MayDouble, MayLeaveDouble, MayReadByte, MayStandAt, MayStandIf, at_source, behind_source, origin_of, place_of}
 use Rattle.msp430_chip.specs.Leading.MayLeaveDouble.{FreeStatus, OfResult}
 use Rattle.msp430_chip.specs.Leading.MayReadByte.{OfRam, OfProgram, OfNeither}
+use Rattle.msp430_chip.specs.Memory.{aligned}
 use Rattle.msp430_chip.specs.Operands.{grown, growth, value_in, with_free_bits, with_register}
 use Rattle.msp430_chip.specs.Outcome.{Outcome}
 use Rattle.msp430_chip.specs.State.{even, register_of}
@@ -71,7 +72,7 @@ read_small device ram is bytes at byte (OfNeither outside e few) = few
 
 byte_small : (device : Device) (ram registers : List ℕ) → IsDevice device → All (λ b. b < 256) ram → (stands : Place) (x : ℕ) → MayStandAt device ram registers Byte stands x → x < 256
 byte_small device ram registers is bytes (place.InRegister register) x e = omega (arith, e)
-byte_small device ram registers is bytes (place.InMemory address) x reads = read_small device ram is bytes address x reads
+byte_small device ram registers is bytes (place.InMemory address) x reads = read_small device ram is bytes (aligned device Byte address) x reads
 byte_small device ram registers is bytes (place.Fixed value) x e = omega (arith, e)
 
 source_small : (laws : StatusLaws) (device : Device) (framed : Bool) (a : Known) (s : ChipState) (first : Option ChipState) (len : ℕ) (done : Operation) (width : Width) (origin : Source) (outcome : Outcome ChipState)
@@ -276,29 +277,29 @@ status_law laws device framed a s first len done width origin outcome under from
     let counter : get_or registers 0 0 ≡ next = get_or-set_same (behind_source s may.counted width origin) 0 next 0 grown_long in
     let holds : HoldsOfParts device grown_so first registers s.ram =
     subst (λ list. HoldsOfParts device grown_so first list s.ram) (set-get_or registers 2 0) (grown_parts laws device framed a s first len done width origin outcome under from_so may) in
-    written_is laws.single device grown_so first registers registers s.ram next bits may.left long (omega arith) counter (λ r low. refl) holds
+    written_is laws.known.sets.single device grown_so first registers registers s.ram next bits may.left long (omega arith) counter (λ r low. refl) holds
     (bits_written laws device framed a s first len done width origin outcome under from_so may)
 
-no_access : (there : Bool) (pc : ℕ) (write : Bool) (width : Width) (register : Register) → access_if there pc write width (InRegister register) ≡ []
-no_access true pc write width register = refl
-no_access false pc write width register = refl
+no_access : (device : Device) (there : Bool) (pc : ℕ) (write : Bool) (width : Width) (register : Register) → access_if there device pc write width (InRegister register) ≡ []
+no_access device true pc write width register = refl
+no_access device false pc write width register = refl
 
 pub status_shown : (laws : StatusLaws) (device : Device) (framed : Bool) (a : Known) (s : ChipState) (first : Option ChipState) (len : ℕ) (done : Operation) (width : Width) (origin : Source) (outcome : Outcome ChipState)
     → IsUnder device framed a s first → IsSource origin → (may : MayDouble device s len done width origin (destination.Register Sr) outcome)
     → AreShown (status_worked device framed a (register_of s 0) len done width origin).accesses
-    (double_accesses (register_of s 0) done width (origin_of s may.counted origin) (place_of s len may.counted width origin (destination.Register Sr)))
+    (double_accesses device (register_of s 0) done width (origin_of s may.counted origin) (place_of s len may.counted width origin (destination.Register Sr)))
 unfolding double_worked status_worked
 status_shown laws device framed a s first len done width origin outcome under from_so may =
     let pc = register_of s 0 in
     let counted = counter_set pc len origin (destination.Register Sr) in
-    let reads = access_of pc false width (source_reach pc a counted origin) in
-    let singles = double_accesses pc done width (origin_of s may.counted origin) (place_of s len may.counted width origin (destination.Register Sr)) in
-    let shown : AreShown (reads ++ access_if (reads_destination done) pc false width (InRegister Sr) ++ access_if (writes_result done) pc true width (InRegister Sr)) singles =
-    laws.shown device framed a s first len done width origin (destination.Register Sr) outcome under from_so tt may in
-    let first_so = subst (λ list. AreShown (reads ++ list ++ access_if (writes_result done) pc true width (InRegister Sr)) singles) (no_access (reads_destination done) pc false width Sr) shown in
-    let second_so = subst (λ list. AreShown (reads ++ [] ++ list) singles) (no_access (writes_result done) pc true width Sr) first_so in
+    let reads = access_of device pc false width (source_reach pc a counted origin) in
+    let singles = double_accesses device pc done width (origin_of s may.counted origin) (place_of s len may.counted width origin (destination.Register Sr)) in
+    let shown : AreShown (reads ++ access_if (reads_destination done) device pc false width (InRegister Sr) ++ access_if (writes_result done) device pc true width (InRegister Sr)) singles =
+    laws.doubles.shown device framed a s first len done width origin (destination.Register Sr) outcome under from_so tt may in
+    let first_so = subst (λ list. AreShown (reads ++ list ++ access_if (writes_result done) device pc true width (InRegister Sr)) singles) (no_access device (reads_destination done) pc false width Sr) shown in
+    let second_so = subst (λ list. AreShown (reads ++ [] ++ list) singles) (no_access device (writes_result done) pc true width Sr) first_so in
     let alone : AreShown reads singles = subst (λ list. AreShown list singles) (append-nil (reads ++ []) ∙ append-nil reads) second_so in
-    subst (λ set. AreShown (access_of pc false width (source_reach pc a set origin)) singles) (counter_one laws pc len origin Sr) alone
+    subst (λ set. AreShown (access_of device pc false width (source_reach pc a set origin)) singles) (counter_one laws pc len origin Sr) alone
 
 length_status : (done : Operation) (width : Width) (given held : List Tri) → length given ≡ 9 → length held ≡ 9 → length (status_bits done width given held) ≡ 9
 length_status done width given held long nine =
@@ -329,7 +330,7 @@ status_form laws device framed a pc len done width origin is form from_so =
 pub status_next : (laws : StatusLaws) (device : Device) (framed : Bool) (a : Known) (pc len : ℕ) (done : Operation) (width : Width) (origin : Source)
     → IsNormal 65536 (status_worked device framed a pc len done width origin).next
 unfolding status_worked
-status_next laws device framed a pc len done width origin = (laws.single 65536 ((pc + len) % 65536) (omega arith)).0
+status_next laws device framed a pc len done width origin = (laws.known.sets.single 65536 ((pc + len) % 65536) (omega arith)).0
 
 pub single_rest : (n : ℕ) → n % 2 ≡ 0 → HasRemainder 65536 2 0 (single n)
 single_rest n rest v (zero, lt, is) = let same : n ≡ v = is in subst (λ n. n % 2 ≡ 0) same rest

@@ -75,7 +75,7 @@ status_worked device framed a pc len done width origin =
     record {
       after = with_status_bits (grown_known a counted width origin) (status_bits done width (source_bits a width origin word) a.status.bits);
       next = counted;
-      accesses = access_of pc false width from;
+      accesses = access_of device pc false width from;
       store = None;
     }
 

@@ -2,6 +2,7 @@
 
 ghost use Rattle.std.specs.Prelude.{◌≡◌, false, IfOk};
 ghost use Rattle.msp430_chip.specs.Memory as chip;
+ghost use Rattle.msp430_chip.specs.Memory.{HasRam};
 ghost use Rattle.msp430_alu.specs.Formats as formats;
 ghost use Rattle.msp430_status.specs.Status as the_status;
 
@@ -41,11 +42,13 @@ fn source_bits<M: Cells>(state: &State<M>, width: Width, source: Source, word: &
 /// The read of a source, if that is in memory.
 fn read_access(
     alloc: Global,
+    device: &Device,
     pc: u16,
     width: Width,
     reach: &Reach,
 ) -> Result<Sequence<Item>, Memory>
-    ensures { IfOk result (λ all. all ≡ formats.access_of pc false width reach.now) }
+    requires { HasRam device.now }
+    ensures { IfOk result (λ all. all ≡ formats.access_of device.now pc false width reach.now) }
 {
     let mut all = Sequence::new(alloc);
     if let Reach::InMemory(set) = reach {
@@ -54,7 +57,7 @@ fn read_access(
             space: Space::Mem,
             write: false,
             size: size_of(width),
-            at: Set::W(located(width, set)),
+            at: Set::W(located(device, width, set)),
         })?;
     }
     Ok(all)
@@ -92,6 +95,7 @@ pub fn status<M: Cells>(
     width: Width,
     source: Source,
 ) -> Result<Worked<M>, Memory>
+    requires { HasRam device.now }
     ensures { IfOk result (λ worked. worked ≡ the_status.status_worked device.now framed state.now pc len operation width source) }
 {
     let counted = Vs16::one(pc.wrapping_add(len as u16));
@@ -107,7 +111,7 @@ pub fn status<M: Cells>(
     Ok(Worked {
         after,
         next: counted,
-        accesses: read_access(alloc, pc, width, &from)?,
+        accesses: read_access(alloc, device, pc, width, &from)?,
         store: None,
     })
 }

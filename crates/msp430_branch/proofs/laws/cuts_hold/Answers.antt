@@ -3,7 +3,7 @@ use Rattle.msp430_branch.proofs.laws.cuts_hold.Goals as goal
 
 pub returns : goal.returns
 returns c =
-    let laws = c.premises_hold.ensures in
+    let laws = c.known_laws.ensures in
     record {
       parts = cut_holds laws;
       state = state_cut laws;

@@ -5,6 +5,6 @@ pub returns : goal.returns
 returns c =
     let kinds = c.registers_of_five_kinds.ensures in
     record {
-      holds = fact_holds c.premises_hold.ensures kinds;
+      holds = fact_holds c.known_laws.ensures kinds;
       form = fact_form kinds;
     }

@@ -3,7 +3,7 @@ use Rattle.msp430_results.proofs.laws.operations_hold.Goals as goal
 
 pub returns : goal.returns
 returns c =
-    let laws = c.premises_hold.ensures in
+    let laws = c.known_laws.ensures in
     record {
       double = double_holds laws;
       double_normal = double_form laws;

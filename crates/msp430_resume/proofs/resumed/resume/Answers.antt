@@ -1,4 +1,4 @@
-use Rattle.std.proofs.Common.{◌≡◌, ℕ, map, ap, sym, ◌∙◌}
+use Rattle.std.proofs.Common.{ℕ, map, ap, ◌∙◌}
 use Rattle.std.proofs.Math.Path.{ap₂}
 use Rattle.entry_value.specs.declared.word.Word.{Word as AWord}
 use Rattle.irq_frames.specs.Resuming.{resumed_cells, resumed_word}

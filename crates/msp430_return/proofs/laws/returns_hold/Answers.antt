@@ -4,7 +4,7 @@ use Rattle.msp430_return.proofs.laws.returns_hold.Goals as goal
 
 pub returns : goal.returns
 returns c =
-    let laws = c.premises_hold.ensures in
+    let laws = c.memory_laws.ensures in
     record {
       done = λ device s outcome may. may.outcome_is;
       left = return_law laws;

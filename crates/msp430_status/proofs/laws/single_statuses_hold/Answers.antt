@@ -3,7 +3,7 @@ use Rattle.msp430_status.proofs.laws.single_statuses_hold.Goals as goal
 
 pub returns : goal.returns
 returns c =
-    let singles = c.single_and_whole_sets.ensures.single in
+    let singles = c.known_laws.ensures.sets.single in
     record {
       left = single_status_law singles;
       shown = single_status_shown;

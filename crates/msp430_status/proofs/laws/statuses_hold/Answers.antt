@@ -4,15 +4,10 @@ use Rattle.msp430_status.proofs.laws.statuses_hold.Goals as goal
 
 pub returns : goal.returns
 returns c =
-    let doubles = c.doubles_hold.ensures in
     let laws : StatusLaws = record {
-      single = c.single_and_whole_sets.ensures.single;
-      below = c.members_are_below.ensures;
-      known = c.bits_hold.ensures.known;
+      known = c.known_laws.ensures;
+      doubles = c.doubles_hold.ensures;
       kinds = c.registers_of_five_kinds.ensures;
-      left = doubles.left;
-      shown = doubles.shown;
-      form = doubles.form;
     } in
     record {
       left = status_law laws;
