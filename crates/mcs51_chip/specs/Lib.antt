@@ -1,5 +1,6 @@
 pub mod Arithmetic
 pub mod Interrupts
+pub mod Laws
 pub mod Leading
 pub mod Memory
 pub mod Registers

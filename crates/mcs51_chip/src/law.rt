@@ -1,27 +1,19 @@
 //! What holds of all steps.
 
-ghost use Rattle.std.specs.Prelude.{◌≡◌, ◌==◌, ◌++◌, ◌∷◌, ◌-◌, ◌<◌, ◌≤◌, ℕ, [], All, IsSome, List, Option, Some, length, slice_index, true};
-ghost use Rattle.std.specs.Int.{bit_at};
-ghost use Rattle.image.specs.Image.{IsByte, byte_at};
+ghost use Rattle.std.specs.Prelude.{◌≡◌, ◌++◌, ◌-◌, ◌<◌, ◌≤◌, ℕ, All, IsSome, List, Option, Some, length, slice_index};
+ghost use Rattle.image.specs.Image.{IsByte};
 ghost use Rattle.chip_numbers.specs.Single.{Single};
 ghost use Rattle.mcs51_decode.specs.declared.instr.Instr.{Instr as AnInstr};
 ghost use Rattle.mcs51_decode.specs.declared.refusal.NoInstr.TheVariants.{Excluded, OffImage};
 ghost use Rattle.mcs51_decode.specs.Standing.{HasExcluded, Lacks, Stands};
-ghost use Rattle.mcs51_decode.specs.declared.instr.BitTest.TheVariants.{Clear, Set, SetAndClear};
-ghost use Rattle.mcs51_decode.specs.declared.instr.External.{External as AnExternal};
-ghost use Rattle.choosing.specs.Asking.{IsOption};
 ghost use Rattle.choosing.specs.Gives.{Gives};
 ghost use Rattle.choosing.specs.Outcome.Outcome.{Next, Wild};
-ghost use Rattle.mcs51_chip.specs.declared.place.Access.{Access as AnAccess};
-ghost use Rattle.mcs51_chip.specs.declared.place.Access.TheVariants.{Code, External};
-ghost use Rattle.mcs51_chip.specs.declared.place.Address.{Address as AnAddress};
 ghost use Rattle.mcs51_chip.specs.declared.state.ChipState.{ChipState as AState};
 ghost use Rattle.mcs51_chip.specs.Interrupts.{coming};
-ghost use Rattle.mcs51_chip.specs.Leading.{IsOfOne, MayBeAt, MayDivide, MayLead, MayPush, MayRead, MayReadCode, MayReadExternal, popped_into, pushed_from};
-ghost use Rattle.mcs51_chip.specs.Memory.{reads, write, writes};
-ghost use Rattle.mcs51_chip.specs.Registers.{with_accumulator};
+ghost use Rattle.mcs51_chip.specs.Leading.{MayLead};
 ghost use Rattle.mcs51_chip.specs.State.{IsChipState, IsReset, first_state};
-ghost use Rattle.mcs51_chip.specs.Step.{Outcome, Step, branched, cleared, dividing, entered, executed, external_reads, interrupt_option, jumping_on_bit, moving, popping, pushing, reading, reading_code, reading_external, step_of, updating, writing_external};
+ghost use Rattle.mcs51_chip.specs.Step.{Outcome, Step, entered, executed, interrupt_option, step_of};
+ghost use Rattle.mcs51_chip.specs.Laws.{FormatsLead};
 
 use mcs51_decode::decoded_is_the_answer;
 
@@ -78,36 +70,7 @@ pub fn the_table_decides()
 
 /// What the formats of instructions come to, as relations in which no choices stand (`specs/Leading.antt`).
 pub fn formats_lead()
-    ensures reading { (s : AState) (before : List AnAccess) (address : AnAddress) (leads : ℕ → AState) →
-        Gives (IsOfOne (MayRead s address) (λ x. (before ++ reads address, leads x))) (reading s before address leads) }
-    ensures updating { (s : AState) (before : List AnAccess) (address : AnAddress) (leads : ℕ → AState) →
-        Gives (IsOfOne (MayRead s address) (λ x. (before ++ reads address ++ writes address, leads x)))
-        (updating s before address leads) }
-    ensures moving { (s : AState) (before : List AnAccess) (from to : AnAddress) →
-        Gives (IsOfOne (MayRead s from) (λ x. (before ++ reads from ++ writes to, write to x s)))
-        (moving s before from to) }
-    ensures clearing { (s : AState) (address : AnAddress) (place rel : ℕ) →
-        Gives (IsOfOne (MayRead s address) (cleared s address place rel))
-        (jumping_on_bit s SetAndClear address place rel) }
-    ensures set { (s : AState) (address : AnAddress) (place rel : ℕ) →
-        Gives (IsOfOne (MayRead s address) (λ x. (reads address, branched (bit_at x place == 1) rel s)))
-        (jumping_on_bit s Set address place rel) }
-    ensures clear { (s : AState) (address : AnAddress) (place rel : ℕ) →
-        Gives (IsOfOne (MayRead s address) (λ x. (reads address, branched (bit_at x place == 0) rel s)))
-        (jumping_on_bit s Clear address place rel) }
-    ensures pushing { (s : AState) (direct : ℕ) →
-        Gives (IsOfOne (MayPush (direct == 0x81) s direct) (pushed_from s direct)) (pushing s direct) }
-    ensures popping { (s : AState) (direct : ℕ) →
-        Gives (IsOfOne (IsOption (direct == 0x81) 2) (popped_into s direct)) (popping s direct) }
-    ensures code { (image : List (Option ℕ)) (s : AState) (at : ℕ) →
-        Gives (IsOfOne (MayReadCode (byte_at image at)) (λ x. (Code at ∷ [], with_accumulator x s)))
-        (reading_code image s at) }
-    ensures external_read { (s : AState) (external : AnExternal) →
-        Gives (MayReadExternal s external) (reading_external s external) }
-    ensures external_write { (s : AState) (external : AnExternal) →
-        Gives (IsOfOne (MayBeAt s external) (λ at. (external_reads s external ++ External true at ∷ [], s)))
-        (writing_external s external) }
-    ensures dividing { (s : AState) → Gives (MayDivide (s.b == 0) s) (dividing s) }
+    ensures { FormatsLead }
 {}
 
 /// What a step leads to, as a relation in which no choices stand.
