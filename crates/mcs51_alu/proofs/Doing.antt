@@ -21,8 +21,8 @@ use Rattle.mcs51_state.specs.Known.{Known}
 use Rattle.mcs51_state.specs.Under.{IsUnder}
 use Rattle.mcs51_operands.specs.Operands.{addresses_of}
 use Rattle.mcs51_operands.specs.Showing.{address_accesses}
-use Rattle.mcs51_formats.specs.Doing.{DoesSo, LeadsSo}
-use Rattle.mcs51_formats.specs.Shown.{read_items}
+use Rattle.mcs51_operands.specs.Doing.{DoesSo, LeadsSo}
+use Rattle.mcs51_operands.specs.Accesses.{read_items}
 use Rattle.mcs51_alu.specs.Accumulator.{accumulated_known, changed_known, counted, immediate, loaded, source_items}
 use Rattle.mcs51_alu.specs.Premises.{Premises}
 use Rattle.mcs51_alu.proofs.Changes.{change_so}
@@ -56,8 +56,8 @@ operand_does : (laws : Premises) (framed : Bool) (a : Known) (s : ChipState) (fi
     → ((x : ℕ) → MayRead s (address_of s m) x → LeadsSo framed first behind s (leads x))
     → Gives (DoesSo framed first (read_items pc a m) pc behind s) (reading s (address_reads s m) (address_of s m) leads)
 operand_does laws framed a s first pc m behind leads under is each =
-    laws.formats.reading framed first (address_accesses pc a m) pc behind s (address_reads s m) (addresses_of a m) (address_of s m) leads (laws.formats.shown framed pc a s first under m)
-    (laws.reads.stands framed a s first under m) (laws.reads.stands_form framed a under.form m is) each
+    laws.operands.formats.reading framed first (address_accesses pc a m) pc behind s (address_reads s m) (addresses_of a m) (address_of s m) leads (laws.operands.shown.address framed pc a s first under m)
+    (laws.operands.stands.operand framed a s first under m) (laws.operands.stands.operand_form framed a under.form m is) each
 
 -- THE INSTRUCTIONS
 
@@ -71,25 +71,25 @@ pub immediate_does : (laws : Premises) (framed : Bool) (a : Known) (s : ChipStat
     → Gives (DoesSo framed first [] pc (immediate value a) s) (effect_of image s (MoveImmediate Accumulator value))
 unfolding effect_of
 immediate_does laws framed a s first image pc value under small =
-    laws.formats.implied framed first pc (immediate value a) s (with_accumulator value s) (record { onward = refl; under = immediate_so laws framed a s first value under small })
+    laws.operands.formats.implied framed first pc (immediate value a) s (with_accumulator value s) (record { onward = refl; under = immediate_so laws framed a s first value under small })
 
 pub increment_does : (laws : Premises) (framed : Bool) (a : Known) (s : ChipState) (first : Option ChipState) (image : List (Option ℕ)) (pc : ℕ) → IsUnder framed a s first
     → Gives (DoesSo framed first [] pc (counted true a) s) (effect_of image s (Increment Accumulator))
 unfolding effect_of
 increment_does laws framed a s first image pc under =
-    laws.formats.implied framed first pc (counted true a) s (with_accumulator ((s.a + 1) % 256) s) (record { onward = refl; under = count_so laws framed a s first true under })
+    laws.operands.formats.implied framed first pc (counted true a) s (with_accumulator ((s.a + 1) % 256) s) (record { onward = refl; under = count_so laws framed a s first true under })
 
 pub decrement_does : (laws : Premises) (framed : Bool) (a : Known) (s : ChipState) (first : Option ChipState) (image : List (Option ℕ)) (pc : ℕ) → IsUnder framed a s first
     → Gives (DoesSo framed first [] pc (counted false a) s) (effect_of image s (Decrement Accumulator))
 unfolding effect_of
 decrement_does laws framed a s first image pc under =
-    laws.formats.implied framed first pc (counted false a) s (with_accumulator ((s.a + 255) % 256) s) (record { onward = refl; under = count_so laws framed a s first false under })
+    laws.operands.formats.implied framed first pc (counted false a) s (with_accumulator ((s.a + 255) % 256) s) (record { onward = refl; under = count_so laws framed a s first false under })
 
 pub accumulate_does : (laws : Premises) (framed : Bool) (a : Known) (s : ChipState) (first : Option ChipState) (image : List (Option ℕ)) (pc : ℕ) (done : Operation) (origin : Source) → IsUnder framed a s first → IsSource origin
     → Gives (DoesSo framed first (source_items pc a origin) pc (accumulated_known framed done origin a) s) (effect_of image s (Accumulate done origin))
 unfolding effect_of
 accumulate_does laws framed a s first image pc done (source.Immediate value) under is =
-    laws.formats.implied framed first pc (accumulated_known framed done (source.Immediate value) a) s (accumulated done value s)
+    laws.operands.formats.implied framed first pc (accumulated_known framed done (source.Immediate value) a) s (accumulated done value s)
     (record { onward = accumulated_on done value s; under = accumulate_so laws framed a s first done (source.Immediate value) value under is refl })
 accumulate_does laws framed a s first image pc done (source.Memory m) under is =
     operand_does laws framed a s first pc m (accumulated_known framed done (source.Memory m) a) (λ x. accumulated done x s) under is
@@ -99,4 +99,4 @@ pub change_does : (laws : Premises) (framed : Bool) (a : Known) (s : ChipState) 
     → Gives (DoesSo framed first [] pc (changed_known done a) s) (effect_of image s (ChangeAccumulator done))
 unfolding effect_of
 change_does laws framed a s first image pc done under =
-    laws.formats.implied framed first pc (changed_known done a) s (changed done s) (record { onward = changed_on done s; under = change_so laws framed a s first done under })
+    laws.operands.formats.implied framed first pc (changed_known done a) s (changed done s) (record { onward = changed_on done s; under = change_so laws framed a s first done under })

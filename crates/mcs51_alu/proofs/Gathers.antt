@@ -22,13 +22,13 @@ value_small fact v = mod-lt (fact.factor * v + fact.added) {m = 256} (omega arit
 
 ram_normal : (laws : Premises) (framed : Bool) (a : Known) (place : ℕ) → place < 256 → IsKnown framed a → IsNormal 256 (ram_values a (single place))
 unfolding read_byte
-ram_normal laws framed a place small form = (laws.reads.form framed a form (InRam (single place)) (laws.sets.alone 256 place small).0).normal
+ram_normal laws framed a place small form = (laws.operands.reads.form framed a form (InRam (single place)) (laws.known.sets.single 256 place small).0).normal
 
 ram_has : (laws : Premises) (framed : Bool) (a : Known) (s : ChipState) (first : Option ChipState) (place : ℕ) → place < 256 → IsUnder framed a s first → Has 256 (ram_values a (single place)) (slice_index s.ram place)
 unfolding read_byte
 ram_has laws framed a s first place small under =
-    let one = laws.sets.alone 256 place small in
-    (laws.reads.byte framed a s first under (InRam (single place)) (AtRam place) (slice_index s.ram place) one.1 one.0 refl).0
+    let one = laws.known.sets.single 256 place small in
+    (laws.operands.reads.byte framed a s first under (InRam (single place)) (AtRam place) (slice_index s.ram place) one.1 one.0 refl).0
 
 pub mapped_some : (f : ℕ → ℕ) (xs ys : List ℕ) → ys ≡ map f xs → 1 ≤ length xs → length ys ≡ 0 → ⊥
 mapped_some f xs ys same some none = let count : length ys ≡ length xs = ap length same ∙ length-map xs f in omega (arith, some, none, count)
@@ -37,9 +37,9 @@ pub values_normal : (laws : Premises) (framed : Bool) (a : Known) (fact : Linear
 unfolding linear_values
 values_normal laws framed a fact is form =
     let all = members 256 (ram_values a (single fact.place)) in
-    let some : 1 ≤ length all = laws.sets.some 256 (ram_values a (single fact.place)) (ram_normal laws framed a fact.place is.0 form) in
+    let some : 1 ≤ length all = laws.known.sets.some 256 (ram_values a (single fact.place)) (ram_normal laws framed a fact.place is.0 form) in
     let count : length (map (linear_value fact) all) ≡ length all = length-map all (linear_value fact) in
-    laws.sets.gather_normal 256 (map (linear_value fact) all) (omega (arith, some, count)) (map_below (linear_value fact) 256 (value_small fact) all)
+    laws.known.sets.gather_normal 256 (map (linear_value fact) all) (omega (arith, some, count)) (map_below (linear_value fact) 256 (value_small fact) all)
 
 pub values_have : (laws : Premises) (framed : Bool) (a : Known) (s : ChipState) (first : Option ChipState) (fact : LinearFact) → IsLinear (Some fact) → IsUnder framed a s first
     → Has 256 (linear_values a fact) (linear_value fact (slice_index s.ram fact.place))
@@ -47,5 +47,5 @@ unfolding linear_values
 values_have laws framed a s first fact is under =
     let all = members 256 (ram_values a (single fact.place)) in
     let r = slice_index s.ram fact.place in
-    laws.sets.gather_holds 256 (linear_value fact r) (map (linear_value fact) all) (map_below (linear_value fact) 256 (value_small fact) all)
+    laws.known.sets.gather_holds 256 (linear_value fact r) (map (linear_value fact) all) (map_below (linear_value fact) 256 (value_small fact) all)
     (in_map (linear_value fact) all r (ram_has laws framed a s first fact.place is.0 under))

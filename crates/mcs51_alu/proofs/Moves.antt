@@ -44,46 +44,46 @@ pub load_form : (laws : Premises) (framed : Bool) (a : Known) (m : Memory) → I
 unfolding loaded
 load_form laws framed a m form is =
     let addresses = addresses_of a m in
-    let are = laws.reads.stands_form framed a form m is in
-    byte_form framed (read_byte framed a addresses) (loaded_fact addresses) a (laws.reads.form framed a form addresses are)
-    (loaded_is (only_address addresses) (λ at e. address_small laws.sets.below addresses at are e)) form
+    let are = laws.operands.stands.operand_form framed a form m is in
+    byte_form framed (read_byte framed a addresses) (loaded_fact addresses) a (laws.operands.reads.form framed a form addresses are)
+    (loaded_is (only_address addresses) (λ at e. address_small laws.known.sets.below addresses at are e)) form
 
 pub load_so : (laws : Premises) (framed : Bool) (a : Known) (s : ChipState) (first : Option ChipState) (m : Memory) (x : ℕ) → IsUnder framed a s first → IsMemory m → MayRead s (address_of s m) x
     → IsUnder framed (loaded framed m a) (with_accumulator x s) first
 unfolding loaded
 load_so laws framed a s first m x under is may =
     let addresses = addresses_of a m in
-    let are = laws.reads.stands_form framed a under.form m is in
-    let stands = laws.reads.stands framed a s first under m in
+    let are = laws.operands.stands.operand_form framed a under.form m is in
+    let stands = laws.operands.stands.operand framed a s first under m in
     let byte = read_byte framed a addresses in
-    let form = laws.reads.form framed a under.form addresses are in
-    let holds = laws.reads.byte framed a s first under addresses (address_of s m) x stands are may in
-    byte_under laws framed byte (loaded_fact addresses) a s first x form holds (loaded_is (only_address addresses) (λ at e. address_small laws.sets.below addresses at are e))
-    (loaded_holds (only_address addresses) s x (laws.sets.below 256 x byte.set form.normal holds.0) (λ at e. only_read addresses (address_of s m) s at x e stands may)) under
+    let form = laws.operands.reads.form framed a under.form addresses are in
+    let holds = laws.operands.reads.byte framed a s first under addresses (address_of s m) x stands are may in
+    byte_under laws framed byte (loaded_fact addresses) a s first x form holds (loaded_is (only_address addresses) (λ at e. address_small laws.known.sets.below addresses at are e))
+    (loaded_holds (only_address addresses) s x (laws.known.sets.below 256 x byte.set form.normal holds.0) (λ at e. only_read addresses (address_of s m) s at x e stands may)) under
 
 pub immediate_form : (laws : Premises) (framed : Bool) (a : Known) (value : ℕ) → IsKnown framed a → value < 256 → IsKnown framed (immediate value a)
 unfolding immediate
-immediate_form laws framed a value form small = byte_form framed (byte_of (single value)) None a (no_relation framed value (laws.sets.alone 256 value small).0) tt form
+immediate_form laws framed a value form small = byte_form framed (byte_of (single value)) None a (no_relation framed value (laws.known.sets.single 256 value small).0) tt form
 
 pub immediate_so : (laws : Premises) (framed : Bool) (a : Known) (s : ChipState) (first : Option ChipState) (value : ℕ) → IsUnder framed a s first → value < 256 → IsUnder framed (immediate value a) (with_accumulator value s) first
 unfolding immediate
 immediate_so laws framed a s first value under small =
-    let one = laws.sets.alone 256 value small in
+    let one = laws.known.sets.single 256 value small in
     byte_under laws framed (byte_of (single value)) None a s first value (no_relation framed value one.0) (one.1, tt) tt tt under
 
 -- INC AND DEC
 
 pub count_form : (laws : Premises) (framed : Bool) (a : Known) (up : Bool) → IsKnown framed a → IsKnown framed (counted up a)
 unfolding counted
-count_form laws framed a true form = byte_form framed (increased a.a) None a (laws.results_so.increased_form framed a.a form.a) tt form
-count_form laws framed a false form = byte_form framed (decreased a.a) None a (laws.results_so.decreased_form framed a.a form.a) tt form
+count_form laws framed a true form = byte_form framed (increased a.a) None a (laws.results.changes.increased_form framed a.a form.a) tt form
+count_form laws framed a false form = byte_form framed (decreased a.a) None a (laws.results.changes.decreased_form framed a.a form.a) tt form
 
 pub count_so : (laws : Premises) (framed : Bool) (a : Known) (s : ChipState) (first : Option ChipState) (up : Bool) → IsUnder framed a s first
     → IsUnder framed (counted up a) (with_accumulator (if up then (s.a + 1) % 256 else (s.a + 255) % 256) s) first
 unfolding counted
 count_so laws framed a s first true under =
-    byte_under laws framed (increased a.a) None a s first ((s.a + 1) % 256) (laws.results_so.increased_form framed a.a under.form.a)
-    (laws.results_so.increased framed (option_map suspended_of first) a.a s.a under.form.a under.holds.parts.a) tt tt under
+    byte_under laws framed (increased a.a) None a s first ((s.a + 1) % 256) (laws.results.changes.increased_form framed a.a under.form.a)
+    (laws.results.changes.increased framed (option_map suspended_of first) a.a s.a under.form.a under.holds.parts.a) tt tt under
 count_so laws framed a s first false under =
-    byte_under laws framed (decreased a.a) None a s first ((s.a + 255) % 256) (laws.results_so.decreased_form framed a.a under.form.a)
-    (laws.results_so.decreased framed (option_map suspended_of first) a.a s.a under.form.a under.holds.parts.a) tt tt under
+    byte_under laws framed (decreased a.a) None a s first ((s.a + 255) % 256) (laws.results.changes.decreased_form framed a.a under.form.a)
+    (laws.results.changes.decreased framed (option_map suspended_of first) a.a s.a under.form.a under.holds.parts.a) tt tt under

@@ -38,14 +38,14 @@ use Rattle.mcs51_alu.proofs.Written.{before_form, before_stands, byte_under, fla
 
 operand_form : (laws : Premises) (framed : Bool) (a : Known) (origin : Source) → IsKnown framed a → IsSource origin → AreOperands (operand_of framed a origin)
 operand_form laws framed a (source.Immediate value) form is = is
-operand_form laws framed a (source.Memory m) form is = (laws.reads.form framed a form (addresses_of a m) (laws.reads.stands_form framed a form m is)).normal
+operand_form laws framed a (source.Memory m) form is = (laws.operands.reads.form framed a form (addresses_of a m) (laws.operands.stands.operand_form framed a form m is)).normal
 
 operand_so : (laws : Premises) (framed : Bool) (a : Known) (s : ChipState) (first : Option ChipState) (origin : Source) (x : ℕ) → IsUnder framed a s first → IsSource origin → MayBe s origin x → IsOperand (operand_of framed a origin) x
 operand_so laws framed a s first (source.Immediate value) x under is may = (is, may)
 operand_so laws framed a s first (source.Memory m) x under is may =
-    let are = laws.reads.stands_form framed a under.form m is in record {
-      normal = (laws.reads.form framed a under.form (addresses_of a m) are).normal;
-      has = (laws.reads.byte framed a s first under (addresses_of a m) (address_of s m) x (laws.reads.stands framed a s first under m) are may).0;
+    let are = laws.operands.stands.operand_form framed a under.form m is in record {
+      normal = (laws.operands.reads.form framed a under.form (addresses_of a m) are).normal;
+      has = (laws.operands.reads.byte framed a s first under (addresses_of a m) (address_of s m) x (laws.operands.stands.operand framed a s first under m) are may).0;
     }
 
 -- ACC is the accumulator
@@ -68,9 +68,9 @@ made_is : (laws : Premises) (framed : Bool) (a : Known) (done : Operation) (orig
 made_is laws framed a done origin form is =
     let two = accumulated_made done a.a (operand_of framed a origin) a.psw in
     let twice = twice_made a.a a.psw in
-    let two_is = laws.results_so.two_form framed done (made_before a) (operand_of framed a origin) (before_form framed a form) (operand_form laws framed a origin form is) in
+    let two_is = laws.results.accumulations.two_form framed done (made_before a) (operand_of framed a origin) (before_form framed a form) (operand_form laws framed a origin form is) in
     cond_both (is_itself origin) (if is_add done then twice else two) two (IsMade framed)
-    (λ e. cond_both (is_add done) twice two (IsMade framed) (λ add. laws.results_so.twice_form framed (made_before a) (before_form framed a form)) (λ add. two_is)) (λ e. two_is)
+    (λ e. cond_both (is_add done) twice two (IsMade framed) (λ add. laws.results.accumulations.twice_form framed (made_before a) (before_form framed a form)) (λ add. two_is)) (λ e. two_is)
 
 made_holds : (laws : Premises) (framed : Bool) (a : Known) (s : ChipState) (first : Option ChipState) (done : Operation) (origin : Source) (x : ℕ) → IsUnder framed a s first → IsSource origin → MayBe s origin x
     → HoldsOfMade (option_map suspended_of first) (made_of framed done origin a) (accumulated done x s)
@@ -79,8 +79,8 @@ made_holds laws framed a s first done origin x under is may =
     let two = accumulated_made done a.a (operand_of framed a origin) a.psw in
     let twice = twice_made a.a a.psw in
     let stands = before_stands framed a s first under in
-    let two_holds = laws.results_so.two framed first_so done (made_before a) (operand_of framed a origin) x s stands (operand_so laws framed a s first origin x under is may) in
-    let twice_holds = laws.results_so.twice framed first_so (made_before a) s stands in
+    let two_holds = laws.results.accumulations.two framed first_so done (made_before a) (operand_of framed a origin) x s stands (operand_so laws framed a s first origin x under is may) in
+    let twice_holds = laws.results.accumulations.twice framed first_so (made_before a) s stands in
     cond_both (is_itself origin) (if is_add done then twice else two) two (λ (made : Made). HoldsOfMade first_so made (accumulated done x s))
     (λ own. cond_both (is_add done) twice two (λ (made : Made). HoldsOfMade first_so made (accumulated done x s))
     (λ add. subst (λ (d : Operation). HoldsOfMade first_so twice (accumulated d x s)) (sym (add_so done add))
@@ -133,7 +133,7 @@ behind_fact laws framed a s first None origin x p under is may fact = (tt, tt)
 behind_fact laws framed a s first (Some fact) (source.Immediate value) x p under is may held =
     subst (λ n. IsFact (Some (raised_by value fact)) (made_state ((s.a + n + 0) % 256) p s)) (sym may) (raised_fact fact value p s is held)
 behind_fact laws framed a s first (Some fact) (source.Memory m) x p under is may held =
-    with_fact fact (only_address (addresses_of a m)) x p s (λ at e. only_read (addresses_of a m) (address_of s m) s at x e (laws.reads.stands framed a s first under m) may) held
+    with_fact fact (only_address (addresses_of a m)) x p s (λ at e. only_read (addresses_of a m) (address_of s m) s at x e (laws.operands.stands.operand framed a s first under m) may) held
 
 -- its form needs no state
 with_is : (only : Option ℕ) (fact : LinearFact) → IsLinear (Some fact) → IsLinear (with_byte only fact)
@@ -191,7 +191,7 @@ flags_under laws framed a s first made fact x carry half over c h o under is for
     let gathered = gathered_made a fact made in
     let gathered_form = gathered_is laws framed a fact made under.form is.0 form in
     let gathered_so = gathered_holds laws framed a s first fact made x p under is holds in
-    made_under framed gathered fact None a s first x p (laws.sets.below 256 x gathered.a.set gathered_form.a.normal gathered_so.a.0) (flags_below s.psw carry half over c h o)
+    made_under framed gathered fact None a s first x p (laws.known.sets.below 256 x gathered.a.set gathered_form.a.normal gathered_so.a.0) (flags_below s.psw carry half over c h o)
     (flags_held s.psw carry half over) gathered_form gathered_so is.0 is.1 tt tt under
 
 -- nothing but the accumulator is written

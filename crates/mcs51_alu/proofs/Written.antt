@@ -154,6 +154,6 @@ pub byte_under : (laws : Premises) (framed : Bool) (byte : Byte) (linear : Optio
     → HoldsOfByte (option_map suspended_of first) byte x → IsLinear linear → HoldsOfLinear linear (with_accumulator x s) → IsUnder framed a s first → IsUnder framed (with_byte byte linear a) (with_accumulator x s) first
 byte_under laws framed byte linear a s first x is holds linear_is linear_holds under =
     let state = under.holds.state in
-    made_under framed (record { a = byte; psw = a.psw }) linear (carry_left false a.carry_fact) a s first x s.psw (laws.sets.below 256 x byte.set is.normal holds.0) state.psw state.psw_held
+    made_under framed (record { a = byte; psw = a.psw }) linear (carry_left false a.carry_fact) a s first x s.psw (laws.known.sets.below 256 x byte.set is.normal holds.0) state.psw state.psw_held
     (record { a = is; psw = record { bits = under.form.bits; entry = under.form.psw } }) (record { a = holds; psw = under.holds.parts.psw }) linear_is linear_holds
     (left_is false a.carry_fact under.form.carry_fact) (left_holds a.carry_fact x s under.holds.parts.carry_fact) under

@@ -1,3 +1,4 @@
-pub mod LinearFacts
 pub mod Accumulator
+pub mod Laws
+pub mod LinearFacts
 pub mod Premises

@@ -7,8 +7,7 @@ use crate::linear::{added_fact, gathered_by, loaded_fact};
 use call_context::{Item, Sequence};
 use entry_value::{Byte, Cells};
 use mcs51_decode::{AccumulatorOperation, Memory, Operation, Source};
-use mcs51_formats::show_read;
-use mcs51_operands::{addresses_of, read_byte};
+use mcs51_operands::{addresses_of, read_byte, show_read};
 use mcs51_results::{
     Made, Operand, accumulated_made, changed_made, decreased, increased, twice_made,
 };

@@ -26,8 +26,8 @@ use Rattle.mcs51_operands.specs.Operands.{bit_addresses}
 use Rattle.mcs51_results.specs.Holding.{IsStatus}
 use Rattle.mcs51_results.specs.StatusBytes.{carry_bit_made, carry_made}
 use Rattle.mcs51_stores.specs.Writing.{status_written}
-use Rattle.mcs51_formats.specs.Doing.{DoesSo, LeadsSo}
-use Rattle.mcs51_formats.specs.Shown.{read_at}
+use Rattle.mcs51_operands.specs.Doing.{DoesSo, LeadsSo}
+use Rattle.mcs51_operands.specs.Accesses.{read_at}
 use Rattle.mcs51_bits.specs.Bits.{bit_read, carry_changed, carry_joined}
 use Rattle.mcs51_bits.specs.Premises.{Premises}
 
@@ -63,15 +63,15 @@ carry_under laws framed a s first psw c small under form holds =
     let x = s.psw % 128 + 128 * c in
     let same : x / 4 * 4 ≡ x = held_is x (omega (arith, before)) in
     subst (λ (p : ℕ). IsUnder framed (status_written psw a) (record s { psw = p }) first) same
-    (laws.writes.status framed first psw x (omega (arith, small)) form.bits form.entry (subst (HoldsOfStatus (option_map suspended_of first) psw) (sym same) holds) a s under)
+    (laws.stores.flags.status framed first psw x (omega (arith, small)) form.bits form.entry (subst (HoldsOfStatus (option_map suspended_of first) psw) (sym same) holds) a s under)
 
 -- CPL, CLR AND SETB
 
 pub carry_form : (laws : Premises) (framed : Bool) (a : Known) (operation : CarryOperation) → IsKnown framed a → IsKnown framed (carry_changed operation a)
 unfolding carry_changed
 carry_form laws framed a operation form =
-    let is = laws.bits.carry_form framed operation a.psw in
-    laws.writes.status_form framed (carry_made operation a.psw) is.bits is.entry a form
+    let is = laws.results.bits.carry_form framed operation a.psw in
+    laws.stores.forms.status framed (carry_made operation a.psw) is.bits is.entry a form
 
 pub carry_does : (laws : Premises) (framed : Bool) (a : Known) (s : ChipState) (first : Option ChipState) (image : List (Option ℕ)) (pc : ℕ) (operation : CarryOperation) → IsUnder framed a s first
     → Gives (DoesSo framed first [] pc (carry_changed operation a) s) (effect_of image s (ChangeCarry operation))
@@ -79,10 +79,10 @@ unfolding carry_changed effect_of
 carry_does laws framed a s first image pc operation under =
     let c = carry_after operation (carry_of s) in
     let made = carry_made operation a.psw in
-    let holds = laws.bits.carry (option_map suspended_of first) operation a.psw s under.holds.parts.psw in
-    laws.formats.implied framed first pc (status_written made a) s (with_carry c s) (record {
+    let holds = laws.results.bits.carry (option_map suspended_of first) operation a.psw s under.holds.parts.psw in
+    laws.operands.formats.implied framed first pc (status_written made a) s (with_carry c s) (record {
       onward = refl;
-      under = carry_under laws framed a s first made c (after_small operation (carry_of s) (bit_at-lt s.psw 7)) under (laws.bits.carry_form framed operation a.psw) holds;
+      under = carry_under laws framed a s first made c (after_small operation (carry_of s) (bit_at-lt s.psw 7)) under (laws.results.bits.carry_form framed operation a.psw) holds;
     })
 
 -- ORL, ANL AND MOV
@@ -90,29 +90,29 @@ carry_does laws framed a s first image pc operation under =
 pub carry_bit_form : (laws : Premises) (framed : Bool) (a : Known) (operation : CarryByBit) (bit : ℕ) → IsKnown framed a → IsKnown framed (carry_joined operation bit a)
 unfolding carry_joined
 carry_bit_form laws framed a operation bit form =
-    let is = laws.bits.carry_bit_form framed operation a.psw (bit_read a bit) in
-    laws.writes.status_form framed (carry_bit_made operation (bit_read a bit) a.psw) is.bits is.entry a form
+    let is = laws.results.bits.carry_bit_form framed operation a.psw (bit_read a bit) in
+    laws.stores.forms.status framed (carry_bit_made operation (bit_read a bit) a.psw) is.bits is.entry a form
 
 joined_leads : (laws : Premises) (framed : Bool) (a : Known) (s : ChipState) (first : Option ChipState) (operation : CarryByBit) (bit x : ℕ) → IsUnder framed a s first → bit < 256 → MayRead s (bit_address bit) x
     → LeadsSo framed first (carry_joined operation bit a) s (with_carry (carry_with operation (carry_of s) (bit_at x (bit % 8))) s)
 unfolding carry_joined
 joined_leads laws framed a s first operation bit x under inside may =
-    let at = laws.reads.stands bit inside in
-    let is = laws.reads.bit framed a s first under (bit_addresses bit) (bit_address bit) x (bit % 8) at.0 at.1 may (omega arith) in
+    let at = laws.operands.stands.bit bit inside in
+    let is = laws.operands.reads.bit framed a s first under (bit_addresses bit) (bit_address bit) x (bit % 8) at.0 at.1 may (omega arith) in
     let made = carry_bit_made operation (bit_read a bit) a.psw in
     let y = bit_at x (bit % 8) in
-    let holds = laws.bits.carry_bit (option_map suspended_of first) operation a.psw (bit_read a bit) y s under.holds.parts.psw is in
+    let holds = laws.results.bits.carry_bit (option_map suspended_of first) operation a.psw (bit_read a bit) y s under.holds.parts.psw is in
     record {
       onward = refl;
       under = carry_under laws framed a s first made (carry_with operation (carry_of s) y) (with_small operation (carry_of s) y (bit_at-lt s.psw 7) (bit_at-lt x (bit % 8))) under
-          (laws.bits.carry_bit_form framed operation a.psw (bit_read a bit)) holds;
+          (laws.results.bits.carry_bit_form framed operation a.psw (bit_read a bit)) holds;
     }
 
 pub carry_bit_does : (laws : Premises) (framed : Bool) (a : Known) (s : ChipState) (first : Option ChipState) (image : List (Option ℕ)) (pc : ℕ) (operation : CarryByBit) (bit : ℕ) → IsUnder framed a s first → bit < 256
     → Gives (DoesSo framed first (read_at pc (bit_addresses bit)) pc (carry_joined operation bit a) s) (effect_of image s (CarryBit operation bit))
 unfolding effect_of
 carry_bit_does laws framed a s first image pc operation bit under inside =
-    let at = laws.reads.stands bit inside in
-    laws.formats.reading framed first [] pc (carry_joined operation bit a) s [] (bit_addresses bit) (bit_address bit)
-    (λ x. with_carry (carry_with operation (carry_of s) (bit_at x (bit % 8))) s) (laws.formats.none [] pc) at.0 at.1
+    let at = laws.operands.stands.bit bit inside in
+    laws.operands.formats.reading framed first [] pc (carry_joined operation bit a) s [] (bit_addresses bit) (bit_address bit)
+    (λ x. with_carry (carry_with operation (carry_of s) (bit_at x (bit % 8))) s) (laws.operands.sums.none [] pc) at.0 at.1
     (λ x may. joined_leads laws framed a s first operation bit x under inside may)

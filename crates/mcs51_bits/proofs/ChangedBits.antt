@@ -24,8 +24,8 @@ use Rattle.mcs51_results.specs.Holding.{IsStatus}
 use Rattle.mcs51_results.specs.StatusBytes.{status_with_bit}
 use Rattle.mcs51_stores.specs.Following.{IsValue}
 use Rattle.mcs51_stores.specs.Writing.{byte_written, status_written}
-use Rattle.mcs51_formats.specs.Doing.{DoesSo, LeadsSo}
-use Rattle.mcs51_formats.specs.Shown.{update_at}
+use Rattle.mcs51_operands.specs.Doing.{DoesSo, LeadsSo}
+use Rattle.mcs51_operands.specs.Accesses.{update_at}
 use Rattle.mcs51_bits.specs.Bits.{bit_changed, byte_changed, is_of_status}
 use Rattle.mcs51_bits.specs.Premises.{Premises}
 
@@ -38,20 +38,20 @@ after operation bit s x = with_bit x (bit % 8) (bit_after operation (carry_of s)
 value_is : (laws : Premises) (framed : Bool) (a : Known) (s : ChipState) (first : Option ChipState) (operation : BitOperation) (bit x : ℕ) → IsUnder framed a s first → bit < 256 → MayRead s (bit_address bit) x
     → IsValue framed first (byte_changed framed operation bit a) (after operation bit s x)
 value_is laws framed a s first operation bit x under inside may =
-    let at = laws.reads.stands bit inside in
+    let at = laws.operands.stands.bit bit inside in
     let byte = read_byte framed a (bit_addresses bit) in
-    let form = laws.reads.form framed a under.form (bit_addresses bit) at.1 in
-    let holds = laws.reads.byte framed a s first under (bit_addresses bit) (bit_address bit) x at.0 at.1 may in
+    let form = laws.operands.reads.form framed a under.form (bit_addresses bit) at.1 in
+    let holds = laws.operands.reads.byte framed a s first under (bit_addresses bit) (bit_address bit) x at.0 at.1 may in
     record {
-      form = laws.bits.byte_form framed operation bit (carry a) byte form;
-      holds = laws.bits.byte framed (option_map suspended_of first) operation bit (carry a) byte x (carry_of s) form holds (laws.reads.carry_so framed a s first under);
+      form = laws.results.bits.byte_form framed operation bit (carry a) byte form;
+      holds = laws.results.bits.byte framed (option_map suspended_of first) operation bit (carry a) byte x (carry_of s) form holds (laws.operands.reads.carry framed a s first under);
     }
 
 after_small : (laws : Premises) (framed : Bool) (a : Known) (s : ChipState) (first : Option ChipState) (operation : BitOperation) (bit x : ℕ) → IsUnder framed a s first → bit < 256 → MayRead s (bit_address bit) x
     → after operation bit s x < 256
 after_small laws framed a s first operation bit x under inside may =
     let value = value_is laws framed a s first operation bit x under inside may in
-    laws.reads.below 256 (after operation bit s x) (byte_changed framed operation bit a).set value.form.normal value.holds.0
+    laws.known.sets.below 256 (after operation bit s x) (byte_changed framed operation bit a).set value.form.normal value.holds.0
 
 -- PSW
 
@@ -63,9 +63,9 @@ psw_under : (laws : Premises) (framed : Bool) (a : Known) (s : ChipState) (first
 unfolding write
 psw_under laws framed a s first operation bit x small under may =
     let form : IsStatus framed a.psw = record { bits = under.form.bits; entry = under.form.psw } in
-    let is = laws.bits.status_form framed operation bit a.psw form in
-    let holds = laws.bits.status framed first operation bit a.psw s x under.holds.state form under.holds.parts.psw may in
-    laws.writes.status framed first (status_with_bit operation bit a.psw) (after operation bit s x) small is.bits is.entry holds a s under
+    let is = laws.results.bits.status_form framed operation bit a.psw form in
+    let holds = laws.results.bits.status framed first operation bit a.psw s x under.holds.state form under.holds.parts.psw may in
+    laws.stores.flags.status framed first (status_with_bit operation bit a.psw) (after operation bit s x) small is.bits is.entry holds a s under
 
 -- EITHER
 
@@ -82,12 +82,12 @@ of_status framed operation bit a is =
 pub bit_form : (laws : Premises) (framed : Bool) (a : Known) (operation : BitOperation) (bit : ℕ) → IsKnown framed a → bit < 256 → IsKnown framed (bit_changed framed operation bit a)
 unfolding bit_changed
 bit_form laws framed a operation bit form inside =
-    let at = laws.reads.stands bit inside in
-    let is = laws.bits.status_form framed operation bit a.psw (record { bits = form.bits; entry = form.psw }) in
-    let byte = laws.bits.byte_form framed operation bit (carry a) (read_byte framed a (bit_addresses bit)) (laws.reads.form framed a form (bit_addresses bit) at.1) in
+    let at = laws.operands.stands.bit bit inside in
+    let is = laws.results.bits.status_form framed operation bit a.psw (record { bits = form.bits; entry = form.psw }) in
+    let byte = laws.results.bits.byte_form framed operation bit (carry a) (read_byte framed a (bit_addresses bit)) (laws.operands.reads.form framed a form (bit_addresses bit) at.1) in
     either_form framed (is_of_status bit) (status_written (status_with_bit operation bit a.psw) a) (byte_written framed (bit_addresses bit) (byte_changed framed operation bit a) a)
-    (laws.writes.status_form framed (status_with_bit operation bit a.psw) is.bits is.entry a form)
-    (laws.writes.byte_form framed (bit_addresses bit) (byte_changed framed operation bit a) at.1 byte a form)
+    (laws.stores.forms.status framed (status_with_bit operation bit a.psw) is.bits is.entry a form)
+    (laws.stores.forms.byte framed (bit_addresses bit) (byte_changed framed operation bit a) at.1 byte a form)
 
 under_either : (laws : Premises) (framed : Bool) (a : Known) (s : ChipState) (first : Option ChipState) (operation : BitOperation) (bit x : ℕ) (of_status : Bool) → is_of_status bit ≡ of_status → IsUnder framed a s first
     → bit < 256 → MayRead s (bit_address bit) x
@@ -97,14 +97,14 @@ under_either laws framed a s first operation bit x true is under inside may =
     subst (λ (address : Address). IsUnder framed (status_written (status_with_bit operation bit a.psw) a) (write address (after operation bit s x) s) first) (sym at)
     (psw_under laws framed a s first operation bit x (after_small laws framed a s first operation bit x under inside may) under (subst (λ (address : Address). MayRead s address x) at may))
 under_either laws framed a s first operation bit x false is under inside may =
-    let at = laws.reads.stands bit inside in
-    laws.writes.byte framed first (bit_addresses bit) (bit_address bit) (byte_changed framed operation bit a) (after operation bit s x) (value_is laws framed a s first operation bit x under inside may) at.1 at.0 a s under
+    let at = laws.operands.stands.bit bit inside in
+    laws.stores.writes.byte framed first (bit_addresses bit) (bit_address bit) (byte_changed framed operation bit a) (after operation bit s x) (value_is laws framed a s first operation bit x under inside may) at.1 at.0 a s under
 
 changed_leads : (laws : Premises) (framed : Bool) (a : Known) (s : ChipState) (first : Option ChipState) (operation : BitOperation) (bit x : ℕ) → IsUnder framed a s first → bit < 256 → MayRead s (bit_address bit) x
     → LeadsSo framed first (bit_changed framed operation bit a) s (write (bit_address bit) (after operation bit s x) s)
 unfolding bit_changed
 changed_leads laws framed a s first operation bit x under inside may = record {
-  onward = laws.formats.write_keeps (bit_address bit) (after operation bit s x) s;
+  onward = laws.operands.formats.write_keeps (bit_address bit) (after operation bit s x) s;
   under = under_either laws framed a s first operation bit x (is_of_status bit) refl under inside may;
 }
 
@@ -112,7 +112,7 @@ pub bit_does : (laws : Premises) (framed : Bool) (a : Known) (s : ChipState) (fi
     → Gives (DoesSo framed first (update_at pc (bit_addresses bit)) pc (bit_changed framed operation bit a) s) (effect_of image s (ChangeBit operation bit))
 unfolding effect_of
 bit_does laws framed a s first image pc operation bit under inside =
-    let at = laws.reads.stands bit inside in
-    laws.formats.updating framed first [] pc (bit_changed framed operation bit a) s [] (bit_addresses bit) (bit_address bit)
-    (λ x. write (bit_address bit) (after operation bit s x) s) (laws.formats.none [] pc) at.0 at.1
+    let at = laws.operands.stands.bit bit inside in
+    laws.operands.formats.updating framed first [] pc (bit_changed framed operation bit a) s [] (bit_addresses bit) (bit_address bit)
+    (λ x. write (bit_address bit) (after operation bit s x) s) (laws.operands.sums.none [] pc) at.0 at.1
     (λ x may. changed_leads laws framed a s first operation bit x under inside may)

@@ -2,7 +2,8 @@
 use Rattle.std.proofs.Common.{◌≡◌, ℕ, ◌%◌, ◌<◌, ◌==◌, Bool, true, false, Option, None, Some, List, refl, sym, ap, ◌∙◌, arith}
 use Rattle.std.specs.Prelude.{nat_lt}
 use Rattle.value_bits.specs.declared.tri.Tri.{Tri}
-use Rattle.value_bits.specs.Bits.{IsBit}
+use Rattle.value_bits.specs.Bits.{IsBit, known_flag}
+use Rattle.irq_frames.specs.KnownLaws.{KnownLaws}
 use Rattle.mcs51_chip.specs.declared.state.ChipState.{ChipState}
 use Rattle.mcs51_chip.specs.Registers.{bit_of, carry_of, with_carry}
 use Rattle.mcs51_chip.specs.State.{IsChipState}
@@ -15,8 +16,8 @@ use Rattle.mcs51_state.specs.Holding.{HoldsOf, HoldsOfCarry, HoldsOfLinear, Hold
 use Rattle.mcs51_state.specs.Known.{Known}
 use Rattle.mcs51_state.specs.Places.{psw_place}
 use Rattle.mcs51_state.specs.Under.{IsUnder}
-use Rattle.mcs51_branch.specs.Jumps.{known_flag, with_seen_carry, with_carry_written}
-use Rattle.mcs51_branch.proofs.CarryBits.{carry_put, carry_seen, known_set, put_long, written_carry}
+use Rattle.mcs51_branch.specs.Jumps.{with_seen_carry, with_carry_written}
+use Rattle.mcs51_branch.proofs.CarryBits.{carry_put, carry_seen, put_long, written_carry}
 
 no_own_relation : (framed : Bool) (place unheld : ℕ) → IsOwnRelation framed place unheld None
 no_own_relation true place unheld = tt
@@ -36,18 +37,18 @@ seen_form framed carry known form =
 pub seen_carry_form : (framed : Bool) (carry : Bool) (known : Known) → IsKnown framed known → IsKnown framed (with_seen_carry carry known)
 seen_carry_form framed carry known form = seen_form framed carry known form
 
-seen_holds : (known : Known) (s : ChipState) (first : Option ChipState) (framed : Bool) → IsUnder framed known s first → HoldsOf (with_seen_carry (carry_of s == 1) known) s first
+seen_holds : (laws : KnownLaws) (known : Known) (s : ChipState) (first : Option ChipState) (framed : Bool) → IsUnder framed known s first → HoldsOf (with_seen_carry (carry_of s == 1) known) s first
 unfolding with_seen_carry
-seen_holds known s first framed under =
-    let known_carry = known_set (carry_of s) (carry_below s) in
+seen_holds laws known s first framed under =
+    let known_carry = laws.bits.bit_known (carry_of s) (carry_below s) in
     let bits = carry_seen known.psw.bits s.psw (known_flag (carry_of s == 1)) under.form.bits under.holds.parts.psw.bits known_carry in
     assumption (under.holds, bits)
 
-pub seen_under : (framed : Bool) (known : Known) (s : ChipState) (first : Option ChipState) → IsUnder framed known s first → IsUnder framed (with_seen_carry (carry_of s == 1) known) s first
-seen_under framed known s first under = record {
+pub seen_under : (laws : KnownLaws) (framed : Bool) (known : Known) (s : ChipState) (first : Option ChipState) → IsUnder framed known s first → IsUnder framed (with_seen_carry (carry_of s == 1) known) s first
+seen_under laws framed known s first under = record {
   base = under.base;
   form = seen_form framed (carry_of s == 1) known under.form;
-  holds = seen_holds known s first framed under;
+  holds = seen_holds laws known s first framed under;
 }
 
 -- WRITTEN

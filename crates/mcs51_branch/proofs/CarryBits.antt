@@ -1,15 +1,13 @@
 -- CY among the bits of PSW.
-use Rattle.std.proofs.Common.{◌≡◌, ℕ, zero, suc, ◌+◌, ◌*◌, ◌/◌, ◌%◌, ◌<◌, ◌==◌, Bool, true, false, List, [], ◌∷◌, length, set, refl, sym, ap, subst, arith}
+use Rattle.std.proofs.Common.{◌≡◌, ℕ, zero, suc, ◌+◌, ◌*◌, ◌/◌, ◌%◌, ◌<◌, ◌==◌, Bool, true, false, List, [], ◌∷◌, length, set, refl, sym, subst, arith}
 use Rattle.std.specs.Prelude.{not, slice_index_or}
 use Rattle.std.specs.Int.{bit_at}
-use Rattle.std.proofs.lemmas.Bool.{eq-eqb, ne_eqb}
 use Rattle.std.proofs.lemmas.List.{length-set}
 use Rattle.value_bits.specs.declared.tri.Tri.{Tri}
 use Rattle.value_bits.specs.declared.tri.Tri.TheVariants.{Zero, One, Either}
 use Rattle.value_bits.specs.Bits.{IsBit, Agrees}
 use Rattle.value_bits.specs.Flags.{IsFlag}
 use Rattle.mcs51_chip.specs.Registers.{bit_of}
-use Rattle.mcs51_branch.specs.Jumps.{may_be, known_flag}
 
 -- BITS AT PLACES
 
@@ -75,16 +73,6 @@ carry_put (a ∷ b ∷ c ∷ d ∷ e ∷ []) psw carry bit long agrees small is 
 carry_put (a ∷ b ∷ c ∷ d ∷ e ∷ f ∷ g ∷ more) psw carry bit long agrees small is = absurd (omega (arith, long))
 
 -- KNOWN BITS
-
-pub set_may : (t : Tri) (bit : ℕ) → IsBit t bit → may_be t (bit == 1) ≡ true
-set_may Zero bit is = ap not (ne_eqb bit 1 (λ e. omega (arith, is, e)))
-set_may One bit is = eq-eqb bit 1 is
-set_may Either bit is = refl
-
-pub known_set : (bit : ℕ) → bit < 2 → IsBit (known_flag (bit == 1)) bit
-known_set zero small = refl
-known_set (suc zero) small = refl
-known_set (suc (suc n)) small = absurd (omega (arith, small))
 
 pub not_clear : (bit : ℕ) → bit < 2 → (bit == 1) ≡ not (bit == 0)
 not_clear zero small = refl

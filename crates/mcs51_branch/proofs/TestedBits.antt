@@ -15,7 +15,7 @@ use Rattle.value_set.specs.declared.form.Form.{Form}
 use Rattle.value_set.specs.declared.form.Form.TheVariants.{Values, Run}
 use Rattle.value_set.specs.Form.{Has, IsNormal}
 use Rattle.value_bits.specs.declared.tri.Tri.TheVariants.{Either}
-use Rattle.value_bits.specs.Bits.{IsBit}
+use Rattle.value_bits.specs.Bits.{IsBit, may_be, known_flag}
 use Rattle.mcs51_chip.specs.declared.place.Address.{Address}
 use Rattle.mcs51_chip.specs.declared.place.Address.TheVariants.{InRam, InSfr}
 use Rattle.mcs51_chip.specs.declared.place.Sfr.{Sfr}
@@ -29,7 +29,6 @@ use Rattle.mcs51_state.specs.Known.{Known}
 use Rattle.mcs51_state.specs.Places.{ie_place, ip_place, suspended_of}
 use Rattle.mcs51_state.specs.Under.{IsUnder}
 use Rattle.mcs51_branch.specs.Cuts.{set_at}
-use Rattle.mcs51_branch.specs.Jumps.{may_be, known_flag}
 use Rattle.mcs51_branch.specs.Testing.{IsPlace, bit_tested, byte_tested, register_tested, status_tested, tested, with_left, with_seen_bit}
 use Rattle.mcs51_branch.proofs.CarryBits.{bit_there, bit_put, moved}
 use Rattle.mcs51_branch.proofs.Cutting.{mapped}

@@ -1,5 +1,5 @@
 -- Sets of which a bit was tested.
-use Rattle.std.proofs.Common.{◌≡◌, ℕ, zero, suc, ◌%◌, ◌<◌, Bool, true, false, Option, None, Some, List, [], ◌∷◌, length, get_or, refl, ap, ◌∙◌, subst, inl, inr, arith, Contains}
+use Rattle.std.proofs.Common.{◌≡◌, ℕ, ◌<◌, Bool, true, false, Option, None, Some, List, [], ◌∷◌, length, get_or, refl, ap, ◌∙◌, subst, inl, inr, arith, Contains}
 use Rattle.std.specs.Prelude.{◌⊎◌, slice_index_or}
 use Rattle.std.specs.Int.{bit_at}
 use Rattle.std.specs.List.{filter}
@@ -12,11 +12,9 @@ use Rattle.value_set.specs.declared.form.Form.TheVariants.{Values, Run}
 use Rattle.value_set.specs.Form.{Has, IsNormal, gather}
 use Rattle.value_bits.specs.declared.tri.Tri.{Tri}
 use Rattle.value_bits.specs.declared.tri.Tri.TheVariants.{Zero, One, Either}
-use Rattle.value_bits.specs.Bits.{Agrees, IsBit, known_bits}
+use Rattle.value_bits.specs.Bits.{IsBit, known_bits, may_be}
 use Rattle.mcs51_chip.specs.Registers.{bit_of}
-use Rattle.mcs51_branch.specs.Jumps.{may_be}
 use Rattle.mcs51_branch.specs.Testing.{gathered, has_bit, tested}
-use Rattle.mcs51_branch.proofs.CarryBits.{bit_there, moved}
 
 -- LISTS
 
@@ -73,22 +71,6 @@ list_below below xs ys same normal k d inside = below 256 (get_or ys k d) (Value
 
 -- BITS
 
-moved_bit : (place v : ℕ) → place < 8 → moved place v % 2 ≡ bit_at v place
-moved_bit zero v low = omega arith
-moved_bit (suc zero) v low = omega arith
-moved_bit (suc (suc zero)) v low = omega arith
-moved_bit (suc (suc (suc zero))) v low = omega arith
-moved_bit (suc (suc (suc (suc zero)))) v low = omega arith
-moved_bit (suc (suc (suc (suc (suc zero))))) v low = omega arith
-moved_bit (suc (suc (suc (suc (suc (suc zero)))))) v low = omega arith
-moved_bit (suc (suc (suc (suc (suc (suc (suc zero))))))) v low = omega arith
-moved_bit (suc (suc (suc (suc (suc (suc (suc (suc place)))))))) v low = absurd (omega (arith, low))
-
-known_so : (set : Form) (place v : ℕ) → place < 8 → Agrees (known_bits 8 set) v → IsBit (slice_index_or (known_bits 8 set) place Either) (bit_at v place)
-known_so set place v low agrees =
-    let long : length (known_bits 8 set) ≡ 8 = refl in
-    subst (IsBit (slice_index_or (known_bits 8 set) place Either)) (moved_bit place v low) (bit_there (known_bits 8 set) place v (omega (arith, long, low)) agrees)
-
 pub bit_may : (t : Tri) (bit : Bool) → IsBit t (bit_of bit) → may_be t bit ≡ true
 bit_may Zero true is = absurd (omega (arith, is))
 bit_may Zero false is = refl
@@ -109,7 +91,7 @@ tested_has laws (Values xs) place v bit normal has low is =
     (found.0, found.1, found.2, λ n there so. found.3 n (filter_has test xs n (eq-eqb (bit_at n place) (bit_of bit) so) there))
 tested_has laws (Run p) place v bit normal has low is =
     let t = slice_index_or (known_bits 8 (Run p)) place Either in
-    let may : may_be t bit ≡ true = bit_may t bit (subst (IsBit t) is (known_so (Run p) place v low (laws.bits.known 8 v (Run p) normal has))) in
+    let may : may_be t bit ≡ true = bit_may t bit (subst (IsBit t) is (laws.bits.bits_at (known_bits 8 (Run p)) place v (laws.bits.known 8 v (Run p) normal has))) in
     (Run p, cond-true (may_be t bit) (Some (Run p)) None may, normal, λ n there so. there)
 
 pub tested_normal : (laws : KnownLaws) (set part : Form) (place : ℕ) (bit : Bool) → IsNormal 256 set → tested place bit set ≡ Some part → IsNormal 256 part

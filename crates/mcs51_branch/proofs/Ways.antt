@@ -1,17 +1,16 @@
 -- The way that a jump goes.
-use Rattle.std.proofs.Common.{◌≡◌, ℕ, ◌+◌, ◌%◌, ◌<◌, ◌==◌, Bool, true, false, Option, None, Some, [], refl, sym, ap, ◌∙◌, subst, arith}
-use Rattle.std.specs.Prelude.{nat_lt, not}
+use Rattle.std.proofs.Common.{◌≡◌, ℕ, ◌+◌, ◌%◌, ◌<◌, ◌==◌, Bool, true, false, Option, None, Some, [], refl, sym, ap, ◌∙◌, inl, inr, subst, arith}
+use Rattle.std.specs.Prelude.{nat_le, nat_lt, not}
 use Rattle.std.specs.Option.{option_map}
-use Rattle.std.proofs.lemmas.Bool.{cond_both, cond-true}
+use Rattle.std.proofs.lemmas.Bool.{cases_Bool, cond_both, cond-true, le-ltb, leb-false, leb-true, lt-ltb}
 use Rattle.std.proofs.lemmas.List.Elements.{Contains-push}
 use Rattle.std.proofs.lemmas.Option.{same_Some}
 use Rattle.irq_frames.specs.KnownLaws.{KnownLaws}
 use Rattle.value_set.specs.declared.form.Form.{Form}
 use Rattle.value_set.specs.Form.{Has, IsNormal}
 use Rattle.value_set.specs.Summing.{single, sub}
-use Rattle.value_bits.specs.declared.tri.Tri.TheVariants.{Zero as Clear}
-use Rattle.value_bits.specs.Bits.{IsBit}
-use Rattle.value_bits.specs.Sets.{chosen}
+use Rattle.value_bits.specs.Bits.{tri_not, IsBit, may_be}
+use Rattle.value_bits.specs.Flags.{IsFlag, agreed}
 use Rattle.mcs51_decode.specs.declared.instr.Condition.{Condition}
 use Rattle.mcs51_decode.specs.declared.instr.Condition.TheVariants.{Carry, NoCarry, Zero, NotZero, Always}
 use Rattle.mcs51_chip.specs.declared.state.ChipState.{ChipState}
@@ -29,9 +28,9 @@ use Rattle.mcs51_branch.specs.declared.operand.Operand.TheVariants.{One, Several
 use Rattle.mcs51_branch.specs.declared.window.Window.{Window}
 use Rattle.mcs51_branch.specs.Cuts.{cut_to, equality_window, order_window, place_cut, set_at}
 use Rattle.mcs51_branch.specs.Jumps as jumps
-use Rattle.mcs51_branch.specs.Jumps.{IsNumberOf, IsOperand, carry_cut, comparison_cut, compared_with, condition_cut, fact_cut, fact_of, is_less, lowered_cut, may_be, numbers_of, operand_cut, with_carry_written, with_seen_carry}
+use Rattle.mcs51_branch.specs.Jumps.{IsNumberOf, IsOperand, carry_cut, comparison_cut, compared_with, condition_cut, fact_cut, fact_of, is_less, lowered_cut, numbers_of, operand_cut, with_carry_written, with_seen_carry}
 use Rattle.mcs51_branch.proofs.Carries.{seen_carry_form, seen_under, told_of_place, written_form, written_under}
-use Rattle.mcs51_branch.proofs.CarryBits.{carry_there, flag_bit, flag_is_set, flag_small, not_clear, set_may}
+use Rattle.mcs51_branch.proofs.CarryBits.{carry_there, flag_bit, flag_is_set, flag_small, not_clear}
 use Rattle.mcs51_branch.proofs.Cutting.{mapped, part_has, part_normal}
 use Rattle.mcs51_branch.proofs.PlaceWays.{place_way, place_way_form, set_has}
 use Rattle.mcs51_branch.proofs.Windows.{equality_inside, equality_low, order_inside, order_low, twice_not}
@@ -60,10 +59,10 @@ carry_way : (laws : KnownLaws) (framed : Bool) (known : Known) (s : ChipState) (
 carry_way laws framed known s first under =
     let carry = carry_of s == 1 in
     let (way, cut, there) = fact_way laws framed known.carry_fact known s first under.form.carry_fact under.holds.parts.carry_fact under in
-    let may : may_be (jumps.carry_of known) carry ≡ true = set_may (jumps.carry_of known) (carry_of s) (carry_there known.psw.bits s.psw under.form.bits under.holds.parts.psw.bits) in (
+    let may : may_be (jumps.carry_of known) carry ≡ true = laws.bits.bit_may (jumps.carry_of known) (carry_of s) (carry_there known.psw.bits s.psw under.form.bits under.holds.parts.psw.bits) in (
       with_seen_carry carry way,
       cond-true (may_be (jumps.carry_of known) carry) (option_map (with_seen_carry carry) (fact_cut known.carry_fact carry known)) None may ∙ ap (option_map (with_seen_carry carry)) cut,
-      seen_under framed way s first there,
+      seen_under laws framed way s first there,
     )
 
 fact_form : (laws : KnownLaws) (framed : Bool) (fact : Option CarryFact) (carry : Bool) (known way : Known) → IsCarry fact → IsKnown framed known → fact_cut fact carry known ≡ Some way → IsKnown framed way
@@ -107,10 +106,19 @@ condition_way_form laws framed known way Always false form e = absurd (cc)
 
 -- COMPARISONS
 
+less_is : (x y : ℕ) → not (nat_le y x) ≡ nat_lt x y
+less_is x y = elim (cases_Bool (nat_le y x)) [
+  | inl is ↦ ap not is ∙ sym (le-ltb x y (leb-true y x is))
+  | inr is ↦ ap not is ∙ sym (lt-ltb x y (leb-false y x is))
+]
+
 less_bit : (laws : KnownLaws) (x y : ℕ) (first second : Form) → Has 256 first x → Has 256 second y → IsBit (is_less first second) (bit_of (nat_lt x y))
 unfolding is_less
 less_bit laws x y first second has also =
-    flag_bit (is_less first second) (nat_lt x y) (laws.bits.flags 256 x y 0 (λ a b none. nat_lt a b) first second (chosen Clear) has also (Contains-push [] 0))
+    let reached = agreed 256 (λ a b none. nat_le b a) first second (single 0) in
+    let is = laws.bits.flags 256 x y 0 (λ a b none. nat_le b a) first second (single 0) has also (Contains-push [] 0) in
+    let less = subst (IsFlag (tri_not reached)) (less_is x y) (laws.bits.flag_not reached (nat_le y x) is) in
+    flag_bit (is_less first second) (nat_lt x y) less
 
 operand_way : (laws : KnownLaws) (framed : Bool) (operand : Operand) (known : Known) (s : ChipState) (first : Option ChipState) (x value : ℕ) → IsOperand operand → IsNumberOf operand s x → value < 256 → IsUnder framed known s first
     → Goes framed (operand_cut operand (equality_window (x == value) value) known) s first

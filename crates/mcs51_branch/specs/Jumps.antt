@@ -1,13 +1,13 @@
 -- What is known where a conditional jump is taken, and where it isn't (Intel, MCS-51 Programmer's Guide and Instruction Set:
 -- JC, JNC, JZ, JNZ, SJMP, CJNE and DJNZ).
-use Rattle.std.specs.Prelude.{◌≡◌, ℕ, if◌then◌else◌, nat_lt, not, Bool, true, Option, None, Some, option_map, slice_set, slice_index_or}
+use Rattle.std.specs.Prelude.{◌≡◌, ℕ, if◌then◌else◌, nat_le, not, Bool, Option, None, Some, option_map, slice_set, slice_index_or}
 use Rattle.value_set.specs.declared.form.Form.{Form}
 use Rattle.value_set.specs.Form.{Has, IsNormal}
 use Rattle.value_set.specs.Summing.{single, sub}
 use Rattle.value_bits.specs.declared.tri.Tri.{Tri}
-use Rattle.value_bits.specs.declared.tri.Tri.TheVariants.{Zero as Clear, One as Set, Either}
+use Rattle.value_bits.specs.declared.tri.Tri.TheVariants.{Either}
+use Rattle.value_bits.specs.Bits.{known_flag, may_be, tri_not}
 use Rattle.value_bits.specs.Flags.{agreed}
-use Rattle.value_bits.specs.Sets.{chosen}
 use Rattle.mcs51_decode.specs.declared.instr.Condition.{Condition}
 use Rattle.mcs51_decode.specs.declared.instr.Condition.TheVariants.{Carry, NoCarry, Zero, NotZero, Always}
 use Rattle.mcs51_chip.specs.declared.state.ChipState.{ChipState}
@@ -22,15 +22,6 @@ use Rattle.mcs51_branch.specs.declared.window.Window.{Window}
 use Rattle.mcs51_branch.specs.Cuts.{equality_window, order_window, cut_to, set_at, place_cut}
 
 -- CY
-
--- what is known doesn't forbid it
-abbrev pub may_be : Tri → Bool → Bool
-may_be Clear flag = not flag
-may_be Set flag = flag
-may_be Either flag = true
-
-abbrev pub known_flag : Bool → Tri
-known_flag flag = if flag then Set else Clear
 
 -- bit 7 of PSW
 abbrev pub carry_of : Known → Tri
@@ -78,9 +69,9 @@ abbrev pub IsNumberOf : Operand → ChipState → ℕ → Type 0
 IsNumberOf (One place) s x = x ≡ compared_in place s
 IsNumberOf (Several set) s x = Has 256 set x
 
--- whether the first byte is less
+-- whether the first byte is less: it isn't where it is at least the second one
 unfoldable pub is_less : (x y : Form) → Tri
-is_less x y = agreed 256 (λ a b none. nat_lt a b) x y (chosen Clear)
+is_less x y = tri_not (agreed 256 (λ a b none. nat_le b a) x y (single 0))
 
 -- CY speaks of one place alone
 abbrev pub fact_of : Operand → (bound : ℕ) → Option CarryFact

@@ -1,4 +1,5 @@
-pub mod Ways
 pub mod Cuts
 pub mod Jumps
+pub mod Laws
 pub mod Testing
+pub mod Ways

@@ -8,7 +8,7 @@ use Rattle.value_set.specs.declared.form.Form.{Form}
 use Rattle.value_set.specs.declared.form.Form.TheVariants.{Values, Run}
 use Rattle.value_set.specs.Form.{gather}
 use Rattle.value_bits.specs.declared.tri.Tri.TheVariants.{Either}
-use Rattle.value_bits.specs.Bits.{known_bits}
+use Rattle.value_bits.specs.Bits.{known_bits, may_be, known_flag}
 use Rattle.mcs51_chip.specs.declared.place.Address.{Address}
 use Rattle.mcs51_chip.specs.declared.place.Address.TheVariants.{InRam, InSfr}
 use Rattle.mcs51_chip.specs.declared.place.Sfr.{Sfr}
@@ -17,7 +17,6 @@ use Rattle.mcs51_chip.specs.Registers.{bit_of, sfr_at}
 use Rattle.mcs51_state.specs.declared.fact.Compared.TheVariants.{Ram}
 use Rattle.mcs51_state.specs.Known.{Known}
 use Rattle.mcs51_branch.specs.Cuts.{set_at, with_set}
-use Rattle.mcs51_branch.specs.Jumps.{may_be, known_flag}
 
 -- SETS
 

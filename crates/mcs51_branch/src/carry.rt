@@ -1,6 +1,7 @@
 //! CY as a jump sees it, and as CJNE writes it.
 
-ghost use Rattle.std.specs.Prelude.{◌≡◌, ℕ, nat_lt};
+ghost use Rattle.std.specs.Prelude.{◌≡◌, ℕ};
+ghost use Rattle.value_bits.specs.Bits as bits;
 ghost use Rattle.mcs51_branch.specs.Jumps as jumps;
 ghost use Rattle.mcs51_branch.specs.Ways.{IsWay};
 
@@ -9,7 +10,7 @@ use crate::window::order_window;
 use entry_value::Cells;
 use mcs51_state::{CarryFact, State};
 use no_memory::Memory;
-use value_bits::{Flag, Tri, w8};
+use value_bits::{Tri, w8};
 use value_set::Vs8;
 
 /// Where CY stands among the bits of PSW that are held.
@@ -17,7 +18,7 @@ const CARRY: usize = 5;
 
 /// Whether what is known of a bit allows a value.
 pub(crate) fn may_be(known: Tri, flag: bool) -> bool
-    ensures { result ≡ jumps.may_be known flag }
+    ensures { result ≡ bits.may_be known flag }
 {
     match known {
         Tri::Zero => !flag,
@@ -27,22 +28,9 @@ pub(crate) fn may_be(known: Tri, flag: bool) -> bool
 }
 
 pub(crate) fn known_flag(flag: bool) -> Tri
-    ensures { result ≡ jumps.known_flag flag }
+    ensures { result ≡ bits.known_flag flag }
 {
     if flag { Tri::One } else { Tri::Zero }
-}
-
-/// The first number is less.
-struct Less;
-
-impl Flag for Less {
-    ghost modulus = { λ _. 256 };
-
-    ghost value = { λ _ x y carry. nat_lt x y };
-
-    fn is_set(&self, x: u16, y: u16, _carry: u16) -> bool {
-        x < y
-    }
 }
 
 /// Whether the first byte is less.
@@ -50,7 +38,11 @@ impl Flag for Less {
 pub(crate) fn is_less(x: &Vs8, y: &Vs8) -> Tri
     ensures { result ≡ jumps.is_less x.now y.now }
 {
-    w8::agreed(&Less, x, y, Tri::Zero)
+    match w8::at_least(x, y) {
+        Tri::Zero => Tri::One,
+        Tri::One => Tri::Zero,
+        Tri::Either => Tri::Either,
+    }
 }
 
 /// Keeps what a jump saw of CY.

@@ -24,6 +24,6 @@ mod testing;
 mod window;
 
 pub use jumps::{compare_with, cut_by_comparison, cut_by_condition, lowered};
-pub use laws::{bits_hold, jumps_hold};
+pub use laws::{bits_hold, branch_laws, jumps_hold};
 pub use operand::Operand;
 pub use testing::cut_by_bit;

@@ -64,7 +64,7 @@ back_so laws framed a s (Some f) (Irq vector (Some sp) level) under stands goes 
     let came = suspended.sp in
     let high : top_of s ≡ f.pc / 256 = counter_byte f 513 (top_of s) (high_byte framed a).entry first_two.1 refl (omega (arith, counter)) (high_holds laws framed a s (Some f) under).1 in
     let low : top_of (popped s) ≡ f.pc % 256 = counter_byte f 512 (top_of (popped s)) (low_byte framed a).entry both.1 refl (omega arith) (low_holds laws framed a s (Some f) under).1 in
-    let at : s.sp ≡ (sp + 2) % 256 = only_one ((sp + 2) % 256) s.sp ((laws.tested 256 a.sp (single ((sp + 2) % 256))).0 first_two.0 s.sp under.holds.parts.sp) in
+    let at : s.sp ≡ (sp + 2) % 256 = only_one ((sp + 2) % 256) s.sp ((laws.known.sets.tested 256 a.sp (single ((sp + 2) % 256))).0 first_two.0 s.sp under.holds.parts.sp) in
     let small : sp < 256 = subst (λ n. n < 256) stands came in (
       ended_pc (returned s) ∙ omega (arith, high, low),
       ended_sp (returned s) ∙ omega (arith, at, small),

@@ -25,15 +25,15 @@ two_shown laws pc write one other at next stands form stands_too form_too access
     let first_item = access_of pc write one in
     let second_item = access_of pc write other in
     elim (Contains-append_cases (Internal write at ∷ []) (Internal write next ∷ []) access there) [
-      | inl here ↦ let shows = laws.shown pc write one at stands form access here in
+      | inl here ↦ let shows = laws.operands.shown.operand pc write one at stands form access here in
           (shows.0, Contains-append_left (first_item ∷ []) (second_item ∷ []) shows.0 shows.1, shows.2)
-      | inr later ↦ let shows = laws.shown pc write other next stands_too form_too access later in
+      | inr later ↦ let shows = laws.operands.shown.operand pc write other next stands_too form_too access later in
           (shows.0, Contains-append_right (first_item ∷ []) (second_item ∷ []) shows.0 shows.1, shows.2)
     ]
 
 pub return_shown : (laws : Premises) (framed : Bool) (pc : ℕ) (a : Known) (s : ChipState) (first : Option ChipState) → IsUnder framed a s first → AreShown (return_accesses pc a) pc (pop_reads s)
 return_shown laws framed pc a s first under =
-    two_shown laws pc false (stack_top a) (below_top a) (AtRam s.sp) (AtRam ((s.sp + 255) % 256)) (laws.top framed first a s under) (laws.top_form framed first a s under)
+    two_shown laws pc false (stack_top a) (below_top a) (AtRam s.sp) (AtRam ((s.sp + 255) % 256)) (laws.stores.stack.top framed first a s under) (laws.stores.stack.top_form framed first a s under)
     (below_stands laws framed a s first under) (below_form laws framed a under.form)
 
 pub call_shown : (laws : Premises) (framed : Bool) (pc : ℕ) (a : Known) (s : ChipState) (first : Option ChipState) → IsUnder framed a s first → AreShown (call_accesses pc a) pc (push_writes s)

@@ -19,29 +19,29 @@ use Rattle.mcs51_control.specs.Premises.{Premises}
 use Rattle.mcs51_control.specs.Returning.{below_top, high_byte, low_byte}
 
 pub popped_under : (laws : Premises) (framed : Bool) (a : Known) (s : ChipState) (first : Option ChipState) → IsUnder framed a s first → IsUnder framed (byte_popped a) (popped s) first
-popped_under laws framed a s first under = laws.pops framed first a s under
+popped_under laws framed a s first under = laws.stores.stack.pop framed first a s under
 
 pub below_form : (laws : Premises) (framed : Bool) (a : Known) → IsKnown framed a → AreAddresses (below_top a)
-below_form laws framed a form = laws.difference_normal 256 a.sp (single 1) form.sp (laws.alone 256 1 (omega arith)).0
+below_form laws framed a form = laws.known.sets.sub_normal 256 a.sp (single 1) form.sp (laws.known.sets.single 256 1 (omega arith)).0
 
 pub below_stands : (laws : Premises) (framed : Bool) (a : Known) (s : ChipState) (first : Option ChipState) → IsUnder framed a s first → MayStandAt (below_top a) (AtRam ((s.sp + 255) % 256))
-below_stands laws framed a s first under = laws.top framed first (byte_popped a) (popped s) (popped_under laws framed a s first under)
+below_stands laws framed a s first under = laws.stores.stack.top framed first (byte_popped a) (popped s) (popped_under laws framed a s first under)
 
 -- the chip's two bytes
 pub high_holds : (laws : Premises) (framed : Bool) (a : Known) (s : ChipState) (first : Option ChipState) → IsUnder framed a s first → HoldsOfByte (option_map suspended_of first) (high_byte framed a) (top_of s)
 high_holds laws framed a s first under =
-    laws.reads framed a s first under (stack_top a) (AtRam s.sp) (top_of s) (laws.top framed first a s under) (laws.top_form framed first a s under) refl
+    laws.operands.reads.byte framed a s first under (stack_top a) (AtRam s.sp) (top_of s) (laws.stores.stack.top framed first a s under) (laws.stores.stack.top_form framed first a s under) refl
 
 pub low_holds : (laws : Premises) (framed : Bool) (a : Known) (s : ChipState) (first : Option ChipState) → IsUnder framed a s first → HoldsOfByte (option_map suspended_of first) (low_byte framed a) (top_of (popped s))
 low_holds laws framed a s first under =
-    laws.reads framed a s first under (below_top a) (AtRam ((s.sp + 255) % 256)) (top_of (popped s)) (below_stands laws framed a s first under) (below_form laws framed a under.form) refl
+    laws.operands.reads.byte framed a s first under (below_top a) (AtRam ((s.sp + 255) % 256)) (top_of (popped s)) (below_stands laws framed a s first under) (below_form laws framed a under.form) refl
 
 pub byte_small : (framed : Bool) (a : Known) (s : ChipState) (first : Option ChipState) (at : ℕ) → IsUnder framed a s first → slice_index s.ram at < 256
 byte_small framed a s first at under = under.holds.parts.cells.0 at
 
 -- SP raised
 pub raised_normal : (laws : Premises) (sp : Form) → IsNormal 256 sp → IsNormal 256 (raised sp)
-raised_normal laws sp normal = laws.sum_normal 256 sp (single 1) normal (laws.alone 256 1 (omega arith)).0
+raised_normal laws sp normal = laws.known.sets.add_normal 256 sp (single 1) normal (laws.known.sets.single 256 1 (omega arith)).0
 
 pub raised_has : (laws : Premises) (sp : Form) (v : ℕ) → IsNormal 256 sp → Has 256 sp v → Has 256 (raised sp) ((v + 1) % 256)
-raised_has laws sp v normal has = let one = laws.alone 256 1 (omega arith) in laws.sum 256 v 1 sp (single 1) normal one.0 has one.1
+raised_has laws sp v normal has = let one = laws.known.sets.single 256 1 (omega arith) in laws.known.sets.add 256 v 1 sp (single 1) normal one.0 has one.1

@@ -1,2 +1,3 @@
-pub mod Returning
+pub mod Laws
 pub mod Premises
+pub mod Returning

@@ -61,12 +61,6 @@ goes_back framed (Irq vector None level) a = false
 goes_back framed (Irq vector (Some sp) level) a =
     is_behind_entry a.sp sp && is_counter 513 (high_byte framed a).entry && is_counter 512 (low_byte framed a).entry
 
--- JUMPS
-
--- JMP @A+DPTR
-unfoldable pub jump_targets : Known → Form
-jump_targets a = add 65536 (pair_set a.dpl.set a.dph.set) (pair_set a.a.set (single 0))
-
 -- ACCESSES
 
 abbrev pub call_accesses : (pc : ℕ) → Known → List Item

@@ -1,4 +1,4 @@
-//! Returns, and jumps by DPTR.
+//! Returns, and the accesses of calls.
 
 ghost use Rattle.std.specs.Prelude.{◌≡◌, ◌++◌, OnOk};
 ghost use Rattle.mcs51_control.specs.Returning as returning;
@@ -99,15 +99,6 @@ pub fn goes_back<M: Cells>(framed: bool, frame: &Frame, state: &State<M>) -> boo
         }
         _ => false,
     }
-}
-
-/// Where JMP @A+DPTR may go.
-#[tactic(auto, unfolding(crate::specs::Returning::jump_targets))]
-pub fn jump_targets<M: Cells>(state: &State<M>) -> Vs16
-    ensures { result ≡ returning.jump_targets state.now }
-{
-    let pointer = w16::pair(&state.dpl.set, &state.dph.set);
-    pointer.add(&w16::pair(&state.a.set, &Vs8::one(0)))
 }
 
 /// Adds the pushes of a call at an address. Behind an error the items are of no use.

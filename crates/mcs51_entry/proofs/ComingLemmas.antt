@@ -158,8 +158,8 @@ at_listed : (laws : Premises) (sp : Form) (source level : ℕ) (coming_so : Comi
 at_listed laws (Values sps) source level coming_so normal below least most h =
     let made : ℕ → Coming = λ sp. record { source = source; level = level; known_sp = Some sp; sp = single sp } in
     let found = from_map made sps coming_so h in
-    let small = laws.below 256 found.0 (Values sps) normal found.1 in
-    let one : IsListed (made found.0) = record { below = below; least = least; most = most; normal = (laws.alone 256 found.0 small).0; entry = small } in
+    let small = laws.known.sets.below 256 found.0 (Values sps) normal found.1 in
+    let one : IsListed (made found.0) = record { below = below; least = least; most = most; normal = (laws.known.sets.single 256 found.0 small).0; entry = small } in
     subst IsListed found.2 one
 at_listed laws (Run p) source level coming_so normal below least most h =
     let one : Coming = record { source = source; level = level; known_sp = None; sp = Run p } in

@@ -42,21 +42,21 @@ use Rattle.mcs51_entry.proofs.Relations.{from_itself}
 -- THE PUSHED COUNTER
 
 low_form : (laws : Premises) (pc : ℕ) → pc < 65536 → IsByte true (related 512 (single (pc % 256)))
-low_form laws pc small = record { normal = (laws.alone 256 (pc % 256) (omega arith)).0; entry = (refl, omega arith, omega arith) }
+low_form laws pc small = record { normal = (laws.known.sets.single 256 (pc % 256) (omega arith)).0; entry = (refl, omega arith, omega arith) }
 
 high_form : (laws : Premises) (pc : ℕ) → pc < 65536 → IsByte true (related 513 (single (pc / 256)))
-high_form laws pc small = record { normal = (laws.alone 256 (pc / 256) (omega (arith, small))).0; entry = (refl, omega arith, omega arith) }
+high_form laws pc small = record { normal = (laws.known.sets.single 256 (pc / 256) (omega (arith, small))).0; entry = (refl, omega arith, omega arith) }
 
 low_value : (laws : Premises) (s : ChipState) → s.pc < 65536 → IsValue true (Some s) (related 512 (single (s.pc % 256))) (s.pc % 256)
 low_value laws s small = record {
   form = low_form laws s.pc small;
-  holds = ((laws.alone 256 (s.pc % 256) (omega arith)).1, from_itself s 512 (s.pc % 256) (omega arith) refl);
+  holds = ((laws.known.sets.single 256 (s.pc % 256) (omega arith)).1, from_itself s 512 (s.pc % 256) (omega arith) refl);
 }
 
 high_value : (laws : Premises) (s : ChipState) → s.pc < 65536 → IsValue true (Some s) (related 513 (single (s.pc / 256))) (s.pc / 256)
 high_value laws s small = record {
   form = high_form laws s.pc small;
-  holds = ((laws.alone 256 (s.pc / 256) (omega (arith, small))).1, from_itself s 513 (s.pc / 256) (omega (arith, small)) refl);
+  holds = ((laws.known.sets.single 256 (s.pc / 256) (omega (arith, small))).1, from_itself s 513 (s.pc / 256) (omega (arith, small)) refl);
 }
 
 -- THE LEVEL
@@ -83,80 +83,16 @@ with_levels levels known = record known { levels = levels }
 high_served : (known : Known) (levels : Levels) (t s : ChipState) (pc : ℕ) → pc < 65536 → may_serve levels t.serves_low true ≡ true → HoldsOf known t (Some s) → HoldsOf (with_levels levels known) (serving true (going_to pc t)) (Some s)
 unfolding with_levels
 high_served known levels t s pc small serves holds =
-    let parts = holds.parts in
-    let state = holds.state in
-    record {
-      state = record {
-        pc = small;
-        a = state.a;
-        b = state.b;
-        sp = state.sp;
-        dpl = state.dpl;
-        dph = state.dph;
-        psw = state.psw;
-        psw_held = state.psw_held;
-        ie = state.ie;
-        ie_held = state.ie_held;
-        ip = state.ip;
-        ram = state.ram;
-        bytes = state.bytes;
-      };
-      suspended = holds.suspended;
-      parts = record {
-        sp = parts.sp;
-        a = parts.a;
-        b = parts.b;
-        dpl = parts.dpl;
-        dph = parts.dph;
-        ie = parts.ie;
-        ip = parts.ip;
-        psw = parts.psw;
-        levels = serves;
-        linear_fact = linear_stays known.linear_fact t true pc parts.linear_fact;
-        carry_fact = carry_stays known.carry_fact t true pc parts.carry_fact;
-        cells = parts.cells;
-        untouched = parts.untouched;
-      };
-    }
+    let linear = linear_stays known.linear_fact t true pc holds.parts.linear_fact in
+    let carry = carry_stays known.carry_fact t true pc holds.parts.carry_fact in
+    assumption (holds, small, serves, linear, carry)
 
 low_served : (known : Known) (levels : Levels) (t s : ChipState) (pc : ℕ) → pc < 65536 → may_serve levels true t.serves_high ≡ true → HoldsOf known t (Some s) → HoldsOf (with_levels levels known) (serving false (going_to pc t)) (Some s)
 unfolding with_levels
 low_served known levels t s pc small serves holds =
-    let parts = holds.parts in
-    let state = holds.state in
-    record {
-      state = record {
-        pc = small;
-        a = state.a;
-        b = state.b;
-        sp = state.sp;
-        dpl = state.dpl;
-        dph = state.dph;
-        psw = state.psw;
-        psw_held = state.psw_held;
-        ie = state.ie;
-        ie_held = state.ie_held;
-        ip = state.ip;
-        ram = state.ram;
-        bytes = state.bytes;
-      };
-      suspended = holds.suspended;
-      parts = record {
-        sp = parts.sp;
-        a = parts.a;
-        b = parts.b;
-        dpl = parts.dpl;
-        dph = parts.dph;
-        ie = parts.ie;
-        ip = parts.ip;
-        psw = parts.psw;
-        levels = serves;
-        linear_fact = linear_stays known.linear_fact t false pc parts.linear_fact;
-        carry_fact = carry_stays known.carry_fact t false pc parts.carry_fact;
-        cells = parts.cells;
-        untouched = parts.untouched;
-      };
-    }
+    let linear = linear_stays known.linear_fact t false pc holds.parts.linear_fact in
+    let carry = carry_stays known.carry_fact t false pc holds.parts.carry_fact in
+    assumption (holds, small, serves, linear, carry)
 
 served : (known : Known) (levels : Levels) (t s : ChipState) (high : Bool) (pc : ℕ) → pc < 65536 → may_serve levels (if high then t.serves_low else true) (if high then true else t.serves_high) ≡ true
     → HoldsOf known t (Some s) → HoldsOf (with_levels levels known) (serving high (going_to pc t)) (Some s)
@@ -193,26 +129,7 @@ covered laws framed a s first coming_so under so =
 -- FORM
 
 levels_form : (known : Known) (levels : Levels) → AreLevels levels → IsKnown true known → IsKnown true (record known { levels = levels })
-levels_form known levels are form = record {
-  sp = form.sp;
-  a = form.a;
-  b = form.b;
-  dpl = form.dpl;
-  dph = form.dph;
-  ie = form.ie;
-  ip = form.ip;
-  bits = form.bits;
-  psw = form.psw;
-  levels = are;
-  linear_fact = form.linear_fact;
-  carry_fact = form.carry_fact;
-  from = form.from;
-  up_to = form.up_to;
-  cells = form.cells;
-  each_cell = form.each_cell;
-  touched = form.touched;
-  none_touched = form.none_touched;
-}
+levels_form known levels are form = assumption (form, are)
 
 pub entered_form : (laws : Premises) (framed : Bool) (a : Known) (pc : ℕ) (coming_so : Coming) → IsKnown framed a → pc < 65536 → Contains (comings_of a) coming_so → IsKnown true (entered_known a pc coming_so)
 unfolding entered_known
@@ -231,10 +148,10 @@ showing_later : (item other : Item) (pc : ℕ) (access : Access) → AreShowing 
 showing_later item other pc access shows = (shows.0, Contains-append_right (item ∷ []) (other ∷ []) shows.0 shows.1, shows.2)
 
 raised_normal : (laws : Premises) (sp : Form) → IsNormal 256 sp → IsNormal 256 (raised sp)
-raised_normal laws sp normal = laws.sum_normal 256 sp (single 1) normal (laws.alone 256 1 (omega arith)).0
+raised_normal laws sp normal = laws.known.sets.add_normal 256 sp (single 1) normal (laws.known.sets.single 256 1 (omega arith)).0
 
 raised_has : (laws : Premises) (sp : Form) (v : ℕ) → IsNormal 256 sp → Has 256 sp v → Has 256 (raised sp) ((v + 1) % 256)
-raised_has laws sp v normal has = let one = laws.alone 256 1 (omega arith) in laws.sum 256 v 1 sp (single 1) normal one.0 has one.1
+raised_has laws sp v normal has = let one = laws.known.sets.single 256 1 (omega arith) in laws.known.sets.add 256 v 1 sp (single 1) normal one.0 has one.1
 
 pub shown : (laws : Premises) (framed : Bool) (a : Known) (s : ChipState) (first : Option ChipState) (coming_so : Coming) → IsUnder framed a s first → ComesSo a s coming_so
     → AreShown (entry_accesses s.pc coming_so) s.pc (push_writes s)

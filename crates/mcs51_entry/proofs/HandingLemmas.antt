@@ -26,7 +26,7 @@ related_form place set is normal = record { normal = normal; entry = (is, omega 
 each_plain : (laws : Premises) (framed : Bool) (cells : List Cell) → All (IsChipCell framed) cells → All (IsChipCell true) (kept unrelated cells)
 each_plain laws framed cells forms k d inside =
     let cell = get_or (kept unrelated cells) k d in
-    let (held, among, is) = laws.plain_each cells cell (Contains-get_or (kept unrelated cells) k d inside) in
+    let (held, among, is) = laws.known.frames.plain_each cells cell (Contains-get_or (kept unrelated cells) k d inside) in
     let one : IsChipCell true (plain_cell held) = record { size = (All-contains (IsChipCell framed) cells held forms among).size; entry = tt } in
     subst (IsChipCell true) is one
 
@@ -47,7 +47,7 @@ handed_form laws framed sp a normal form = record {
   carry_fact = form.carry_fact;
   from = form.from;
   up_to = form.up_to;
-  cells = laws.plain_form 0 255 0 a.cells.cells form.cells;
+  cells = laws.known.frames.plain_form 0 255 0 a.cells.cells form.cells;
   each_cell = each_plain laws framed a.cells.cells form.each_cell;
   touched = tt;
   none_touched = λ e. refl;
@@ -82,7 +82,7 @@ handed_holds laws framed sp a s first has under =
         levels = parts.levels;
         linear_fact = parts.linear_fact;
         carry_fact = parts.carry_fact;
-        cells = laws.plain_stands (option_map suspended_of first) (Some (suspended_of s)) (slice_index s.ram) a.cells.cells parts.cells;
+        cells = laws.known.frames.plain_stands (option_map suspended_of first) (Some (suspended_of s)) (slice_index s.ram) a.cells.cells parts.cells;
         untouched = λ at none. refl;
       };
     }

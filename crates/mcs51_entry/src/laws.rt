@@ -16,20 +16,16 @@ ghost use Rattle.mcs51_entry.specs.Coming.{ComesSo, comings_of, frame_of_coming}
 ghost use Rattle.mcs51_entry.specs.Entering.{entered_known, entry_accesses};
 ghost use Rattle.mcs51_entry.specs.Premises.{Premises};
 
-use irq_frames::relations_go;
+use irq_frames::known_laws;
 use mcs51_operands::{accesses_are_shown, reads_hold};
 use mcs51_stores::{stack_follows, stores_keep_form};
-use value_set::{members_are_below, single_and_whole_sets, sums_hold};
 
 /// The laws of sets, cells, reads and writes that those below rest on.
 fn premises_hold()
     ensures { Premises }
 {
-    members_are_below();
-    single_and_whole_sets();
-    sums_hold();
+    known_laws();
     reads_hold();
-    relations_go();
     stack_follows();
     stores_keep_form();
     accesses_are_shown();

@@ -7,7 +7,7 @@ use Rattle.mcs51_chip.specs.declared.state.ChipState.{ChipState}
 use Rattle.mcs51_chip.specs.Step.{branched, going_to}
 use Rattle.mcs51_state.specs.Known.{Known}
 use Rattle.mcs51_state.specs.Under.{IsUnder}
-use Rattle.mcs51_formats.specs.Doing.{Goes, GoesOn, Jumps}
+use Rattle.mcs51_operands.specs.Doing.{Goes, GoesOn, Jumps}
 use Rattle.mcs51_jumps.specs.Premises.{Premises}
 use Rattle.mcs51_jumps.proofs.Numbers.{target_small}
 
@@ -17,7 +17,7 @@ mapped f (Some x) y e = (x, refl, same_Some (f x) y e)
 
 -- the program counter doesn't count
 moved : (laws : Premises) (framed : Bool) (first : Option ChipState) (behind : Known) (t : ChipState) (pc : ℕ) → pc < 65536 → IsUnder framed behind t first → IsUnder framed behind (going_to pc t) first
-moved laws framed first behind t pc small under = laws.stores.counter framed first pc small behind t under
+moved laws framed first behind t pc small under = laws.stores.writes.counter framed first pc small behind t under
 
 pub jumps : (laws : Premises) (framed : Bool) (first : Option ChipState) (on jumped : Option Known) (behind : Known) (rel : ℕ) (s t : ChipState) → jumped ≡ Some behind → t.pc ≡ s.pc → IsUnder framed behind t first
     → Goes framed first (relative_target s.pc rel) on jumped s (branched true rel t)

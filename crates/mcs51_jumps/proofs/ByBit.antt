@@ -19,9 +19,9 @@ use Rattle.mcs51_state.specs.Known.{Known}
 use Rattle.mcs51_state.specs.Under.{IsUnder}
 use Rattle.mcs51_operands.specs.Operands.{bit_addresses}
 use Rattle.mcs51_operands.specs.Showing.{AreShown}
-use Rattle.mcs51_formats.specs.Giving.{of_one}
-use Rattle.mcs51_formats.specs.Doing.{GoesSo}
-use Rattle.mcs51_formats.specs.Shown.{write_at}
+use Rattle.mcs51_operands.specs.Giving.{of_one}
+use Rattle.mcs51_operands.specs.Doing.{GoesSo}
+use Rattle.mcs51_operands.specs.Accesses.{write_at}
 use Rattle.mcs51_jumps.specs.Jumps.{AreWays, bit_cleared, bit_items, clearing_items, read_of, ways_on_bit, where_bit, where_cleared}
 use Rattle.mcs51_jumps.specs.Premises.{Premises}
 use Rattle.mcs51_jumps.proofs.Branching.{goes, goes_on, jumps, mapped}
@@ -32,13 +32,13 @@ use Rattle.mcs51_jumps.proofs.Numbers.{bit_not_so, bit_place, bit_small, bit_so,
 
 so : (laws : Premises) (framed : Bool) (a : Known) (s : ChipState) (first : Option ChipState) (bit x : ℕ) (flag : Bool) → IsUnder framed a s first → bit < 256 → MayRead s (bit_address bit) x
     → bit_at x (bit % 8) ≡ bit_of flag → (way : Known) × (where_bit bit flag a ≡ Some way) × IsUnder framed way s first
-so laws framed a s first bit x flag under small may is = laws.cuts.bit framed a s first (bit_address bit) x (bit % 8) flag under (bit_place bit small) may (place_small bit) is
+so laws framed a s first bit x flag under small may is = laws.branch.bits.way framed a s first (bit_address bit) x (bit % 8) flag under (bit_place bit small) may (place_small bit) is
 
 so_form : (laws : Premises) (framed : Bool) (a way : Known) (bit : ℕ) (flag : Bool) → IsKnown framed a → bit < 256 → where_bit bit flag a ≡ Some way → IsKnown framed way
-so_form laws framed a way bit flag form small e = laws.cuts.bit_form framed a way (bit_address bit) (bit % 8) flag form (bit_place bit small) (place_small bit) e
+so_form laws framed a way bit flag form small e = laws.branch.bits.form framed a way (bit_address bit) (bit % 8) flag form (bit_place bit small) (place_small bit) e
 
 read_shown : (laws : Premises) (pc bit : ℕ) → bit < 256 → AreShown (read_of pc bit) pc (reads (bit_address bit))
-read_shown laws pc bit small = laws.accesses.read pc (bit_addresses bit) (bit_address bit) (laws.operands.bit bit small).0 (laws.operands.bit bit small).1
+read_shown laws pc bit small = laws.operands.sums.read pc (bit_addresses bit) (bit_address bit) (laws.operands.stands.bit bit small).0 (laws.operands.stands.bit bit small).1
 
 -- JB AND JNB
 
@@ -46,7 +46,7 @@ set_does : (laws : Premises) (framed : Bool) (a : Known) (s : ChipState) (first 
     → Gives (GoesSo framed first (read_of pc bit) pc (relative_target s.pc rel) (where_bit bit false a) (where_bit bit true a) s) (jumping_on_bit s Set (bit_address bit) (bit % 8) rel)
 set_does laws framed a s first pc bit rel under small =
     of_one (GoesSo framed first (read_of pc bit) pc (relative_target s.pc rel) (where_bit bit false a) (where_bit bit true a) s) (MayRead s (bit_address bit))
-    (λ x. (reads (bit_address bit), branched (bit_at x (bit % 8) == 1) rel s)) (jumping_on_bit s Set (bit_address bit) (bit % 8) rel) (laws.formats.set s (bit_address bit) (bit % 8) rel)
+    (λ x. (reads (bit_address bit), branched (bit_at x (bit % 8) == 1) rel s)) (jumping_on_bit s Set (bit_address bit) (bit % 8) rel) (laws.chip.set s (bit_address bit) (bit % 8) rel)
     (λ x may. let v = bit_at x (bit % 8) in
     let (way, tested, there) = so laws framed a s first bit x (v == 1) under small may (set_bit v (bit_small x (bit % 8))) in
     record { shown = read_shown laws pc bit small; goes = goes laws framed first (λ taken. where_bit bit taken a) (v == 1) way rel s s tested refl there })
@@ -55,7 +55,7 @@ clear_does : (laws : Premises) (framed : Bool) (a : Known) (s : ChipState) (firs
     → Gives (GoesSo framed first (read_of pc bit) pc (relative_target s.pc rel) (where_bit bit true a) (where_bit bit false a) s) (jumping_on_bit s Clear (bit_address bit) (bit % 8) rel)
 clear_does laws framed a s first pc bit rel under small =
     of_one (GoesSo framed first (read_of pc bit) pc (relative_target s.pc rel) (where_bit bit true a) (where_bit bit false a) s) (MayRead s (bit_address bit))
-    (λ x. (reads (bit_address bit), branched (bit_at x (bit % 8) == 0) rel s)) (jumping_on_bit s Clear (bit_address bit) (bit % 8) rel) (laws.formats.clear s (bit_address bit) (bit % 8) rel)
+    (λ x. (reads (bit_address bit), branched (bit_at x (bit % 8) == 0) rel s)) (jumping_on_bit s Clear (bit_address bit) (bit % 8) rel) (laws.chip.clear s (bit_address bit) (bit % 8) rel)
     (λ x may. let v = bit_at x (bit % 8) in
     let (way, tested, there) = so laws framed a s first bit x (not (v == 0)) under small may (clear_bit v (bit_small x (bit % 8))) in
     record { shown = read_shown laws pc bit small; goes = goes laws framed first (λ taken. where_bit bit (not taken) a) (v == 0) way rel s s tested refl there })
@@ -65,12 +65,12 @@ clear_does laws framed a s first pc bit rel under small =
 update_shown : (laws : Premises) (pc bit : ℕ) (jumped : Option Known) (way : Known) → bit < 256 → jumped ≡ Some way
     → AreShown (clearing_items pc bit jumped) pc (reads (bit_address bit) ++ writes (bit_address bit))
 update_shown laws pc bit None way small e = absurd (cc)
-update_shown laws pc bit (Some behind) way small e = laws.accesses.update pc (bit_addresses bit) (bit_address bit) (laws.operands.bit bit small).0 (laws.operands.bit bit small).1
+update_shown laws pc bit (Some behind) way small e = laws.operands.sums.update pc (bit_addresses bit) (bit_address bit) (laws.operands.stands.bit bit small).0 (laws.operands.stands.bit bit small).1
 
 test_shown : (laws : Premises) (pc bit : ℕ) (jumped : Option Known) → bit < 256 → AreShown (clearing_items pc bit jumped) pc (reads (bit_address bit))
 test_shown laws pc bit None small = read_shown laws pc bit small
 test_shown laws pc bit (Some behind) small =
-    laws.accesses.both (read_of pc bit) (write_at pc (bit_addresses bit)) pc (reads (bit_address bit)) [] (read_shown laws pc bit small) (laws.accesses.none (write_at pc (bit_addresses bit)) pc)
+    laws.operands.sums.both (read_of pc bit) (write_at pc (bit_addresses bit)) pc (reads (bit_address bit)) [] (read_shown laws pc bit small) (laws.operands.sums.none (write_at pc (bit_addresses bit)) pc)
 
 cleared_so : (laws : Premises) (framed : Bool) (a : Known) (s : ChipState) (first : Option ChipState) (pc bit rel x : ℕ) → IsUnder framed a s first → bit < 256 → MayRead s (bit_address bit) x
     → GoesSo framed first (clearing_items pc bit (where_cleared framed bit a)) pc (relative_target s.pc rel) (where_bit bit false a) (where_cleared framed bit a) s (cleared s (bit_address bit) (bit % 8) rel x)
@@ -85,7 +85,7 @@ cleared_so laws framed a s first pc bit rel x under small may =
     let known : jumped ≡ Some (bit_cleared framed bit way) = ap (option_map (bit_cleared framed bit)) tested in
     record {
       shown = update_shown laws pc bit jumped (bit_cleared framed bit way) small known;
-      goes = jumps laws framed first (where_bit bit false a) jumped (bit_cleared framed bit way) rel s (write address lowered s) known (laws.stores.onward address lowered s)
+      goes = jumps laws framed first (where_bit bit false a) jumped (bit_cleared framed bit way) rel s (write address lowered s) known (laws.operands.formats.write_keeps address lowered s)
           (cleared_under laws framed way s first bit x small there may);
     })
     (λ e. let (way, tested, there) = so laws framed a s first bit x false under small may (bit_not_so v (bit_small x (bit % 8)) e) in
@@ -96,7 +96,7 @@ clearing_does : (laws : Premises) (framed : Bool) (a : Known) (s : ChipState) (f
     (jumping_on_bit s SetAndClear (bit_address bit) (bit % 8) rel)
 clearing_does laws framed a s first pc bit rel under small =
     of_one (GoesSo framed first (clearing_items pc bit (where_cleared framed bit a)) pc (relative_target s.pc rel) (where_bit bit false a) (where_cleared framed bit a) s)
-    (MayRead s (bit_address bit)) (cleared s (bit_address bit) (bit % 8) rel) (jumping_on_bit s SetAndClear (bit_address bit) (bit % 8) rel) (laws.formats.clearing s (bit_address bit) (bit % 8) rel)
+    (MayRead s (bit_address bit)) (cleared s (bit_address bit) (bit % 8) rel) (jumping_on_bit s SetAndClear (bit_address bit) (bit % 8) rel) (laws.chip.clearing s (bit_address bit) (bit % 8) rel)
     (λ x may. cleared_so laws framed a s first pc bit rel x under small may)
 
 -- EACH

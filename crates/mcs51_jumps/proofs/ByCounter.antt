@@ -25,9 +25,9 @@ use Rattle.mcs51_operands.specs.Operands.{addresses_of}
 use Rattle.mcs51_operands.specs.Reading.{read_byte}
 use Rattle.mcs51_stores.specs.Following.{IsValue}
 use Rattle.mcs51_branch.specs.Jumps.{lowered_cut}
-use Rattle.mcs51_formats.specs.Giving.{of_one}
-use Rattle.mcs51_formats.specs.Doing.{GoesSo}
-use Rattle.mcs51_formats.specs.Shown.{update_at}
+use Rattle.mcs51_operands.specs.Giving.{of_one}
+use Rattle.mcs51_operands.specs.Doing.{GoesSo}
+use Rattle.mcs51_operands.specs.Accesses.{update_at}
 use Rattle.mcs51_jumps.specs.Jumps.{AreWays, counted, counter_items, lowered_at, set_written, ways_by_counter}
 use Rattle.mcs51_jumps.specs.Premises.{Premises}
 use Rattle.mcs51_jumps.proofs.Branching.{goes, mapped}
@@ -43,22 +43,22 @@ lowered_does laws framed a s first pc rel at address under stands are =
     let set = (read_byte framed a at).set in
     of_one (GoesSo framed first (update_at pc at) pc (relative_target s.pc rel) (lowered_at framed at false a) (lowered_at framed at true a) s) (MayRead s address)
     (λ x. (reads address ++ writes address, branched (not ((x + 255) % 256 == 0)) rel (write address ((x + 255) % 256) s))) (counting s address rel)
-    (laws.formats.updating s [] address (λ x. branched (not ((x + 255) % 256 == 0)) rel (write address ((x + 255) % 256) s)))
+    (laws.chip.updating s [] address (λ x. branched (not ((x + 255) % 256 == 0)) rel (write address ((x + 255) % 256) s)))
     (λ x may. let v = (x + 255) % 256 in
-    let normal = (laws.operands.form framed a under.form at are).normal in
-    let has = (laws.operands.byte framed a s first under at address x stands are may).0 in
-    let (part, cut, part_normal, part_has) = laws.cuts.lowered set x normal has in
+    let normal = (laws.operands.reads.form framed a under.form at are).normal in
+    let has = (laws.operands.reads.byte framed a s first under at address x stands are may).0 in
+    let (part, cut, part_normal, part_has) = laws.branch.ways.lowered set x normal has in
     let value : IsValue framed first (byte_of part) v = record { form = no_relation framed part part_normal; holds = (part_has, tt) } in
     record {
-      shown = laws.accesses.update pc at address stands are;
+      shown = laws.operands.sums.update pc at address stands are;
       goes = goes laws framed first (λ taken. lowered_at framed at taken a) (not (v == 0)) (set_written framed at a part) rel s (write address v s) (ap (option_map (set_written framed at a)) cut)
-          (laws.stores.onward address v s) (laws.stores.byte framed first at address (byte_of part) v value are stands a s under);
+          (laws.operands.formats.write_keeps address v s) (laws.stores.writes.byte framed first at address (byte_of part) v value are stands a s under);
     })
 
 counted_does : (laws : Premises) (framed : Bool) (a : Known) (s : ChipState) (first : Option ChipState) (pc rel : ℕ) (m : Memory) → IsUnder framed a s first → IsMemory m
     → Gives (GoesSo framed first (update_at pc (addresses_of a m)) pc (relative_target s.pc rel) (lowered_at framed (addresses_of a m) false a) (lowered_at framed (addresses_of a m) true a) s) (counting s (address_of s m) rel)
 counted_does laws framed a s first pc rel m under is =
-    lowered_does laws framed a s first pc rel (addresses_of a m) (address_of s m) under (laws.operands.operand framed a s first under m) (laws.operands.operand_form framed a under.form m is)
+    lowered_does laws framed a s first pc rel (addresses_of a m) (address_of s m) under (laws.operands.stands.operand framed a s first under m) (laws.operands.stands.operand_form framed a under.form m is)
 
 pub counter_does : (laws : Premises) (framed : Bool) (a : Known) (s : ChipState) (first : Option ChipState) (image : List (Option ℕ)) (pc : ℕ) (counter : Counter) (rel : ℕ) → IsUnder framed a s first → IsCounter counter
     → Gives (GoesSo framed first (counter_items pc counter a) pc (relative_target s.pc rel) (ways_by_counter framed counter a).on (ways_by_counter framed counter a).jumped s)
@@ -73,8 +73,8 @@ lowered_form : (laws : Premises) (framed : Bool) (a way : Known) (at : Addresses
 lowered_form laws framed a way at taken form are e =
     let set = (read_byte framed a at).set in
     let (part, cut, same) = mapped (set_written framed at a) (lowered_cut taken set) way e in
-    let normal = laws.cuts.lowered_form set part taken (laws.operands.form framed a form at are).normal cut in
-    subst (IsKnown framed) same (laws.stores.byte_form framed at (byte_of part) are (no_relation framed part normal) a form)
+    let normal = laws.branch.ways.lowered_form set part taken (laws.operands.reads.form framed a form at are).normal cut in
+    subst (IsKnown framed) same (laws.stores.forms.byte framed at (byte_of part) are (no_relation framed part normal) a form)
 
 counted_is : (counter : Counter) → IsCounter counter → IsMemory (counted counter)
 counted_is (counter.Direct direct) small = small
@@ -84,5 +84,5 @@ pub counter_form : (laws : Premises) (framed : Bool) (a : Known) (counter : Coun
 unfolding ways_by_counter
 counter_form laws framed a counter form is =
     let at = addresses_of a (counted counter) in
-    let are = laws.operands.operand_form framed a form (counted counter) (counted_is counter is) in
+    let are = laws.operands.stands.operand_form framed a form (counted counter) (counted_is counter is) in
     record { on = λ way e. lowered_form laws framed a way at false form are e; jumped = λ way e. lowered_form laws framed a way at true form are e }

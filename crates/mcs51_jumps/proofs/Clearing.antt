@@ -34,8 +34,8 @@ is_status framed a form = record { bits = form.bits; entry = form.psw }
 
 status_form : (laws : Premises) (framed : Bool) (a : Known) (bit : ℕ) → IsKnown framed a → IsKnown framed (status_cleared bit a)
 status_form laws framed a bit form =
-    let is = laws.bits.status_form framed Clr bit a.psw (is_status framed a form) in
-    laws.stores.status_form framed (status_with_bit Clr bit a.psw) is.bits is.entry a form
+    let is = laws.results.bits.status_form framed Clr bit a.psw (is_status framed a form) in
+    laws.stores.forms.status framed (status_with_bit Clr bit a.psw) is.bits is.entry a form
 
 read_small : (s : ChipState) (x : ℕ) → s.psw < 256 → s.psw % 4 ≡ 0 → MayReadSfr s Psw x → x < 256
 read_small s x small held (bit, one, same) = status_small s.psw bit s.a x small held one same
@@ -46,10 +46,10 @@ status_under laws framed a s first bit x under may =
     let v = with_bit x (bit % 8) 0 in
     let made = status_with_bit Clr bit a.psw in
     let form = is_status framed a under.form in
-    let is = laws.bits.status_form framed Clr bit a.psw form in
+    let is = laws.results.bits.status_form framed Clr bit a.psw form in
     let small = read_small s x under.holds.state.psw under.holds.state.psw_held may in
-    laws.stores.status framed first made v (cleared_small x (bit % 8) small) is.bits is.entry
-    (laws.bits.status framed first Clr bit a.psw s x under.holds.state form under.holds.parts.psw may) a s under
+    laws.stores.flags.status framed first made v (cleared_small x (bit % 8) small) is.bits is.entry
+    (laws.results.bits.status framed first Clr bit a.psw s x under.holds.state form under.holds.parts.psw may) a s under
 
 -- at its address
 status_written_under : (laws : Premises) (framed : Bool) (a : Known) (s : ChipState) (first : Option ChipState) (bit x : ℕ) (address : Address) → InSfr 208 ≡ address → IsUnder framed a s first → MayRead s address x
@@ -71,25 +71,25 @@ byte_form : (laws : Premises) (framed : Bool) (a : Known) (bit : ℕ) → bit < 
 byte_form laws framed a bit small form =
     let at = bit_addresses bit in
     let byte = read_byte framed a at in
-    let is = laws.bits.byte_form framed Clr bit Zero byte (laws.operands.form framed a form at (laws.operands.bit bit small).1) in
-    laws.stores.byte_form framed at (byte_with_bit Clr bit Zero byte) (laws.operands.bit bit small).1 is a form
+    let is = laws.results.bits.byte_form framed Clr bit Zero byte (laws.operands.reads.form framed a form at (laws.operands.stands.bit bit small).1) in
+    laws.stores.forms.byte framed at (byte_with_bit Clr bit Zero byte) (laws.operands.stands.bit bit small).1 is a form
 
 byte_under : (laws : Premises) (framed : Bool) (a : Known) (s : ChipState) (first : Option ChipState) (bit x : ℕ) → bit < 256 → IsUnder framed a s first → MayRead s (bit_address bit) x
     → IsUnder framed (byte_cleared framed bit a) (write (bit_address bit) (with_bit x (bit % 8) 0) s) first
 byte_under laws framed a s first bit x small under may =
     let at = bit_addresses bit in
     let address = bit_address bit in
-    let (stands, are) = laws.operands.bit bit small in
+    let (stands, are) = laws.operands.stands.bit bit small in
     let byte = read_byte framed a at in
     let made = byte_with_bit Clr bit Zero byte in
     let v = with_bit x (bit % 8) 0 in
-    let is = laws.operands.form framed a under.form at are in
-    let holds = laws.operands.byte framed a s first under at address x stands are may in
+    let is = laws.operands.reads.form framed a under.form at are in
+    let holds = laws.operands.reads.byte framed a s first under at address x stands are may in
     let value : IsValue framed first made v = record {
-      form = laws.bits.byte_form framed Clr bit Zero byte is;
-      holds = laws.bits.byte framed (option_map suspended_of first) Clr bit Zero byte x 0 is holds refl;
+      form = laws.results.bits.byte_form framed Clr bit Zero byte is;
+      holds = laws.results.bits.byte framed (option_map suspended_of first) Clr bit Zero byte x 0 is holds refl;
     } in
-    laws.stores.byte framed first at address made v value are stands a s under
+    laws.stores.writes.byte framed first at address made v value are stands a s under
 
 -- EACH BIT
 

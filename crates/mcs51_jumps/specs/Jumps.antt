@@ -31,7 +31,7 @@ use Rattle.mcs51_branch.specs.declared.operand.Operand.{Operand}
 use Rattle.mcs51_branch.specs.declared.operand.Operand.TheVariants.{One, Several}
 use Rattle.mcs51_branch.specs.Jumps.{compared_with, comparison_cut, condition_cut, lowered_cut}
 use Rattle.mcs51_branch.specs.Testing.{bit_tested}
-use Rattle.mcs51_formats.specs.Shown.{read_at, read_items, update_at, update_items}
+use Rattle.mcs51_operands.specs.Accesses.{read_at, read_items, update_at, update_items}
 
 -- what is known behind the jump where it isn't taken, and where it is; none where that can't be
 pub record Ways : Type 0 where

@@ -25,8 +25,8 @@ use Rattle.mcs51_chip.specs.Step.{accessed, effect_of, reading_code}
 use Rattle.mcs51_state.specs.Forms.{IsKnown}
 use Rattle.mcs51_state.specs.Known.{Known, any_byte, byte_of}
 use Rattle.mcs51_state.specs.Under.{IsUnder}
-use Rattle.mcs51_formats.specs.Giving.{of_one}
-use Rattle.mcs51_formats.specs.Doing.{DoesSo, LeadsSo}
+use Rattle.mcs51_operands.specs.Giving.{of_one}
+use Rattle.mcs51_operands.specs.Doing.{DoesSo, LeadsSo}
 use Rattle.mcs51_memories.specs.Codes.{byte_set, code_addresses, code_items, code_loaded, code_set, code_values, codes_joined, list_codes}
 use Rattle.mcs51_memories.specs.Premises.{Premises}
 use Rattle.mcs51_memories.proofs.Values.{in_cons, in_none, one_shown, plain_is, plain_value}
@@ -41,12 +41,12 @@ byte_is : (image : List (Option ℕ)) (at : ℕ) → All IsImageByte image → I
 byte_is image at bytes = byte_by image at bytes (ltb at (length image)) refl
 
 set_normal : (laws : Premises) (byte : Option ℕ) → IsImageByte byte → IsNormal 256 (byte_set byte)
-set_normal laws None is = laws.sets.whole_normal 256 (omega arith)
-set_normal laws (Some byte) is = (laws.sets.alone 256 byte is).0
+set_normal laws None is = laws.known.sets.whole_normal 256 (omega arith)
+set_normal laws (Some byte) is = (laws.known.sets.single 256 byte is).0
 
 set_has : (laws : Premises) (byte : Option ℕ) (x : ℕ) → IsImageByte byte → MayReadCode byte x → Has 256 (byte_set byte) x
-set_has laws None x is may = laws.sets.whole 256 x may
-set_has laws (Some byte) x is may = subst (Has 256 (single byte)) (sym may) (laws.sets.alone 256 byte is).1
+set_has laws None x is may = laws.known.sets.whole 256 x may
+set_has laws (Some byte) x is may = subst (Has 256 (single byte)) (sym may) (laws.known.sets.single 256 byte is).1
 
 code_normal : (laws : Premises) (image : List (Option ℕ)) (at : ℕ) → All IsImageByte image → IsNormal 256 (code_set image at)
 code_normal laws image at bytes = set_normal laws (byte_at image at) (byte_is image at bytes)
@@ -56,29 +56,29 @@ code_normal laws image at bytes = set_normal laws (byte_at image at) (byte_is im
 joined_normal : (laws : Premises) (image : List (Option ℕ)) → All IsImageByte image → (set : Form) (list : List ℕ) → IsNormal 256 set → IsNormal 256 (codes_joined image set list)
 joined_normal laws image bytes set [] normal = normal
 joined_normal laws image bytes set (at ∷ rest) normal =
-    joined_normal laws image bytes (join 256 set (code_set image at)) rest (laws.sets.join_normal 256 set (code_set image at) normal (code_normal laws image at bytes))
+    joined_normal laws image bytes (join 256 set (code_set image at)) rest (laws.known.sets.join_normal 256 set (code_set image at) normal (code_normal laws image at bytes))
 
 joined_keeps : (laws : Premises) (image : List (Option ℕ)) → All IsImageByte image → (set : Form) (list : List ℕ) (v : ℕ) → IsNormal 256 set → Has 256 set v → Has 256 (codes_joined image set list) v
 joined_keeps laws image bytes set [] v normal has = has
 joined_keeps laws image bytes set (at ∷ rest) v normal has =
     let next_normal = code_normal laws image at bytes in
-    joined_keeps laws image bytes (join 256 set (code_set image at)) rest v (laws.sets.join_normal 256 set (code_set image at) normal next_normal)
-    (laws.sets.join_first 256 set (code_set image at) normal next_normal v has)
+    joined_keeps laws image bytes (join 256 set (code_set image at)) rest v (laws.known.sets.join_normal 256 set (code_set image at) normal next_normal)
+    (laws.known.sets.join_first 256 set (code_set image at) normal next_normal v has)
 
 joined_has : (laws : Premises) (image : List (Option ℕ)) → All IsImageByte image → (set : Form) (list : List ℕ) (at v : ℕ) → IsNormal 256 set → Contains list at → Has 256 (code_set image at) v
     → Has 256 (codes_joined image set list) v
 joined_has laws image bytes set [] at v normal there has = absurd (in_none at there)
 joined_has laws image bytes set (one ∷ rest) at v normal there has =
     let next_normal = code_normal laws image one bytes in
-    let both = laws.sets.join_normal 256 set (code_set image one) normal next_normal in
+    let both = laws.known.sets.join_normal 256 set (code_set image one) normal next_normal in
     elim (in_cons one rest at there) [
       | inl same ↦ joined_keeps laws image bytes (join 256 set (code_set image one)) rest v both
-          (laws.sets.join_second 256 set (code_set image one) normal next_normal v (subst (λ n. Has 256 (code_set image n) v) (sym same) has))
+          (laws.known.sets.join_second 256 set (code_set image one) normal next_normal v (subst (λ n. Has 256 (code_set image n) v) (sym same) has))
       | inr later ↦ joined_has laws image bytes (join 256 set (code_set image one)) rest at v both later has
     ]
 
 list_normal : (laws : Premises) (image : List (Option ℕ)) → All IsImageByte image → (list : List ℕ) → IsNormal 256 (list_codes image list)
-list_normal laws image bytes [] = laws.sets.whole_normal 256 (omega arith)
+list_normal laws image bytes [] = laws.known.sets.whole_normal 256 (omega arith)
 list_normal laws image bytes (at ∷ rest) = joined_normal laws image bytes (code_set image at) rest (code_normal laws image at bytes)
 
 list_has : (laws : Premises) (image : List (Option ℕ)) → All IsImageByte image → (list : List ℕ) (at v : ℕ) → Contains list at → Has 256 (code_set image at) v → Has 256 (list_codes image list) v
@@ -89,11 +89,11 @@ list_has laws image bytes (one ∷ rest) at v there has = elim (in_cons one rest
 ]
 
 or_any_normal : (laws : Premises) (many : Bool) (set : Form) → IsNormal 256 set → IsNormal 256 (cond many any_byte set)
-or_any_normal laws true set normal = laws.sets.whole_normal 256 (omega arith)
+or_any_normal laws true set normal = laws.known.sets.whole_normal 256 (omega arith)
 or_any_normal laws false set normal = normal
 
 or_any_has : (laws : Premises) (many : Bool) (set : Form) (v : ℕ) → IsNormal 256 set → Has 256 set v → Has 256 (cond many any_byte set) v
-or_any_has laws true set v normal has = laws.sets.whole 256 v (laws.sets.below 256 v set normal has)
+or_any_has laws true set v normal has = laws.known.sets.whole 256 v (laws.known.sets.below 256 v set normal has)
 or_any_has laws false set v normal has = has
 
 values_normal : (laws : Premises) (image : List (Option ℕ)) (set : Form) → All IsImageByte image → IsNormal 256 (code_values image set)
@@ -112,7 +112,7 @@ pub code_form : (laws : Premises) (framed : Bool) (a : Known) (image : List (Opt
 unfolding code_loaded
 code_form laws framed a image base next form bytes =
     let set = code_values image (code_addresses base next a) in
-    laws.write_so.accumulator_form framed (byte_of set) (plain_is framed set (values_normal laws image (code_addresses base next a) bytes)) a form
+    laws.stores.forms.accumulator framed (byte_of set) (plain_is framed set (values_normal laws image (code_addresses base next a) bytes)) a form
 
 code_leads : (laws : Premises) (framed : Bool) (a : Known) (s : ChipState) (first : Option ChipState) (image : List (Option ℕ)) (base : CodeBase) (at x : ℕ) → IsUnder framed a s first → All IsImageByte image
     → Has 65536 (code_addresses base s.pc a) at → MayReadCode (byte_at image at) x → LeadsSo framed first (code_loaded image base s.pc a) s (with_accumulator x s)
@@ -123,7 +123,7 @@ code_leads laws framed a s first image base at x under bytes there may =
     let has = values_have laws image addresses at x bytes there (set_has laws (byte_at image at) x (byte_is image at bytes) may) in
     record {
       onward = refl;
-      under = laws.write_so.accumulator framed first (byte_of set) x (plain_value framed first set x (values_normal laws image addresses bytes) has) a s under;
+      under = laws.stores.writes.accumulator framed first (byte_of set) x (plain_value framed first set x (values_normal laws image addresses bytes) has) a s under;
     }
 
 code_at : (laws : Premises) (framed : Bool) (a : Known) (s : ChipState) (first : Option ChipState) (image : List (Option ℕ)) (pc : ℕ) (base : CodeBase) (at : ℕ) → IsUnder framed a s first → All IsImageByte image
@@ -136,11 +136,11 @@ code_at laws framed a s first image pc base at under bytes there =
 
 counter_has : (laws : Premises) (framed : Bool) (a : Known) (s : ChipState) (first : Option ChipState) → IsUnder framed a s first → Has 65536 (code_addresses ProgramCounter s.pc a) ((s.a + s.pc) % 65536)
 counter_has laws framed a s first under =
-    let next = laws.sets.alone 65536 s.pc under.holds.state.pc in
-    let zero_so = laws.sets.alone 256 0 (omega arith) in
-    let offset = laws.sets.pair s.a 0 a.a.set (single 0) under.form.a.normal zero_so.0 under.holds.parts.a.0 zero_so.1 in
-    let normal = laws.sets.pair_normal a.a.set (single 0) under.form.a.normal zero_so.0 in
-    let sum = laws.sets.sum 65536 s.pc (s.a + 0 * 256) (single s.pc) (pair_set a.a.set (single 0)) next.0 normal next.1 offset in
+    let next = laws.known.sets.single 65536 s.pc under.holds.state.pc in
+    let zero_so = laws.known.sets.single 256 0 (omega arith) in
+    let offset = laws.known.bits.pair s.a 0 a.a.set (single 0) under.form.a.normal zero_so.0 under.holds.parts.a.0 zero_so.1 in
+    let normal = laws.known.bits.pair_normal a.a.set (single 0) under.form.a.normal zero_so.0 in
+    let sum = laws.known.sets.add 65536 s.pc (s.a + 0 * 256) (single s.pc) (pair_set a.a.set (single 0)) next.0 normal next.1 offset in
     subst (Has 65536 (code_addresses ProgramCounter s.pc a)) (omega arith) sum
 
 pub code_does : (laws : Premises) (framed : Bool) (a : Known) (s : ChipState) (first : Option ChipState) (image : List (Option ℕ)) (pc : ℕ) (base : CodeBase) → IsUnder framed a s first → All IsImageByte image
@@ -149,4 +149,4 @@ unfolding effect_of
 code_does laws framed a s first image pc ProgramCounter under bytes =
     code_at laws framed a s first image pc ProgramCounter ((s.a + s.pc) % 65536) under bytes (counter_has laws framed a s first under)
 code_does laws framed a s first image pc DataPointer under bytes =
-    code_at laws framed a s first image pc DataPointer ((s.a + data_pointer s) % 65536) under bytes (laws.read_so.jump framed a s first under)
+    code_at laws framed a s first image pc DataPointer ((s.a + data_pointer s) % 65536) under bytes (laws.operands.jumps.has framed a s first under)

@@ -21,8 +21,8 @@ use Rattle.mcs51_state.specs.Known.{Known, any_byte, byte_of}
 use Rattle.mcs51_state.specs.Under.{IsUnder}
 use Rattle.mcs51_operands.specs.Operands.{pointed_addresses}
 use Rattle.mcs51_operands.specs.Showing.{AreShown}
-use Rattle.mcs51_formats.specs.Giving.{of_one}
-use Rattle.mcs51_formats.specs.Doing.{DoesSo, LeadsSo}
+use Rattle.mcs51_operands.specs.Giving.{of_one}
+use Rattle.mcs51_operands.specs.Doing.{DoesSo, LeadsSo}
 use Rattle.mcs51_memories.specs.Externals.{external_addresses, external_items, external_loaded, register_items}
 use Rattle.mcs51_memories.specs.Premises.{Premises}
 use Rattle.mcs51_memories.proofs.Values.{any_is, any_value, one_shown}
@@ -34,13 +34,13 @@ external_has : (laws : Premises) (framed : Bool) (a : Known) (s : ChipState) (fi
 external_has laws framed a s first DataPointer at under is =
     let form = under.form in
     let parts = under.holds.parts in
-    let pair = laws.sets.pair s.dpl s.dph a.dpl.set a.dph.set form.dpl.normal form.dph.normal parts.dpl.0 parts.dph.0 in
+    let pair = laws.known.bits.pair s.dpl s.dph a.dpl.set a.dph.set form.dpl.normal form.dph.normal parts.dpl.0 parts.dph.0 in
     let same : s.dpl + s.dph * 256 ≡ at = omega (arith, is) in
     subst (Has 65536 (external_addresses DataPointer a)) same pair
 external_has laws framed a s first (Indirect i) at under (high, small, is) =
-    let low_normal = laws.read_so.working_form framed a under.form (At i) in
-    let low_has = laws.read_so.working framed a s first under (At i) in
-    let pair = laws.sets.pair (pointed_by s i) high (pointed_addresses a i) any_byte low_normal (laws.sets.whole_normal 256 (omega arith)) low_has (laws.sets.whole 256 high small) in
+    let low_normal = laws.operands.stands.working_form framed a under.form (At i) in
+    let low_has = laws.operands.stands.working framed a s first under (At i) in
+    let pair = laws.known.bits.pair (pointed_by s i) high (pointed_addresses a i) any_byte low_normal (laws.known.sets.whole_normal 256 (omega arith)) low_has (laws.known.sets.whole 256 high small) in
     let same : pointed_by s i + high * 256 ≡ at = omega (arith, is) in
     subst (Has 65536 (external_addresses (Indirect i) a)) same pair
 
@@ -48,26 +48,26 @@ external_has laws framed a s first (Indirect i) at under (high, small, is) =
 
 register_shown : (laws : Premises) (framed : Bool) (a : Known) (s : ChipState) (first : Option ChipState) (pc : ℕ) (external : External) → IsUnder framed a s first
     → AreShown (register_items pc external a) pc (external_reads s external)
-register_shown laws framed a s first pc DataPointer under = laws.formats.none [] pc
-register_shown laws framed a s first pc (Indirect i) under = laws.formats.pointer framed pc a s first under (At i)
+register_shown laws framed a s first pc DataPointer under = laws.operands.sums.none [] pc
+register_shown laws framed a s first pc (Indirect i) under = laws.operands.shown.pointer framed pc a s first under (At i)
 
 external_shown : (laws : Premises) (framed : Bool) (a : Known) (s : ChipState) (first : Option ChipState) (pc : ℕ) (write : Bool) (external : External) (at : ℕ) → IsUnder framed a s first → MayBeAt s external at
     → AreShown (external_items pc write external a) pc (external_reads s external ++ AnExternal write at ∷ [])
 external_shown laws framed a s first pc write external at under may =
     let item = Access pc Xram write 1 (W (external_addresses external a)) in
     let shows : Shows item (accessed pc (AnExternal write at)) = (refl, refl, refl, refl, external_has laws framed a s first external at under may) in
-    laws.formats.both (register_items pc external a) (item ∷ []) pc (external_reads s external) (AnExternal write at ∷ []) (register_shown laws framed a s first pc external under)
+    laws.operands.sums.both (register_items pc external a) (item ∷ []) pc (external_reads s external) (AnExternal write at ∷ []) (register_shown laws framed a s first pc external under)
     (one_shown item pc (AnExternal write at) shows)
 
 -- MOVX TO A
 
 pub external_form : (laws : Premises) (framed : Bool) (a : Known) → IsKnown framed a → IsKnown framed (external_loaded a)
 unfolding external_loaded
-external_form laws framed a form = laws.write_so.accumulator_form framed (byte_of any_byte) (any_is laws framed) a form
+external_form laws framed a form = laws.stores.forms.accumulator framed (byte_of any_byte) (any_is laws framed) a form
 
 read_leads : (laws : Premises) (framed : Bool) (a : Known) (s : ChipState) (first : Option ChipState) (x : ℕ) → IsUnder framed a s first → x < 256 → LeadsSo framed first (external_loaded a) s (with_accumulator x s)
 unfolding external_loaded
-read_leads laws framed a s first x under small = record { onward = refl; under = laws.write_so.accumulator framed first (byte_of any_byte) x (any_value laws framed first x small) a s under }
+read_leads laws framed a s first x under small = record { onward = refl; under = laws.stores.writes.accumulator framed first (byte_of any_byte) x (any_value laws framed first x small) a s under }
 
 read_so : (laws : Premises) (framed : Bool) (a : Known) (s : ChipState) (first : Option ChipState) (pc : ℕ) (external : External) (effect : Effect) → IsUnder framed a s first → MayReadExternal s external effect
     → DoesSo framed first (external_items pc false external a) pc (external_loaded a) s effect

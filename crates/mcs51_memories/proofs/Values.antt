@@ -53,15 +53,15 @@ pub plain_value : (framed : Bool) (first : Option ChipState) (set : Form) (x : �
 plain_value framed first set x normal has = record { form = plain_is framed set normal; holds = (has, tt) }
 
 pub any_is : (laws : Premises) (framed : Bool) → IsByte framed (byte_of any_byte)
-any_is laws framed = plain_is framed any_byte (laws.sets.whole_normal 256 (omega arith))
+any_is laws framed = plain_is framed any_byte (laws.known.sets.whole_normal 256 (omega arith))
 
 pub any_value : (laws : Premises) (framed : Bool) (first : Option ChipState) (x : ℕ) → x < 256 → IsValue framed first (byte_of any_byte) x
-any_value laws framed first x small = plain_value framed first any_byte x (laws.sets.whole_normal 256 (omega arith)) (laws.sets.whole 256 x small)
+any_value laws framed first x small = plain_value framed first any_byte x (laws.known.sets.whole_normal 256 (omega arith)) (laws.known.sets.whole 256 x small)
 
 -- that are read
 pub read_value : (laws : Premises) (framed : Bool) (a : Known) (s : ChipState) (first : Option ChipState) (addresses : Addresses) (address : Address) (x : ℕ) → IsUnder framed a s first → MayStandAt addresses address
     → AreAddresses addresses → MayRead s address x → IsValue framed first (read_byte framed a addresses) x
 read_value laws framed a s first addresses address x under stands are may = record {
-  form = laws.read_so.form framed a under.form addresses are;
-  holds = laws.read_so.byte framed a s first under addresses address x stands are may;
+  form = laws.operands.reads.form framed a under.form addresses are;
+  holds = laws.operands.reads.byte framed a s first under addresses address x stands are may;
 }

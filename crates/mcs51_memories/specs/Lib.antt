@@ -1,5 +1,6 @@
-pub mod Stacking
-pub mod Pairs
 pub mod Codes
 pub mod Externals
+pub mod Laws
+pub mod Pairs
 pub mod Premises
+pub mod Stacking

@@ -13,7 +13,7 @@ use Rattle.mcs51_operands.specs.Operands.{direct_addresses}
 use Rattle.mcs51_operands.specs.Reading.{read_byte}
 use Rattle.mcs51_stores.specs.Stack.{byte_popped, byte_pushed, lowered, raised, stack_top}
 use Rattle.mcs51_stores.specs.Writing.{byte_written}
-use Rattle.mcs51_formats.specs.Shown.{read_at, write_at}
+use Rattle.mcs51_operands.specs.Accesses.{read_at, write_at}
 
 abbrev pub is_stack_pointer : (direct : ℕ) → Bool
 is_stack_pointer direct = direct == 0x81

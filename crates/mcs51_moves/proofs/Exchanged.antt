@@ -22,8 +22,8 @@ use Rattle.mcs51_state.specs.Under.{IsUnder}
 use Rattle.mcs51_operands.specs.Operands.{addresses_of}
 use Rattle.mcs51_operands.specs.Showing.{address_accesses}
 use Rattle.mcs51_stores.specs.Following.{IsValue}
-use Rattle.mcs51_formats.specs.Doing.{DoesSo}
-use Rattle.mcs51_formats.specs.Shown.{update_items}
+use Rattle.mcs51_operands.specs.Doing.{DoesSo}
+use Rattle.mcs51_operands.specs.Accesses.{update_items}
 use Rattle.mcs51_moves.specs.Moves.{byte_at, digit_exchanged, digits_joined, exchanged, pointed}
 use Rattle.mcs51_moves.specs.Premises.{Premises}
 use Rattle.mcs51_moves.proofs.Written.{accumulator_value, both_form, both_lead, memory_placed, plain_form, plain_value, read_value}
@@ -37,16 +37,16 @@ exchange_so laws framed a s first image pc m under is =
     let at = addresses_of a m in
     let address = address_of s m in
     let placed = memory_placed laws framed a s first m under is in
-    laws.formats.updating framed first (address_accesses pc a m) pc (exchanged framed m a) s (address_reads s m) at address (exchanged_with s address)
-    (laws.reads.shown framed pc a s first under m) placed.stands placed.are
+    laws.operands.formats.updating framed first (address_accesses pc a m) pc (exchanged framed m a) s (address_reads s m) at address (exchanged_with s address)
+    (laws.operands.shown.address framed pc a s first under m) placed.stands placed.are
     (λ x may. both_lead laws framed a s first at address a.a (byte_at framed m a) s.a x under placed (accumulator_value framed a s first under)
     (read_value laws framed a s first at address x under placed may))
 
 pub exchange_form : (laws : Premises) (framed : Bool) (a : Known) (m : Memory) → IsKnown framed a → IsMemory m → IsKnown framed (exchanged framed m a)
 unfolding exchanged
 exchange_form laws framed a m form is =
-    let are = laws.reads.stands_form framed a form m is in
-    both_form laws framed a (addresses_of a m) a.a (byte_at framed m a) form are form.a (laws.reads.form framed a form (addresses_of a m) are)
+    let are = laws.operands.stands.operand_form framed a form m is in
+    both_form laws framed a (addresses_of a m) a.a (byte_at framed m a) form are form.a (laws.operands.reads.form framed a form (addresses_of a m) are)
 
 -- DIGITS
 
@@ -58,18 +58,18 @@ digits_so x y small =
 
 joined_normal : (laws : Premises) (high low : Form) → IsNormal 256 high → IsNormal 256 low → IsNormal 256 (digits_joined high low)
 joined_normal laws high low high_is low_is =
-    laws.sets.logic_normal 8 Or (logic_set 8 And high (single 240)) (logic_set 8 And low (single 15))
-    (laws.sets.logic_normal 8 And high (single 240) high_is (laws.sets.alone 256 240 (omega arith)).0)
-    (laws.sets.logic_normal 8 And low (single 15) low_is (laws.sets.alone 256 15 (omega arith)).0)
+    laws.known.bits.logic_normal 8 Or (logic_set 8 And high (single 240)) (logic_set 8 And low (single 15))
+    (laws.known.bits.logic_normal 8 And high (single 240) high_is (laws.known.sets.single 256 240 (omega arith)).0)
+    (laws.known.bits.logic_normal 8 And low (single 15) low_is (laws.known.sets.single 256 15 (omega arith)).0)
 
 joined_has : (laws : Premises) (high low : Form) (x y : ℕ) → IsNormal 256 high → IsNormal 256 low → Has 256 high x → Has 256 low y → Has 256 (digits_joined high low) (x / 16 * 16 + y % 16)
 joined_has laws high low x y high_is low_is high_has low_has =
-    let upper = laws.sets.alone 256 240 (omega arith) in
-    let lower = laws.sets.alone 256 15 (omega arith) in
-    subst (Has 256 (digits_joined high low)) (digits_so x y (laws.sets.below 256 x high high_is high_has))
-    (laws.sets.logic 8 (bit_and x 240) (bit_and y 15) Or (logic_set 8 And high (single 240)) (logic_set 8 And low (single 15))
-    (laws.sets.logic_normal 8 And high (single 240) high_is upper.0) (laws.sets.logic_normal 8 And low (single 15) low_is lower.0)
-    (laws.sets.logic 8 x 240 And high (single 240) high_is upper.0 high_has upper.1) (laws.sets.logic 8 y 15 And low (single 15) low_is lower.0 low_has lower.1))
+    let upper = laws.known.sets.single 256 240 (omega arith) in
+    let lower = laws.known.sets.single 256 15 (omega arith) in
+    subst (Has 256 (digits_joined high low)) (digits_so x y (laws.known.sets.below 256 x high high_is high_has))
+    (laws.known.bits.logic 8 (bit_and x 240) (bit_and y 15) Or (logic_set 8 And high (single 240)) (logic_set 8 And low (single 15))
+    (laws.known.bits.logic_normal 8 And high (single 240) high_is upper.0) (laws.known.bits.logic_normal 8 And low (single 15) low_is lower.0)
+    (laws.known.bits.logic 8 x 240 And high (single 240) high_is upper.0 high_has upper.1) (laws.known.bits.logic 8 y 15 And low (single 15) low_is lower.0 low_has lower.1))
 
 joined_value : (laws : Premises) (framed : Bool) (first : Option ChipState) (high low : Form) (x y : ℕ) → IsNormal 256 high → IsNormal 256 low → Has 256 high x → Has 256 low y
     → IsValue framed first (byte_of (digits_joined high low)) (x / 16 * 16 + y % 16)
@@ -89,8 +89,8 @@ exchange_digit_so laws framed a s first image pc i under =
     let placed = memory_placed laws framed a s first m under tt in
     let a_normal = under.form.a.normal in
     let a_has = under.holds.parts.a.0 in
-    laws.formats.updating framed first (address_accesses pc a m) pc (digit_exchanged framed i a) s (address_reads s m) at address (digit_exchanged_with s address)
-    (laws.reads.shown framed pc a s first under m) placed.stands placed.are
+    laws.operands.formats.updating framed first (address_accesses pc a m) pc (digit_exchanged framed i a) s (address_reads s m) at address (digit_exchanged_with s address)
+    (laws.operands.shown.address framed pc a s first under m) placed.stands placed.are
     (λ x may. let value = read_value laws framed a s first at address x under placed may in
     both_lead laws framed a s first at address (byte_of (digits_joined byte.set a.a.set)) (byte_of (digits_joined a.a.set byte.set)) (x / 16 * 16 + s.a % 16) (s.a / 16 * 16 + x % 16) under placed
     (joined_value laws framed first byte.set a.a.set x s.a value.form.normal a_normal value.holds.0 a_has)
@@ -101,8 +101,8 @@ unfolding digit_exchanged
 exchange_digit_form laws framed a i form =
     let m = pointed i in
     let byte = byte_at framed m a in
-    let are = laws.reads.stands_form framed a form m tt in
-    let byte_is = (laws.reads.form framed a form (addresses_of a m) are).normal in
+    let are = laws.operands.stands.operand_form framed a form m tt in
+    let byte_is = (laws.operands.reads.form framed a form (addresses_of a m) are).normal in
     both_form laws framed a (addresses_of a m) (byte_of (digits_joined byte.set a.a.set)) (byte_of (digits_joined a.a.set byte.set)) form are
     (plain_form framed (digits_joined byte.set a.a.set) (joined_normal laws byte.set a.a.set byte_is form.a.normal))
     (plain_form framed (digits_joined a.a.set byte.set) (joined_normal laws a.a.set byte.set form.a.normal byte_is))

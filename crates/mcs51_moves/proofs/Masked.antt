@@ -27,8 +27,8 @@ use Rattle.mcs51_results.specs.Results.{masked_made}
 use Rattle.mcs51_results.specs.StatusBytes.{masked_status}
 use Rattle.mcs51_stores.specs.Following.{IsValue}
 use Rattle.mcs51_stores.specs.Writing.{byte_written, status_written}
-use Rattle.mcs51_formats.specs.Doing.{DoesSo, LeadsSo}
-use Rattle.mcs51_formats.specs.Shown.{update_at}
+use Rattle.mcs51_operands.specs.Doing.{DoesSo, LeadsSo}
+use Rattle.mcs51_operands.specs.Accesses.{update_at}
 use Rattle.mcs51_moves.specs.Moves.{direct_made, direct_masked, mask_operand}
 use Rattle.mcs51_moves.specs.Premises.{Premises}
 use Rattle.mcs51_moves.proofs.Written.{direct_placed, read_value, value_small, written_leads}
@@ -48,8 +48,8 @@ mask_so framed a s first (mask.Immediate value) under is = (is, refl)
 masked_value : (laws : Premises) (framed : Bool) (first : Option ChipState) (done : Logic) (byte : Byte) (operand : Operand) (x m : ℕ) → IsValue framed first byte x → AreOperands operand → IsOperand operand m
     → IsValue framed first (masked_made done byte operand) (masked done x m)
 masked_value laws framed first done byte operand x m value are is = record {
-  form = laws.results_so.masked_form framed done byte operand value.form are;
-  holds = laws.results_so.masked framed (option_map suspended_of first) done byte operand x m value.form value.holds is;
+  form = laws.results.changes.masked_form framed done byte operand value.form are;
+  holds = laws.results.changes.masked framed (option_map suspended_of first) done byte operand x m value.form value.holds is;
 }
 
 -- PSW
@@ -63,11 +63,11 @@ unfolding write
 status_leads laws framed a s first done operand x m under are is may small =
     let held = status_is framed a under.form in
     let status = masked_status done a.psw operand in
-    let form = laws.results_so.status_form framed done a.psw operand held are in
+    let form = laws.results.statuses.masked_form framed done a.psw operand held are in
     record {
       onward = refl;
-      under = laws.writes.status framed first status (masked done x m) small form.bits form.entry
-          (laws.results_so.status framed first done a.psw operand s x m under.holds.state held under.holds.parts.psw may is) a s under;
+      under = laws.stores.flags.status framed first status (masked done x m) small form.bits form.entry
+          (laws.results.statuses.masked framed first done a.psw operand s x m under.holds.state held under.holds.parts.psw may is) a s under;
     }
 
 -- THE INSTRUCTION
@@ -97,7 +97,7 @@ pub mask_direct_so : (laws : Premises) (framed : Bool) (a : Known) (s : ChipStat
 unfolding effect_of
 mask_direct_so laws framed a s first image pc done direct by under small is =
     let placed = direct_placed laws direct small in
-    laws.formats.updating framed first [] pc (direct_masked framed done direct by a) s [] (direct_addresses direct) (direct_address direct)
+    laws.operands.formats.updating framed first [] pc (direct_masked framed done direct by a) s [] (direct_addresses direct) (direct_address direct)
     (λ x. write (direct_address direct) (masked done x (mask_value s by)) s) (λ access there. absurd (omega (arith, there.1))) placed.stands placed.are
     (λ x may. masked_leads laws framed a s first done direct by x under small is may)
 
@@ -108,8 +108,8 @@ mask_direct_form laws framed a done direct by form small is =
     let operand = mask_operand a by in
     let operand_are = mask_is framed a by form is in
     let are = (direct_placed laws direct small).are in
-    let status = laws.results_so.status_form framed done a.psw operand (status_is framed a form) operand_are in
+    let status = laws.results.statuses.masked_form framed done a.psw operand (status_is framed a form) operand_are in
     cond_both (direct == 0xD0) (status_written (masked_status done a.psw operand) a) (byte_written framed at (direct_made framed done direct by a) a) (IsKnown framed)
-    (λ psw. laws.writes.status_form framed (masked_status done a.psw operand) status.bits status.entry a form)
-    (λ other. laws.writes.byte_form framed at (direct_made framed done direct by a) are
-    (laws.results_so.masked_form framed done (read_byte framed a at) operand (laws.reads.form framed a form at are) operand_are) a form)
+    (λ psw. laws.stores.forms.status framed (masked_status done a.psw operand) status.bits status.entry a form)
+    (λ other. laws.stores.forms.byte framed at (direct_made framed done direct by a) are
+    (laws.results.changes.masked_form framed done (read_byte framed a at) operand (laws.operands.reads.form framed a form at are) operand_are) a form)

@@ -20,7 +20,7 @@ use Rattle.mcs51_operands.specs.Operands.{addresses_of, direct_addresses}
 use Rattle.mcs51_operands.specs.Reading.{read_byte}
 use Rattle.mcs51_stores.specs.Following.{IsValue}
 use Rattle.mcs51_stores.specs.Writing.{accumulator_written, byte_written}
-use Rattle.mcs51_formats.specs.Doing.{LeadsSo}
+use Rattle.mcs51_operands.specs.Doing.{LeadsSo}
 use Rattle.mcs51_moves.specs.Premises.{Premises}
 
 -- OPERANDS
@@ -30,18 +30,18 @@ pub record IsPlaced (at : Addresses) (address : Address) : Type 0 where
   pub are : AreAddresses at
 
 pub memory_placed : (laws : Premises) (framed : Bool) (a : Known) (s : ChipState) (first : Option ChipState) (m : Memory) → IsUnder framed a s first → IsMemory m → IsPlaced (addresses_of a m) (address_of s m)
-memory_placed laws framed a s first m under is = record { stands = laws.reads.stands framed a s first under m; are = laws.reads.stands_form framed a under.form m is }
+memory_placed laws framed a s first m under is = record { stands = laws.operands.stands.operand framed a s first under m; are = laws.operands.stands.operand_form framed a under.form m is }
 
 pub direct_placed : (laws : Premises) (direct : ℕ) → direct < 256 → IsPlaced (direct_addresses direct) (direct_address direct)
-direct_placed laws direct small = let both = laws.reads.direct direct small in record { stands = both.0; are = both.1 }
+direct_placed laws direct small = let both = laws.operands.stands.direct direct small in record { stands = both.0; are = both.1 }
 
 -- VALUES
 
 pub read_value : (laws : Premises) (framed : Bool) (a : Known) (s : ChipState) (first : Option ChipState) (at : Addresses) (address : Address) (x : ℕ) → IsUnder framed a s first → IsPlaced at address → MayRead s address x
     → IsValue framed first (read_byte framed a at) x
 read_value laws framed a s first at address x under placed may = record {
-  form = laws.reads.form framed a under.form at placed.are;
-  holds = laws.reads.byte framed a s first under at address x placed.stands placed.are may;
+  form = laws.operands.reads.form framed a under.form at placed.are;
+  holds = laws.operands.reads.byte framed a s first under at address x placed.stands placed.are may;
 }
 
 pub accumulator_value : (framed : Bool) (a : Known) (s : ChipState) (first : Option ChipState) → IsUnder framed a s first → IsValue framed first a.a s.a
@@ -55,18 +55,18 @@ pub plain_value : (framed : Bool) (first : Option ChipState) (set : Form) (x : �
 plain_value framed first set x normal has = record { form = plain_form framed set normal; holds = (has, tt) }
 
 pub number_value : (laws : Premises) (framed : Bool) (first : Option ChipState) (value : ℕ) → value < 256 → IsValue framed first (byte_of (single value)) value
-number_value laws framed first value small = let one = laws.sets.alone 256 value small in plain_value framed first (single value) value one.0 one.1
+number_value laws framed first value small = let one = laws.known.sets.single 256 value small in plain_value framed first (single value) value one.0 one.1
 
 pub value_small : (laws : Premises) (framed : Bool) (first : Option ChipState) (byte : Byte) (x : ℕ) → IsValue framed first byte x → x < 256
-value_small laws framed first byte x value = laws.sets.below 256 x byte.set value.form.normal value.holds.0
+value_small laws framed first byte x value = laws.known.sets.below 256 x byte.set value.form.normal value.holds.0
 
 -- WRITES
 
 pub written_leads : (laws : Premises) (framed : Bool) (a : Known) (s : ChipState) (first : Option ChipState) (at : Addresses) (address : Address) (byte : Byte) (x : ℕ) → IsUnder framed a s first → IsPlaced at address
     → IsValue framed first byte x → LeadsSo framed first (byte_written framed at byte a) s (write address x s)
 written_leads laws framed a s first at address byte x under placed value = record {
-  onward = laws.formats.write_keeps address x s;
-  under = laws.writes.byte framed first at address byte x value placed.are placed.stands a s under;
+  onward = laws.operands.formats.write_keeps address x s;
+  under = laws.stores.writes.byte framed first at address byte x value placed.are placed.stands a s under;
 }
 
 -- and then of the accumulator
@@ -75,10 +75,10 @@ pub both_lead : (laws : Premises) (framed : Bool) (a : Known) (s : ChipState) (f
 both_lead laws framed a s first at address byte held x y under placed value held_value =
     let one = written_leads laws framed a s first at address byte x under placed value in record {
       onward = one.onward;
-      under = laws.writes.accumulator framed first held y held_value (byte_written framed at byte a) (write address x s) one.under;
+      under = laws.stores.writes.accumulator framed first held y held_value (byte_written framed at byte a) (write address x s) one.under;
     }
 
 pub both_form : (laws : Premises) (framed : Bool) (a : Known) (at : Addresses) (byte held : Byte) → IsKnown framed a → AreAddresses at → IsByte framed byte → IsByte framed held
     → IsKnown framed (accumulator_written held (byte_written framed at byte a))
 both_form laws framed a at byte held form are is held_is =
-    laws.writes.accumulator_form framed held held_is (byte_written framed at byte a) (laws.writes.byte_form framed at byte are is a form)
+    laws.stores.forms.accumulator framed held held_is (byte_written framed at byte a) (laws.stores.forms.byte framed at byte are is a form)

@@ -25,7 +25,7 @@ use Rattle.mcs51_results.specs.declared.made.Operand.TheVariants.{Constant, Amon
 use Rattle.mcs51_results.specs.Results.{decreased, increased, masked_made}
 use Rattle.mcs51_results.specs.StatusBytes.{masked_status}
 use Rattle.mcs51_stores.specs.Writing.{accumulator_written, byte_written, status_written}
-use Rattle.mcs51_formats.specs.Shown.{read_at, write_at}
+use Rattle.mcs51_operands.specs.Accesses.{read_at, write_at}
 
 -- the byte of an operand, and a byte that is written there
 abbrev pub byte_at : (framed : Bool) → Memory → Known → Byte

@@ -6,8 +6,7 @@ ghost use Rattle.mcs51_moves.specs.Moves as moves;
 use call_context::{Item, Sequence};
 use entry_value::Cells;
 use mcs51_decode::Working;
-use mcs51_formats::show_read;
-use mcs51_operands::{access, direct_addresses, show_pointer, working_addresses};
+use mcs51_operands::{access, direct_addresses, show_pointer, show_read, working_addresses};
 use mcs51_state::State;
 use no_memory::Memory;
 

@@ -14,6 +14,7 @@ use Rattle.irq_frames.specs.Ranges.{has_address}
 use Rattle.value_bits.specs.Bits.{Agrees, IsBit, known_bit, known_bits}
 use Rattle.value_set.specs.declared.form.Form.{Form}
 use Rattle.value_set.specs.Form.{Has, IsNormal, members}
+use Rattle.irq_frames.specs.KnownLaws.{KnownLaws}
 use Rattle.mcs51_chip.specs.declared.place.Address.{Address}
 use Rattle.mcs51_chip.specs.declared.place.Sfr.{Sfr}
 use Rattle.mcs51_chip.specs.declared.place.Sfr.TheVariants.{Sp, Dpl, Dph, Ie, Ip, Psw, Acc, B, Other}
@@ -28,7 +29,6 @@ use Rattle.mcs51_state.specs.Known.{Known}
 use Rattle.mcs51_state.specs.Places.{ie_place, ip_place, is_place, is_remembered, psw_place, sfr_of, suspended_of}
 use Rattle.mcs51_state.specs.Standing.{AreAddresses, MayStandAt}
 use Rattle.mcs51_state.specs.Under.{IsUnder}
-use Rattle.mcs51_operands.specs.Premises.{Premises}
 use Rattle.mcs51_operands.specs.Reading.{found_or, kept_by, kept_from, list_relation, ram_values, read_bit, read_byte, register_bit, register_byte, status_bits}
 use Rattle.mcs51_operands.proofs.Bits.{bit_agrees, known_is, status_agrees}
 use Rattle.mcs51_operands.proofs.Members.{in_first}
@@ -78,7 +78,7 @@ list_form framed known form (at ∷ next ∷ rest) small = no_relation framed
 
 -- BYTES
 
-register_form : (laws : Premises) (framed : Bool) (known : Known) → IsKnown framed known → (sfr : Sfr) → IsByte framed (register_byte known sfr)
+register_form : (laws : KnownLaws) (framed : Bool) (known : Known) → IsKnown framed known → (sfr : Sfr) → IsByte framed (register_byte known sfr)
 register_form laws framed known form Sp = record { normal = form.sp; entry = no_relation framed }
 register_form laws framed known form Dpl = form.dpl
 register_form laws framed known form Dph = form.dph
@@ -86,18 +86,18 @@ register_form laws framed known form Ie = record { normal = form.ie.normal; entr
 register_form laws framed known form Ip = record { normal = form.ip.normal; entry = own_relation framed ip_place 192 known.ip.entry refl form.ip.entry }
 register_form laws framed known form Psw =
     let count : length (status_bits known.psw.bits) ≡ 8 = omega (arith, form.bits) in
-    record { normal = laws.from_normal 8 (status_bits known.psw.bits) count; entry = own_relation framed psw_place 3 known.psw.entry refl form.psw }
+    record { normal = laws.bits.from_normal 8 (status_bits known.psw.bits) count; entry = own_relation framed psw_place 3 known.psw.entry refl form.psw }
 register_form laws framed known form Acc = form.a
 register_form laws framed known form B = form.b
-register_form laws framed known form Other = record { normal = laws.whole_normal 256 (omega arith); entry = no_relation framed }
+register_form laws framed known form Other = record { normal = laws.sets.whole_normal 256 (omega arith); entry = no_relation framed }
 
-pub byte_form : (laws : Premises) (framed : Bool) (known : Known) → IsKnown framed known → (addresses : Addresses) → AreAddresses addresses → IsByte framed (read_byte framed known addresses)
+pub byte_form : (laws : KnownLaws) (framed : Bool) (known : Known) → IsKnown framed known → (addresses : Addresses) → AreAddresses addresses → IsByte framed (read_byte framed known addresses)
 unfolding read_byte
 byte_form laws framed known form (InRam set) are =
-    record { normal = values_normal laws known form.cells set; entry = list_form framed known form (members 256 set) (λ at has. laws.below 256 at set are has) }
+    record { normal = values_normal laws known form.cells set; entry = list_form framed known form (members 256 set) (λ at has. laws.sets.below 256 at set are has) }
 byte_form laws framed known form (InSfr register) are = register_form laws framed known form (sfr_at register)
 
-pub byte_is : (laws : Premises) (framed : Bool) (known : Known) (s : ChipState) (first : Option ChipState) → IsUnder framed known s first → (addresses : Addresses) (address : Address) (x : ℕ)
+pub byte_is : (laws : KnownLaws) (framed : Bool) (known : Known) (s : ChipState) (first : Option ChipState) → IsUnder framed known s first → (addresses : Addresses) (address : Address) (x : ℕ)
     → MayStandAt addresses address → AreAddresses addresses → MayRead s address x → HoldsOfByte (option_map suspended_of first) (read_byte framed known addresses) x
 unfolding read_byte
 byte_is laws framed known s first under (InRam set) (AtRam at) x stands are may =
@@ -109,16 +109,16 @@ byte_is laws framed known s first under (InSfr register) (AtSfr at) x stands are
 
 -- BITS
 
-set_bit : (laws : Premises) (set : Form) (x place : ℕ) → IsNormal 256 set → Has 256 set x → place < 8 → IsBit (known_bit 8 place set) (bit_at x place)
+set_bit : (laws : KnownLaws) (set : Form) (x place : ℕ) → IsNormal 256 set → Has 256 set x → place < 8 → IsBit (known_bit 8 place set) (bit_at x place)
 set_bit laws set x place normal has small =
-    subst (λ bit. IsBit bit (bit_at x place)) (known_is set place small) (bit_agrees (known_bits 8 set) x place (laws.known 8 x set normal has))
+    subst (λ bit. IsBit bit (bit_at x place)) (known_is set place small) (bit_agrees (known_bits 8 set) x place (laws.bits.known 8 x set normal has))
 
-plain_bit : (laws : Premises) (framed : Bool) (known : Known) (s : ChipState) (first : Option ChipState) → IsUnder framed known s first → (sfr : Sfr) (x place : ℕ) → MayReadSfr s sfr x → place < 8
+plain_bit : (laws : KnownLaws) (framed : Bool) (known : Known) (s : ChipState) (first : Option ChipState) → IsUnder framed known s first → (sfr : Sfr) (x place : ℕ) → MayReadSfr s sfr x → place < 8
     → IsBit (known_bit 8 place (register_byte known sfr).set) (bit_at x place)
 plain_bit laws framed known s first under sfr x place may small =
     set_bit laws (register_byte known sfr).set x place (register_form laws framed known under.form sfr).normal (register_is laws framed known s first under sfr x may).0 small
 
-sfr_bit : (laws : Premises) (framed : Bool) (known : Known) (s : ChipState) (first : Option ChipState) → IsUnder framed known s first → (sfr : Sfr) (x place : ℕ) → MayReadSfr s sfr x → place < 8
+sfr_bit : (laws : KnownLaws) (framed : Bool) (known : Known) (s : ChipState) (first : Option ChipState) → IsUnder framed known s first → (sfr : Sfr) (x place : ℕ) → MayReadSfr s sfr x → place < 8
     → IsBit (register_bit known sfr place) (bit_at x place)
 sfr_bit laws framed known s first under Sp x place may small = plain_bit laws framed known s first under Sp x place may small
 sfr_bit laws framed known s first under Dpl x place may small = plain_bit laws framed known s first under Dpl x place may small
@@ -133,7 +133,7 @@ sfr_bit laws framed known s first under Acc x place may small = plain_bit laws f
 sfr_bit laws framed known s first under B x place may small = plain_bit laws framed known s first under B x place may small
 sfr_bit laws framed known s first under Other x place may small = plain_bit laws framed known s first under Other x place may small
 
-pub bit_is : (laws : Premises) (framed : Bool) (known : Known) (s : ChipState) (first : Option ChipState) → IsUnder framed known s first → (addresses : Addresses) (address : Address) (x place : ℕ)
+pub bit_is : (laws : KnownLaws) (framed : Bool) (known : Known) (s : ChipState) (first : Option ChipState) → IsUnder framed known s first → (addresses : Addresses) (address : Address) (x place : ℕ)
     → MayStandAt addresses address → AreAddresses addresses → MayRead s address x → place < 8 → IsBit (read_bit known addresses place) (bit_at x place)
 unfolding read_bit
 bit_is laws framed known s first under (InRam set) (AtRam at) x place stands are may small =

@@ -1,4 +1,7 @@
+pub mod Accesses
+pub mod Doing
+pub mod Giving
+pub mod Laws
 pub mod Operands
-pub mod Premises
 pub mod Reading
 pub mod Showing

@@ -4,6 +4,7 @@ use Rattle.std.specs.Prelude.{ℕ, List, [], ◌∷◌, slice_index_or}
 use Rattle.value_bits.specs.declared.tri.Tri.{Tri}
 use Rattle.value_bits.specs.declared.tri.Tri.TheVariants.{Zero, Either}
 use Rattle.value_bits.specs.Bits.{from_bits}
+use Rattle.value_bits.specs.Sets.{pair_set}
 use Rattle.value_set.specs.declared.form.Form.{Form}
 use Rattle.value_set.specs.Summing.{add, single}
 use Rattle.mcs51_decode.specs.declared.instr.Memory.{Memory}
@@ -61,3 +62,7 @@ working_addresses known (Register n) = InRam (register_addresses known (register
 abbrev pub addresses_of : Known → Memory → Addresses
 addresses_of known (Direct direct) = direct_addresses direct
 addresses_of known (InWorking w) = working_addresses known w
+
+-- JMP @A+DPTR, and MOVC A,@A+DPTR
+unfoldable pub jump_targets : Known → Form
+jump_targets a = add 65536 (pair_set a.dpl.set a.dph.set) (pair_set a.a.set (single 0))

@@ -8,8 +8,8 @@ use entry_value::Cells;
 use mcs51_chip::{Address, bit_address, direct_address};
 use mcs51_decode::{Memory, Pointer, Working, number_of_pointer, number_of_register};
 use mcs51_state::{Addresses, State};
-use value_bits::{Tri, w8};
-use value_set::Vs8;
+use value_bits::{Tri, w8, w16};
+use value_set::{Vs8, Vs16};
 
 /// Where R0 stands, by the bits 2 to 7 of PSW.
 fn bank(bits: &[Tri; 6]) -> Vs8
@@ -89,4 +89,13 @@ pub fn addresses_of<M: Cells>(state: &State<M>, memory: Memory) -> Addresses
         Memory::Direct(direct) => direct_addresses(direct),
         Memory::Working(working) => working_addresses(state, working),
     }
+}
+
+/// Where JMP @A+DPTR may go, and where MOVC A,@A+DPTR may read.
+#[tactic(auto, unfolding(crate::specs::Operands::jump_targets))]
+pub fn jump_targets<M: Cells>(state: &State<M>) -> Vs16
+    ensures { result ≡ operands.jump_targets state.now }
+{
+    let pointer = w16::pair(&state.dpl.set, &state.dph.set);
+    pointer.add(&w16::pair(&state.a.set, &Vs8::one(0)))
 }

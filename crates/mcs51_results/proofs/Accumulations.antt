@@ -38,7 +38,7 @@ use Rattle.mcs51_results.specs.declared.made.Operand.TheVariants.{Constant, Amon
 use Rattle.mcs51_results.specs.Holding.{IsResult, AreOperands, IsOperand, IsStatus, IsMade, HoldsOfMade, StandsMade}
 use Rattle.mcs51_results.specs.Results.{carry_in, half_carry_in, known_flag, set_of, add_carry, sub_carry, sum_flags, difference_flags, twice_flags, twice_made, bitwise, masked_entry, masked_made, accumulated_made, changed_set, changed_flags, changed_made}
 use Rattle.mcs51_results.specs.Rules.{flag_by}
-use Rattle.mcs51_results.proofs.SetLemmas.{single_is, zero_is, chosen_is, member, bit_value, operand_value, operand_is, add_is, sub_is, carry_is, borrow_is, logic_is}
+use Rattle.mcs51_results.proofs.SetLemmas.{single_is, zero_is, chosen_is, member, operand_value, operand_is, add_is, sub_is, carry_is, borrow_is, logic_is}
 use Rattle.mcs51_results.proofs.StatusLemmas.{flag_bit, equal_bit, carry_bit, half_carry_bit, flagged_holds, carried_holds}
 
 -- BYTES
@@ -155,14 +155,14 @@ accumulated_form laws framed Add made operand form are = record {
 accumulated_form laws framed Addc made operand form are =
     let (x, a) = member laws 256 made.a.set form.a.normal in
     let (y, is) = operand_value laws operand are in
-    let (z, bit) = bit_value (carry_in made.psw) in record {
+    let (z, bit) = laws.bits.bit_some (carry_in made.psw) in record {
       a = plain_form framed (add_carry made.a.set (set_of operand) (carry_in made.psw)) (carry_is laws x y z made.a.set (set_of operand) (carry_in made.psw) a (operand_is laws operand y is) bit).normal;
       psw = record { bits = refl; entry = tt };
     }
 accumulated_form laws framed Subb made operand form are =
     let (x, a) = member laws 256 made.a.set form.a.normal in
     let (y, is) = operand_value laws operand are in
-    let (z, bit) = bit_value (carry_in made.psw) in record {
+    let (z, bit) = laws.bits.bit_some (carry_in made.psw) in record {
       a = plain_form framed (sub_carry made.a.set (set_of operand) (carry_in made.psw)) (borrow_is laws x y z made.a.set (set_of operand) (carry_in made.psw) a (operand_is laws operand y is) bit).normal;
       psw = record { bits = refl; entry = tt };
     }
@@ -297,8 +297,8 @@ changed_status framed Da a psw form = record { bits = refl; entry = tt }
 pub changed_form : (laws : KnownLaws) (framed : Bool) (done : AccumulatorOperation) (made : Made) → IsMade framed made → IsMade framed (changed_made done made.a made.psw)
 changed_form laws framed done made form =
     let (x, a) = member laws 256 made.a.set form.a.normal in
-    let (c, carry) = bit_value (carry_in made.psw) in
-    let (h, half) = bit_value (half_carry_in made.psw) in record {
+    let (c, carry) = laws.bits.bit_some (carry_in made.psw) in
+    let (h, half) = laws.bits.bit_some (half_carry_in made.psw) in record {
       a = plain_form framed (changed_set done made.a.set (carry_in made.psw) (half_carry_in made.psw))
           (changed_is laws done made.a.set (carry_in made.psw) (half_carry_in made.psw) x c h a carry half).normal;
       psw = changed_status framed done made.a.set made.psw form.psw;

@@ -38,7 +38,7 @@ use Rattle.mcs51_results.specs.BitRules.{after_below, bit_put, bit_stays}
 use Rattle.mcs51_results.specs.Holding.{IsResult, IsStatus}
 use Rattle.mcs51_results.specs.Results.{carry_in}
 use Rattle.mcs51_results.specs.StatusBytes.{all_bits, upper, bit_of_set, bit_of_status, carry_changed, carry_joined, carry_made, carry_bit_made, bit_made, bit_entry, bit_answer, bit_carries, bits_made, byte_with_bit, status_with_bit}
-use Rattle.mcs51_results.proofs.SetLemmas.{combined, zero_is, chosen_is, bit_below, bit_value, member}
+use Rattle.mcs51_results.proofs.SetLemmas.{combined, zero_is, chosen_is, bit_below, member}
 use Rattle.mcs51_results.proofs.StatusLemmas.{bit_agrees, carry_bit, carried_holds}
 use Rattle.mcs51_results.proofs.Accumulations.{byte_is}
 use Rattle.mcs51_results.proofs.StatusWrites.{and_bit, or_bit, own_holds, own_form, own_is, read_entry, read_quarter, status_agrees, upper_agree, write_quarter}
@@ -226,7 +226,7 @@ byte_bit_holds laws framed first done at t byte x c form holds bit =
 pub byte_bit_form : (laws : KnownLaws) (framed : Bool) (done : BitOperation) (at : ℕ) (t : Tri) (byte : Byte) → IsByte framed byte → IsByte framed (byte_with_bit done at t byte)
 byte_bit_form laws framed done at t byte form =
     let (x, is) = member laws 256 byte.set form.normal in
-    let (c, bit) = bit_value t in
+    let (c, bit) = laws.bits.bit_some t in
     record { normal = (byte_set_is laws done at t byte.set x c is bit).normal; entry = bit_entry_form framed done (at % 8) byte.entry (place_below at) form.entry }
 
 pub bit_known : (laws : KnownLaws) (at : ℕ) (set : Form) (x : ℕ) → IsNormal 256 set → Has 256 set x → IsBit (bit_of_set set (at % 8)) (bit_at x (at % 8))

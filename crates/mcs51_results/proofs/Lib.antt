@@ -1,4 +1,3 @@
-pub mod Pairs
 pub mod SetLemmas
 pub mod StatusLemmas
 pub mod Accumulations

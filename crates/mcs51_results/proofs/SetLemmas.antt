@@ -1,12 +1,11 @@
 -- Sets of results, each with the number that an operation makes of members.
-use Rattle.std.proofs.Common.{◌≡◌, ℕ, ◌+◌, ◌-◌, ◌*◌, ◌%◌, ◌<◌, [], ◌∷◌, refl, sym, subst, inl, inr, get_or, arith}
+use Rattle.std.proofs.Common.{◌≡◌, ℕ, ◌+◌, ◌-◌, ◌*◌, ◌%◌, ◌<◌, refl, sym, subst, get_or, arith}
 use Rattle.std.specs.Prelude.{nat_le}
-use Rattle.std.proofs.lemmas.Bool.{cond_both, cases_eq}
+use Rattle.std.proofs.lemmas.Bool.{cond_both}
 use Rattle.std.proofs.lemmas.List.Elements.{Contains-get_or}
 use Rattle.irq_frames.specs.KnownLaws.{KnownLaws}
 use Rattle.value_set.specs.declared.form.Form.{Form}
-use Rattle.value_set.specs.declared.form.Form.TheVariants.{Values}
-use Rattle.value_set.specs.Form.{Has, IsNormal, members}
+use Rattle.value_set.specs.Form.{IsNormal, members}
 use Rattle.value_set.specs.Operations.{StaysBelow, HasResultsBelow}
 use Rattle.value_set.specs.Summing.{add, combine, count_of, single, sub}
 use Rattle.value_bits.specs.declared.tri.Logic.{Logic}
@@ -44,30 +43,17 @@ pub any_is : (laws : KnownLaws) (v : ℕ) → v < 256 → IsResult 256 any_byte 
 any_is laws v small = record { normal = laws.sets.whole_normal 256 (omega arith); has = laws.sets.whole 256 v small }
 
 pub chosen_is : (laws : KnownLaws) (z : ℕ) (carry : Tri) → IsBit carry z → IsResult 256 (chosen carry) z
-chosen_is laws z Zero bit = subst (IsResult 256 (single 0)) (sym bit) (zero_is laws)
-chosen_is laws z One bit = subst (IsResult 256 (single 1)) (sym bit) (single_is laws 256 1 (omega arith))
-chosen_is laws z Either bit = record {
-  normal = (omega arith, omega arith, (omega arith, omega arith, (omega arith, omega arith, tt)));
-  has = elim (cases_eq z 0) [
-    | inl none ↦ subst (Has 256 (Values (0 ∷ 1 ∷ []))) (sym none) (0, omega arith, refl)
-    | inr one ↦ let is : z ≡ 1 = omega (arith, bit, one) in subst (Has 256 (Values (0 ∷ 1 ∷ []))) (sym is) (1, omega arith, refl)
-  ];
-}
+chosen_is laws z carry bit = record { normal = laws.bits.chosen_normal 256 carry (omega arith); has = laws.bits.chosen_has 256 z carry bit }
 
 pub bit_below : (t : Tri) (z : ℕ) → IsBit t z → z < 2
 bit_below Zero z h = omega (arith, h)
 bit_below One z h = omega (arith, h)
 bit_below Either z h = h
 
--- some member, and some value of a bit and of an operand
+-- some member, and some value of an operand
 pub member : (laws : KnownLaws) (m : ℕ) (set : Form) → IsNormal m set → (v : ℕ) × IsResult m set v
 member laws m set normal = let some = laws.sets.some m set normal in
     (get_or (members m set) 0 0, record { normal = normal; has = Contains-get_or (members m set) 0 0 (omega (arith, some)) })
-
-pub bit_value : (t : Tri) → (bit : ℕ) × IsBit t bit
-bit_value Zero = (0, refl)
-bit_value One = (1, refl)
-bit_value Either = (0, omega arith)
 
 pub operand_value : (laws : KnownLaws) (operand : Operand) → AreOperands operand → (x : ℕ) × IsOperand operand x
 operand_value laws (Constant m) small = (m, (small, refl))

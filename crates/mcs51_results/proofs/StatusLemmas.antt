@@ -8,13 +8,31 @@ use Rattle.entry_value.specs.Words.{Suspended}
 use Rattle.value_bits.specs.declared.tri.Tri.{Tri}
 use Rattle.value_bits.specs.declared.tri.Tri.TheVariants.{Zero, One, Either}
 use Rattle.value_bits.specs.Bits.{IsBit, Agrees}
-use Rattle.value_bits.specs.Flags.{IsFlag}
+use Rattle.value_bits.specs.declared.all_flags.FourKnown.{FourKnown}
+use Rattle.value_bits.specs.AllFlags.{Place, known_at}
+use Rattle.value_bits.specs.AllFlags.Place.{First, Second, Third}
+use Rattle.value_bits.specs.Flags.{IsFlag, agreed}
+use Rattle.value_set.specs.declared.form.Form.{Form}
 use Rattle.mcs51_chip.specs.Registers.{bit_of}
 use Rattle.mcs51_state.specs.declared.status.Status.{Status}
 use Rattle.mcs51_state.specs.Holding.{HoldsOfStatus}
 use Rattle.mcs51_results.specs.Holding.{IsStatus}
-use Rattle.mcs51_results.specs.Results.{flagged, carried, carry_in, half_carry_in}
+use Rattle.mcs51_results.specs.declared.flags.ThreeFlags.{ThreeFlags}
+use Rattle.mcs51_results.specs.Results.{flagged, carried, carry_in, half_carry_in, known_flag, three_flags}
+use Rattle.mcs51_results.specs.Rules.{flag_by, rule_at}
 use Rattle.mcs51_results.proofs.SetLemmas.{bit_below}
+
+-- THREE FLAGS
+
+-- as one walk tells them
+pub told : (rules : ThreeFlags) (a b c : Form) (psw : Status) (known : FourKnown)
+    → ((place : Place) → known_at place known ≡ agreed 256 (flag_by (rule_at place rules)) a b c)
+    → flagged known.first known.second known.third psw ≡ three_flags rules a b c psw
+told rules a b c psw known same =
+    let carry : known.first ≡ known_flag rules.carry a b c = same First in
+    let half : known.second ≡ known_flag rules.half a b c = same Second in
+    let overflow : known.third ≡ known_flag rules.overflow a b c = same Third in
+    rw (carry, half, overflow) refl
 
 -- ONE BIT
 

@@ -1,5 +1,6 @@
-pub mod Rules
-pub mod Results
-pub mod StatusBytes
 pub mod BitRules
 pub mod Holding
+pub mod Laws
+pub mod Results
+pub mod Rules
+pub mod StatusBytes

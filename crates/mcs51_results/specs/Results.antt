@@ -31,6 +31,7 @@ use Rattle.mcs51_state.specs.Known.{any_byte, byte_of}
 use Rattle.mcs51_results.specs.declared.combining.NumberRule.TheVariants.{CarrySum, CarryDifference, ProductLow, ProductHigh, Quotient, Remainder}
 use Rattle.mcs51_results.specs.declared.flags.FlagRule.{FlagRule}
 use Rattle.mcs51_results.specs.declared.flags.FlagRule.TheVariants as flag
+use Rattle.mcs51_results.specs.declared.flags.ThreeFlags.{ThreeFlags}
 use Rattle.mcs51_results.specs.declared.made.Made.{Made}
 use Rattle.mcs51_results.specs.declared.made.MadePair.{MadePair}
 use Rattle.mcs51_results.specs.declared.made.Operand.{Operand}
@@ -81,16 +82,28 @@ add_carry a b carry = combine_or 256 (answer_by CarrySum) a b (chosen carry) (ad
 abbrev pub sub_carry : (a b : Form) → Tri → Form
 sub_carry a b carry = combine_or 256 (answer_by CarryDifference) a b (chosen carry) (sub 256 (sub 256 a b) (chosen carry))
 
+-- CY, AC and OV by three rules
+abbrev pub three_flags : ThreeFlags → (a b c : Form) → Status → Status
+three_flags rules a b c psw = flagged (known_flag rules.carry a b c) (known_flag rules.half a b c) (known_flag rules.overflow a b c) psw
+
+abbrev pub sum_rules : ThreeFlags
+sum_rules = record { carry = flag.Carry; half = flag.HalfCarry; overflow = flag.SumOverflow }
+
 abbrev pub sum_flags : (a b c : Form) → Status → Status
-sum_flags a b c psw = flagged (known_flag flag.Carry a b c) (known_flag flag.HalfCarry a b c) (known_flag flag.SumOverflow a b c) psw
+sum_flags a b c psw = three_flags sum_rules a b c psw
+
+abbrev pub difference_rules : ThreeFlags
+difference_rules = record { carry = flag.Borrow; half = flag.HalfBorrow; overflow = flag.DifferenceOverflow }
 
 abbrev pub difference_flags : (a b c : Form) → Status → Status
-difference_flags a b c psw = flagged (known_flag flag.Borrow a b c) (known_flag flag.HalfBorrow a b c) (known_flag flag.DifferenceOverflow a b c) psw
+difference_flags a b c psw = three_flags difference_rules a b c psw
 
 -- ADD of the accumulator to itself, of which nothing is known in flags where it is a run
+abbrev pub twice_rules : ThreeFlags
+twice_rules = record { carry = flag.TwiceCarry; half = flag.TwiceHalfCarry; overflow = flag.TwiceOverflow }
+
 abbrev pub twice_flags : Form → Status → Status
-twice_flags (Values xs) psw = flagged (known_flag flag.TwiceCarry (Values xs) (single 0) (single 0))
-    (known_flag flag.TwiceHalfCarry (Values xs) (single 0) (single 0)) (known_flag flag.TwiceOverflow (Values xs) (single 0) (single 0)) psw
+twice_flags (Values xs) psw = three_flags twice_rules (Values xs) (single 0) (single 0) psw
 twice_flags (Run p) psw = flagged Either Either Either psw
 
 abbrev pub twice_made : Byte → Status → Made

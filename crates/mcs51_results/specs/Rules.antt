@@ -4,12 +4,15 @@ use Rattle.std.specs.Prelude.{◌≡◌, ℕ, ◌+◌, ◌-◌, ◌*◌, ◌/◌
 use Rattle.std.proofs.Common.{arith, refl}
 use Rattle.std.proofs.Math.Nat.{mod-lt}
 use Rattle.value_set.specs.Operations.{StaysBelow}
+use Rattle.value_bits.specs.AllFlags.{Place}
+use Rattle.value_bits.specs.AllFlags.Place.{First, Second, Third, Fourth}
 use Rattle.chip_numbers.specs.Numbers.{adjusted_carry}
 use Rattle.mcs51_chip.specs.Arithmetic.{carries, borrows, differ}
 use Rattle.mcs51_results.specs.declared.combining.NumberRule.{NumberRule}
 use Rattle.mcs51_results.specs.declared.combining.NumberRule.TheVariants.{CarrySum, CarryDifference, ProductLow, ProductHigh, Quotient, Remainder}
 use Rattle.mcs51_results.specs.declared.flags.FlagRule.{FlagRule}
 use Rattle.mcs51_results.specs.declared.flags.FlagRule.TheVariants as flag
+use Rattle.mcs51_results.specs.declared.flags.ThreeFlags.{ThreeFlags}
 
 -- NUMBERS
 
@@ -60,6 +63,13 @@ flag_by flag.HighestBit x y z = x / 128 == 1
 flag_by flag.Adjusted x y z = adjusted_carry x y z
 flag_by flag.Exceeding x y z = nat_lt 255 (x * y)
 flag_by flag.ByZero x y z = y == 0
+
+-- three flags that one walk tells, by their places there
+abbrev pub rule_at : Place → ThreeFlags → FlagRule
+rule_at First flags = flags.carry
+rule_at Second flags = flags.half
+rule_at Third flags = flags.overflow
+rule_at Fourth flags = flags.overflow
 
 -- DA adds 60h
 abbrev pub is_high_adjusted : (low carry : ℕ) → Bool

@@ -9,7 +9,7 @@ ghost use Rattle.mcs51_results.specs.Results as results;
 ghost use Rattle.mcs51_results.specs.Rules as rules;
 
 use value_bits::Tri;
-use value_set::{Operation, Vs8};
+use value_set::{Operation, Vs8, set_laws};
 
 /// By which rule an operation makes a number.
 #[derive(Clone, Copy)]
@@ -73,6 +73,7 @@ pub(crate) fn chosen(bit: Tri) -> Vs8
 fn zero_or_one() -> Vs8
     ensures { result ≡ sets.chosen Either }
 {
+    set_laws();
     match Vs8::gather(&[0, 1]) {
         Some(set) => set,
         None => unreachable!(),

@@ -7,7 +7,7 @@ ghost use Rattle.mcs51_chip.specs.Arithmetic as arithmetic;
 ghost use Rattle.mcs51_results.specs.Results as results;
 ghost use Rattle.mcs51_results.specs.Rules as rules;
 
-use value_bits::{Flag, Tri, w8};
+use value_bits::{AllFlags, Flag, FourFlags, Tri, w8};
 use value_set::Vs8;
 
 /// By which rule an operation on two numbers and a carry sets a flag.
@@ -50,6 +50,33 @@ impl Flag for FlagRule {
 
     fn is_set(&self, x: u16, y: u16, carry: u16) -> bool {
         flag_by(*self, x, y, carry)
+    }
+}
+
+/// CY, AC and OV, which one operation sets, each by its rule.
+#[derive(Clone, Copy)]
+pub(crate) struct ThreeFlags {
+    pub carry: FlagRule,
+    pub half: FlagRule,
+    pub overflow: FlagRule,
+}
+
+impl AllFlags for ThreeFlags {
+    ghost use Rattle.mcs51_results.specs.Rules.{flag_by, rule_at};
+
+    ghost modulus = { λ flags. 256 };
+
+    ghost value = { λ flags place. flag_by (rule_at place flags) };
+
+    /// OV has the fourth place too, so that a walk ends where none of the three is known.
+    fn are_set(&self, x: u16, y: u16, carry: u16) -> FourFlags {
+        let overflow = flag_by(self.overflow, x, y, carry);
+        FourFlags {
+            first: flag_by(self.carry, x, y, carry),
+            second: flag_by(self.half, x, y, carry),
+            third: overflow,
+            fourth: overflow,
+        }
     }
 }
 

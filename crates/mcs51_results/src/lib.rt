@@ -27,7 +27,9 @@ mod results;
 mod status;
 
 pub use bits::{bit_of_byte, bit_of_status, byte_with_bit, status_with_bit};
-pub use laws::{accumulations_hold, bit_changes_hold, changes_hold, products_hold, statuses_hold};
+pub use laws::{
+    accumulations_hold, bit_changes_hold, changes_hold, products_hold, result_laws, statuses_hold,
+};
 pub use made::{Made, MadePair, Operand};
 pub use results::{
     accumulated_made, changed_made, decreased, divided_made, increased, masked_made,

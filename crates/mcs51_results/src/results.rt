@@ -9,7 +9,7 @@ ghost use Rattle.mcs51_results.specs.Results as results;
 ghost use Rattle.mcs51_results.specs.Rules.{answer_by};
 
 use crate::combining::{NumberRule, add_carry, chosen, combined_or_any, sub_carry};
-use crate::flags::{FlagRule, known_flag};
+use crate::flags::{FlagRule, ThreeFlags, known_flag};
 use crate::made::{Made, MadePair, Operand};
 use entry_value::{Byte, Entry};
 use mcs51_decode::{AccumulatorOperation, Logic, Operation};
@@ -90,28 +90,36 @@ pub(crate) fn set_of(operand: &Operand) -> Vs8
     }
 }
 
+/// CY, AC and OV by three rules: each combination is worked out once.
+fn three_flags(rules: ThreeFlags, a: &Vs8, b: &Vs8, carry: Tri, psw: &Status) -> Status
+    ensures { result ≡ results.three_flags rules a.now b.now (chosen_set carry) psw.now }
+{
+    let known = w8::all_agreed(&rules, a, b, carry);
+    flagged(known.first, known.second, known.third, psw)
+}
+
 /// The flags of sums.
 fn sum_flags(a: &Vs8, b: &Vs8, carry: Tri, psw: &Status) -> Status
     ensures { result ≡ results.sum_flags a.now b.now (chosen_set carry) psw.now }
 {
-    flagged(
-        known_flag(FlagRule::Carry, a, b, carry),
-        known_flag(FlagRule::HalfCarry, a, b, carry),
-        known_flag(FlagRule::SumOverflow, a, b, carry),
-        psw,
-    )
+    let rules = ThreeFlags {
+        carry: FlagRule::Carry,
+        half: FlagRule::HalfCarry,
+        overflow: FlagRule::SumOverflow,
+    };
+    three_flags(rules, a, b, carry, psw)
 }
 
 /// The flags of differences.
 fn difference_flags(a: &Vs8, b: &Vs8, carry: Tri, psw: &Status) -> Status
     ensures { result ≡ results.difference_flags a.now b.now (chosen_set carry) psw.now }
 {
-    flagged(
-        known_flag(FlagRule::Borrow, a, b, carry),
-        known_flag(FlagRule::HalfBorrow, a, b, carry),
-        known_flag(FlagRule::DifferenceOverflow, a, b, carry),
-        psw,
-    )
+    let rules = ThreeFlags {
+        carry: FlagRule::Borrow,
+        half: FlagRule::HalfBorrow,
+        overflow: FlagRule::DifferenceOverflow,
+    };
+    three_flags(rules, a, b, carry, psw)
 }
 
 /// ADD.
@@ -207,14 +215,13 @@ pub fn accumulated_made(operation: Operation, a: &Byte, operand: &Operand, psw: 
 fn twice_flags(a: &Vs8, psw: &Status) -> Status
     ensures { result ≡ results.twice_flags a.now psw.now }
 {
-    let none = Vs8::one(0);
+    let rules = ThreeFlags {
+        carry: FlagRule::TwiceCarry,
+        half: FlagRule::TwiceHalfCarry,
+        overflow: FlagRule::TwiceOverflow,
+    };
     match a.form() {
-        Form::Values(_) => flagged(
-            known_flag(FlagRule::TwiceCarry, a, &none, Tri::Zero),
-            known_flag(FlagRule::TwiceHalfCarry, a, &none, Tri::Zero),
-            known_flag(FlagRule::TwiceOverflow, a, &none, Tri::Zero),
-            psw,
-        ),
+        Form::Values(_) => three_flags(rules, a, &Vs8::one(0), Tri::Zero, psw),
         Form::Run(_) => flagged(Tri::Either, Tri::Either, Tri::Either, psw),
     }
 }

@@ -21,7 +21,10 @@ use Rattle.mcs51_state.specs.Holding.{KeepsUntouched}
 use Rattle.mcs51_state.specs.Known.{Known}
 use Rattle.mcs51_state.specs.Places.{suspended_of}
 use Rattle.mcs51_state.specs.Under.{IsFramed, IsUnder}
-use Rattle.mcs51_resume.specs.Premises.{Bytes, CellsOfRam, OfRanges, Premises}
+use Rattle.entry_value.specs.Laws.{CellLaws}
+use Rattle.irq_frames.specs.KnownLaws.{KnownLaws}
+use Rattle.irq_frames.specs.Laws.{RangeLaws}
+use Rattle.mcs51_resume.specs.Premises.{Premises}
 use Rattle.mcs51_resume.specs.Resume.{cell_word_by, masked_by, place_byte, resumed_cell, resumed_cells, touched_behind}
 use Rattle.mcs51_resume.proofs.Masks.{AreFormed, Tells, masked_form, no_relation, told_holds}
 use Rattle.mcs51_resume.proofs.PlaceLemmas.{relation_formed, relation_tells}
@@ -101,64 +104,64 @@ rewritten ram at address bytes = elim (cases_Bool (address == at)) [
   | inr other ↦ rw other refl
 ]
 
-one_formed : (laws : CellsOfRam) (held : CellMap) (cell : Cell) → IsCellMap held → IsWritten cell → IsCellMap (write_one held cell.place cell.size cell.word)
+one_formed : (laws : CellLaws) (held : CellMap) (cell : Cell) → IsCellMap held → IsWritten cell → IsCellMap (write_one held cell.place cell.size cell.word)
 unfolding write_one
 one_formed laws held cell form is = record {
   high = form.high;
-  are = laws.form held.lo cell.place cell.size held cell.word form.high (omega arith) form.are (inl is.size) is.normal (λ one. is.byte);
+  are = laws.write_form held.lo cell.place cell.size held cell.word form.high (omega arith) form.are (inl is.size) is.normal (λ one. is.byte);
 }
 
-one_stands : (laws : CellsOfRam) (first : Option Suspended) (ram : ℕ → ℕ) (held : CellMap) (cell : Cell) → IsCellMap held → IsWritten cell → StandsAt first ram cell
+one_stands : (laws : CellLaws) (first : Option Suspended) (ram : ℕ → ℕ) (held : CellMap) (cell : Cell) → IsCellMap held → IsWritten cell → StandsAt first ram cell
     → StandsUnder first held.cells ram → StandsUnder first (write_one held cell.place cell.size cell.word).cells ram
 one_stands laws first ram held cell form is stands under =
     let at = cell.place in
     let v = ram at in
     let same : (b : ℕ) → written ram at cell.size v b ≡ ram b = λ b. subst (λ (s : ℕ). written ram at s v b ≡ ram b) (sym is.size) (rewritten ram at b under.0) in
     laws.agree first (written ram at cell.size v) ram held.lo held.hi held.lo (write_one held at cell.size cell.word).cells form.high
-    (laws.form held.lo at cell.size held cell.word form.high (omega arith) form.are (inl is.size) is.normal (λ one. is.byte))
+    (laws.write_form held.lo at cell.size held cell.word form.high (omega arith) form.are (inl is.size) is.normal (λ one. is.byte))
     under.0 (λ b low high. same b)
-    (laws.covers first ram held.lo at cell.size v held cell.word form.high form.are is.inside (inl is.size) is.normal (λ one. is.byte) under stands)
+    (laws.write first ram held.lo at cell.size v held cell.word form.high form.are is.inside (inl is.size) is.normal (λ one. is.byte) under stands)
 
-all_formed : (laws : CellsOfRam) (cells : List Cell) (held : CellMap) → IsCellMap held → Each IsWritten cells → IsCellMap (with_written cells held)
+all_formed : (laws : CellLaws) (cells : List Cell) (held : CellMap) → IsCellMap held → Each IsWritten cells → IsCellMap (with_written cells held)
 all_formed laws [] held form each = form
 all_formed laws (cell ∷ cells) held form each = all_formed laws cells (write_one held cell.place cell.size cell.word) (one_formed laws held cell form each.0) each.1
 
-all_stand : (laws : CellsOfRam) (first : Option Suspended) (ram : ℕ → ℕ) (cells : List Cell) (held : CellMap) → IsCellMap held → Each (λ cell. IsWritten cell × StandsAt first ram cell) cells
+all_stand : (laws : CellLaws) (first : Option Suspended) (ram : ℕ → ℕ) (cells : List Cell) (held : CellMap) → IsCellMap held → Each (λ cell. IsWritten cell × StandsAt first ram cell) cells
     → StandsUnder first held.cells ram → StandsUnder first (with_written cells held).cells ram
 all_stand laws first ram [] held form each under = under
 all_stand laws first ram (cell ∷ cells) held form each under = all_stand laws first ram cells (write_one held cell.place cell.size cell.word)
     (one_formed laws held cell form each.0.0) each.1 (one_stands laws first ram held cell form each.0.0 each.0.1 under)
 
-same_ends : (laws : CellsOfRam) (cells : List Cell) (held : CellMap) → ((with_written cells held).lo ≡ held.lo) × ((with_written cells held).hi ≡ held.hi)
+same_ends : (laws : CellLaws) (cells : List Cell) (held : CellMap) → ((with_written cells held).lo ≡ held.lo) × ((with_written cells held).hi ≡ held.hi)
 same_ends laws [] held = (refl, refl)
 same_ends laws (cell ∷ cells) held =
     let rest = same_ends laws cells (write_one held cell.place cell.size cell.word) in
-    (rest.0 ∙ laws.lo cell.place cell.size held cell.word, rest.1 ∙ laws.hi cell.place cell.size held cell.word)
+    (rest.0 ∙ laws.write_lo cell.place cell.size held cell.word, rest.1 ∙ laws.write_hi cell.place cell.size held cell.word)
 
 -- THE EXIT'S CELLS
 
-by_normal : (laws : Bytes) (framed : Bool) (places : ℕ → Byte) (word : Word) (entry : Option Entry) → AreFormed framed places entry → IsRelation true entry → IsNormal 65536 word.set
+by_normal : (laws : KnownLaws) (framed : Bool) (places : ℕ → Byte) (word : Word) (entry : Option Entry) → AreFormed framed places entry → IsRelation true entry → IsNormal 65536 word.set
     → IsNormal 65536 (cell_word_by places word entry).set
 by_normal laws framed places word None formed form normal = normal
 by_normal laws framed places word (Some entry) formed form normal =
-    laws.pair_normal (masked_by entry (places entry.place)).set (single 0) (masked_form laws framed entry (places entry.place) form.1 form.2 formed).normal (laws.alone 256 0 (omega arith)).0
+    laws.bits.pair_normal (masked_by entry (places entry.place)).set (single 0) (masked_form laws framed entry (places entry.place) form.1 form.2 formed).normal (laws.sets.single 256 0 (omega arith)).0
 
-by_small : (laws : Bytes) (framed : Bool) (places : ℕ → Byte) (word : Word) (entry : Option Entry) → AreFormed framed places entry → IsRelation true entry → ((v : ℕ) → Has 65536 word.set v → v < 256)
+by_small : (laws : KnownLaws) (framed : Bool) (places : ℕ → Byte) (word : Word) (entry : Option Entry) → AreFormed framed places entry → IsRelation true entry → ((v : ℕ) → Has 65536 word.set v → v < 256)
     → (v : ℕ) → Has 65536 (cell_word_by places word entry).set v → v < 256
 by_small laws framed places word None formed form small = small
 by_small laws framed places word (Some entry) formed form small =
-    λ v has. laws.pair (masked_by entry (places entry.place)).set v (masked_form laws framed entry (places entry.place) form.1 form.2 formed).normal has
+    λ v has. laws.bits.pair_byte (masked_by entry (places entry.place)).set v (masked_form laws framed entry (places entry.place) form.1 form.2 formed).normal has
 
-by_relation : (laws : Bytes) (framed : Bool) (places : ℕ → Byte) (word : Word) (entry : Option Entry) → word.entry ≡ entry → AreFormed framed places entry → IsRelation true entry
+by_relation : (laws : KnownLaws) (framed : Bool) (places : ℕ → Byte) (word : Word) (entry : Option Entry) → word.entry ≡ entry → AreFormed framed places entry → IsRelation true entry
     → IsRelation framed (cell_word_by places word entry).entry
 by_relation laws framed places word None is formed form = subst (IsRelation framed) (sym is) (no_relation framed)
 by_relation laws framed places word (Some entry) is formed form = (masked_form laws framed entry (places entry.place) form.1 form.2 formed).entry
 
-by_holds : (laws : Bytes) (framed : Bool) (places : ℕ → Byte) (f : Suspended) (first : Option Suspended) (word : Word) (entry : Option Entry) (v : ℕ) → word.entry ≡ entry → AreFormed framed places entry
+by_holds : (laws : KnownLaws) (framed : Bool) (places : ℕ → Byte) (f : Suspended) (first : Option Suspended) (word : Word) (entry : Option Entry) (v : ℕ) → word.entry ≡ entry → AreFormed framed places entry
     → IsRelation true entry → Tells places f first entry → HoldsOfWord (Some f) word v → HoldsOfWord first (cell_word_by places word entry) v
 by_holds laws framed places f first word None v is formed form tells holds = (holds.0, subst (λ (e : Option Entry). IsFromEntry first e v) (sym is) tt)
 by_holds laws framed places f first word (Some entry) v is formed form tells holds =
-    laws.to_word first v (masked_by entry (places entry.place)) (masked_form laws framed entry (places entry.place) form.1 form.2 formed).normal
+    laws.values.bytes.to_word first v (masked_by entry (places entry.place)) (masked_form laws framed entry (places entry.place) form.1 form.2 formed).normal
     (told_holds laws places f first entry v tells (subst (λ (e : Option Entry). IsFromEntry (Some f) e v) is holds.1))
 
 exit_each : (places : ℕ → Byte) (P : Cell → Type 0) (touched : List (ℕ × ℕ)) (cells : List Cell) → ((cell : Cell) → Contains cells cell → P (resumed_cell places cell))
@@ -187,12 +190,12 @@ module _ (laws : Premises) (framed : Bool) (a exit : Known) (pc : ℕ) (small : 
   can_resume : CanResume (λ place. unknown 2) no_cells
   can_resume = record {
     form = record { high = omega arith; are = tt };
-    normal = λ place. laws.bytes.whole_normal 65536 (omega arith);
+    normal = λ place. laws.known.sets.whole_normal 65536 (omega arith);
     masks = λ cell held. absurd (omega (arith, held.1));
   }
 
   base_form : IsCellMap (record a.cells { cells = untouched_cells exit.touched a.cells.cells })
-  base_form = subst IsCellMap (untouched_is a.cells exit.touched) (laws.cells.untouched_form (λ place. unknown 2) a.cells no_cells exit.touched (map_form framed a form) can_resume)
+  base_form = subst IsCellMap (untouched_is a.cells exit.touched) (laws.known.frames.untouched_form (λ place. unknown 2) a.cells no_cells exit.touched (map_form framed a form) can_resume)
 
   exit_written : (cell : Cell) → Contains exit.cells.cells cell → IsWritten (resumed_cell (place_byte framed a pc) cell)
   exit_written cell held =
@@ -204,18 +207,18 @@ module _ (laws : Premises) (framed : Bool) (a exit : Known) (pc : ℕ) (small : 
       record {
         size = size;
         inside = omega (arith, is.high, size);
-        normal = by_normal laws.bytes framed places cell.word cell.word.entry formed own.entry is.normal;
-        byte = by_small laws.bytes framed places cell.word cell.word.entry formed own.entry (is.byte size);
+        normal = by_normal laws.known framed places cell.word cell.word.entry formed own.entry is.normal;
+        byte = by_small laws.known framed places cell.word cell.word.entry formed own.entry (is.byte size);
       }
 
   pub cells_formed : IsCellMap (resumed_cells (place_byte framed a pc) a.cells exit.cells exit.touched)
   unfolding resumed_cells
-  cells_formed = all_formed laws.cells (map (resumed_cell (place_byte framed a pc)) (touched_cells exit.touched exit.cells.cells)) (record a.cells { cells = untouched_cells exit.touched a.cells.cells }) base_form
+  cells_formed = all_formed laws.known.cells (map (resumed_cell (place_byte framed a pc)) (touched_cells exit.touched exit.cells.cells)) (record a.cells { cells = untouched_cells exit.touched a.cells.cells }) base_form
       (exit_each (place_byte framed a pc) IsWritten exit.touched exit.cells.cells exit_written)
 
   ends : ((resumed_cells (place_byte framed a pc) a.cells exit.cells exit.touched).lo ≡ a.cells.lo) × ((resumed_cells (place_byte framed a pc) a.cells exit.cells exit.touched).hi ≡ a.cells.hi)
   unfolding resumed_cells
-  ends = same_ends laws.cells (map (resumed_cell (place_byte framed a pc)) (touched_cells exit.touched exit.cells.cells)) (record a.cells { cells = untouched_cells exit.touched a.cells.cells })
+  ends = same_ends laws.known.cells (map (resumed_cell (place_byte framed a pc)) (touched_cells exit.touched exit.cells.cells)) (record a.cells { cells = untouched_cells exit.touched a.cells.cells })
 
   pub cells_from : (resumed_cells (place_byte framed a pc) a.cells exit.cells exit.touched).lo ≡ 0
   cells_from = ends.0 ∙ form.from
@@ -233,7 +236,7 @@ module _ (laws : Premises) (framed : Bool) (a exit : Known) (pc : ℕ) (small : 
       let own = All-contains (IsChipCell true) exit.cells.cells cell exit_form.each_cell held in
       record {
         size = own.size;
-        entry = by_relation laws.bytes framed (place_byte framed a pc) cell.word cell.word.entry refl (relation_formed laws framed a pc small form cell.word.entry own.entry) own.entry;
+        entry = by_relation laws.known framed (place_byte framed a pc) cell.word cell.word.entry refl (relation_formed laws framed a pc small form cell.word.entry own.entry) own.entry;
       }
 
   pub each_chip_cell : All (IsChipCell framed) (resumed_cells (place_byte framed a pc) a.cells exit.cells exit.touched).cells
@@ -257,28 +260,28 @@ cells_stand laws framed a exit f t first under left =
     let suspended = option_map suspended_of first in
     let base : StandsUnder suspended (untouched_cells exit.touched a.cells.cells) now =
     subst (λ (m : CellMap). StandsUnder suspended m.cells now) (untouched_is a.cells exit.touched)
-    (laws.cells.untouched (λ place. unknown 2) (suspended_of f) suspended before now a.cells no_cells exit.touched (map_form framed a under.form) (can_resume laws framed a exit f.pc pc under.form left.form)
-    (λ cell held. absurd (omega (arith, held.1))) left.holds.parts.untouched under.holds.parts.cells (laws.cells.none (Some (suspended_of f)) now stands.0)) in
+    (laws.known.frames.untouched (λ place. unknown 2) (suspended_of f) suspended before now a.cells no_cells exit.touched (map_form framed a under.form) (can_resume laws framed a exit f.pc pc under.form left.form)
+    (λ cell held. absurd (omega (arith, held.1))) left.holds.parts.untouched under.holds.parts.cells (laws.known.cells.none (Some (suspended_of f)) now stands.0)) in
     let each : (cell : Cell) → Contains exit.cells.cells cell → IsWritten (resumed_cell places cell) × StandsAt suspended now (resumed_cell places cell) = λ cell held.
     let own = All-contains (IsChipCell true) exit.cells.cells cell left.form.each_cell held in
     let byte : HoldsOfWord (Some (suspended_of f)) cell.word (now cell.place) = subst (λ (s : ℕ). HoldsOfWord (Some (suspended_of f)) cell.word (number_at now cell.place s)) own.size (stands.1 cell held) in (
       exit_written laws framed a exit f.pc pc under.form left.form cell held,
-      by_holds laws.bytes framed places (suspended_of f) suspended cell.word cell.word.entry (now cell.place) refl
+      by_holds laws.known framed places (suspended_of f) suspended cell.word cell.word.entry (now cell.place) refl
           (relation_formed laws framed a f.pc pc under.form cell.word.entry own.entry) own.entry (relation_tells laws framed a f first under cell.word.entry own.entry) byte,
     ) in
-    all_stand laws.cells suspended now (map (resumed_cell places) (touched_cells exit.touched exit.cells.cells)) (record a.cells { cells = untouched_cells exit.touched a.cells.cells })
+    all_stand laws.known.cells suspended now (map (resumed_cell places) (touched_cells exit.touched exit.cells.cells)) (record a.cells { cells = untouched_cells exit.touched a.cells.cells })
     (base_form laws framed a exit f.pc pc under.form left.form)
     (exit_each places (λ cell. IsWritten cell × StandsAt suspended now cell) exit.touched exit.cells.cells each) base
 
 -- TOUCHED RANGES
 
-lacks : (laws : OfRanges) (at : ℕ) (ranges all : List (ℕ × ℕ)) → ranges_within ranges all ≡ true → has_address all at ≡ false → has_address ranges at ≡ false
+lacks : (laws : RangeLaws) (at : ℕ) (ranges all : List (ℕ × ℕ)) → ranges_within ranges all ≡ true → has_address all at ≡ false → has_address ranges at ≡ false
 lacks laws at ranges all within none = elim (cases_Bool (has_address ranges at)) [
   | inl some ↦ let there : has_address all at ≡ true = laws.has at ranges all within some in absurd (cc)
   | inr lacking ↦ lacking
 ]
 
-pub untouched_behind : (laws : OfRanges) (framed : Bool) (touched exit : List (ℕ × ℕ)) (f t : ChipState) (first : Option ChipState) → IsFramed framed first
+pub untouched_behind : (laws : RangeLaws) (framed : Bool) (touched exit : List (ℕ × ℕ)) (f t : ChipState) (first : Option ChipState) → IsFramed framed first
     → KeepsUntouched touched f first → KeepsUntouched exit t (Some f) → KeepsUntouched (touched_behind framed touched exit) t first
 untouched_behind laws framed touched exit f t None base before behind = tt
 untouched_behind laws false touched exit f t (Some g) base before behind = absurd (cc)
@@ -286,7 +289,7 @@ untouched_behind laws true touched exit f t (Some g) base before behind = λ at 
     behind at (lacks laws at exit (united touched exit) (laws.unite_second touched exit) none)
     ∙ before at (lacks laws at touched (united touched exit) (laws.unite_first touched exit) none)
 
-pub touched_form : (laws : OfRanges) (framed : Bool) (touched exit : List (ℕ × ℕ)) → AreRanges 0 255 touched → AreRanges 0 255 exit → AreRanges 0 255 (touched_behind framed touched exit)
+pub touched_form : (laws : RangeLaws) (framed : Bool) (touched exit : List (ℕ × ℕ)) → AreRanges 0 255 touched → AreRanges 0 255 exit → AreRanges 0 255 (touched_behind framed touched exit)
 touched_form laws true touched exit form exit_form = laws.unite_form 0 255 touched exit form exit_form
 touched_form laws false touched exit form exit_form = tt
 

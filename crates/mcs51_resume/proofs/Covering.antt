@@ -32,7 +32,7 @@ module _ (laws : Premises) (framed : Bool) (a exit : Known) (f t : ChipState) (f
   byte_stands : (byte : Byte) (v : ℕ) → IsRelation true byte.entry → HoldsOfByte (Some (suspended_of f)) byte v
       → HoldsOfByte (option_map suspended_of first) (resumed_byte (place_byte framed a f.pc) byte) v
   byte_stands byte v named holds =
-      byte_holds laws.bytes (place_byte framed a f.pc) (suspended_of f) (option_map suspended_of first) byte v (relation_tells laws framed a f first under byte.entry named) holds
+      byte_holds laws.known (place_byte framed a f.pc) (suspended_of f) (option_map suspended_of first) byte v (relation_tells laws framed a f first under byte.entry named) holds
 
   own_stands : (byte : Byte) (place unheld : ℕ) (sfr : Sfr) → IsRelation true (Some (record { place = place; and = 0; or = 0 })) → IsOwnRelation true place unheld byte.entry
       → HoldsOfReads (Some (suspended_of f)) byte t sfr → HoldsOfReads (option_map suspended_of first) (resumed_byte (place_byte framed a f.pc) byte) t sfr
@@ -45,19 +45,19 @@ module _ (laws : Premises) (framed : Bool) (a exit : Known) (f t : ChipState) (f
       let form = left.form in
       let both : IsLeft f t exit = record { suspended = under.holds.state; under = left } in
       record {
-        sp = subst (λ n. Has 256 (single n) t.sp) at (laws.bytes.alone 256 t.sp left.holds.state.sp).1;
+        sp = subst (λ n. Has 256 (single n) t.sp) at (laws.known.sets.single 256 t.sp left.holds.state.sp).1;
         a = byte_stands exit.a t.a form.a.entry parts.a;
         b = byte_stands exit.b t.b form.b.entry parts.b;
         dpl = byte_stands exit.dpl t.dpl form.dpl.entry parts.dpl;
         dph = byte_stands exit.dph t.dph form.dph.entry parts.dph;
         ie = own_stands exit.ie ie_place 64 Ie (refl, omega arith, omega arith) form.ie.entry parts.ie;
         ip = own_stands exit.ip ip_place 192 Ip (refl, omega arith, omega arith) form.ip.entry parts.ip;
-        psw = status_holds laws.bytes framed a f first exit.psw t.psw under form.psw left.holds.state.psw parts.psw;
+        psw = status_holds laws framed a f first exit.psw t.psw under form.psw left.holds.state.psw parts.psw;
         levels = parts.levels;
         linear_fact = linear_holds laws f t exit both a.linear_fact under.form.linear_fact under.holds.parts.linear_fact;
         carry_fact = carry_holds laws f t exit both a.carry_fact under.form.carry_fact under.holds.parts.carry_fact;
         cells = cells_stand laws framed a exit f t first under left;
-        untouched = untouched_behind laws.ranges framed a.touched exit.touched f t first under.base under.holds.parts.untouched parts.untouched;
+        untouched = untouched_behind laws.known.ranges framed a.touched exit.touched f t first under.base under.holds.parts.untouched parts.untouched;
       }
 
 -- THE STACK POINTER
@@ -74,20 +74,20 @@ has_pointer a f first sp holds came = any_from sp (members 256 a.sp) (subst (Has
 
 module _ (laws : Premises) (framed : Bool) (a exit : Known) (pc : ℕ) (small : pc < 65536) (form : IsKnown framed a) (exit_form : IsKnown true exit) where
   one_form : (byte : Byte) → IsByte true byte → IsByte framed (resumed_byte (place_byte framed a pc) byte)
-  one_form byte is = byte_form laws.bytes framed (place_byte framed a pc) byte (relation_formed laws framed a pc small form byte.entry is.entry) is
+  one_form byte is = byte_form laws.known framed (place_byte framed a pc) byte (relation_formed laws framed a pc small form byte.entry is.entry) is
 
   pub in_form : (sp : ℕ) → sp < 256 → IsKnown framed (resumed_known framed a pc sp exit)
   unfolding resumed_known
   in_form sp sp_small =
       let psw = status_form framed a.psw exit.psw form.bits exit_form.bits form.psw exit_form.psw in
       record {
-        sp = (laws.bytes.alone 256 sp sp_small).0;
+        sp = (laws.known.sets.single 256 sp sp_small).0;
         a = one_form exit.a exit_form.a;
         b = one_form exit.b exit_form.b;
         dpl = one_form exit.dpl exit_form.dpl;
         dph = one_form exit.dph exit_form.dph;
-        ie = own_form laws.bytes framed ie_place 64 (place_byte framed a pc) exit.ie (subst (IsOwnByte framed ie_place 64) (sym (at_enable framed a pc)) form.ie) exit_form.ie;
-        ip = own_form laws.bytes framed ip_place 192 (place_byte framed a pc) exit.ip (subst (IsOwnByte framed ip_place 192) (sym (at_priority framed a pc)) form.ip) exit_form.ip;
+        ie = own_form laws.known framed ie_place 64 (place_byte framed a pc) exit.ie (subst (IsOwnByte framed ie_place 64) (sym (at_enable framed a pc)) form.ie) exit_form.ie;
+        ip = own_form laws.known framed ip_place 192 (place_byte framed a pc) exit.ip (subst (IsOwnByte framed ip_place 192) (sym (at_priority framed a pc)) form.ip) exit_form.ip;
         bits = psw.0;
         psw = psw.1;
         levels = exit_form.levels;
@@ -97,7 +97,7 @@ module _ (laws : Premises) (framed : Bool) (a exit : Known) (pc : ℕ) (small : 
         up_to = cells_up_to laws framed a exit pc small form exit_form;
         cells = cells_are laws framed a exit pc small form exit_form;
         each_cell = each_chip_cell laws framed a exit pc small form exit_form;
-        touched = touched_form laws.ranges framed a.touched exit.touched form.touched exit_form.touched;
+        touched = touched_form laws.known.ranges framed a.touched exit.touched form.touched exit_form.touched;
         none_touched = none_touched framed a.touched exit.touched;
       }
 

@@ -52,7 +52,7 @@ ram_is : (laws : Premises) (f t : ChipState) (exit : Known) → IsLeft f t exit 
 ram_is laws f t exit left at inside is = elim (or_cases (not (has_address exit.touched at)) (is_itself at (read exit.cells.cells at 1).entry) is) [
   | inl untouched ↦ left.under.holds.parts.untouched at (not-true (has_address exit.touched at) untouched)
   | inr again ↦
-      let held = laws.reads.cell (Some (suspended_of f)) (slice_index t.ram) 0 255 0 at 1 exit.cells.cells left.under.form.cells (omega (arith, inside)) (inl refl) left.under.holds.parts.cells in
+      let held = laws.known.cells.reads (Some (suspended_of f)) (slice_index t.ram) 0 255 0 at 1 exit.cells.cells left.under.form.cells (omega (arith, inside)) (inl refl) left.under.holds.parts.cells in
       let (word, reads, number) = itself_read f at (slice_index t.ram at) (read exit.cells.cells at 1).entry again held.1 in
       number ∙ ap (λ n. n % 256) (reads_ram f left.suspended at word inside reads) ∙ byte_alone (slice_index f.ram at) (ram_small f left.suspended at inside)
 ]

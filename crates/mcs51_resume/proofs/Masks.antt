@@ -10,7 +10,7 @@ use Rattle.entry_value.specs.declared.byte.Byte.{Byte}
 use Rattle.entry_value.specs.declared.word.Entry.{Entry}
 use Rattle.entry_value.specs.Words.{Suspended, Reads, IsFromEntry, HoldsOfByte, byte_and, entry_and, entry_or}
 use Rattle.mcs51_state.specs.Forms.{IsByte, IsOwnByte, IsOwnRelation, IsRelation}
-use Rattle.mcs51_resume.specs.Premises.{Bytes}
+use Rattle.irq_frames.specs.KnownLaws.{KnownLaws}
 use Rattle.mcs51_resume.specs.Resume.{is_unmasked, masked_by, masked_entry, resumed_by, resumed_byte}
 
 -- WHAT THEY HOLD OF
@@ -24,16 +24,16 @@ unmasked_is entry v whole =
     let parts = and_parts (entry.and == 255) (entry.or == 0) whole in
     ap (bit_or (bit_and v entry.and)) (eqb-true entry.or 0 parts.1) ∙ or_zero_r (bit_and v entry.and) ∙ ap (bit_and v) (eqb-true entry.and 255 parts.0) ∙ and_mask v 8
 
-pub masked_holds : (laws : Bytes) (first : Option Suspended) (entry : Entry) (held : Byte) (word : ℕ) → entry.and < 256 → entry.or < 256 → IsNormal 256 held.set
+pub masked_holds : (laws : KnownLaws) (first : Option Suspended) (entry : Entry) (held : Byte) (word : ℕ) → entry.and < 256 → entry.or < 256 → IsNormal 256 held.set
     → HoldsOfByte first held word → HoldsOfByte first (masked_by entry held) (bit_or (bit_and word entry.and) entry.or)
 masked_holds laws first entry held word and_small or_small normal holds =
     let and_is = byte_alone entry.and and_small in
     let or_is = byte_alone entry.or or_small in
-    let word_small = laws.below 256 word held.set normal holds.0 in
+    let word_small = laws.sets.below 256 word held.set normal holds.0 in
     elim (cases_Bool (is_unmasked entry)) [
       | inl whole ↦ rw whole (subst (λ (v : ℕ). HoldsOfByte first held v) (sym (unmasked_is entry word whole ∙ byte_alone word word_small)) holds)
-      | inr some ↦ rw (some, and_is, or_is) (laws.or first entry.or (bit_and word entry.and) (byte_and entry.and held) or_small (laws.and_normal entry.and held and_small normal)
-          (laws.and first entry.and word held and_small normal holds))
+      | inr some ↦ rw (some, and_is, or_is) (laws.values.bytes.or first entry.or (bit_and word entry.and) (byte_and entry.and held) or_small (laws.values.bytes.and_normal entry.and held and_small normal)
+          (laws.values.bytes.and first entry.and word held and_small normal holds))
     ]
 
 -- The place that a relation names is known, and the byte there holds of all that the place may be read as. It speaks of the
@@ -48,19 +48,19 @@ abbrev pub Tells : (places : ℕ → Byte) → (suspended : Suspended) → (firs
 Tells places suspended first None = Unit {0}
 Tells places suspended first (Some entry) = IsTold places suspended first entry
 
-pub told_holds : (laws : Bytes) (places : ℕ → Byte) (f : Suspended) (first : Option Suspended) (entry : Entry) (v : ℕ) → IsTold places f first entry
+pub told_holds : (laws : KnownLaws) (places : ℕ → Byte) (f : Suspended) (first : Option Suspended) (entry : Entry) (v : ℕ) → IsTold places f first entry
     → IsFromEntry (Some f) (Some entry) v → HoldsOfByte first (masked_by entry (places entry.place)) v
 told_holds laws places f first entry v told (word, reads, made) =
     subst (λ (n : ℕ). HoldsOfByte first (masked_by entry (places entry.place)) n) (sym made)
     (masked_holds laws first entry (places entry.place) word told.and_small told.or_small told.normal (told.tells word reads))
 
-by_holds : (laws : Bytes) (places : ℕ → Byte) (f : Suspended) (first : Option Suspended) (exit : Byte) (entry : Option Entry) (v : ℕ) → exit.entry ≡ entry
+by_holds : (laws : KnownLaws) (places : ℕ → Byte) (f : Suspended) (first : Option Suspended) (exit : Byte) (entry : Option Entry) (v : ℕ) → exit.entry ≡ entry
     → Tells places f first entry → HoldsOfByte (Some f) exit v → HoldsOfByte first (resumed_by places exit entry) v
 by_holds laws places f first exit None v is tells holds = (holds.0, subst (λ (entry : Option Entry). IsFromEntry first entry v) (sym is) tt)
 by_holds laws places f first exit (Some entry) v is tells holds =
     told_holds laws places f first entry v tells (subst (λ (one : Option Entry). IsFromEntry (Some f) one v) is holds.1)
 
-pub byte_holds : (laws : Bytes) (places : ℕ → Byte) (f : Suspended) (first : Option Suspended) (exit : Byte) (v : ℕ)
+pub byte_holds : (laws : KnownLaws) (places : ℕ → Byte) (f : Suspended) (first : Option Suspended) (exit : Byte) (v : ℕ)
     → Tells places f first exit.entry → HoldsOfByte (Some f) exit v → HoldsOfByte first (resumed_byte places exit) v
 byte_holds laws places f first exit v tells holds = by_holds laws places f first exit exit.entry v refl tells holds
 
@@ -83,14 +83,14 @@ or_form framed m None small form = no_relation framed
 or_form false m (Some entry) small form = form
 or_form true m (Some entry) small (place, and_small, or_small) = (place, and_small, or_lt 8 entry.or m or_small small)
 
-pub masked_form : (laws : Bytes) (framed : Bool) (entry : Entry) (held : Byte) → entry.and < 256 → entry.or < 256 → IsByte framed held → IsByte framed (masked_by entry held)
+pub masked_form : (laws : KnownLaws) (framed : Bool) (entry : Entry) (held : Byte) → entry.and < 256 → entry.or < 256 → IsByte framed held → IsByte framed (masked_by entry held)
 masked_form laws framed entry held and_small or_small form =
     let and_is = byte_alone entry.and and_small in
     let or_is = byte_alone entry.or or_small in
     elim (cases_Bool (is_unmasked entry)) [
       | inl whole ↦ rw whole form
       | inr some ↦ rw (some, and_is, or_is) (record {
-        normal = laws.or_normal entry.or (byte_and entry.and held) or_small (laws.and_normal entry.and held and_small form.normal);
+        normal = laws.values.bytes.or_normal entry.or (byte_and entry.and held) or_small (laws.values.bytes.and_normal entry.and held and_small form.normal);
         entry = or_form framed entry.or (option_map (entry_and entry.and) held.entry) or_small (and_form framed entry.and held.entry form.entry);
       })
     ]
@@ -100,12 +100,12 @@ abbrev pub AreFormed : (framed : Bool) → (places : ℕ → Byte) → Option En
 AreFormed framed places None = Unit {0}
 AreFormed framed places (Some entry) = IsByte framed (places entry.place)
 
-by_form : (laws : Bytes) (framed : Bool) (places : ℕ → Byte) (exit : Byte) (entry : Option Entry) → exit.entry ≡ entry → AreFormed framed places entry → IsRelation true entry
+by_form : (laws : KnownLaws) (framed : Bool) (places : ℕ → Byte) (exit : Byte) (entry : Option Entry) → exit.entry ≡ entry → AreFormed framed places entry → IsRelation true entry
     → IsNormal 256 exit.set → IsByte framed (resumed_by places exit entry)
 by_form laws framed places exit None is formed form normal = record { normal = normal; entry = subst (IsRelation framed) (sym is) (no_relation framed) }
 by_form laws framed places exit (Some entry) is formed form normal = masked_form laws framed entry (places entry.place) form.1 form.2 formed
 
-pub byte_form : (laws : Bytes) (framed : Bool) (places : ℕ → Byte) (exit : Byte) → AreFormed framed places exit.entry → IsByte true exit → IsByte framed (resumed_byte places exit)
+pub byte_form : (laws : KnownLaws) (framed : Bool) (places : ℕ → Byte) (exit : Byte) → AreFormed framed places exit.entry → IsByte true exit → IsByte framed (resumed_byte places exit)
 byte_form laws framed places exit formed form = by_form laws framed places exit exit.entry refl formed form.entry form.normal
 
 -- REGISTERS THAT DON'T HOLD ALL OF THEIR BITS
@@ -137,7 +137,7 @@ own_is_relation false place unheld (Some entry) named form = form
 own_is_relation true place unheld (Some entry) named (own, and_small, and_free, or_small, or_free) =
     ((subst (λ p. IsRelation true (Some (record { place = p; and = 0; or = 0 }))) (sym own) named).0, and_small, or_small)
 
-own_masked_by : (laws : Bytes) (framed : Bool) (place unheld : ℕ) (entry : Entry) (held : Byte) → IsOwnRelation true place unheld (Some entry) → IsOwnByte framed place unheld held
+own_masked_by : (laws : KnownLaws) (framed : Bool) (place unheld : ℕ) (entry : Entry) (held : Byte) → IsOwnRelation true place unheld (Some entry) → IsOwnByte framed place unheld held
     → IsOwnByte framed place unheld (masked_by entry held)
 own_masked_by laws framed place unheld entry held masks form =
     let (named, and_small, and_free, or_small, or_free) = masks in
@@ -146,18 +146,18 @@ own_masked_by laws framed place unheld entry held masks form =
     elim (cases_Bool (is_unmasked entry)) [
       | inl whole ↦ rw whole form
       | inr some ↦ rw (some, and_is, or_is) (record {
-        normal = laws.or_normal entry.or (byte_and entry.and held) or_small (laws.and_normal entry.and held and_small form.normal);
+        normal = laws.values.bytes.or_normal entry.or (byte_and entry.and held) or_small (laws.values.bytes.and_normal entry.and held and_small form.normal);
         entry = own_masked framed place unheld entry held.entry masks form.entry;
       })
     ]
 
-own_by_form : (laws : Bytes) (framed : Bool) (place unheld : ℕ) (places : ℕ → Byte) (exit : Byte) (entry : Option Entry) → exit.entry ≡ entry → IsOwnByte framed place unheld (places place)
+own_by_form : (laws : KnownLaws) (framed : Bool) (place unheld : ℕ) (places : ℕ → Byte) (exit : Byte) (entry : Option Entry) → exit.entry ≡ entry → IsOwnByte framed place unheld (places place)
     → IsOwnRelation true place unheld entry → IsNormal 256 exit.set → IsOwnByte framed place unheld (resumed_by places exit entry)
 own_by_form laws framed place unheld places exit None is held masks normal =
     record { normal = normal; entry = subst (IsOwnRelation framed place unheld) (sym is) (no_own_relation framed place unheld) }
 own_by_form laws framed place unheld places exit (Some entry) is held masks normal =
     own_masked_by laws framed place unheld entry (places entry.place) masks (subst (λ p. IsOwnByte framed place unheld (places p)) (sym masks.0) held)
 
-pub own_form : (laws : Bytes) (framed : Bool) (place unheld : ℕ) (places : ℕ → Byte) (exit : Byte) → IsOwnByte framed place unheld (places place) → IsOwnByte true place unheld exit
+pub own_form : (laws : KnownLaws) (framed : Bool) (place unheld : ℕ) (places : ℕ → Byte) (exit : Byte) → IsOwnByte framed place unheld (places place) → IsOwnByte true place unheld exit
     → IsOwnByte framed place unheld (resumed_byte places exit)
 own_form laws framed place unheld places exit held form = own_by_form laws framed place unheld places exit exit.entry refl held form.entry form.normal

@@ -23,7 +23,6 @@ use Rattle.mcs51_resume.specs.Premises.{Premises}
 use Rattle.mcs51_resume.specs.Resume.{place_byte}
 use Rattle.mcs51_resume.proofs.Masks.{AreFormed, Tells, no_relation}
 use Rattle.mcs51_resume.proofs.Numbers.{IsRegister, MayReadHeld, place_cases, reads_ram, reads_register, same_alone}
-use Rattle.mcs51_resume.proofs.Psw.{status_held}
 
 -- THE PLACES ONE BY ONE
 
@@ -56,12 +55,12 @@ at_priority framed a pc = refl
 module _ (laws : Premises) (framed : Bool) (a : Known) (f : ChipState) (first : Option ChipState) (under : IsUnder framed a f first) where
   read_by_chip : (at word : ℕ) → 128 ≤ at → at < 256 → (sfr : Sfr) → sfr_at at ≡ sfr → MayReadSfr f sfr word → HoldsOfByte (option_map suspended_of first) (read_byte framed a (InSfr at)) word
   read_by_chip at word low high sfr is may =
-      laws.reads.holds framed a f first under (InSfr at) (AtSfr at) word refl (low, high) (subst (λ r. MayReadSfr f r word) (sym is) may)
+      laws.holds framed a f first under (InSfr at) (AtSfr at) word refl (low, high) (subst (λ r. MayReadSfr f r word) (sym is) may)
 
   read_status : (at word : ℕ) → sfr_at at ≡ Psw → MayReadHeld f Psw word → HoldsOfByte (option_map suspended_of first) (read_byte framed a (InSfr at)) word
   unfolding read_byte
   read_status at word is (y, few, same) =
-      subst (λ r. HoldsOfByte (option_map suspended_of first) (register_byte a r) word) (sym is) (status_held laws.bytes framed a f first under word y few same)
+      subst (λ r. HoldsOfByte (option_map suspended_of first) (register_byte a r) word) (sym is) (laws.status framed a f first under word y few same)
 
   read_held : (at word : ℕ) → 128 ≤ at → at < 256 → (sfr : Sfr) → sfr_at at ≡ sfr → MayReadHeld f sfr word → HoldsOfByte (option_map suspended_of first) (read_byte framed a (InSfr at)) word
   read_held at word low high Sp is may = read_by_chip at word low high Sp is may
@@ -76,9 +75,9 @@ module _ (laws : Premises) (framed : Bool) (a : Known) (f : ChipState) (first : 
 
   ram_holds : (place word : ℕ) → place < 256 → Reads (suspended_of f) place word → HoldsOfByte (option_map suspended_of first) (place_byte framed a f.pc place) word
   ram_holds place word low reads =
-      let alone = laws.bytes.alone 256 place low in
+      let alone = laws.known.sets.single 256 place low in
       subst (λ byte. HoldsOfByte (option_map suspended_of first) byte word) (sym (at_ram framed a f.pc place low))
-      (laws.reads.holds framed a f first under (InRam (single place)) (AtRam place) word alone.1 alone.0 (reads_ram f under.holds.state place word low reads))
+      (laws.holds framed a f first under (InRam (single place)) (AtRam place) word alone.1 alone.0 (reads_ram f under.holds.state place word low reads))
 
   register_holds : (place word : ℕ) → IsRegister place → Reads (suspended_of f) place word → HoldsOfByte (option_map suspended_of first) (place_byte framed a f.pc place) word
   register_holds place word one reads =
@@ -86,7 +85,7 @@ module _ (laws : Premises) (framed : Bool) (a : Known) (f : ChipState) (first : 
       (read_held (place - 256) word one.low one.high (sfr_of place) refl (reads_register f under.holds.state place word one reads))
 
   number_holds : (byte : Byte) (n word : ℕ) → byte ≡ byte_of (single n) → n < 256 → word ≡ n → HoldsOfByte (option_map suspended_of first) byte word
-  number_holds byte n word is small same = subst (λ b. HoldsOfByte (option_map suspended_of first) b word) (sym is) (subst (Has 256 (single n)) (sym same) (laws.bytes.alone 256 n small).1, tt)
+  number_holds byte n word is small same = subst (λ b. HoldsOfByte (option_map suspended_of first) b word) (sym is) (subst (Has 256 (single n)) (sym same) (laws.known.sets.single 256 n small).1, tt)
 
   low_holds : (word : ℕ) → Reads (suspended_of f) 512 word → HoldsOfByte (option_map suspended_of first) (place_byte framed a f.pc 512) word
   low_holds word (small, same) = number_holds (place_byte framed a f.pc 512) (f.pc % 256) word (at_low framed a f.pc) (omega arith) (same_alone word (f.pc % 256) small (omega arith) same)
@@ -107,12 +106,12 @@ module _ (laws : Premises) (framed : Bool) (a : Known) (f : ChipState) (first : 
 -- THEIR FORM
 
 number_form : (laws : Premises) (framed : Bool) (byte : Byte) (n : ℕ) → byte ≡ byte_of (single n) → n < 256 → IsByte framed byte
-number_form laws framed byte n is small = subst (IsByte framed) (sym is) (record { normal = (laws.bytes.alone 256 n small).0; entry = no_relation framed })
+number_form laws framed byte n is small = subst (IsByte framed) (sym is) (record { normal = (laws.known.sets.single 256 n small).0; entry = no_relation framed })
 
 place_form : (laws : Premises) (framed : Bool) (a : Known) (pc : ℕ) → pc < 65536 → IsKnown framed a → (place : ℕ) → is_place place ≡ true → IsByte framed (place_byte framed a pc place)
 place_form laws framed a pc small form place names = elim (place_cases place names) [
-  | inl low ↦ subst (IsByte framed) (sym (at_ram framed a pc place low)) (laws.reads.form framed a form (InRam (single place)) (laws.bytes.alone 256 place low).0)
-  | inr (inl one) ↦ subst (IsByte framed) (sym (at_register framed a pc place one.low one.high)) (laws.reads.form framed a form (InSfr (place - 256)) (one.low, one.high))
+  | inl low ↦ subst (IsByte framed) (sym (at_ram framed a pc place low)) (laws.form framed a form (InRam (single place)) (laws.known.sets.single 256 place low).0)
+  | inr (inl one) ↦ subst (IsByte framed) (sym (at_register framed a pc place one.low one.high)) (laws.form framed a form (InSfr (place - 256)) (one.low, one.high))
   | inr (inr (inl low_byte)) ↦ subst (λ p. IsByte framed (place_byte framed a pc p)) (sym low_byte) (number_form laws framed (place_byte framed a pc 512) (pc % 256) (at_low framed a pc) (omega arith))
   | inr (inr (inr high_byte)) ↦ subst (λ p. IsByte framed (place_byte framed a pc p)) (sym high_byte) (number_form laws framed (place_byte framed a pc 513) (pc / 256) (at_high framed a pc) (omega (arith, small)))
 ]

@@ -11,34 +11,15 @@ ghost use Rattle.mcs51_state.specs.Under.{IsUnder};
 ghost use Rattle.mcs51_resume.specs.Premises.{Premises};
 ghost use Rattle.mcs51_resume.specs.Resume.{resumed_known};
 
-use entry_value::{
-    bytes_are_words, bytes_hold, bytes_stay_bytes, cells_speak_of_ram, reads_hold as cells_hold,
-    relations_hold, writes_cover, writes_keep_form,
-};
-use irq_frames::{ranges_hold, resumptions_hold};
+use irq_frames::known_laws;
 use mcs51_operands::reads_hold;
-use value_bits::{bits_hold, halves_hold};
-use value_set::{members_are_below, single_and_whole_sets};
 
 /// The laws of sets, bytes, cells, ranges and reads that those below rest on.
 fn premises_hold()
     ensures { Premises }
 {
-    members_are_below();
-    single_and_whole_sets();
-    bits_hold();
-    halves_hold();
-    bytes_hold();
-    relations_hold();
-    bytes_are_words();
-    bytes_stay_bytes();
+    known_laws();
     reads_hold();
-    cells_hold();
-    writes_cover();
-    writes_keep_form();
-    cells_speak_of_ram();
-    resumptions_hold();
-    ranges_hold();
 }
 
 /// What a handler left stands, where it goes on, under what `resumed_known` says, with the state that was suspended before.

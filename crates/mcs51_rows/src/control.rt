@@ -1,7 +1,8 @@
 //! A call and its return, and a jump.
 
 use abs_memory::CellList;
-use mcs51_control::{jump_targets, return_from, return_targets};
+use mcs51_control::{return_from, return_targets};
+use mcs51_operands::jump_targets;
 use mcs51_state::State;
 use mcs51_stores::push_address;
 use std::test::Fail;

@@ -7,7 +7,7 @@ use Rattle.mcs51_chip.specs.declared.state.ChipState.{ChipState}
 use Rattle.mcs51_chip.specs.Step.{Effect}
 use Rattle.mcs51_state.specs.Forms.{IsKnown}
 use Rattle.mcs51_state.specs.Known.{Known}
-use Rattle.mcs51_formats.specs.Doing.{GoesSo, LandsSo}
+use Rattle.mcs51_operands.specs.Doing.{GoesSo, LandsSo}
 use Rattle.mcs51_running.specs.declared.ran.Way.{Way}
 use Rattle.mcs51_running.specs.declared.ran.Way.TheVariants.{Lands, Goes}
 use Rattle.mcs51_running.specs.Running.{Ran}

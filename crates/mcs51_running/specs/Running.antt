@@ -13,9 +13,9 @@ use Rattle.mcs51_decode.specs.declared.instr.Instr.TheVariants.{AbsoluteJump, Ab
 use Rattle.mcs51_decode.specs.declared.instr.Place.TheVariants.{Accumulator, Memory as InMemory}
 use Rattle.mcs51_decode.specs.Targets.{absolute_target, following, relative_target}
 use Rattle.mcs51_state.specs.Known.{Known}
-use Rattle.mcs51_operands.specs.Operands.{bit_addresses, direct_addresses}
+use Rattle.mcs51_operands.specs.Operands.{bit_addresses, direct_addresses, jump_targets}
 use Rattle.mcs51_stores.specs.Stack.{address_pushed}
-use Rattle.mcs51_formats.specs.Shown.{read_at, read_items, update_at, update_items, write_items}
+use Rattle.mcs51_operands.specs.Accesses.{read_at, read_items, update_at, update_items, write_items}
 use Rattle.mcs51_alu.specs.Accumulator.{accumulated_known, changed_known, counted, immediate, loaded, source_items}
 use Rattle.mcs51_moves.specs.Moves.{decremented, digit_exchanged, direct_masked, exchanged, from_direct_items, immediate_moved, incremented, moved_from_direct, moved_to_direct, pointed, stored, to_direct_items}
 use Rattle.mcs51_bits.specs.Bits.{bit_changed, carry_changed, carry_joined}
@@ -23,7 +23,7 @@ use Rattle.mcs51_memories.specs.Codes.{code_items, code_loaded}
 use Rattle.mcs51_memories.specs.Externals.{external_items, external_loaded}
 use Rattle.mcs51_memories.specs.Pairs.{divided_known, multiplied_known, pointer_loaded, pointer_raised}
 use Rattle.mcs51_memories.specs.Stacking.{pop_items, popped_known, push_items, pushed_known}
-use Rattle.mcs51_control.specs.Returning.{call_accesses, interrupt_returned, jump_targets, return_accesses, return_targets, returned_known}
+use Rattle.mcs51_control.specs.Returning.{call_accesses, interrupt_returned, return_accesses, return_targets, returned_known}
 use Rattle.mcs51_jumps.specs.Jumps.{Ways, bit_items, comparison_items, counter_items, ways_by_comparison, ways_by_counter, ways_on_bit, ways_on_condition}
 use Rattle.mcs51_running.specs.declared.ran.Way.{Way}
 use Rattle.mcs51_running.specs.declared.ran.Way.TheVariants.{Lands, Goes}

@@ -15,27 +15,27 @@ ghost use Rattle.mcs51_running.specs.Doing.{IsWay, RunsSo};
 ghost use Rattle.mcs51_running.specs.Premises.{Premises};
 ghost use Rattle.mcs51_running.specs.Running.{ran_of};
 
+use irq_frames::known_laws;
 use mcs51_alu::{accumulators_do, accumulators_hold};
 use mcs51_bits::{bits_do, bits_keep_form};
-use mcs51_control::{jumps_hold, returns_hold, transfers_do};
+use mcs51_control::{returns_hold, transfers_do};
 use mcs51_jumps::{jumps_do, jumps_keep_form};
 use mcs51_memories::{memories_do, memories_keep_form};
 use mcs51_moves::{moves_do, moves_keep_form};
-use mcs51_stores::{stores_keep_form, writes_follow};
-use value_set::single_and_whole_sets;
+use mcs51_operands::operand_laws;
+use mcs51_stores::store_laws;
 
 /// The laws of instructions that those below rest on.
 fn premises_hold()
     ensures { Premises }
 {
-    single_and_whole_sets();
-    writes_follow();
-    stores_keep_form();
+    known_laws();
+    operand_laws();
+    store_laws();
     accumulators_do();
     accumulators_hold();
     transfers_do();
     returns_hold();
-    jumps_hold();
     moves_do();
     moves_keep_form();
     bits_do();

@@ -10,12 +10,13 @@ use crate::ran::{Ran, Way};
 use crate::showing::show;
 use call_context::{Item, Sequence};
 use entry_value::Cells;
-use mcs51_control::{jump_targets, return_targets};
+use mcs51_control::return_targets;
 use mcs51_decode::{BitTest, Comparison, Condition, Counter, Image, Instr};
 use mcs51_jumps::{
     Ways, show_bit, show_comparison, show_counter, ways_by_comparison, ways_by_counter,
     ways_on_bit, ways_on_condition,
 };
+use mcs51_operands::jump_targets;
 use mcs51_state::State;
 use no_memory::Memory;
 use std::alloc::Global;

@@ -8,10 +8,11 @@ use entry_value::Cells;
 use mcs51_alu::show_source;
 use mcs51_control::{show_call, show_return};
 use mcs51_decode::{Instr, Place, Working};
-use mcs51_formats::{show_read, show_update, show_update_at, show_write};
 use mcs51_memories::{show_code, show_external, show_pop, show_push};
 use mcs51_moves::{show_move_from_direct, show_move_to_direct};
-use mcs51_operands::{access, bit_addresses, direct_addresses};
+use mcs51_operands::{
+    access, bit_addresses, direct_addresses, show_read, show_update, show_update_at, show_write,
+};
 use mcs51_state::State;
 use no_memory::Memory;
 

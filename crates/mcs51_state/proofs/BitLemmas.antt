@@ -112,10 +112,6 @@ agrees_more (x ∷ xs) (y ∷ ys) v h agrees =
     let parts = and_parts (is_bit_within x y) (are_bits_within xs ys) h in
     (bit_more x y (v % 2) parts.0 agrees.0, agrees_more xs ys (v / 2) parts.1 agrees.1)
 
-pub zeros_agree : (n : ℕ) → Agrees (replicate n Zero) 0
-zeros_agree zero = refl
-zeros_agree (suc n) = (refl, zeros_agree n)
-
 -- LOOPS
 
 -- behind the last place nothing is left

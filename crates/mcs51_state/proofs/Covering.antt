@@ -1,6 +1,6 @@
 -- A state that stands under what is known stands under all that this is within, each reset state under the first, and each
 -- state under the greatest.
-use Rattle.std.proofs.Common.{◌≡◌, ℕ, zero, suc, ◌+◌, ◌*◌, ◌<◌, Bool, true, false, Option, None, Some, List, [], ◌∷◌, length, get_or, replicate, refl, sym, ◌∙◌, ap, subst, inl, inr, arith, All, Contains}
+use Rattle.std.proofs.Common.{◌≡◌, ℕ, zero, suc, ◌+◌, ◌*◌, ◌<◌, Bool, true, false, Option, None, Some, List, [], ◌∷◌, length, get_or, refl, sym, ◌∙◌, ap, subst, inl, inr, arith, All, Contains}
 use Rattle.std.specs.Option.{option_map}
 use Rattle.std.specs.Prelude.{nat_le}
 use Rattle.std.proofs.lemmas.Bool.{cases_Bool, cases_lt, le-leb}
@@ -10,19 +10,17 @@ use Rattle.call_context.specs.declared.node.Frame.TheVariants.{Base}
 use Rattle.call_context.specs.declared.node.Node.{Node}
 use Rattle.call_context.specs.declared.node.Node.TheVariants.{At, Exit}
 use Rattle.irq_frames.specs.Ranges.{has_address, ranges_within}
-use Rattle.value_bits.specs.Bits.{Agrees}
-use Rattle.value_bits.specs.declared.tri.Tri.TheVariants.{Either}
 use Rattle.value_set.specs.Form.{Has, gather}
 use Rattle.value_set.specs.Summing.{single}
 use Rattle.mcs51_chip.specs.declared.state.ChipState.{ChipState}
 use Rattle.mcs51_chip.specs.State.{IsChipState, IsReset, reset_with}
+use Rattle.irq_frames.specs.KnownLaws.{KnownLaws}
 use Rattle.mcs51_state.specs.Facts.{is_same_linear, is_same_carry}
 use Rattle.mcs51_state.specs.Holding.{HoldsOfLinear, HoldsOfCarry, IsSuspendedState, KeepsUntouched, HoldsOfParts, HoldsOf, Covers}
 use Rattle.mcs51_state.specs.Known.{Known, all_touched, first_known, known_within, top_known}
 use Rattle.mcs51_state.specs.Levels.{all_levels, may_serve}
 use Rattle.mcs51_state.specs.Places.{suspended_of}
-use Rattle.mcs51_state.specs.Premises.{Premises}
-use Rattle.mcs51_state.proofs.BitLemmas.{agrees_more, zeros_agree}
+use Rattle.mcs51_state.proofs.BitLemmas.{agrees_more}
 use Rattle.mcs51_state.proofs.FactLemmas.{linear_equality, carry_equality, fact_more}
 use Rattle.mcs51_state.proofs.LevelLemmas.{serve_more}
 use Rattle.mcs51_state.proofs.Orders.{partwise}
@@ -30,32 +28,32 @@ use Rattle.mcs51_state.proofs.StateForms.{ie_bytes, ip_bytes}
 
 -- ONE WITHIN ANOTHER
 
-has_more : Premises → (a b : List (ℕ × ℕ)) (at : ℕ) → ranges_within a b ≡ true → has_address b at ≡ false → has_address a at ≡ false
+has_more : KnownLaws → (a b : List (ℕ × ℕ)) (at : ℕ) → ranges_within a b ≡ true → has_address b at ≡ false → has_address a at ≡ false
 has_more laws a b at within none = elim (cases_Bool (has_address a at)) [
   | inl some ↦ let there : has_address b at ≡ true = laws.ranges.has at a b within some in absurd (cc)
   | inr lacks ↦ lacks
 ]
 
-untouched_more : Premises → (a b : List (ℕ × ℕ)) (s : ChipState) (first : Option ChipState) → ranges_within a b ≡ true → KeepsUntouched a s first → KeepsUntouched b s first
+untouched_more : KnownLaws → (a b : List (ℕ × ℕ)) (s : ChipState) (first : Option ChipState) → ranges_within a b ≡ true → KeepsUntouched a s first → KeepsUntouched b s first
 untouched_more laws a b s None within keeps = tt
 untouched_more laws a b s (Some f) within keeps = λ at none. keeps at (has_more laws a b at within none)
 
-pub parts_more : (laws : Premises) (new held : Known) (s : ChipState) (first : Option ChipState) → known_within new held ≡ true → HoldsOfParts new s first → HoldsOfParts held s first
+pub parts_more : (laws : KnownLaws) (new held : Known) (s : ChipState) (first : Option ChipState) → known_within new held ≡ true → HoldsOfParts new s first → HoldsOfParts held s first
 parts_more laws new held s first within holds =
     let parts = partwise new held within in
     let registers = parts.registers in
     let under = option_map suspended_of first in
     record {
       sp = (laws.sets.tested 256 new.sp held.sp).0 registers.sp s.sp holds.sp;
-      a = laws.bytes.holds under s.a new.a held.a registers.a holds.a;
-      b = laws.bytes.holds under s.b new.b held.b registers.b holds.b;
-      dpl = laws.bytes.holds under s.dpl new.dpl held.dpl registers.dpl holds.dpl;
-      dph = laws.bytes.holds under s.dph new.dph held.dph registers.dph holds.dph;
-      ie = λ x may. laws.bytes.holds under x new.ie held.ie registers.ie (holds.ie x may);
-      ip = λ x may. laws.bytes.holds under x new.ip held.ip registers.ip (holds.ip x may);
+      a = laws.values.bytes.holds under s.a new.a held.a registers.a holds.a;
+      b = laws.values.bytes.holds under s.b new.b held.b registers.b holds.b;
+      dpl = laws.values.bytes.holds under s.dpl new.dpl held.dpl registers.dpl holds.dpl;
+      dph = laws.values.bytes.holds under s.dph new.dph held.dph registers.dph holds.dph;
+      ie = λ x may. laws.values.bytes.holds under x new.ie held.ie registers.ie (holds.ie x may);
+      ip = λ x may. laws.values.bytes.holds under x new.ip held.ip registers.ip (holds.ip x may);
       psw = record {
         bits = agrees_more new.psw.bits held.psw.bits _ parts.bits holds.psw.bits;
-        entry = laws.entries.holds under s.psw new.psw.entry held.psw.entry parts.entry holds.psw.entry;
+        entry = laws.values.entries.holds under s.psw new.psw.entry held.psw.entry parts.entry holds.psw.entry;
       };
       levels = serve_more new.levels held.levels s.serves_low s.serves_high parts.levels holds.levels;
       linear_fact = fact_more is_same_linear linear_equality (λ fact. HoldsOfLinear fact s) new.linear_fact held.linear_fact parts.linear_fact tt holds.linear_fact;
@@ -64,14 +62,14 @@ parts_more laws new held s first within holds =
       untouched = untouched_more laws new.touched held.touched s first parts.touched holds.untouched;
     }
 
-pub holds_more : (laws : Premises) (new held : Known) (s : ChipState) (first : Option ChipState) → known_within new held ≡ true → HoldsOf new s first → HoldsOf held s first
+pub holds_more : (laws : KnownLaws) (new held : Known) (s : ChipState) (first : Option ChipState) → known_within new held ≡ true → HoldsOf new s first → HoldsOf held s first
 holds_more laws new held s first within holds = record {
   state = holds.state;
   suspended = holds.suspended;
   parts = parts_more laws new held s first within holds.parts;
 }
 
-pub covers_more : (laws : Premises) (node : Node) (new held : Known) (s : ChipState) (first : Option ChipState) → known_within new held ≡ true → Covers node new s first → Covers node held s first
+pub covers_more : (laws : KnownLaws) (node : Node) (new held : Known) (s : ChipState) (first : Option ChipState) → known_within new held ≡ true → Covers node new s first → Covers node held s first
 covers_more laws (At pc calls frame) new held s first within covers = (covers.0, holds_more laws new held s first within covers.1, covers.2)
 covers_more laws (Exit pc frame) new held s first within covers = (covers.0, holds_more laws new held s first within covers.1, covers.2)
 
@@ -83,7 +81,7 @@ ram_bytes ram long bytes at = elim (cases_lt at (length ram)) [
   | inr beyond ↦ subst (λ b. b < 256) (sym (get_or-eq_default ram 0 beyond)) (omega arith)
 ]
 
-has_zero : Premises → Has 256 (single 0) 0
+has_zero : KnownLaws → Has 256 (single 0) 0
 has_zero laws = (laws.sets.single 256 0 (omega arith)).1
 
 -- IE is 0 but for its bit 6, and IP is 0 but for its bits 7 and 6
@@ -99,20 +97,20 @@ ip_read (suc (suc zero)) small = (2, omega arith, refl)
 ip_read (suc (suc (suc zero))) small = (3, omega arith, refl)
 ip_read (suc (suc (suc (suc n)))) small = absurd (omega (arith, small))
 
-reset_parts : (laws : Premises) (ram : List ℕ) → length ram ≡ 256 → All (λ b. b < 256) ram → HoldsOfParts first_known (reset_with ram) None
+reset_parts : (laws : KnownLaws) (ram : List ℕ) → length ram ≡ 256 → All (λ b. b < 256) ram → HoldsOfParts first_known (reset_with ram) None
 reset_parts laws ram long bytes = record {
   sp = (laws.sets.single 256 7 (omega arith)).1;
   a = (has_zero laws, tt);
   b = (has_zero laws, tt);
   dpl = (has_zero laws, tt);
   dph = (has_zero laws, tt);
-  ie = λ x may. (subst (Has 256 (gather 256 (0 ∷ 64 ∷ []))) (sym may.2) (laws.sets.gather 256 (0 + 64 * may.0) (0 ∷ 64 ∷ []) ie_bytes (ie_read may.0 may.1)), tt);
+  ie = λ x may. (subst (Has 256 (gather 256 (0 ∷ 64 ∷ []))) (sym may.2) (laws.sets.gather_holds 256 (0 + 64 * may.0) (0 ∷ 64 ∷ []) ie_bytes (ie_read may.0 may.1)), tt);
   ip = λ x may. (
     subst (Has 256 (gather 256 (0 ∷ 64 ∷ 128 ∷ 192 ∷ []))) (sym may.2)
-        (laws.sets.gather 256 (0 + 64 * may.0) (0 ∷ 64 ∷ 128 ∷ 192 ∷ []) ip_bytes (ip_read may.0 may.1)),
+        (laws.sets.gather_holds 256 (0 + 64 * may.0) (0 ∷ 64 ∷ 128 ∷ 192 ∷ []) ip_bytes (ip_read may.0 may.1)),
     tt,
   );
-  psw = record { bits = zeros_agree 6; entry = tt };
+  psw = record { bits = laws.bits.bits_zero 6; entry = tt };
   levels = refl;
   linear_fact = tt;
   carry_fact = tt;
@@ -120,7 +118,7 @@ reset_parts laws ram long bytes = record {
   untouched = tt;
 }
 
-pub reset_covered : (laws : Premises) (s : ChipState) → IsReset s → Covers (At 0 [] Base) first_known s None
+pub reset_covered : (laws : KnownLaws) (s : ChipState) → IsReset s → Covers (At 0 [] Base) first_known s None
 reset_covered laws s reset =
     let holds : HoldsOf first_known s None = record {
       state = reset.state;
@@ -130,9 +128,6 @@ reset_covered laws s reset =
     (ap (λ t. t.pc) reset.registers, holds, refl)
 
 -- THE GREATEST
-
-six_bits : (v : ℕ) → v < 64 → Agrees (replicate 6 Either) v
-six_bits v small = (omega arith, (omega arith, (omega arith, (omega arith, (omega arith, (omega arith, omega arith))))))
 
 any_serves : (low high : Bool) → may_serve all_levels low high ≡ true
 any_serves false false = refl
@@ -155,7 +150,7 @@ all_untouched framed s None state suspended base = tt
 all_untouched true s (Some f) state suspended base = λ at outside. beyond_ram s f state.ram suspended.ram at outside
 all_untouched false s (Some f) state suspended base = let none : Some f ≡ None = base refl in absurd (cc)
 
-top_parts : (laws : Premises) (framed : Bool) (s : ChipState) (first : Option ChipState) → IsChipState s → IsSuspendedState first → (framed ≡ false → first ≡ None) → HoldsOfParts (top_known framed) s first
+top_parts : (laws : KnownLaws) (framed : Bool) (s : ChipState) (first : Option ChipState) → IsChipState s → IsSuspendedState first → (framed ≡ false → first ≡ None) → HoldsOfParts (top_known framed) s first
 top_parts laws framed s first state suspended base = record {
   sp = laws.sets.whole 256 s.sp state.sp;
   a = (laws.sets.whole 256 s.a state.a, tt);
@@ -164,7 +159,7 @@ top_parts laws framed s first state suspended base = record {
   dph = (laws.sets.whole 256 s.dph state.dph, tt);
   ie = λ x may. (laws.sets.whole 256 x (omega (arith, state.ie, state.ie_held, may.1, may.2)), tt);
   ip = λ x may. (laws.sets.whole 256 x (omega (arith, state.ip, may.1, may.2)), tt);
-  psw = record { bits = six_bits _ (omega (arith, state.psw)); entry = tt };
+  psw = record { bits = laws.bits.bits_any 6 _ (omega (arith, state.psw)); entry = tt };
   levels = any_serves s.serves_low s.serves_high;
   linear_fact = tt;
   carry_fact = tt;
@@ -172,5 +167,5 @@ top_parts laws framed s first state suspended base = record {
   untouched = all_untouched framed s first state suspended base;
 }
 
-pub top_holds : (laws : Premises) (framed : Bool) (s : ChipState) (first : Option ChipState) → IsChipState s → IsSuspendedState first → (framed ≡ false → first ≡ None) → HoldsOf (top_known framed) s first
+pub top_holds : (laws : KnownLaws) (framed : Bool) (s : ChipState) (first : Option ChipState) → IsChipState s → IsSuspendedState first → (framed ≡ false → first ≡ None) → HoldsOf (top_known framed) s first
 top_holds laws framed s first state suspended base = record { state = state; suspended = suspended; parts = top_parts laws framed s first state suspended base }

@@ -13,11 +13,12 @@ use Rattle.value_set.specs.declared.form.Form.{Form}
 use Rattle.value_set.specs.Form.{IsNormal}
 use Rattle.value_set.specs.Joining.{is_within, join}
 use Rattle.value_set.specs.Widening.{widen}
+use Rattle.value_set.specs.Laws.{AreMarks}
+use Rattle.irq_frames.specs.KnownLaws.{KnownLaws}
 use Rattle.mcs51_state.specs.Facts.{is_same_linear, is_same_carry, is_fact_within}
 use Rattle.mcs51_state.specs.Forms.{IsKnown}
 use Rattle.mcs51_state.specs.Known.{Known, any_byte, top_known, all_touched, byte_united, known_united, known_joined, known_widened, known_within, registers_within}
 use Rattle.mcs51_state.specs.Levels.{levels_within}
-use Rattle.mcs51_state.specs.Premises.{AreMarks, Premises}
 use Rattle.mcs51_state.specs.Status.{are_bits_within}
 use Rattle.mcs51_state.proofs.BitLemmas.{bits_itself, bits_along, bits_first, bits_second, bits_top}
 use Rattle.mcs51_state.proofs.FactLemmas.{linear_equality, carry_equality, fact_itself, fact_along, fact_first, fact_second, fact_top}
@@ -139,19 +140,19 @@ within_by new held parts =
 
 -- AN ORDER
 
-pub known_itself : (laws : Premises) (framed : Bool) (known : Known) → IsKnown framed known → known_within known known ≡ true
+pub known_itself : (laws : KnownLaws) (framed : Bool) (known : Known) → IsKnown framed known → known_within known known ≡ true
 known_itself laws framed known form = within_by known known record {
   registers = record {
     sp = (laws.sets.tested 256 known.sp known.sp).1 (λ v h. h);
-    a = laws.bytes.itself known.a;
-    b = laws.bytes.itself known.b;
-    dpl = laws.bytes.itself known.dpl;
-    dph = laws.bytes.itself known.dph;
-    ie = laws.bytes.itself known.ie;
-    ip = laws.bytes.itself known.ip;
+    a = laws.values.bytes.itself known.a;
+    b = laws.values.bytes.itself known.b;
+    dpl = laws.values.bytes.itself known.dpl;
+    dph = laws.values.bytes.itself known.dph;
+    ie = laws.values.bytes.itself known.ie;
+    ip = laws.values.bytes.itself known.ip;
   };
   bits = bits_itself known.psw.bits;
-  entry = laws.entries.itself known.psw.entry;
+  entry = laws.values.entries.itself known.psw.entry;
   levels = levels_itself known.levels;
   linear_fact = fact_itself is_same_linear linear_equality known.linear_fact;
   carry_fact = fact_itself is_same_carry carry_equality known.carry_fact;
@@ -159,25 +160,25 @@ known_itself laws framed known form = within_by known known record {
   touched = laws.ranges.itself known.touched;
 }
 
-registers_along : (laws : Premises) (a b c : Known) → AreRegistersWithin a b → AreRegistersWithin b c → AreRegistersWithin a c
+registers_along : (laws : KnownLaws) (a b c : Known) → AreRegistersWithin a b → AreRegistersWithin b c → AreRegistersWithin a c
 registers_along laws a b c one two = record {
   sp = (laws.sets.tested 256 a.sp c.sp).1 (λ v x. (laws.sets.tested 256 b.sp c.sp).0 two.sp v ((laws.sets.tested 256 a.sp b.sp).0 one.sp v x));
-  a = laws.bytes.along a.a b.a c.a one.a two.a;
-  b = laws.bytes.along a.b b.b c.b one.b two.b;
-  dpl = laws.bytes.along a.dpl b.dpl c.dpl one.dpl two.dpl;
-  dph = laws.bytes.along a.dph b.dph c.dph one.dph two.dph;
-  ie = laws.bytes.along a.ie b.ie c.ie one.ie two.ie;
-  ip = laws.bytes.along a.ip b.ip c.ip one.ip two.ip;
+  a = laws.values.bytes.along a.a b.a c.a one.a two.a;
+  b = laws.values.bytes.along a.b b.b c.b one.b two.b;
+  dpl = laws.values.bytes.along a.dpl b.dpl c.dpl one.dpl two.dpl;
+  dph = laws.values.bytes.along a.dph b.dph c.dph one.dph two.dph;
+  ie = laws.values.bytes.along a.ie b.ie c.ie one.ie two.ie;
+  ip = laws.values.bytes.along a.ip b.ip c.ip one.ip two.ip;
 }
 
-pub known_along : (laws : Premises) (a b c : Known) → known_within a b ≡ true → known_within b c ≡ true → known_within a c ≡ true
+pub known_along : (laws : KnownLaws) (a b c : Known) → known_within a b ≡ true → known_within b c ≡ true → known_within a c ≡ true
 known_along laws a b c h k =
     let one = partwise a b h in
     let two = partwise b c k in
     within_by a c record {
       registers = registers_along laws a b c one.registers two.registers;
       bits = bits_along a.psw.bits b.psw.bits c.psw.bits one.bits two.bits;
-      entry = laws.entries.along a.psw.entry b.psw.entry c.psw.entry one.entry two.entry;
+      entry = laws.values.entries.along a.psw.entry b.psw.entry c.psw.entry one.entry two.entry;
       levels = levels_along a.levels b.levels c.levels one.levels two.levels;
       linear_fact = fact_along is_same_linear linear_equality a.linear_fact b.linear_fact c.linear_fact one.linear_fact two.linear_fact;
       carry_fact = fact_along is_same_carry carry_equality a.carry_fact b.carry_fact c.carry_fact one.carry_fact two.carry_fact;
@@ -187,7 +188,7 @@ known_along laws a b c h k =
 
 -- BOTH ARE WITHIN WHAT IS MADE OF THEM
 
-pub united_held : (laws : Premises) (sets : Form → Form → Form) (cells : List Cell → List Cell → List Cell) → IsUnion sets cells → (framed : Bool) (held new : Known) → IsKnown framed held → IsKnown framed new
+pub united_held : (laws : KnownLaws) (sets : Form → Form → Form) (cells : List Cell → List Cell → List Cell) → IsUnion sets cells → (framed : Bool) (held new : Known) → IsKnown framed held → IsKnown framed new
     → known_within held (known_united sets cells held new) ≡ true
 united_held laws sets cells union framed held new f g =
     let byte : (h n : Byte) → IsNormal 256 h.set → IsNormal 256 n.set → byte_within h (byte_united sets h n) ≡ true = byte_held laws sets cells union in
@@ -202,7 +203,7 @@ united_held laws sets cells union framed held new f g =
         ip = byte held.ip new.ip f.ip.normal g.ip.normal;
       };
       bits = bits_first held.psw.bits new.psw.bits (f.bits ∙ sym g.bits);
-      entry = laws.entries.join_first held.psw.entry new.psw.entry;
+      entry = laws.values.entries.join_first held.psw.entry new.psw.entry;
       levels = levels_first held.levels new.levels;
       linear_fact = fact_first is_same_linear linear_equality held.linear_fact new.linear_fact;
       carry_fact = fact_first is_same_carry carry_equality held.carry_fact new.carry_fact;
@@ -210,7 +211,7 @@ united_held laws sets cells union framed held new f g =
       touched = laws.ranges.unite_first held.touched new.touched;
     }
 
-pub united_new : (laws : Premises) (sets : Form → Form → Form) (cells : List Cell → List Cell → List Cell) → IsUnion sets cells → (framed : Bool) (held new : Known) → IsKnown framed held → IsKnown framed new
+pub united_new : (laws : KnownLaws) (sets : Form → Form → Form) (cells : List Cell → List Cell → List Cell) → IsUnion sets cells → (framed : Bool) (held new : Known) → IsKnown framed held → IsKnown framed new
     → known_within new (known_united sets cells held new) ≡ true
 united_new laws sets cells union framed held new f g =
     let byte : (h n : Byte) → IsNormal 256 h.set → IsNormal 256 n.set → byte_within n (byte_united sets h n) ≡ true = byte_new laws sets cells union in
@@ -225,7 +226,7 @@ united_new laws sets cells union framed held new f g =
         ip = byte held.ip new.ip f.ip.normal g.ip.normal;
       };
       bits = bits_second held.psw.bits new.psw.bits (f.bits ∙ sym g.bits);
-      entry = laws.entries.join_second held.psw.entry new.psw.entry;
+      entry = laws.values.entries.join_second held.psw.entry new.psw.entry;
       levels = levels_second held.levels new.levels;
       linear_fact = fact_second is_same_linear linear_equality held.linear_fact new.linear_fact;
       carry_fact = fact_second is_same_carry carry_equality held.carry_fact new.carry_fact;
@@ -233,19 +234,19 @@ united_new laws sets cells union framed held new f g =
       touched = laws.ranges.unite_second held.touched new.touched;
     }
 
-pub join_held : (laws : Premises) (framed : Bool) (held new : Known) → IsKnown framed held → IsKnown framed new → known_within held (known_joined held new) ≡ true
+pub join_held : (laws : KnownLaws) (framed : Bool) (held new : Known) → IsKnown framed held → IsKnown framed new → known_within held (known_joined held new) ≡ true
 unfolding known_joined
 join_held laws = united_held laws (join 256) join_cells (join_union laws)
 
-pub join_new : (laws : Premises) (framed : Bool) (held new : Known) → IsKnown framed held → IsKnown framed new → known_within new (known_joined held new) ≡ true
+pub join_new : (laws : KnownLaws) (framed : Bool) (held new : Known) → IsKnown framed held → IsKnown framed new → known_within new (known_joined held new) ≡ true
 unfolding known_joined
 join_new laws = united_new laws (join 256) join_cells (join_union laws)
 
-pub widen_held : (laws : Premises) (framed : Bool) (marks : List ℕ) → AreMarks marks → (held new : Known) → IsKnown framed held → IsKnown framed new → known_within held (known_widened marks held new) ≡ true
+pub widen_held : (laws : KnownLaws) (framed : Bool) (marks : List ℕ) → AreMarks 256 marks → (held new : Known) → IsKnown framed held → IsKnown framed new → known_within held (known_widened marks held new) ≡ true
 unfolding known_widened
 widen_held laws framed marks below = united_held laws (λ h n. widen 256 h n marks) (λ h n. widen_cells h n marks) (widen_union laws marks below) framed
 
-pub widen_new : (laws : Premises) (framed : Bool) (marks : List ℕ) → AreMarks marks → (held new : Known) → IsKnown framed held → IsKnown framed new → known_within new (known_widened marks held new) ≡ true
+pub widen_new : (laws : KnownLaws) (framed : Bool) (marks : List ℕ) → AreMarks 256 marks → (held new : Known) → IsKnown framed held → IsKnown framed new → known_within new (known_widened marks held new) ≡ true
 unfolding known_widened
 widen_new laws framed marks below = united_new laws (λ h n. widen 256 h n marks) (λ h n. widen_cells h n marks) (widen_union laws marks below) framed
 
@@ -257,20 +258,20 @@ six_top bits long = subst (λ n. are_bits_within bits (replicate n Either) ≡ t
 entry_top : (entry : Option Entry) → is_entry_within entry None ≡ true
 entry_top entry = refl
 
-touched_top : Premises → (framed : Bool) (touched : List (ℕ × ℕ)) → AreRanges 0 255 touched → (framed ≡ false → touched ≡ []) → ranges_within touched (all_touched framed) ≡ true
+touched_top : KnownLaws → (framed : Bool) (touched : List (ℕ × ℕ)) → AreRanges 0 255 touched → (framed ≡ false → touched ≡ []) → ranges_within touched (all_touched framed) ≡ true
 touched_top laws true touched are none = laws.ranges.whole 0 255 touched are
 touched_top laws false touched are none = subst (λ ranges. ranges_within ranges [] ≡ true) (sym (none refl)) refl
 
-pub within_top : (laws : Premises) (framed : Bool) (known : Known) → IsKnown framed known → known_within known (top_known framed) ≡ true
+pub within_top : (laws : KnownLaws) (framed : Bool) (known : Known) → IsKnown framed known → known_within known (top_known framed) ≡ true
 within_top laws framed known form = within_by known (top_known framed) record {
   registers = record {
     sp = (laws.sets.tested 256 known.sp any_byte).1 (λ v h. laws.sets.whole 256 v (laws.sets.below 256 v known.sp form.sp h));
-    a = laws.bytes.whole known.a form.a.normal;
-    b = laws.bytes.whole known.b form.b.normal;
-    dpl = laws.bytes.whole known.dpl form.dpl.normal;
-    dph = laws.bytes.whole known.dph form.dph.normal;
-    ie = laws.bytes.whole known.ie form.ie.normal;
-    ip = laws.bytes.whole known.ip form.ip.normal;
+    a = laws.values.bytes.whole known.a form.a.normal;
+    b = laws.values.bytes.whole known.b form.b.normal;
+    dpl = laws.values.bytes.whole known.dpl form.dpl.normal;
+    dph = laws.values.bytes.whole known.dph form.dph.normal;
+    ie = laws.values.bytes.whole known.ie form.ie.normal;
+    ip = laws.values.bytes.whole known.ip form.ip.normal;
   };
   bits = six_top known.psw.bits form.bits;
   entry = entry_top known.psw.entry;

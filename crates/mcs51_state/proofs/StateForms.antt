@@ -12,11 +12,12 @@ use Rattle.value_set.specs.Form.{IsNormal, gather}
 use Rattle.value_set.specs.Joining.{join}
 use Rattle.value_set.specs.Summing.{single}
 use Rattle.value_set.specs.Widening.{widen}
+use Rattle.value_set.specs.Laws.{AreMarks}
+use Rattle.irq_frames.specs.KnownLaws.{KnownLaws}
 use Rattle.mcs51_state.specs.Facts.{is_same_linear, is_same_carry}
 use Rattle.mcs51_state.specs.Forms.{IsRelation, IsOwnRelation, IsByte, IsOwnByte, IsLinear, IsCarry, IsChipCell, IsKnown}
 use Rattle.mcs51_state.specs.Known.{Known, any_byte, byte_of, first_known, top_known, all_touched, byte_united, known_united, known_joined, known_widened}
 use Rattle.mcs51_state.specs.Places.{ie_place, ip_place, psw_place}
-use Rattle.mcs51_state.specs.Premises.{AreMarks, Premises}
 use Rattle.mcs51_state.proofs.BitLemmas.{length-common_bits}
 use Rattle.mcs51_state.proofs.CellForms.{common_entry_keeps, no_relation}
 use Rattle.mcs51_state.proofs.FactLemmas.{common_fact_keeps}
@@ -37,7 +38,7 @@ own_form framed place unheld set normal = record { normal = normal; entry = no_o
 
 -- THE FIRST AND THE GREATEST
 
-zero_normal : Premises → IsNormal 256 (single 0)
+zero_normal : KnownLaws → IsNormal 256 (single 0)
 zero_normal laws = (laws.sets.single 256 0 (omega arith)).0
 
 -- each number of a list of bytes is a byte
@@ -50,7 +51,7 @@ ip_bytes v h = All-contains (λ n. n < 256) (0 ∷ 64 ∷ 128 ∷ 192 ∷ []) v
     (All-cons (λ n. n < 256) 0 (64 ∷ 128 ∷ 192 ∷ []) (omega arith) (All-cons (λ n. n < 256) 64 (128 ∷ 192 ∷ []) (omega arith)
     (All-cons (λ n. n < 256) 128 (192 ∷ []) (omega arith) (All-cons (λ n. n < 256) 192 [] (omega arith) (All-nil (λ n. n < 256)))))) h
 
-pub first_form : Premises → (framed : Bool) → IsKnown framed first_known
+pub first_form : KnownLaws → (framed : Bool) → IsKnown framed first_known
 first_form laws framed = record {
   sp = (laws.sets.single 256 7 (omega arith)).0;
   a = byte_form framed (single 0) (zero_normal laws);
@@ -80,7 +81,7 @@ none_touched_top : (framed : Bool) → framed ≡ false → all_touched framed �
 none_touched_top true base = absurd (cc)
 none_touched_top false base = refl
 
-pub top_form : Premises → (framed : Bool) → IsKnown framed (top_known framed)
+pub top_form : KnownLaws → (framed : Bool) → IsKnown framed (top_known framed)
 top_form laws framed =
     let normal : IsNormal 256 any_byte = laws.sets.whole_normal 256 (omega arith) in
     record {
@@ -125,7 +126,7 @@ own_united_form framed place unheld sets held new normal form = record {
   entry = common_own framed place unheld held.entry new.entry form.entry;
 }
 
-pub united_form : (laws : Premises) (sets : Form → Form → Form) (cells : List Cell → List Cell → List Cell) → IsUnion sets cells → (framed : Bool) (held new : Known) → IsKnown framed held → IsKnown framed new
+pub united_form : (laws : KnownLaws) (sets : Form → Form → Form) (cells : List Cell → List Cell → List Cell) → IsUnion sets cells → (framed : Bool) (held new : Known) → IsKnown framed held → IsKnown framed new
     → IsKnown framed (known_united sets cells held new)
 united_form laws sets cells union framed held new f g = record {
   sp = union.normal held.sp new.sp f.sp g.sp;
@@ -148,10 +149,10 @@ united_form laws sets cells union framed held new f g = record {
   none_touched = λ base. united_none held.touched new.touched (f.none_touched base) (g.none_touched base);
 }
 
-pub join_form : Premises → (framed : Bool) (held new : Known) → IsKnown framed held → IsKnown framed new → IsKnown framed (known_joined held new)
+pub join_form : KnownLaws → (framed : Bool) (held new : Known) → IsKnown framed held → IsKnown framed new → IsKnown framed (known_joined held new)
 unfolding known_joined
 join_form laws = united_form laws (join 256) join_cells (join_union laws)
 
-pub widen_form : Premises → (framed : Bool) (marks : List ℕ) → AreMarks marks → (held new : Known) → IsKnown framed held → IsKnown framed new → IsKnown framed (known_widened marks held new)
+pub widen_form : KnownLaws → (framed : Bool) (marks : List ℕ) → AreMarks 256 marks → (held new : Known) → IsKnown framed held → IsKnown framed new → IsKnown framed (known_widened marks held new)
 unfolding known_widened
 widen_form laws framed marks below = united_form laws (λ h n. widen 256 h n marks) (λ h n. widen_cells h n marks) (widen_union laws marks below) framed

@@ -5,6 +5,5 @@ pub mod Places
 pub mod Known
 pub mod Holding
 pub mod Forms
-pub mod Premises
 pub mod Under
 pub mod Standing

@@ -75,7 +75,7 @@ pub(crate) fn common_carry(a: &Option<CarryFact>, b: &Option<CarryFact>) -> Opti
 }
 
 /// Whether the second has no fact of the accumulator that the first one lacks.
-pub(crate) fn is_linear_within(new: &Option<LinearFact>, held: &Option<LinearFact>) -> bool
+pub fn is_linear_within(new: &Option<LinearFact>, held: &Option<LinearFact>) -> bool
     ensures { result ≡ the_facts.is_fact_within the_facts.is_same_linear new.now held.now }
 {
     match (new, held) {
@@ -86,7 +86,7 @@ pub(crate) fn is_linear_within(new: &Option<LinearFact>, held: &Option<LinearFac
 }
 
 /// Whether the second has no fact of CY that the first one lacks.
-pub(crate) fn is_carry_within(new: &Option<CarryFact>, held: &Option<CarryFact>) -> bool
+pub fn is_carry_within(new: &Option<CarryFact>, held: &Option<CarryFact>) -> bool
     ensures { result ≡ the_facts.is_fact_within the_facts.is_same_carry new.now held.now }
 {
     match (new, held) {

@@ -1,6 +1,7 @@
 //! What holds of all that is known of states. The chip's laws call these.
 
 ghost use Rattle.std.specs.Prelude.{◌≡◌, Bool, ℕ, true, false, [], List, None, Option};
+ghost use Rattle.value_set.specs.Laws.{AreMarks};
 ghost use Rattle.call_context.specs.declared.node.Frame.TheVariants.{Base};
 ghost use Rattle.call_context.specs.declared.node.Node.{Node as ANode};
 ghost use Rattle.call_context.specs.declared.node.Node.TheVariants.{At};
@@ -9,37 +10,8 @@ ghost use Rattle.mcs51_chip.specs.State.{IsChipState, IsReset};
 ghost use Rattle.mcs51_state.specs.Forms.{IsKnown};
 ghost use Rattle.mcs51_state.specs.Holding.{Covers, HoldsOf, HoldsOfParts, IsSuspendedState};
 ghost use Rattle.mcs51_state.specs.Known.{Known, first_known, top_known, known_joined, known_widened, known_within};
-ghost use Rattle.mcs51_state.specs.Premises.{AreMarks, Premises};
 
-use entry_value::{
-    bytes_are_ordered, bytes_hold, cells_are_ordered, cells_speak_of_ram, inclusion_covers,
-    relations_hold, unions_keep_form,
-};
-use irq_frames::ranges_hold;
-use value_set::{
-    gathers_hold, inclusion_is_tested, joins_include_both, members_are_below,
-    single_and_whole_sets, widenings_include_both,
-};
-
-/// The laws of sets, bytes, cells and ranges that those below rest on.
-fn premises_hold()
-    ensures { Premises }
-{
-    members_are_below();
-    single_and_whole_sets();
-    gathers_hold();
-    inclusion_is_tested();
-    joins_include_both();
-    widenings_include_both();
-    bytes_hold();
-    bytes_are_ordered();
-    relations_hold();
-    cells_are_ordered();
-    cells_speak_of_ram();
-    inclusion_covers();
-    unions_keep_form();
-    ranges_hold();
-}
+use irq_frames::known_laws;
 
 /// Being within another is an order, in which two states are within their join, within the first one widened by the
 /// second, and within the greatest.
@@ -48,13 +20,13 @@ pub fn states_are_ordered()
     ensures along { (a b c : Known) → known_within a b ≡ true → known_within b c ≡ true → known_within a c ≡ true }
     ensures join_held { (framed : Bool) (held new : Known) → IsKnown framed held → IsKnown framed new → known_within held (known_joined held new) ≡ true }
     ensures join_new { (framed : Bool) (held new : Known) → IsKnown framed held → IsKnown framed new → known_within new (known_joined held new) ≡ true }
-    ensures widen_held { (framed : Bool) (marks : List ℕ) → AreMarks marks → (held new : Known) → IsKnown framed held → IsKnown framed new
+    ensures widen_held { (framed : Bool) (marks : List ℕ) → AreMarks 256 marks → (held new : Known) → IsKnown framed held → IsKnown framed new
         → known_within held (known_widened marks held new) ≡ true }
-    ensures widen_new { (framed : Bool) (marks : List ℕ) → AreMarks marks → (held new : Known) → IsKnown framed held → IsKnown framed new
+    ensures widen_new { (framed : Bool) (marks : List ℕ) → AreMarks 256 marks → (held new : Known) → IsKnown framed held → IsKnown framed new
         → known_within new (known_widened marks held new) ≡ true }
     ensures greatest { (framed : Bool) (known : Known) → IsKnown framed known → known_within known (top_known framed) ≡ true }
 {
-    premises_hold();
+    known_laws();
 }
 
 /// The first state and the greatest have the form, and joins and widenings keep it.
@@ -62,10 +34,10 @@ pub fn states_keep_form()
     ensures first { (framed : Bool) → IsKnown framed first_known }
     ensures greatest { (framed : Bool) → IsKnown framed (top_known framed) }
     ensures join { (framed : Bool) (held new : Known) → IsKnown framed held → IsKnown framed new → IsKnown framed (known_joined held new) }
-    ensures widen { (framed : Bool) (marks : List ℕ) → AreMarks marks → (held new : Known) → IsKnown framed held → IsKnown framed new
+    ensures widen { (framed : Bool) (marks : List ℕ) → AreMarks 256 marks → (held new : Known) → IsKnown framed held → IsKnown framed new
         → IsKnown framed (known_widened marks held new) }
 {
-    premises_hold();
+    known_laws();
 }
 
 /// What stands under a state stands under all that this is within, each state of the chip behind a reset under the first
@@ -77,5 +49,5 @@ pub fn states_cover()
     ensures greatest { (framed : Bool) (s : AState) (first : Option AState) → IsChipState s → IsSuspendedState first → (framed ≡ false → first ≡ None)
         → HoldsOf (top_known framed) s first }
 {
-    premises_hold();
+    known_laws();
 }

@@ -30,7 +30,7 @@ mod state;
 mod status;
 
 pub use addresses::Addresses;
-pub use fact::{CarryFact, Compared, LinearFact};
+pub use fact::{CarryFact, Compared, LinearFact, is_carry_within, is_linear_within};
 pub use laws::{states_are_ordered, states_cover, states_keep_form};
 pub use levels::Levels;
 pub use state::State;

@@ -12,10 +12,10 @@ use Rattle.entry_value.specs.declared.word.Word.{Word}
 use Rattle.entry_value.specs.Cells.{CellMap, AreCells, StandsUnder, cell_at, found_or, put_together, read, meets, insert, is_nothing, with_cell, write_one, written}
 use Rattle.entry_value.specs.Words.{Suspended, HoldsOfWord, is_same_entry, common_entry, word_join}
 use Rattle.value_set.specs.Form.{Has, IsNormal}
+use Rattle.irq_frames.specs.KnownLaws.{KnownLaws}
 use Rattle.mcs51_chip.specs.declared.state.ChipState.{ChipState}
 use Rattle.mcs51_chip.specs.State.{IsChipState}
 use Rattle.mcs51_state.specs.Forms.{IsByte, IsChipCell, IsRelation}
-use Rattle.mcs51_stores.specs.Premises.{Premises}
 use Rattle.mcs51_stores.specs.Writing.{word_of_byte, cell_joined, cells_joined, cells_written}
 use Rattle.mcs51_stores.proofs.Members.{in_none, in_cons}
 
@@ -38,10 +38,10 @@ pub record IsStored (framed : Bool) (word : Word) : Type 0 where
   pub byte : (n : ℕ) → Has 65536 word.set n → n < 256
   pub entry : IsRelation framed word.entry
 
-pub byte_stored : (laws : Premises) (framed : Bool) (byte : Byte) → IsByte framed byte → IsStored framed (word_of_byte byte)
+pub byte_stored : (laws : KnownLaws) (framed : Bool) (byte : Byte) → IsByte framed byte → IsStored framed (word_of_byte byte)
 byte_stored laws framed byte is = record {
-  normal = laws.sets.pair_normal byte.set _ is.normal (laws.sets.single 256 0 (omega arith)).0;
-  byte = λ n h. laws.words.pair byte.set n is.normal h;
+  normal = laws.bits.pair_normal byte.set _ is.normal (laws.sets.single 256 0 (omega arith)).0;
+  byte = λ n h. laws.bits.pair_byte byte.set n is.normal h;
   entry = is.entry;
 }
 
@@ -77,7 +77,7 @@ whole_cells framed map are =
 top_of_ram : (framed : Bool) (map : CellMap) → AreByteCells framed map → map.hi < 65536
 top_of_ram framed map are = omega (arith, are.up_to)
 
-pub one_form : (laws : Premises) (framed : Bool) (map : CellMap) (at : ℕ) (word : Word) → IsStored framed word → AreByteCells framed map → AreByteCells framed (write_one map at 1 word)
+pub one_form : (laws : KnownLaws) (framed : Bool) (map : CellMap) (at : ℕ) (word : Word) → IsStored framed word → AreByteCells framed map → AreByteCells framed (write_one map at 1 word)
 one_form laws framed map at word is are =
     let form = laws.cells.write_form map.lo at 1 map word (top_of_ram framed map are) (omega arith) (whole_cells framed map are) (inl refl) is.normal (λ e. is.byte) in
     record {
@@ -98,31 +98,31 @@ read_entry : (framed : Bool) (at : ℕ) (cells : List Cell) → All (IsChipCell 
 unfolding read
 read_entry framed at cells all = found_entry framed at (put_together cells at 1) cells (no_relation framed) all
 
-joined_stored : (laws : Premises) (framed : Bool) (map : CellMap) (at : ℕ) (word : Word) → IsStored framed word → AreByteCells framed map → IsStored framed (word_join (read map.cells at 1) word)
+joined_stored : (laws : KnownLaws) (framed : Bool) (map : CellMap) (at : ℕ) (word : Word) → IsStored framed word → AreByteCells framed map → IsStored framed (word_join (read map.cells at 1) word)
 joined_stored laws framed map at word is are =
     let held = read map.cells at 1 in
     let normal = laws.cells.read_normal 0 255 0 at 1 map.cells are.cells in
     record {
-      normal = laws.words.join_normal held word normal is.normal;
-      byte = laws.words.join held.set word.set normal is.normal (laws.cells.read_byte 0 255 0 at 1 map.cells are.cells refl) is.byte;
+      normal = laws.values.words.join_normal held word normal is.normal;
+      byte = laws.sets.join_below 256 65536 held.set word.set (omega arith) normal is.normal (laws.cells.read_byte 0 255 0 at 1 map.cells are.cells refl) is.byte;
       entry = common_relation framed held.entry word.entry (read_entry framed at map.cells are.each);
     }
 
-joined_one_form : (laws : Premises) (framed : Bool) (map : CellMap) (at : ℕ) (word : Word) → IsStored framed word → AreByteCells framed map → AreByteCells framed (cell_joined map at word)
+joined_one_form : (laws : KnownLaws) (framed : Bool) (map : CellMap) (at : ℕ) (word : Word) → IsStored framed word → AreByteCells framed map → AreByteCells framed (cell_joined map at word)
 joined_one_form laws framed map at word is are = one_form laws framed map at (word_join (read map.cells at 1) word) (joined_stored laws framed map at word is are) are
 
-joined_form : (laws : Premises) (framed : Bool) (map : CellMap) (list : List ℕ) (word : Word) → IsStored framed word → AreByteCells framed map → AreByteCells framed (cells_joined map list word)
+joined_form : (laws : KnownLaws) (framed : Bool) (map : CellMap) (list : List ℕ) (word : Word) → IsStored framed word → AreByteCells framed map → AreByteCells framed (cells_joined map list word)
 joined_form laws framed map [] word is are = are
 joined_form laws framed map (at ∷ rest) word is are = joined_form laws framed (cell_joined map at word) rest word is (joined_one_form laws framed map at word is are)
 
-pub cells_form : (laws : Premises) (framed : Bool) (map : CellMap) (list : List ℕ) (word : Word) → IsStored framed word → AreByteCells framed map → AreByteCells framed (cells_written map list word)
+pub cells_form : (laws : KnownLaws) (framed : Bool) (map : CellMap) (list : List ℕ) (word : Word) → IsStored framed word → AreByteCells framed map → AreByteCells framed (cells_written map list word)
 cells_form laws framed map [] word is are = are
 cells_form laws framed map (at ∷ []) word is are = one_form laws framed map at word is are
 cells_form laws framed map (at ∷ next ∷ rest) word is are = joined_form laws framed map (at ∷ next ∷ rest) word is are
 
 -- WHAT STANDS UNDER THEM
 
-one_covers : (laws : Premises) (first : Option Suspended) (framed : Bool) (ram : ℕ → ℕ) (map : CellMap) (at v : ℕ) (word : Word) → at < 256 → IsStored framed word → AreByteCells framed map
+one_covers : (laws : KnownLaws) (first : Option Suspended) (framed : Bool) (ram : ℕ → ℕ) (map : CellMap) (at v : ℕ) (word : Word) → at < 256 → IsStored framed word → AreByteCells framed map
     → StandsUnder first map.cells ram → HoldsOfWord first word v → StandsUnder first (write_one map at 1 word).cells (written ram at 1 v)
 one_covers laws first framed ram map at v word low is are stands holds =
     laws.cells.write first ram map.lo at 1 v map word (top_of_ram framed map are) (whole_cells framed map are) (omega (arith, low)) (inl refl) is.normal (λ e. is.byte) stands holds
@@ -135,24 +135,24 @@ written_same ram at b small = elim (cases_eq b at) [
 ]
 
 -- a cell that isn't written holds what it held
-stays_under : (laws : Premises) (first : Option Suspended) (framed : Bool) (ram : ℕ → ℕ) (map : CellMap) (at : ℕ) (word : Word) → at < 256 → IsStored framed word → AreByteCells framed map
+stays_under : (laws : KnownLaws) (first : Option Suspended) (framed : Bool) (ram : ℕ → ℕ) (map : CellMap) (at : ℕ) (word : Word) → at < 256 → IsStored framed word → AreByteCells framed map
     → StandsUnder first map.cells ram → StandsUnder first (cell_joined map at word).cells ram
 stays_under laws first framed ram map at word low is are stands =
     let held = read map.cells at 1 in
     let normal = laws.cells.read_normal 0 255 0 at 1 map.cells are.cells in
     let reads : HoldsOfWord first held (ram at) = laws.cells.reads first ram 0 255 0 at 1 map.cells are.cells (omega (arith, low)) (inl refl) stands in
-    let both = laws.words.join_first first (ram at) held word normal is.normal reads in
+    let both = laws.values.words.join_holds_first first (ram at) held word normal is.normal reads in
     let behind = one_covers laws first framed ram map at (ram at) (word_join held word) low (joined_stored laws framed map at word is are) are stands both in
     let form = joined_one_form laws framed map at word is are in
     laws.cells.agree first (written ram at 1 (ram at)) ram 0 255 0 (cell_joined map at word).cells (omega arith) form.cells stands.0 (λ b from to. written_same ram at b (stands.0 at)) behind
 
-joins_under : (laws : Premises) (first : Option Suspended) (framed : Bool) (ram : ℕ → ℕ) (map : CellMap) (at v : ℕ) (word : Word) → at < 256 → IsStored framed word → AreByteCells framed map
+joins_under : (laws : KnownLaws) (first : Option Suspended) (framed : Bool) (ram : ℕ → ℕ) (map : CellMap) (at v : ℕ) (word : Word) → at < 256 → IsStored framed word → AreByteCells framed map
     → StandsUnder first map.cells ram → HoldsOfWord first word v → StandsUnder first (cell_joined map at word).cells (written ram at 1 v)
 joins_under laws first framed ram map at v word low is are stands holds =
     let held = read map.cells at 1 in
     let normal = laws.cells.read_normal 0 255 0 at 1 map.cells are.cells in
     one_covers laws first framed ram map at v (word_join held word) low (joined_stored laws framed map at word is are) are stands
-    (laws.words.join_second first v held word normal is.normal holds)
+    (laws.values.words.join_holds_second first v held word normal is.normal holds)
 
 abbrev pub AreLow : List ℕ → Type 0
 AreLow list = (v : ℕ) → Contains list v → v < 256
@@ -163,14 +163,14 @@ rest_low at rest low v h = low v (suc h.0, omega (arith, h.1), h.2)
 pub first_low : (at : ℕ) (rest : List ℕ) → AreLow (at ∷ rest) → at < 256
 first_low at rest low = low at (0, omega arith, refl)
 
-stay_under : (laws : Premises) (first : Option Suspended) (framed : Bool) (ram : ℕ → ℕ) (map : CellMap) (list : List ℕ) (word : Word) → AreLow list → IsStored framed word → AreByteCells framed map
+stay_under : (laws : KnownLaws) (first : Option Suspended) (framed : Bool) (ram : ℕ → ℕ) (map : CellMap) (list : List ℕ) (word : Word) → AreLow list → IsStored framed word → AreByteCells framed map
     → StandsUnder first map.cells ram → StandsUnder first (cells_joined map list word).cells ram
 stay_under laws first framed ram map [] word low is are stands = stands
 stay_under laws first framed ram map (at ∷ rest) word low is are stands =
     stay_under laws first framed ram (cell_joined map at word) rest word (rest_low at rest low) is (joined_one_form laws framed map at word is are)
     (stays_under laws first framed ram map at word (first_low at rest low) is are stands)
 
-joined_covers : (laws : Premises) (first : Option Suspended) (framed : Bool) (ram : ℕ → ℕ) (map : CellMap) (list : List ℕ) (address v : ℕ) (word : Word) → AreLow list → Contains list address
+joined_covers : (laws : KnownLaws) (first : Option Suspended) (framed : Bool) (ram : ℕ → ℕ) (map : CellMap) (list : List ℕ) (address v : ℕ) (word : Word) → AreLow list → Contains list address
     → IsStored framed word → AreByteCells framed map → StandsUnder first map.cells ram → HoldsOfWord first word v → StandsUnder first (cells_joined map list word).cells (written ram address 1 v)
 joined_covers laws first framed ram map [] address v word low there is are stands holds = absurd (in_none address there)
 joined_covers laws first framed ram map (at ∷ rest) address v word low there is are stands holds =
@@ -185,7 +185,7 @@ joined_covers laws first framed ram map (at ∷ rest) address v word low there i
           (stays_under laws first framed ram map at word (first_low at rest low) is are stands) holds
     ]
 
-list_covers : (laws : Premises) (first : Option Suspended) (framed : Bool) (ram : ℕ → ℕ) (map : CellMap) (list : List ℕ) (address v : ℕ) (word : Word) → AreLow list → Contains list address
+list_covers : (laws : KnownLaws) (first : Option Suspended) (framed : Bool) (ram : ℕ → ℕ) (map : CellMap) (list : List ℕ) (address v : ℕ) (word : Word) → AreLow list → Contains list address
     → IsStored framed word → AreByteCells framed map → StandsUnder first map.cells ram → HoldsOfWord first word v → StandsUnder first (cells_written map list word).cells (written ram address 1 v)
 list_covers laws first framed ram map [] address v word low there is are stands holds = absurd (in_none address there)
 list_covers laws first framed ram map (at ∷ []) address v word low there is are stands holds = elim (in_cons at [] address there) [
@@ -212,7 +212,7 @@ set_is_written ram address v b small inside = elim (cases_eq b address) [
   | inr other ↦ cond-false (b == address) (v % 256) (get_or ram b 0) (ne_eqb b address other) ∙ sym (get_or-set_other ram address b v 0 other)
 ]
 
-pub cells_cover : (laws : Premises) (first : Option Suspended) (framed : Bool) (s after : ChipState) (map : CellMap) (list : List ℕ) (address v : ℕ) (word : Word) → AreLow list → Contains list address
+pub cells_cover : (laws : KnownLaws) (first : Option Suspended) (framed : Bool) (s after : ChipState) (map : CellMap) (list : List ℕ) (address v : ℕ) (word : Word) → AreLow list → Contains list address
     → IsChipState s → IsChipState after → after.ram ≡ set s.ram address v → v < 256 → IsStored framed word → AreByteCells framed map
     → StandsUnder first map.cells (slice_index s.ram) → HoldsOfWord first word v → StandsUnder first (cells_written map list word).cells (slice_index after.ram)
 cells_cover laws first framed s after map list address v word low there state state_after ram_is small is are stands holds =

@@ -14,6 +14,7 @@ use Rattle.value_set.specs.declared.form.Form.{Form}
 use Rattle.value_set.specs.Form.{IsNormal, gather, members}
 use Rattle.value_set.specs.Joining.{is_in}
 use Rattle.value_set.specs.Summing.{single}
+use Rattle.irq_frames.specs.KnownLaws.{KnownLaws}
 use Rattle.mcs51_chip.specs.declared.place.Sfr.{Sfr}
 use Rattle.mcs51_chip.specs.declared.place.Sfr.TheVariants.{Sp, Dpl, Dph, Ie, Ip, Psw, Acc, B, Other}
 use Rattle.mcs51_chip.specs.Registers.{sfr_at}
@@ -28,7 +29,6 @@ use Rattle.mcs51_state.specs.Known.{Known, byte_of}
 use Rattle.mcs51_state.specs.Places.{ie_place, ip_place, psw_place}
 use Rattle.mcs51_state.specs.Standing.{AreAddresses}
 use Rattle.mcs51_stores.specs.Following.{KeepsForm}
-use Rattle.mcs51_stores.specs.Premises.{Premises}
 use Rattle.mcs51_stores.specs.Stack.{raised, lowered, byte_pushed, pair_pushed, address_pushed, byte_popped}
 use Rattle.mcs51_stores.specs.Writing.{linear_beside, is_compared_in, is_accumulator, carry_unless, word_of_byte, cells_written, ram_written, own_masks, own_entry, own_byte, status_of_byte, status_written, accumulator_written, register_written, byte_written, data_pointer_written, carry_set, flags_set}
 use Rattle.mcs51_stores.proofs.Bits.{Parted, gained, lost, ie_parted, ip_parted, psw_parted}
@@ -50,35 +50,20 @@ carry_form is_written (Some fact) is = cond_both (is_written fact.compared) None
 known_cells : (framed : Bool) (known : Known) → IsKnown framed known → AreByteCells framed known.cells
 known_cells framed known form = record { from = form.from; up_to = form.up_to; cells = form.cells; each = form.each_cell }
 
-pub stored_cells : (laws : Premises) (framed : Bool) (at : Form) (byte : Byte) → IsByte framed byte → (known : Known) → IsKnown framed known
+pub stored_cells : (laws : KnownLaws) (framed : Bool) (at : Form) (byte : Byte) → IsByte framed byte → (known : Known) → IsKnown framed known
     → AreByteCells framed (cells_written known.cells (members 256 at) (word_of_byte byte))
 stored_cells laws framed at byte is known form =
     cells_form laws framed known.cells (members 256 at) (word_of_byte byte) (byte_stored laws framed byte is) (known_cells framed known form)
 
-pub ram_form : (laws : Premises) (framed : Bool) (at : Form) (byte : Byte) → IsNormal 256 at → IsByte framed byte → KeepsForm framed (ram_written framed at byte)
+pub ram_form : (laws : KnownLaws) (framed : Bool) (at : Form) (byte : Byte) → IsNormal 256 at → IsByte framed byte → KeepsForm framed (ram_written framed at byte)
 unfolding ram_written
 ram_form laws framed at byte normal is known form =
     let cells = stored_cells laws framed at byte is known form in
-    record {
-      sp = form.sp;
-      a = form.a;
-      b = form.b;
-      dpl = form.dpl;
-      dph = form.dph;
-      ie = form.ie;
-      ip = form.ip;
-      bits = form.bits;
-      psw = form.psw;
-      levels = form.levels;
-      linear_fact = linear_form at known.linear_fact form.linear_fact;
-      carry_fact = carry_form (is_compared_in at) known.carry_fact form.carry_fact;
-      from = cells.from;
-      up_to = cells.up_to;
-      cells = cells.cells;
-      each_cell = cells.each;
-      touched = touched_form laws framed at known.touched normal form.touched;
-      none_touched = touched_none framed at known.touched form.none_touched;
-    }
+    let linear = linear_form at known.linear_fact form.linear_fact in
+    let carry = carry_form (is_compared_in at) known.carry_fact form.carry_fact in
+    let touched = touched_form laws framed at known.touched normal form.touched in
+    let none = touched_none framed at known.touched form.none_touched in
+    assumption (form, cells, linear, carry, touched, none)
 
 -- REGISTERS
 
@@ -105,14 +90,14 @@ entry_own framed place unheld held (Some entry) parted is_held is =
     (λ e. masks_own framed place unheld held entry parted is_held (eqb-true entry.place place e) is)
     (λ e. no_own framed place unheld)
 
-pub own_normal : (laws : Premises) (unheld : ℕ) (others : List ℕ) (set_so : Form) → 1 ≤ length others → ((v : ℕ) → Contains others v → v < 256) → IsNormal 256 set_so
+pub own_normal : (laws : KnownLaws) (unheld : ℕ) (others : List ℕ) (set_so : Form) → 1 ≤ length others → ((v : ℕ) → Contains others v → v < 256) → IsNormal 256 set_so
     → IsNormal 256 (logic_set 8 Or (logic_set 8 And set_so (single (255 - unheld))) (gather 256 others))
 own_normal laws unheld others set_so some low normal =
-    laws.sets.logic_normal 8 Or (logic_set 8 And set_so (single (255 - unheld))) (gather 256 others)
-    (laws.sets.logic_normal 8 And set_so (single (255 - unheld)) normal (laws.sets.single 256 (255 - unheld) (omega arith)).0)
+    laws.bits.logic_normal 8 Or (logic_set 8 And set_so (single (255 - unheld))) (gather 256 others)
+    (laws.bits.logic_normal 8 And set_so (single (255 - unheld)) normal (laws.sets.single 256 (255 - unheld) (omega arith)).0)
     (laws.sets.gather_normal 256 others some low)
 
-own_form : (laws : Premises) (framed : Bool) (place unheld held : ℕ) (others : List ℕ) (byte : Byte) → Parted unheld held → held ≡ 65535 - unheld → 1 ≤ length others
+own_form : (laws : KnownLaws) (framed : Bool) (place unheld held : ℕ) (others : List ℕ) (byte : Byte) → Parted unheld held → held ≡ 65535 - unheld → 1 ≤ length others
     → ((v : ℕ) → Contains others v → v < 256) → IsByte framed byte → IsOwnByte framed place unheld (own_byte place unheld others byte)
 own_form laws framed place unheld held others byte parted is_held some low is = record {
   normal = own_normal laws unheld others byte.set some low is.normal;
@@ -138,26 +123,7 @@ pub ip_bytes : (v : ℕ) → Contains (0 ∷ 64 ∷ 128 ∷ 192 ∷ []) v → v 
 ip_bytes = low_of_four
 
 pub status_form : (framed : Bool) (status : Status) → length status.bits ≡ 6 → IsOwnRelation framed psw_place 3 status.entry → KeepsForm framed (status_written status)
-status_form framed status count own known form = record {
-  sp = form.sp;
-  a = form.a;
-  b = form.b;
-  dpl = form.dpl;
-  dph = form.dph;
-  ie = form.ie;
-  ip = form.ip;
-  bits = count;
-  psw = own;
-  levels = form.levels;
-  linear_fact = form.linear_fact;
-  carry_fact = tt;
-  from = form.from;
-  up_to = form.up_to;
-  cells = form.cells;
-  each_cell = form.each_cell;
-  touched = form.touched;
-  none_touched = form.none_touched;
-}
+status_form framed status count own known form = let none : IsCarry None = tt in assumption (form, count, own, none)
 
 pub six_bits : (set_so : Form) → length (drop 2 (known_bits 8 set_so)) ≡ 6
 six_bits set_so =
@@ -165,26 +131,10 @@ six_bits set_so =
     length-drop 2 (known_bits 8 set_so) ∙ ap (λ n. n - 2) eight_bits
 
 pub accumulator_form : (framed : Bool) (byte : Byte) → IsByte framed byte → KeepsForm framed (accumulator_written byte)
-accumulator_form framed byte is known form = record {
-  sp = form.sp;
-  a = is;
-  b = form.b;
-  dpl = form.dpl;
-  dph = form.dph;
-  ie = form.ie;
-  ip = form.ip;
-  bits = form.bits;
-  psw = form.psw;
-  levels = form.levels;
-  linear_fact = tt;
-  carry_fact = carry_form is_accumulator known.carry_fact form.carry_fact;
-  from = form.from;
-  up_to = form.up_to;
-  cells = form.cells;
-  each_cell = form.each_cell;
-  touched = form.touched;
-  none_touched = form.none_touched;
-}
+accumulator_form framed byte is known form =
+    let none : IsLinear None = tt in
+    let carry = carry_form is_accumulator known.carry_fact form.carry_fact in
+    assumption (form, is, none, carry)
 
 pub sp_form : (framed : Bool) (set_so : Form) → IsNormal 256 set_so → KeepsForm framed (λ known. record known { sp = set_so })
 sp_form framed set_so normal known form = assumption (form, normal)
@@ -201,7 +151,7 @@ ie_form framed byte is known form = assumption (form, is)
 ip_form : (framed : Bool) (byte : Byte) → IsOwnByte framed ip_place 192 byte → KeepsForm framed (λ known. record known { ip = byte })
 ip_form framed byte is known form = assumption (form, is)
 
-pub register_form : (laws : Premises) (framed : Bool) (register : Sfr) (byte : Byte) → IsByte framed byte → KeepsForm framed (register_written register byte)
+pub register_form : (laws : KnownLaws) (framed : Bool) (register : Sfr) (byte : Byte) → IsByte framed byte → KeepsForm framed (register_written register byte)
 unfolding register_written
 register_form laws framed Sp byte is known form = sp_form framed byte.set is.normal known form
 register_form laws framed Dpl byte is known form = data_pointer_form framed byte known.dph is form.dph known form
@@ -217,7 +167,7 @@ register_form laws framed Acc byte is known form = accumulator_form framed byte 
 register_form laws framed B byte is known form = b_form framed byte is known form
 register_form laws framed Other byte is known form = form
 
-pub byte_form : (laws : Premises) (framed : Bool) (addresses : Addresses) (byte : Byte) → AreAddresses addresses → IsByte framed byte → KeepsForm framed (byte_written framed addresses byte)
+pub byte_form : (laws : KnownLaws) (framed : Bool) (addresses : Addresses) (byte : Byte) → AreAddresses addresses → IsByte framed byte → KeepsForm framed (byte_written framed addresses byte)
 unfolding byte_written
 byte_form laws framed (InRam at) byte are is known form = ram_form laws framed at byte are is known form
 byte_form laws framed (InSfr register) byte are is known form = register_form laws framed (sfr_at register) byte is known form
@@ -237,27 +187,27 @@ flags_set_form framed carry half overflow known form =
 
 -- THE STACK
 
-pub raised_normal : (laws : Premises) (sp : Form) → IsNormal 256 sp → IsNormal 256 (raised sp)
+pub raised_normal : (laws : KnownLaws) (sp : Form) → IsNormal 256 sp → IsNormal 256 (raised sp)
 raised_normal laws sp normal = laws.sets.add_normal 256 sp (single 1) normal (laws.sets.single 256 1 (omega arith)).0
 
-pub lowered_normal : (laws : Premises) (sp : Form) → IsNormal 256 sp → IsNormal 256 (lowered sp)
+pub lowered_normal : (laws : KnownLaws) (sp : Form) → IsNormal 256 sp → IsNormal 256 (lowered sp)
 lowered_normal laws sp normal = laws.sets.sub_normal 256 sp (single 1) normal (laws.sets.single 256 1 (omega arith)).0
 
-pub push_form : (laws : Premises) (framed : Bool) (byte : Byte) → IsByte framed byte → KeepsForm framed (byte_pushed framed byte)
+pub push_form : (laws : KnownLaws) (framed : Bool) (byte : Byte) → IsByte framed byte → KeepsForm framed (byte_pushed framed byte)
 unfolding byte_pushed
 push_form laws framed byte is known form =
     let normal = raised_normal laws known.sp form.sp in
     ram_form laws framed (raised known.sp) byte normal is (record known { sp = raised known.sp }) (sp_form framed (raised known.sp) normal known form)
 
-pub pair_form : (laws : Premises) (framed : Bool) (low high : Byte) → IsByte framed low → IsByte framed high → KeepsForm framed (pair_pushed framed low high)
+pub pair_form : (laws : KnownLaws) (framed : Bool) (low high : Byte) → IsByte framed low → IsByte framed high → KeepsForm framed (pair_pushed framed low high)
 pair_form laws framed low high is also known form = push_form laws framed high also (byte_pushed framed low known) (push_form laws framed low is known form)
 
-pub number_form : (laws : Premises) (framed : Bool) (n : ℕ) → n < 256 → IsByte framed (byte_of (single n))
+pub number_form : (laws : KnownLaws) (framed : Bool) (n : ℕ) → n < 256 → IsByte framed (byte_of (single n))
 number_form laws framed n low = record { normal = (laws.sets.single 256 n low).0; entry = no_relation framed }
 
-pub address_form : (laws : Premises) (framed : Bool) (address : ℕ) → address < 65536 → KeepsForm framed (address_pushed framed address)
+pub address_form : (laws : KnownLaws) (framed : Bool) (address : ℕ) → address < 65536 → KeepsForm framed (address_pushed framed address)
 address_form laws framed address below =
     pair_form laws framed (byte_of (single (address % 256))) (byte_of (single (address / 256))) (number_form laws framed (address % 256) (omega arith)) (number_form laws framed (address / 256) (omega (arith, below)))
 
-pub pop_form : (laws : Premises) (framed : Bool) → KeepsForm framed byte_popped
+pub pop_form : (laws : KnownLaws) (framed : Bool) → KeepsForm framed byte_popped
 pop_form laws framed known form = sp_form framed (lowered known.sp) (lowered_normal laws known.sp form.sp) known form

@@ -1,14 +1,8 @@
--- Membership in a list, element by element, and a set's test of its members.
-use Prim.Native.Nat.{zero, suc}
-use Rattle.std.proofs.Common.{◌≡◌, ℕ, ◌<◌, ◌==◌, refl, sym, ◌∙◌, Bool, true, List, [], ◌∷◌, length, get_or, inl, inr, arith}
-use Rattle.std.specs.Prelude.{◌⊎◌, ◌↔◌, IsTrue}
-use Rattle.std.specs.List.{Contains, list_any}
-use Rattle.std.proofs.lemmas.Bool.{cases_Bool}
-use Rattle.std.proofs.lemmas.Bool.Decides.{nat_tests}
+-- Membership in a list, element by element.
+use Rattle.std.proofs.Common.{◌≡◌, List, [], ◌∷◌, inl, inr, arith}
+use Rattle.std.specs.Prelude.{◌⊎◌}
+use Rattle.std.specs.List.{Contains}
 use Rattle.std.proofs.lemmas.List.Elements.{Contains-push_cases, Contains-append_cases}
-use Rattle.value_set.specs.declared.form.Form.{Form}
-use Rattle.value_set.specs.Form.{Has, members}
-use Rattle.value_set.specs.Joining.{is_in}
 
 pub in_none : {X : Type 0} (x : X) → Contains [] x → ⊥
 in_none x h = absurd (omega (arith, h.1))
@@ -18,32 +12,3 @@ in_cons first xs x h = elim (Contains-append_cases (first ∷ []) xs x h) [
   | inl one ↦ elim (Contains-push_cases [] first x one) [ inl none ↦ absurd (in_none x none) | inr same ↦ inl same ]
   | inr rest ↦ inr rest
 ]
-
-any_from_index : (xs : List ℕ) (v k : ℕ) → k < length xs → get_or xs k v ≡ v → list_any (λ x. x == v) xs ≡ true
-any_from_index [] v k lt is = absurd (omega arith)
-any_from_index (x ∷ xs) v zero lt is = let here : (x == v) ≡ true = grind (arith, nat_tests) in rw here refl
-any_from_index (x ∷ xs) v (suc k) lt is =
-    let rest : list_any (λ x. x == v) xs ≡ true = any_from_index xs v k (omega arith) is in
-    elim (cases_Bool (x == v)) [ inl here ↦ rw here refl | inr other ↦ rw (other, rest) refl ]
-
-index_from_any : (xs : List ℕ) (v : ℕ) → list_any (λ x. x == v) xs ≡ true → Contains xs v
-index_from_any [] v e = absurd cc
-index_from_any (x ∷ xs) v e =
-    elim (cases_Bool (x == v)) [
-      | inl here ↦ (0, omega arith, grind (arith, nat_tests))
-      | inr other ↦ let rest = index_from_any xs v (rw other at e) in (suc rest.0, omega (arith, rest.1), rest.2)
-    ]
-
-pub any_is : (xs : List ℕ) (v : ℕ) (answer : Bool) → IsTrue answer ↔ Contains xs v → answer ≡ list_any (λ x. x == v) xs
-any_is xs v answer (there, back) =
-    elim (cases_Bool answer) [
-      | inl holds ↦ let found = there holds in holds ∙ sym (any_from_index xs v found.0 found.1 found.2)
-      | inr none ↦
-          elim (cases_Bool (list_any (λ x. x == v) xs)) [
-            | inl any ↦ back (index_from_any xs v any) ∙ sym any
-            | inr not_any ↦ none ∙ sym not_any
-          ]
-    ]
-
-pub member_in : (m v : ℕ) (set : Form) → Has m set v → is_in m set v ≡ true
-member_in m v set h = any_from_index (members m set) v h.0 h.1 h.2

@@ -18,6 +18,7 @@ use Rattle.value_set.specs.declared.form.Form.{Form}
 use Rattle.value_set.specs.Form.{Has, IsNormal, gather, members}
 use Rattle.value_set.specs.Joining.{is_in}
 use Rattle.value_set.specs.Summing.{single}
+use Rattle.irq_frames.specs.KnownLaws.{KnownLaws}
 use Rattle.mcs51_chip.specs.declared.place.Address.{Address}
 use Rattle.mcs51_chip.specs.declared.place.Address.TheVariants.{InRam as AtRam, InSfr as AtSfr}
 use Rattle.mcs51_chip.specs.declared.place.Sfr.{Sfr}
@@ -40,13 +41,11 @@ use Rattle.mcs51_state.specs.Places.{held_by, sfr_of, suspended_of, ie_place, ip
 use Rattle.mcs51_state.specs.Standing.{AreAddresses, MayStandAt}
 use Rattle.mcs51_state.specs.Under.{IsFramed, IsUnder}
 use Rattle.mcs51_stores.specs.Following.{Follows, IsValue}
-use Rattle.mcs51_stores.specs.Premises.{Premises}
 use Rattle.mcs51_stores.specs.Stack.{raised, lowered, byte_pushed, pair_pushed, address_pushed, byte_popped}
 use Rattle.mcs51_stores.specs.Writing.{linear_beside, is_compared_in, is_accumulator, carry_unless, word_of_byte, ram_written, own_masks, own_entry, own_byte, status_of_byte, status_written, accumulator_written, register_written, byte_written, data_pointer_written, carry_set, flags_set}
 use Rattle.mcs51_stores.proofs.Bits.{Parted, AgreesBeside, own_came, ie_parted, ip_parted, psw_parted, ie_read, ip_read, psw_held, ie_below, ip_below, ie_beside, ip_beside, psw_beside, ie_joined, ip_joined, ie_other, ip_other}
 use Rattle.mcs51_stores.proofs.Cells.{cells_cover, byte_stored}
 use Rattle.mcs51_stores.proofs.Forms.{accumulator_form, carry_set_form, data_pointer_form, flags_set_form, ie_bytes, ip_bytes, number_form, ram_form, raised_normal, register_form, sp_form, status_form}
-use Rattle.mcs51_stores.proofs.Members.{member_in}
 use Rattle.mcs51_stores.proofs.Touching.{untouched_stay}
 
 -- STATES OF THE CHIP
@@ -103,32 +102,32 @@ under_behind framed known change s after first under form behind = record {
   holds = record { state = behind.0; suspended = under.holds.suspended; parts = behind.1 };
 }
 
-value_below : (laws : Premises) (framed : Bool) (first : Option ChipState) (byte : Byte) (x : ℕ) → IsValue framed first byte x → x < 256
+value_below : (laws : KnownLaws) (framed : Bool) (first : Option ChipState) (byte : Byte) (x : ℕ) → IsValue framed first byte x → x < 256
 value_below laws framed first byte x is = laws.sets.below 256 x byte.set is.form.normal is.holds.0
 
 -- FACTS
 
-linear_ram : (at : Form) (fact : Option LinearFact) (s : ChipState) (address x : ℕ) → Has 256 at address → HoldsOfLinear fact s → HoldsOfLinear (linear_beside at fact) (record s { ram = set s.ram address x })
-linear_ram at None s address x there holds = tt
-linear_ram at (Some fact) s address x there holds =
+linear_ram : (laws : KnownLaws) (at : Form) (fact : Option LinearFact) (s : ChipState) (address x : ℕ) → Has 256 at address → HoldsOfLinear fact s → HoldsOfLinear (linear_beside at fact) (record s { ram = set s.ram address x })
+linear_ram laws at None s address x there holds = tt
+linear_ram laws at (Some fact) s address x there holds =
     cond_both (is_in 256 at fact.place) None (Some fact) (λ left. HoldsOfLinear left (record s { ram = set s.ram address x }))
     (λ e. tt)
-    (λ e. let other : fact.place ≡ address → ⊥ = λ same. both_ways (is_in 256 at fact.place) e (subst (λ n. is_in 256 at n ≡ true) (sym same) (member_in 256 address at there)) in
+    (λ e. let other : fact.place ≡ address → ⊥ = λ same. both_ways (is_in 256 at fact.place) e (subst (λ n. is_in 256 at n ≡ true) (sym same) (laws.sets.member 256 address at there)) in
     holds ∙ ap (λ v. (fact.factor * v + fact.added) % 256) (sym (get_or-set_other s.ram address fact.place x 0 other)))
 
-compared_beside : (at : Form) (compared : Compared) (s : ChipState) (address x : ℕ) → Has 256 at address → is_compared_in at compared ≡ false
+compared_beside : (laws : KnownLaws) (at : Form) (compared : Compared) (s : ChipState) (address x : ℕ) → Has 256 at address → is_compared_in at compared ≡ false
     → compared_in compared s ≡ compared_in compared (record s { ram = set s.ram address x })
-compared_beside at Accumulator s address x there e = refl
-compared_beside at (Ram place) s address x there e =
-    let other : place ≡ address → ⊥ = λ same. both_ways (is_in 256 at place) e (subst (λ n. is_in 256 at n ≡ true) (sym same) (member_in 256 address at there)) in
+compared_beside laws at Accumulator s address x there e = refl
+compared_beside laws at (Ram place) s address x there e =
+    let other : place ≡ address → ⊥ = λ same. both_ways (is_in 256 at place) e (subst (λ n. is_in 256 at n ≡ true) (sym same) (laws.sets.member 256 address at there)) in
     sym (get_or-set_other s.ram address place x 0 other)
 
-carry_ram : (at : Form) (fact : Option CarryFact) (s : ChipState) (address x : ℕ) → Has 256 at address → HoldsOfCarry fact s
+carry_ram : (laws : KnownLaws) (at : Form) (fact : Option CarryFact) (s : ChipState) (address x : ℕ) → Has 256 at address → HoldsOfCarry fact s
     → HoldsOfCarry (carry_unless (is_compared_in at) fact) (record s { ram = set s.ram address x })
-carry_ram at None s address x there holds = tt
-carry_ram at (Some fact) s address x there holds =
+carry_ram laws at None s address x there holds = tt
+carry_ram laws at (Some fact) s address x there holds =
     cond_both (is_compared_in at fact.compared) None (Some fact) (λ left. HoldsOfCarry left (record s { ram = set s.ram address x }))
-    (λ e. tt) (λ e. holds ∙ ap (λ v. bit_of (nat_lt v fact.bound)) (compared_beside at fact.compared s address x there e))
+    (λ e. tt) (λ e. holds ∙ ap (λ v. bit_of (nat_lt v fact.bound)) (compared_beside laws at fact.compared s address x there e))
 
 compared_kept : (compared : Compared) (s : ChipState) (x : ℕ) → is_accumulator compared ≡ false → compared_in compared s ≡ compared_in compared (record s { a = x })
 compared_kept Accumulator s x e = absurd (cc)
@@ -160,28 +159,20 @@ untouched_same touched s t (Some f) ram keeps = λ at none. ap (λ list. slice_i
 
 -- RAM
 
-ram_parts : (laws : Premises) (framed : Bool) (known : Known) (s : ChipState) (first : Option ChipState) (at : Form) (address x : ℕ) (byte : Byte) → IsFramed framed first → IsKnown framed known → IsChipState s
+ram_parts : (laws : KnownLaws) (framed : Bool) (known : Known) (s : ChipState) (first : Option ChipState) (at : Form) (address x : ℕ) (byte : Byte) → IsFramed framed first → IsKnown framed known → IsChipState s
     → IsNormal 256 at → Has 256 at address → IsValue framed first byte x → HoldsOfParts known s first → HoldsOfParts (ram_written framed at byte known) (record s { ram = set s.ram address x }) first
 unfolding ram_written
 ram_parts laws framed known s first at address x byte base form state normal there is parts =
     let small = value_below laws framed first byte x is in
-    record {
-      sp = parts.sp;
-      a = parts.a;
-      b = parts.b;
-      dpl = parts.dpl;
-      dph = parts.dph;
-      ie = parts.ie;
-      ip = parts.ip;
-      psw = parts.psw;
-      levels = parts.levels;
-      linear_fact = linear_ram at known.linear_fact s address x there parts.linear_fact;
-      carry_fact = carry_ram at known.carry_fact s address x there parts.carry_fact;
-      cells = cells_cover laws (option_map suspended_of first) framed s (record s { ram = set s.ram address x }) known.cells (members 256 at) address x (word_of_byte byte)
-          (λ v h. laws.sets.below 256 v at normal h) there state (ram_state s address x state small) refl small (byte_stored laws framed byte is.form)
-          (record { from = form.from; up_to = form.up_to; cells = form.cells; each = form.each_cell }) parts.cells (laws.words.to_word (option_map suspended_of first) x byte is.form.normal is.holds);
-      untouched = untouched_stay laws framed s first at known.touched address x base normal form.touched there parts.untouched;
-    }
+    let linear = linear_ram laws at known.linear_fact s address x there parts.linear_fact in
+    let carry = carry_ram laws at known.carry_fact s address x there parts.carry_fact in
+    let under = option_map suspended_of first in
+    let cells = cells_cover laws under framed s (record s { ram = set s.ram address x }) known.cells (members 256 at) address x (word_of_byte byte)
+    (λ v h. laws.sets.below 256 v at normal h) there state (ram_state s address x state small) refl small (byte_stored laws framed byte is.form)
+    (record { from = form.from; up_to = form.up_to; cells = form.cells; each = form.each_cell }) parts.cells
+    (laws.values.bytes.to_word under x byte is.form.normal is.holds) in
+    let untouched = untouched_stay laws framed s first at known.touched address x base normal form.touched there parts.untouched in
+    assumption (parts, linear, carry, cells, untouched)
 
 -- REGISTERS
 
@@ -196,32 +187,32 @@ own_holds (Some f) place unheld held r x (Some entry) parted is_held at small sa
     own_came (suspended_of f) unheld held r x entry parted is_held names small same from)
     (λ e. tt)
 
-ie_reads : (laws : Premises) (framed : Bool) (first : Option ChipState) (s : ChipState) (byte : Byte) (x : ℕ) → IsValue framed first byte x
+ie_reads : (laws : KnownLaws) (framed : Bool) (first : Option ChipState) (s : ChipState) (byte : Byte) (x : ℕ) → IsValue framed first byte x
     → HoldsOfReads (option_map suspended_of first) (own_byte ie_place 64 (0 ∷ 64 ∷ []) byte) (write_sfr Ie x s) Ie
 ie_reads laws framed first s byte x is r (bit, low, read) =
     let small = value_below laws framed first byte x is in
     let masked = logic_set 8 And byte.set (single (255 - 64)) in
     let mask = laws.sets.single 256 (255 - 64) (omega arith) in
-    let masked_normal = laws.sets.logic_normal 8 And byte.set (single (255 - 64)) is.form.normal mask.0 in
-    let has : Has 256 masked (bit_and x (255 - 64)) = laws.sets.logic 8 x (255 - 64) And byte.set (single (255 - 64)) is.form.normal mask.0 is.holds.0 mask.1 in
-    let other : Has 256 (gather 256 (0 ∷ 64 ∷ [])) (64 * bit) = laws.sets.gather 256 (64 * bit) (0 ∷ 64 ∷ []) ie_bytes (ie_other bit low) in
-    let joined = laws.sets.logic 8 (bit_and x (255 - 64)) (64 * bit) Or masked (gather 256 (0 ∷ 64 ∷ [])) masked_normal (laws.sets.gather_normal 256 (0 ∷ 64 ∷ []) (omega arith) ie_bytes) has other in
+    let masked_normal = laws.bits.logic_normal 8 And byte.set (single (255 - 64)) is.form.normal mask.0 in
+    let has : Has 256 masked (bit_and x (255 - 64)) = laws.bits.logic 8 x (255 - 64) And byte.set (single (255 - 64)) is.form.normal mask.0 is.holds.0 mask.1 in
+    let other : Has 256 (gather 256 (0 ∷ 64 ∷ [])) (64 * bit) = laws.sets.gather_holds 256 (64 * bit) (0 ∷ 64 ∷ []) ie_bytes (ie_other bit low) in
+    let joined = laws.bits.logic 8 (bit_and x (255 - 64)) (64 * bit) Or masked (gather 256 (0 ∷ 64 ∷ [])) masked_normal (laws.sets.gather_normal 256 (0 ∷ 64 ∷ []) (omega arith) ie_bytes) has other in
     subst (λ n. HoldsOfByte (option_map suspended_of first) (own_byte ie_place 64 (0 ∷ 64 ∷ []) byte) n) (sym read) (
       subst (Has 256 (own_byte ie_place 64 (0 ∷ 64 ∷ []) byte).set) (sym (ie_joined x bit small low)) joined,
       own_holds first ie_place 64 (65535 - 64) (ie_read x bit) x byte.entry ie_parted refl refl (ie_below x bit small low) (ie_beside x bit small low) is.holds.1,
     )
 
-ip_reads : (laws : Premises) (framed : Bool) (first : Option ChipState) (s : ChipState) (byte : Byte) (x : ℕ) → IsValue framed first byte x
+ip_reads : (laws : KnownLaws) (framed : Bool) (first : Option ChipState) (s : ChipState) (byte : Byte) (x : ℕ) → IsValue framed first byte x
     → HoldsOfReads (option_map suspended_of first) (own_byte ip_place 192 (0 ∷ 64 ∷ 128 ∷ 192 ∷ []) byte) (write_sfr Ip x s) Ip
 ip_reads laws framed first s byte x is r (bits, low, read) =
     let small = value_below laws framed first byte x is in
     let others = 0 ∷ 64 ∷ 128 ∷ 192 ∷ [] in
     let masked = logic_set 8 And byte.set (single (255 - 192)) in
     let mask = laws.sets.single 256 (255 - 192) (omega arith) in
-    let masked_normal = laws.sets.logic_normal 8 And byte.set (single (255 - 192)) is.form.normal mask.0 in
-    let has : Has 256 masked (bit_and x (255 - 192)) = laws.sets.logic 8 x (255 - 192) And byte.set (single (255 - 192)) is.form.normal mask.0 is.holds.0 mask.1 in
-    let other : Has 256 (gather 256 others) (64 * bits) = laws.sets.gather 256 (64 * bits) others ip_bytes (ip_other bits low) in
-    let joined = laws.sets.logic 8 (bit_and x (255 - 192)) (64 * bits) Or masked (gather 256 others) masked_normal (laws.sets.gather_normal 256 others (omega arith) ip_bytes) has other in
+    let masked_normal = laws.bits.logic_normal 8 And byte.set (single (255 - 192)) is.form.normal mask.0 in
+    let has : Has 256 masked (bit_and x (255 - 192)) = laws.bits.logic 8 x (255 - 192) And byte.set (single (255 - 192)) is.form.normal mask.0 is.holds.0 mask.1 in
+    let other : Has 256 (gather 256 others) (64 * bits) = laws.sets.gather_holds 256 (64 * bits) others ip_bytes (ip_other bits low) in
+    let joined = laws.bits.logic 8 (bit_and x (255 - 192)) (64 * bits) Or masked (gather 256 others) masked_normal (laws.sets.gather_normal 256 others (omega arith) ip_bytes) has other in
     subst (λ n. HoldsOfByte (option_map suspended_of first) (own_byte ip_place 192 others byte) n) (sym read) (
       subst (Has 256 (own_byte ip_place 192 others byte).set) (sym (ip_joined x bits small low)) joined,
       own_holds first ip_place 192 (65535 - 192) (ip_read x bits) x byte.entry ip_parted refl refl (ip_below x bits low) (ip_beside x bits small low) is.holds.1,
@@ -232,51 +223,31 @@ behind_two [] v h = rw h refl
 behind_two (a ∷ []) v h = rw h.1 refl
 behind_two (a ∷ b ∷ bits) v h = h.1.1
 
-status_holds : (laws : Premises) (framed : Bool) (first : Option ChipState) (byte : Byte) (x : ℕ) → IsValue framed first byte x
+status_holds : (laws : KnownLaws) (framed : Bool) (first : Option ChipState) (byte : Byte) (x : ℕ) → IsValue framed first byte x
     → HoldsOfStatus (option_map suspended_of first) (status_of_byte byte) (x / 4 * 4)
 status_holds laws framed first byte x is =
     let small = value_below laws framed first byte x is in
     let same : x / 2 / 2 ≡ x / 4 * 4 / 4 = omega arith in
     record {
-      bits = subst (Agrees (drop 2 (known_bits 8 byte.set))) same (behind_two (known_bits 8 byte.set) x (laws.sets.known 8 x byte.set is.form.normal is.holds.0));
+      bits = subst (Agrees (drop 2 (known_bits 8 byte.set))) same (behind_two (known_bits 8 byte.set) x (laws.bits.known 8 x byte.set is.form.normal is.holds.0));
       entry = own_holds first psw_place 3 (65535 - 3) (psw_held x) x byte.entry psw_parted refl refl (omega (arith, small)) (psw_beside x small) is.holds.1;
     }
 
 pub status_parts : (known : Known) (s : ChipState) (first : Option ChipState) (status : Status) (psw : ℕ) → HoldsOfStatus (option_map suspended_of first) status psw → HoldsOfParts known s first
     → HoldsOfParts (status_written status known) (record s { psw = psw }) first
-status_parts known s first status psw holds parts = record {
-  sp = parts.sp;
-  a = parts.a;
-  b = parts.b;
-  dpl = parts.dpl;
-  dph = parts.dph;
-  ie = parts.ie;
-  ip = parts.ip;
-  psw = holds;
-  levels = parts.levels;
-  linear_fact = linear_same known.linear_fact s (record s { psw = psw }) refl refl parts.linear_fact;
-  carry_fact = tt;
-  cells = parts.cells;
-  untouched = untouched_same known.touched s (record s { psw = psw }) first refl parts.untouched;
-}
+status_parts known s first status psw holds parts =
+    let linear = linear_same known.linear_fact s (record s { psw = psw }) refl refl parts.linear_fact in
+    let carry : HoldsOfCarry None (record s { psw = psw }) = tt in
+    let untouched = untouched_same known.touched s (record s { psw = psw }) first refl parts.untouched in
+    assumption (parts, holds, linear, carry, untouched)
 
 accumulator_parts : (known : Known) (s : ChipState) (first : Option ChipState) (byte : Byte) (x : ℕ) → HoldsOfByte (option_map suspended_of first) byte x → HoldsOfParts known s first
     → HoldsOfParts (accumulator_written byte known) (record s { a = x }) first
-accumulator_parts known s first byte x holds parts = record {
-  sp = parts.sp;
-  a = holds;
-  b = parts.b;
-  dpl = parts.dpl;
-  dph = parts.dph;
-  ie = parts.ie;
-  ip = parts.ip;
-  psw = parts.psw;
-  levels = parts.levels;
-  linear_fact = tt;
-  carry_fact = carry_accumulator known.carry_fact s x parts.carry_fact;
-  cells = parts.cells;
-  untouched = untouched_same known.touched s (record s { a = x }) first refl parts.untouched;
-}
+accumulator_parts known s first byte x holds parts =
+    let linear : HoldsOfLinear None (record s { a = x }) = tt in
+    let carry = carry_accumulator known.carry_fact s x parts.carry_fact in
+    let untouched = untouched_same known.touched s (record s { a = x }) first refl parts.untouched in
+    assumption (parts, holds, linear, carry, untouched)
 
 sp_parts : (known : Known) (s : ChipState) (first : Option ChipState) (set_so : Form) (x : ℕ) → Has 256 set_so x → HoldsOfParts known s first → HoldsOfParts (record known { sp = set_so }) (record s { sp = x }) first
 sp_parts known s first set_so x has parts =
@@ -322,7 +293,7 @@ ip_parts known s first byte x holds parts =
     let untouched = untouched_same known.touched s after first refl parts.untouched in
     assumption (parts, holds, linear, carry, untouched)
 
-register_parts : (laws : Premises) (framed : Bool) (known : Known) (s : ChipState) (first : Option ChipState) (register : Sfr) (byte : Byte) (x : ℕ) → IsValue framed first byte x
+register_parts : (laws : KnownLaws) (framed : Bool) (known : Known) (s : ChipState) (first : Option ChipState) (register : Sfr) (byte : Byte) (x : ℕ) → IsValue framed first byte x
     → HoldsOfParts known s first → HoldsOfParts (register_written register byte known) (write_sfr register x s) first
 unfolding register_written
 register_parts laws framed known s first Sp byte x is parts = sp_parts known s first byte.set x is.holds.0 parts
@@ -337,7 +308,7 @@ register_parts laws framed known s first Other byte x is parts = parts
 
 -- WRITES FOLLOW
 
-pub byte_follows : (laws : Premises) (framed : Bool) (first : Option ChipState) (addresses : Addresses) (address : Address) (byte : Byte) (x : ℕ) → IsValue framed first byte x → AreAddresses addresses → MayStandAt addresses address
+pub byte_follows : (laws : KnownLaws) (framed : Bool) (first : Option ChipState) (addresses : Addresses) (address : Address) (byte : Byte) (x : ℕ) → IsValue framed first byte x → AreAddresses addresses → MayStandAt addresses address
     → Follows framed first (byte_written framed addresses byte) (write address x)
 unfolding byte_written write
 byte_follows laws framed first (InRam at) (AtRam address) byte x is are stands known s under =
@@ -354,12 +325,12 @@ byte_follows laws framed first (InSfr register) (AtSfr at) byte x is are stands 
 byte_follows laws framed first (InRam at) (AtSfr address) byte x is are stands known s under = absurd stands
 byte_follows laws framed first (InSfr register) (AtRam address) byte x is are stands known s under = absurd stands
 
-pub accumulator_follows : (laws : Premises) (framed : Bool) (first : Option ChipState) (byte : Byte) (x : ℕ) → IsValue framed first byte x → Follows framed first (accumulator_written byte) (with_accumulator x)
+pub accumulator_follows : (laws : KnownLaws) (framed : Bool) (first : Option ChipState) (byte : Byte) (x : ℕ) → IsValue framed first byte x → Follows framed first (accumulator_written byte) (with_accumulator x)
 accumulator_follows laws framed first byte x is known s under =
     under_behind framed known (accumulator_written byte known) s (with_accumulator x s) first under (accumulator_form framed byte is.form known under.form)
     (set_a s x under.holds.state (value_below laws framed first byte x is), accumulator_parts known s first byte x is.holds under.holds.parts)
 
-pub pointer_follows : (laws : Premises) (framed : Bool) (first : Option ChipState) (low high : Byte) (x : ℕ) → IsValue framed first low (x % 256) → IsValue framed first high (x / 256)
+pub pointer_follows : (laws : KnownLaws) (framed : Bool) (first : Option ChipState) (low high : Byte) (x : ℕ) → IsValue framed first low (x % 256) → IsValue framed first high (x / 256)
     → Follows framed first (data_pointer_written low high) (with_data_pointer x)
 pointer_follows laws framed first low high x is also known s under =
     under_behind framed known (data_pointer_written low high known) s (with_data_pointer x s) first under (data_pointer_form framed low high is.form also.form known under.form) (
@@ -458,7 +429,7 @@ flags_follow framed first carry half overflow c h o is_c is_h is_o known s under
 
 -- THE STACK FOLLOWS
 
-one_is : (laws : Premises) → IsNormal 256 (single 1) × Has 256 (single 1) 1
+one_is : (laws : KnownLaws) → IsNormal 256 (single 1) × Has 256 (single 1) 1
 one_is laws = laws.sets.single 256 1 (omega arith)
 
 sp_follows : (framed : Bool) (first : Option ChipState) (known : Known) (s : ChipState) (set_so : Form) (x : ℕ) → IsNormal 256 set_so → Has 256 set_so x → x < 256 → IsUnder framed known s first
@@ -467,7 +438,7 @@ sp_follows framed first known s set_so x normal has small under =
     under_behind framed known (record known { sp = set_so }) s (record s { sp = x }) first under (sp_form framed set_so normal known under.form)
     (set_sp s x under.holds.state small, sp_parts known s first set_so x has under.holds.parts)
 
-pub push_follows : (laws : Premises) (framed : Bool) (first : Option ChipState) (byte : Byte) (x : ℕ) → IsValue framed first byte x → Follows framed first (byte_pushed framed byte) (pushed x)
+pub push_follows : (laws : KnownLaws) (framed : Bool) (first : Option ChipState) (byte : Byte) (x : ℕ) → IsValue framed first byte x → Follows framed first (byte_pushed framed byte) (pushed x)
 unfolding byte_pushed
 push_follows laws framed first byte x is known s under =
     let top = (s.sp + 1) % 256 in
@@ -480,20 +451,20 @@ push_follows laws framed first byte x is known s under =
       ram_parts laws framed (record known { sp = raised known.sp }) (record s { sp = top }) first (raised known.sp) top x byte grown.base grown.form grown.holds.state normal has is grown.holds.parts,
     )
 
-pub pair_follows : (laws : Premises) (framed : Bool) (first : Option ChipState) (low high : Byte) (address : ℕ) → IsValue framed first low (address % 256) → IsValue framed first high (address / 256)
+pub pair_follows : (laws : KnownLaws) (framed : Bool) (first : Option ChipState) (low high : Byte) (address : ℕ) → IsValue framed first low (address % 256) → IsValue framed first high (address / 256)
     → Follows framed first (pair_pushed framed low high) (with_pushed_address address)
 pair_follows laws framed first low high address is also known s under =
     push_follows laws framed first high (address / 256) also (byte_pushed framed low known) (pushed (address % 256) s) (push_follows laws framed first low (address % 256) is known s under)
 
-number_is : (laws : Premises) (framed : Bool) (first : Option ChipState) (n : ℕ) → n < 256 → IsValue framed first (byte_of (single n)) n
+number_is : (laws : KnownLaws) (framed : Bool) (first : Option ChipState) (n : ℕ) → n < 256 → IsValue framed first (byte_of (single n)) n
 number_is laws framed first n low = record { form = number_form laws framed n low; holds = ((laws.sets.single 256 n low).1, tt) }
 
-pub address_follows : (laws : Premises) (framed : Bool) (first : Option ChipState) (address : ℕ) → address < 65536 → Follows framed first (address_pushed framed address) (with_pushed_address address)
+pub address_follows : (laws : KnownLaws) (framed : Bool) (first : Option ChipState) (address : ℕ) → address < 65536 → Follows framed first (address_pushed framed address) (with_pushed_address address)
 address_follows laws framed first address below =
     pair_follows laws framed first (byte_of (single (address % 256))) (byte_of (single (address / 256))) address
     (number_is laws framed first (address % 256) (omega arith)) (number_is laws framed first (address / 256) (omega (arith, below)))
 
-pub pop_follows : (laws : Premises) (framed : Bool) (first : Option ChipState) → Follows framed first byte_popped popped
+pub pop_follows : (laws : KnownLaws) (framed : Bool) (first : Option ChipState) → Follows framed first byte_popped popped
 pop_follows laws framed first known s under =
     let has : Has 256 (lowered known.sp) ((s.sp + 256 - 1) % 256) = laws.sets.sub 256 s.sp 1 known.sp (single 1) under.form.sp (one_is laws).0 under.holds.parts.sp (one_is laws).1 in
     let same : (s.sp + 256 - 1) % 256 ≡ (s.sp + 255) % 256 = ap (λ n. n % 256) (let less : s.sp + 256 - 1 ≡ s.sp + 255 = omega arith in less) in

@@ -1,4 +1,4 @@
 pub mod Following
-pub mod Premises
+pub mod Laws
 pub mod Stack
 pub mod Writing

@@ -25,6 +25,6 @@ mod stack;
 mod writing;
 
 pub use flags::{set_carry, set_flags, set_status};
-pub use laws::{flags_follow, stack_follows, stores_keep_form, writes_follow};
+pub use laws::{flags_follow, stack_follows, store_laws, stores_keep_form, writes_follow};
 pub use stack::{pop_byte, push_address, push_byte, push_pair, stack_top};
 pub use writing::{set_accumulator, set_data_pointer, write_byte};

@@ -10,7 +10,7 @@ use irq_frames::Ranges;
 use mcs51_state::{CarryFact, Compared, LinearFact, State};
 use no_memory::Memory;
 use value_bits::w16;
-use value_set::{Form, Progression, Vs8};
+use value_set::{Form, Progression, Vs8, set_laws};
 
 /// A fact of the accumulator, unless its byte of RAM may be written.
 fn linear_beside(at: &Vs8, fact: Option<LinearFact>) -> Option<LinearFact>
@@ -26,6 +26,7 @@ fn linear_beside(at: &Vs8, fact: Option<LinearFact>) -> Option<LinearFact>
 fn is_in(at: &Vs8, address: u8) -> bool
     ensures { result ≡ joins.is_in 256 at.now address }
 {
+    set_laws();
     at.has(address)
 }
 

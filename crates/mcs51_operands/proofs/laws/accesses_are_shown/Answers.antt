@@ -3,7 +3,7 @@ use Rattle.mcs51_operands.proofs.laws.accesses_are_shown.Goals as goal
 
 pub returns : goal.returns
 returns c =
-    let laws = c.premises_hold.ensures in
+    let laws = c.known_laws.ensures in
     record {
       operand = operand_shown laws;
       pointer = pointer_shown laws;

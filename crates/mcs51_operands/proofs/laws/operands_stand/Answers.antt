@@ -3,7 +3,7 @@ use Rattle.mcs51_operands.proofs.laws.operands_stand.Goals as goal
 
 pub returns : goal.returns
 returns c =
-    let laws = c.premises_hold.ensures in
+    let laws = c.known_laws.ensures in
     record {
       working = working_stands laws;
       working_form = working_form laws;

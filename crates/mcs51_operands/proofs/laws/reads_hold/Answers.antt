@@ -1,13 +1,15 @@
 use Rattle.mcs51_operands.proofs.Bits.{carry_is}
 use Rattle.mcs51_operands.proofs.Forms.{bit_is, byte_form, byte_is}
+use Rattle.mcs51_operands.proofs.Registers.{status_held}
 use Rattle.mcs51_operands.proofs.laws.reads_hold.Goals as goal
 
 pub returns : goal.returns
 returns c =
-    let laws = c.premises_hold.ensures in
+    let laws = c.known_laws.ensures in
     record {
       byte = byte_is laws;
       form = byte_form laws;
       bit = bit_is laws;
       carry = carry_is;
+      status = status_held laws;
     }

@@ -1,6 +1,5 @@
 use Rattle.std.proofs.Common.{◌∙◌, arith}
-use Rattle.mcs51_results.proofs.Pairs.{two_gathered}
 use Rattle.mcs51_results.proofs.combining.zero_or_one.Goals as goal
 
 pub returns : goal.returns
-returns c = c.in-Some.ensures.value ∙ two_gathered 256 0 1 (omega arith)
+returns c = c.in-Some.ensures.value ∙ c.set_laws.ensures.gather_two 256 0 1 (omega arith)

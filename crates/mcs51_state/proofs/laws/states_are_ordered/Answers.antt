@@ -3,7 +3,7 @@ use Rattle.mcs51_state.proofs.laws.states_are_ordered.Goals as goal
 
 pub returns : goal.returns
 returns c =
-    let laws = c.premises_hold.ensures in
+    let laws = c.known_laws.ensures in
     record {
       itself = known_itself laws;
       along = known_along laws;

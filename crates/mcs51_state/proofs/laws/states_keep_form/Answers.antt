@@ -3,7 +3,7 @@ use Rattle.mcs51_state.proofs.laws.states_keep_form.Goals as goal
 
 pub returns : goal.returns
 returns c =
-    let laws = c.premises_hold.ensures in
+    let laws = c.known_laws.ensures in
     record {
       first = first_form laws;
       greatest = top_form laws;

@@ -3,7 +3,7 @@ use Rattle.mcs51_stores.proofs.laws.stack_follows.Goals as goal
 
 pub returns : goal.returns
 returns c =
-    let laws = c.premises_hold.ensures in
+    let laws = c.known_laws.ensures in
     record {
       push = push_follows laws;
       push_pair = pair_follows laws;

@@ -3,7 +3,7 @@ use Rattle.mcs51_stores.proofs.laws.writes_follow.Goals as goal
 
 pub returns : goal.returns
 returns c =
-    let laws = c.premises_hold.ensures in
+    let laws = c.known_laws.ensures in
     record {
       byte = byte_follows laws;
       accumulator = accumulator_follows laws;

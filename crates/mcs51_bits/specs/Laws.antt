@@ -1,0 +1,42 @@
+-- What holds of instructions on CY and on bits.
+use Rattle.std.specs.Prelude.{◌<◌, ℕ, Bool, [], List, Option}
+use Rattle.choosing.specs.Gives.{Gives}
+use Rattle.mcs51_decode.specs.declared.instr.BitOperation.{BitOperation}
+use Rattle.mcs51_decode.specs.declared.instr.CarryByBit.{CarryByBit}
+use Rattle.mcs51_decode.specs.declared.instr.CarryOperation.{CarryOperation}
+use Rattle.mcs51_decode.specs.declared.instr.Instr.TheVariants.{CarryBit, ChangeBit, ChangeCarry}
+use Rattle.mcs51_chip.specs.declared.state.ChipState.{ChipState}
+use Rattle.mcs51_chip.specs.Step.{effect_of}
+use Rattle.mcs51_state.specs.Forms.{IsKnown}
+use Rattle.mcs51_state.specs.Known.{Known}
+use Rattle.mcs51_state.specs.Under.{IsUnder}
+use Rattle.mcs51_operands.specs.Operands.{bit_addresses}
+use Rattle.mcs51_operands.specs.Doing.{DoesSo}
+use Rattle.mcs51_operands.specs.Accesses.{read_at, update_at}
+use Rattle.mcs51_bits.specs.Bits.{bit_changed, carry_changed, carry_joined}
+
+-- An instruction on CY or on a bit does what is said, whatever number the chip reads.
+pub record BitsDo : Type 0 where
+  pub change_carry : (framed : Bool) (a : Known) (s : ChipState) (first : Option ChipState) (image : List (Option ℕ))
+      (pc : ℕ) (operation : CarryOperation)
+      → IsUnder framed a s first
+      → Gives (DoesSo framed first [] pc (carry_changed operation a) s) (effect_of image s (ChangeCarry operation))
+  pub carry_bit : (framed : Bool) (a : Known) (s : ChipState) (first : Option ChipState) (image : List (Option ℕ))
+      (pc : ℕ) (operation : CarryByBit) (bit : ℕ)
+      → IsUnder framed a s first → bit < 256
+      → Gives (DoesSo framed first (read_at pc (bit_addresses bit)) pc (carry_joined operation bit a) s)
+      (effect_of image s (CarryBit operation bit))
+  pub change_bit : (framed : Bool) (a : Known) (s : ChipState) (first : Option ChipState) (image : List (Option ℕ))
+      (pc : ℕ) (operation : BitOperation) (bit : ℕ)
+      → IsUnder framed a s first → bit < 256
+      → Gives (DoesSo framed first (update_at pc (bit_addresses bit)) pc (bit_changed framed operation bit a) s)
+      (effect_of image s (ChangeBit operation bit))
+
+-- What is said behind an instruction on CY or on a bit is in form.
+pub record BitsKeepForm : Type 0 where
+  pub change_carry : (framed : Bool) (a : Known) (operation : CarryOperation) → IsKnown framed a
+      → IsKnown framed (carry_changed operation a)
+  pub carry_bit : (framed : Bool) (a : Known) (operation : CarryByBit) (bit : ℕ) → IsKnown framed a
+      → IsKnown framed (carry_joined operation bit a)
+  pub change_bit : (framed : Bool) (a : Known) (operation : BitOperation) (bit : ℕ) → IsKnown framed a → bit < 256
+      → IsKnown framed (bit_changed framed operation bit a)

@@ -1,4 +1,0 @@
-pub mod Doing
-pub mod Giving
-pub mod Premises
-pub mod Shown

@@ -1,0 +1,172 @@
+//! Whether a row holds.
+
+use crate::naming::put;
+use crate::sets::{number_of, words_of};
+use crate::showing::is_access;
+use abs_memory::CellList;
+use call_context::Frame;
+use hex_digits::bytes;
+use image::Image;
+use mcs51_control::goes_back;
+use mcs51_decode::{Instr, decode};
+use mcs51_running::{Ran, Way, run};
+use mcs51_state::State;
+use no_memory::Memory;
+use std::alloc::Global;
+
+/// Whether both say the same.
+fn is_same(one: &State<CellList>, other: &State<CellList>) -> bool {
+    one.within(other) && other.within(one)
+}
+
+/// The frame that a word says.
+fn frame_of(sp: &str) -> Frame {
+    Frame::Irq {
+        vector: 0,
+        sp: number_of(sp),
+        level: 1,
+    }
+}
+
+/// What a row says in front of the instruction.
+fn before(alloc: Global, words: &str) -> Result<Option<(Frame, State<CellList>)>, Memory> {
+    let mut state = State::first(alloc)?;
+    let mut frame = Frame::Base;
+    for word in words.split(' ') {
+        match word.split_once('=') {
+            Some(("frame", sp)) => frame = frame_of(sp),
+            Some((name, value)) => {
+                if !put(&mut state, name, value)? {
+                    return Ok(None);
+                }
+            }
+            None if word.is_empty() => {}
+            None => return Ok(None),
+        }
+    }
+    Ok(Some((frame, state)))
+}
+
+/// Puts all that a row says behind the instruction into the state in front of it, but for PC.
+fn put_all(state: &mut State<CellList>, words: &str) -> Result<bool, Memory> {
+    for word in words.split(' ') {
+        if let Some((name, value)) = word.split_once('=')
+            && name != "PC"
+            && !put(state, name, value)?
+        {
+            return Ok(false);
+        }
+    }
+    Ok(true)
+}
+
+/// Whether the accesses of a row are those of the instruction, in order.
+fn are_shown(ran: &Ran<CellList>, words: &str) -> bool {
+    let items = ran.items.as_slice();
+    let mut at = 0usize;
+    for word in words.split(' ') {
+        if word.is_empty() || word.contains('=') || word == "never" {
+            continue;
+        }
+        match items.get(at) {
+            Some(item) if is_access(item, word) => at = at.wrapping_add(1),
+            _ => return false,
+        }
+    }
+    items.len() == at
+}
+
+/// Where a row says that the instruction goes on.
+fn counter_of(words: &str) -> &str {
+    for word in words.split(' ') {
+        if let Some(("PC", place)) = word.split_once('=') {
+            return place;
+        }
+    }
+    ""
+}
+
+/// Whether an instruction goes on at a place, in a state in which this is known; none, where it never does.
+fn goes_on(
+    way: &Way<State<CellList>>,
+    following: u16,
+    place: &str,
+    wanted: &Option<State<CellList>>,
+) -> bool {
+    let found = match way {
+        Way::Lands { targets, behind } => match words_of(place) {
+            Some(set) if set.within(targets) && targets.within(&set) => Some(behind),
+            _ => return false,
+        },
+        Way::Goes { target, on, jumped } => match number_of(place) {
+            Some(place) if place == following => on.as_ref(),
+            Some(place) if place == *target => jumped.as_ref(),
+            _ => return false,
+        },
+    };
+    match (found, wanted) {
+        (Some(found), Some(wanted)) => is_same(found, wanted),
+        (None, None) => true,
+        _ => false,
+    }
+}
+
+/// Whether RETI goes back to a state in which this is known.
+fn is_back(
+    frame: &Frame,
+    at: &State<CellList>,
+    ran: &Ran<CellList>,
+    wanted: &State<CellList>,
+) -> bool {
+    match &ran.way {
+        Way::Lands { behind, .. } => goes_back(true, frame, at) && is_same(behind, wanted),
+        Way::Goes { .. } => false,
+    }
+}
+
+/// Whether an instruction does what a row says.
+fn does(
+    alloc: Global,
+    image: &Image,
+    pc: u16,
+    instr: &Instr,
+    frame: &Frame,
+    at: &State<CellList>,
+    after: &str,
+) -> Result<bool, Memory> {
+    let framed = matches!(frame, Frame::Irq { .. });
+    let ran = run(alloc, image, framed, at, pc, instr)?;
+    let mut wanted = at.copy(alloc)?;
+    if !put_all(&mut wanted, after)? || !are_shown(&ran, after) {
+        return Ok(false);
+    }
+    let place = counter_of(after);
+    if place == "back" {
+        return Ok(is_back(frame, at, &ran, &wanted));
+    }
+    let returns = matches!(instr, Instr::ReturnFromInterrupt);
+    if returns && goes_back(framed, frame, at) {
+        return Ok(false);
+    }
+    let wanted = if after.ends_with("never") {
+        None
+    } else {
+        Some(wanted)
+    };
+    Ok(goes_on(&ran.way, instr.following(pc), place, &wanted))
+}
+
+/// Whether a line holds. One of another form doesn't.
+pub fn holds(alloc: Global, line: &str) -> Result<bool, Memory> {
+    let (front, after) = line.split_once('>').unwrap_or(("", ""));
+    let (pc, rest) = front.split_once(' ').unwrap_or(("", ""));
+    let (code, words) = rest.split_once(' ').unwrap_or(("", ""));
+    let (Some(pc), Some(code)) = (number_of(pc), bytes(alloc, code.as_bytes())?) else {
+        return Ok(false);
+    };
+    let image = Image::with_bytes(alloc, pc, &code)?;
+    let (Ok((instr, _)), Some((frame, at))) = (decode(&image, pc), before(alloc, words)?) else {
+        return Ok(false);
+    };
+    does(alloc, &image, pc, &instr, &frame, &at, after)
+}
