@@ -10,11 +10,11 @@ use Rattle.call_context.specs.declared.node.Frame.{Frame}
 use Rattle.call_context.specs.declared.node.Frame.TheVariants.{Base, Irq}
 use Rattle.call_context.specs.declared.node.Node.{Node}
 use Rattle.call_context.specs.declared.node.Node.TheVariants.{At, Exit}
-use Rattle.text_fields.specs.Spelling.{Spelling, IsExact, Avoids}
+use Rattle.text_fields.specs.Spelling.{Spelling, IsExact, Avoids, has_byte}
 use Rattle.text_fields.specs.Numbers.{is_digit, hex_number, hex_number_is_exact, number_avoids, hex_length}
 use Rattle.text_fields.specs.Fields.{IfForm, behind, cut_at, front_value, other_bytes, byte_differs, named, named_is_exact, named_avoids, passing, passing_is_exact, passing_avoids, or_mark, or_mark_is_exact, or_mark_avoids, beside, beside_is_exact, beside_avoids, beside_by, beside_by_is_exact, either_front, either_front_is_exact, told_by, told_by_is_exact, told_by_avoids, restated, restated_is_exact, restated_avoids}
 use Rattle.text_fields.specs.Lists.{listed, listed_longer, listed_or_mark, listed_or_mark_is_exact, listed_or_mark_avoids}
-use Rattle.node_fields.specs.Decimals.{decimal_field, decimal_is_exact, decimal_avoids}
+use Rattle.node_fields.specs.Decimals.{is_decimal, decimal_field, decimal_is_exact, decimal_avoids}
 
 -- FRAMES
 
@@ -181,15 +181,33 @@ frame_is_exact digits =
     (or_mark_is_exact (irq_field digits) (codes "base") (λ parts form. irq_isnt_base digits parts) (irq_is_exact digits)) (frame_back digits))
     (frame_narrow digits) (frame_wide digits)
 
-pub frame_avoids_space : (digits : ℕ) → Avoids (frame_field digits) 32
-frame_avoids_space digits =
-    restated_avoids (told_by (or_mark (irq_field digits) (codes "base")) frame_of frame_parts) (IsFrameText digits) 32 (frame_narrow digits)
-    (told_by_avoids (or_mark (irq_field digits) (codes "base")) frame_of frame_parts 32
-    (or_mark_avoids (irq_field digits) (codes "base") 32 refl
-    (named_avoids (beside 64 decimal_field (entry_field digits)) (codes "irq") 32 refl
-    (beside_avoids 64 32 decimal_field (entry_field digits) refl (decimal_avoids 32 refl)
-    (beside_avoids 46 32 (sp_field digits) level_field refl (sp_avoids digits 32 refl refl)
-    (passing_avoids decimal_field (λ level. nat_lt level 10) 32 (decimal_avoids 32 refl)))))))
+-- a byte that no node has behind its letter and the space
+record IsForeign (at : ℕ) : Type 0 where
+  digit : is_digit at ≡ false
+  decimal : is_decimal at ≡ false
+  comma : (44 == at) ≡ false
+  dash : (45 == at) ≡ false
+  dot : (46 == at) ≡ false
+  colon : (58 == at) ≡ false
+  at_sign : (64 == at) ≡ false
+  base : has_byte at (codes "base") ≡ false
+  irq : has_byte at (codes "irq") ≡ false
+
+space : IsForeign 32
+space = record { digit = refl; decimal = refl; comma = refl; dash = refl; dot = refl; colon = refl; at_sign = refl; base = refl; irq = refl }
+
+feed : IsForeign 10
+feed = record { digit = refl; decimal = refl; comma = refl; dash = refl; dot = refl; colon = refl; at_sign = refl; base = refl; irq = refl }
+
+frame_avoids : (digits at : ℕ) → IsForeign at → Avoids (frame_field digits) at
+frame_avoids digits at foreign =
+    restated_avoids (told_by (or_mark (irq_field digits) (codes "base")) frame_of frame_parts) (IsFrameText digits) at (frame_narrow digits)
+    (told_by_avoids (or_mark (irq_field digits) (codes "base")) frame_of frame_parts at
+    (or_mark_avoids (irq_field digits) (codes "base") at foreign.base
+    (named_avoids (beside 64 decimal_field (entry_field digits)) (codes "irq") at foreign.irq
+    (beside_avoids 64 at decimal_field (entry_field digits) foreign.at_sign (decimal_avoids at foreign.decimal)
+    (beside_avoids 46 at (sp_field digits) level_field foreign.dot (sp_avoids digits at foreign.digit foreign.dash)
+    (passing_avoids decimal_field (λ level. nat_lt level 10) at (decimal_avoids at foreign.decimal)))))))
 
 calls_is_exact : IsExact calls_field
 calls_is_exact =
@@ -210,13 +228,14 @@ location_is_exact digits =
 exit_is_exact : (digits : ℕ) → IsExact (exit_field digits)
 exit_is_exact digits = beside_is_exact 58 (hex_number 4) (frame_field digits) (hex_number_is_exact 4) (frame_is_exact digits) (number_avoids 4 58 refl)
 
-location_avoids_space : (digits : ℕ) → Avoids (location_field digits) 32
-location_avoids_space digits =
-    beside_avoids 58 32 (hex_number 4) (beside 58 calls_field (frame_field digits)) refl (number_avoids 4 32 refl)
-    (beside_avoids 58 32 calls_field (frame_field digits) refl (calls_avoid 32 refl refl) (frame_avoids_space digits))
+location_avoids : (digits at : ℕ) → IsForeign at → Avoids (location_field digits) at
+location_avoids digits at foreign =
+    beside_avoids 58 at (hex_number 4) (beside 58 calls_field (frame_field digits)) foreign.colon (number_avoids 4 at foreign.digit)
+    (beside_avoids 58 at calls_field (frame_field digits) foreign.colon (calls_avoid at foreign.digit foreign.comma) (frame_avoids digits at foreign))
 
-exit_avoids_space : (digits : ℕ) → Avoids (exit_field digits) 32
-exit_avoids_space digits = beside_avoids 58 32 (hex_number 4) (frame_field digits) refl (number_avoids 4 32 refl) (frame_avoids_space digits)
+exit_avoids : (digits at : ℕ) → IsForeign at → Avoids (exit_field digits) at
+exit_avoids digits at foreign =
+    beside_avoids 58 at (hex_number 4) (frame_field digits) foreign.colon (number_avoids 4 at foreign.digit) (frame_avoids digits at foreign)
 
 node_back : (digits : ℕ) (parts : NodeParts) → node_parts (node_of parts) ≡ parts
 node_back digits (inl parts) = refl
@@ -240,6 +259,11 @@ node_is_exact digits =
     (λ parts form. node_back digits parts))
     (node_narrow digits) (node_wide digits)
 
+-- a node is in one line
+pub node_in_one_line : (digits : ℕ) (node : Node) → IsNodeText digits node → has_byte 10 ((node_field digits).text node) ≡ false
+node_in_one_line digits (At pc calls frame) form = location_avoids digits 10 feed (pc, (calls, frame)) (form.0, ((form.1, le-leb (length calls) 8 form.2), form.3))
+node_in_one_line digits (Exit pc frame) form = exit_avoids digits 10 feed (pc, frame) (form.0, form.1)
+
 row_back : {A : Type 0} (digits : ℕ) (state : Node → Spelling A) (parts : RowParts A) → row_parts (row_of parts) ≡ parts
 row_back digits state (inl parts) = refl
 row_back digits state (inr parts) = refl
@@ -262,9 +286,9 @@ row_is_exact digits state h =
     (codes "N ") (beside_by 32 (location_field digits) (λ parts. state (node_of (inl parts))))
     (codes "X ") (beside_by 32 (exit_field digits) (λ parts. state (node_of (inr parts))))
     (beside_by_is_exact 32 (location_field digits) (λ parts. state (node_of (inl parts))) (location_is_exact digits) (λ parts form. h (node_of (inl parts)))
-    (location_avoids_space digits))
+    (location_avoids digits 32 space))
     (beside_by_is_exact 32 (exit_field digits) (λ parts. state (node_of (inr parts))) (exit_is_exact digits) (λ parts form. h (node_of (inr parts)))
-    (exit_avoids_space digits)) refl)
+    (exit_avoids digits 32 space)) refl)
     (λ parts form. row_back digits state parts))
     (λ row form. row_narrow digits state row.0 row.1 form) (λ row form. row_wide digits state row.0 row.1 form)
 

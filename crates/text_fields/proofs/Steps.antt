@@ -1,10 +1,9 @@
 -- Steps of the loops.
-use Rattle.std.proofs.Common.{◌≡◌, ℕ, zero, suc, ◌-◌, ◌/◌, ◌%◌, ◌<◌, ◌≤◌, Option, List, [], ◌∷◌, ◌++◌, take, drop, get_or, length, sym, ap, ap₂, ◌∙◌, arith, append_assoc}
+use Rattle.std.proofs.Common.{◌≡◌, ℕ, zero, suc, ◌-◌, ◌/◌, ◌%◌, ◌≤◌, Option, List, [], ◌∷◌, ◌++◌, take, drop, get_or, length, sym, ap, ap₂, ◌∙◌, arith, append_assoc}
 use Rattle.std.specs.Prelude.{option_map}
 use Rattle.std.proofs.lemmas.List.{append-nil, drop_all, take_rest}
-use Rattle.hex_digits.specs.Digits.{hex, hex_digit, short_hex}
+use Rattle.hex_digits.specs.Digits.{hex, hex_digit}
 use Rattle.text_fields.specs.Spelling.{Spelling}
-use Rattle.text_fields.specs.Numbers.{short_hex_long, short_hex_low}
 use Rattle.text_fields.specs.Lists.{listed, listed_others, others_text}
 
 -- CUTS
@@ -24,19 +23,6 @@ hex_last (suc digits) n digit old before all some is pushed same =
     let one_less : suc digits - 1 ≡ digits = omega arith in
     pushed ∙ ap₂ (λ front d. front ++ d ∷ []) (is ∙ ap (λ d. old ++ hex d (n / 16)) one_less) same
     ∙ append_assoc old (hex digits (n / 16)) (hex_digit (n % 16) ∷ [])
-
--- the last digit behind the others, without leading zeros
-pub short_last : (n digit : ℕ) (old before all : List ℕ) → 16 ≤ n → before ≡ old ++ short_hex (n / 16) → all ≡ before ++ digit ∷ []
-    → digit ≡ hex_digit (n % 16) → all ≡ old ++ short_hex n
-short_last n digit old before all long is pushed same =
-    pushed ∙ ap₂ (λ front d. front ++ d ∷ []) is same ∙ append_assoc old (short_hex (n / 16)) (hex_digit (n % 16) ∷ [])
-    ∙ ap (λ text. old ++ text) (sym (short_hex_long n long))
-
--- one digit
-pub short_one : (n digit : ℕ) (old before all : List ℕ) → n < 16 → before ≡ old → all ≡ before ++ digit ∷ [] → digit ≡ hex_digit (n % 16)
-    → all ≡ old ++ short_hex n
-short_one n digit old before all small is pushed same =
-    pushed ∙ ap₂ (λ front d. front ++ d ∷ []) is same ∙ ap (λ text. old ++ text) (sym (short_hex_low n small))
 
 -- LISTS
 

@@ -3,3 +3,4 @@ pub mod Numbers
 pub mod Fields
 pub mod Lists
 pub mod Lines
+pub mod Fronts

@@ -116,6 +116,15 @@ pub joined-rest : (lines : List (List ℕ)) (rest more : List ℕ) → joined li
 joined-rest [] rest more = refl
 joined-rest (line ∷ lines) rest more = append_assoc line (10 ∷ joined lines rest) more ∙ ap (λ (t : List ℕ). line ++ 10 ∷ t) (joined-rest lines rest more)
 
+-- lines behind lines
+joined-both : (front lines : List (List ℕ)) (rest : List ℕ) → joined (front ++ lines) rest ≡ joined front (joined lines rest)
+joined-both [] lines rest = refl
+joined-both (line ∷ front) lines rest = ap (λ (t : List ℕ). line ++ 10 ∷ t) (joined-both front lines rest)
+
+both_one : (front lines : List (List ℕ)) → AllByRecursion IsOneLine front → AllByRecursion IsOneLine lines → AllByRecursion IsOneLine (front ++ lines)
+both_one [] lines are more = more
+both_one (line ∷ front) lines are more = (are.0, both_one front lines are.1 more)
+
 appended : {S F : Type 0} (step : S → List ℕ → Result S F) (count : ℕ) (front lines : List (List ℕ)) (first : Result S F)
     → ((state : S) → reading step (suc count) state (front ++ lines) ≡ read_on step (suc count + length front) lines (reading step (suc count) state front))
     → counted count (λ next. reading step (suc count) next (front ++ lines)) first
@@ -131,3 +140,18 @@ reading-append step count state (line ∷ front) lines =
     let same : suc count + length front ≡ count + suc (length front) = omega arith in
     appended step count front lines (step state line) (λ next. reading-append step (suc count) next front lines)
     ∙ ap (λ n. read_on step n lines (reading step count state (line ∷ front))) same
+
+-- the whole lines of a text are those of any longer one, with some behind them
+pub lines_cut-more : (text more : List ℕ) → (lines : List (List ℕ)) × (whole_lines (text ++ more) ≡ whole_lines text ++ lines)
+lines_cut-more text more =
+    let parts = lines_cut-one text in
+    let behind = lines_cut-one (rest_of text ++ more) in
+    let again : joined (whole_lines text ++ whole_lines (rest_of text ++ more)) (rest_of (rest_of text ++ more)) ≡ text ++ more =
+    joined-both (whole_lines text) (whole_lines (rest_of text ++ more)) (rest_of (rest_of text ++ more))
+    ∙ ap (joined (whole_lines text)) (joined-lines_cut (rest_of text ++ more))
+    ∙ sym (joined-rest (whole_lines text) (rest_of text) more) ∙ ap (λ (t : List ℕ). t ++ more) (joined-lines_cut text) in (
+      whole_lines (rest_of text ++ more),
+      ap whole_lines (sym again) ∙ ap (λ (cut : List (List ℕ) × List ℕ). cut.0)
+          (lines_cut-joined (whole_lines text ++ whole_lines (rest_of text ++ more)) (rest_of (rest_of text ++ more))
+          (both_one (whole_lines text) (whole_lines (rest_of text ++ more)) parts.0 behind.0) behind.1),
+    )

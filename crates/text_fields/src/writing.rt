@@ -1,7 +1,7 @@
 //! The texts of numbers.
 
 ghost use Rattle.std.specs.Prelude.{◌≡◌, ◌<◌, ◌++◌, OnOk};
-ghost use Rattle.hex_digits.specs.Digits.{hex, hex_digit, short_hex};
+ghost use Rattle.hex_digits.specs.Digits.{hex, hex_digit};
 
 use std::alloc::AllocError;
 
@@ -25,17 +25,6 @@ pub fn push_number(out: &mut Vec<u8>, number: u16, digits: u8) -> Result<(), All
         return Ok(());
     }
     push_number(out, number / 16, digits - 1)?;
-    out.push(digit((number % 16) as u8))?;
-    Ok(())
-}
-
-/// Adds a number without leading zeros.
-pub fn push_short(out: &mut Vec<u8>, number: u16) -> Result<(), AllocError>
-    ensures { OnOk result (out.new.items ≡ out.old.items ++ short_hex number) }
-{
-    if number >= 16 {
-        push_short(out, number / 16)?;
-    }
     out.push(digit((number % 16) as u8))?;
     Ok(())
 }

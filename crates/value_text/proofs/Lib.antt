@@ -3,3 +3,4 @@ pub mod ListLemmas
 pub mod ReadLemmas
 pub mod BitLemmas
 pub mod RangeLemmas
+pub mod RamLemmas

@@ -7,7 +7,7 @@ use Rattle.hex_digits.specs.Digits.{hex}
 use Rattle.value_set.specs.Form.{IsNormal}
 use Rattle.entry_value.specs.declared.cells.Cell.{Cell}
 use Rattle.entry_value.specs.declared.word.Word.{Word}
-use Rattle.entry_value.specs.Cells.{AreCells, IsCell, is_nothing}
+use Rattle.entry_value.specs.Cells.{AreCells, CellMap, IsCell, is_nothing}
 use Rattle.text_fields.specs.Spelling.{Spelling, IsExact, Avoids, has_byte, has_byte-at, has_byte-left}
 use Rattle.text_fields.specs.Numbers.{is_digit, hex_number, hex_number_is_exact, number_avoids}
 use Rattle.text_fields.specs.Fields.{byte_differs, passing, passing_is_exact, passing_avoids, beside, beside_is_exact, beside_avoids, told_by, told_by_is_exact, told_by_avoids, restated, restated_is_exact, restated_avoids}
@@ -69,6 +69,13 @@ cells_field digits place framed test lo hi = restated (passing (listed_cells dig
 -- the text of cells, whatever the frame and the RAM that they lie in
 abbrev pub cells_text : (digits : ℕ) → Spelling ℕ → List Cell → List ℕ
 cells_text digits place = (listed_cells digits place true (λ cell. true)).text
+
+abbrev pub map_of : (lo hi : ℕ) → List Cell → CellMap
+map_of lo hi cells = record { lo = lo; hi = hi; cells = cells }
+
+-- the RAM from an address to another whose cells a text spells
+abbrev pub maps_in : (digits : ℕ) → Spelling ℕ → (framed : Bool) → (Cell → Bool) → (lo hi : ℕ) → List ℕ → Option CellMap
+maps_in digits place framed test lo hi text = option_map (map_of lo hi) ((cells_field digits place framed test lo hi).value text)
 
 -- a cell has a dot and a colon beside the bytes of its word
 abbrev pub is_cells_byte : ℕ → Bool

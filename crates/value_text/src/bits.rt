@@ -46,6 +46,24 @@ fn bit_code(bit: Tri) -> u8
     }
 }
 
+/// The bit that a text of one character spells.
+pub fn read_bit(text: &[u8]) -> Option<Tri>
+    ensures { result ≡ fields.bit_field.value text.now }
+{
+    match text {
+        [byte] => bit_of(*byte),
+        _ => None,
+    }
+}
+
+/// Adds a known bit.
+pub fn push_bit(bit: Tri, out: &mut Vec<u8>) -> Result<(), AllocError>
+    ensures { OnOk result (out.new.items ≡ out.old.items ++ fields.bit_field.text bit) }
+{
+    out.push(bit_code(bit))?;
+    Ok(())
+}
+
 /// Adds known bits, which are listed from the lowest on.
 pub fn push_bits(bits: &[Tri], out: &mut Vec<u8>) -> Result<(), AllocError>
     ensures { OnOk result (out.new.items ≡ out.old.items

@@ -1,6 +1,6 @@
 //! Cells.
 
-ghost use Rattle.std.specs.Prelude.{◌≡◌, ◌++◌, IfOk, OnOk};
+ghost use Rattle.std.specs.Prelude.{◌≡◌, IfOk};
 ghost use Rattle.std.specs.Option.{option_map};
 ghost use Rattle.entry_value.specs.Cells as the_cells;
 ghost use Rattle.text_fields.specs.Numbers.{IsWidth, hex_number};
@@ -11,14 +11,14 @@ use crate::members::is_byte_set;
 use crate::words::{Places, push_word, read_word};
 use entry_value::{Cell, Word};
 use std::alloc::{AllocError, Global};
-use text_fields::{Field, cut, number, push_list_or_mark, push_number, read_list_or_mark};
+use text_fields::{Field, cut, number, push_number, read_list_or_mark};
 use value_set::Vs16;
 
 /// A cell as a field, in an interrupt's frame or in none.
 #[derive(Clone, Copy)]
-struct CellField<P: Places> {
-    places: P,
-    framed: bool,
+pub(crate) struct CellField<P: Places> {
+    pub(crate) places: P,
+    pub(crate) framed: bool,
 }
 
 /// How many bytes: one or two.
@@ -123,7 +123,7 @@ fn are_cells(lo: u16, hi: u16, cells: &[Cell]) -> bool
 }
 
 /// The cells that a text spells, in RAM from an address to another, in an interrupt's frame or in none.
-pub fn read_cells<P: Places>(
+pub(crate) fn listed_cells<P: Places>(
     alloc: Global,
     places: P,
     framed: bool,
@@ -143,16 +143,4 @@ pub fn read_cells<P: Places>(
     } else {
         Ok(None)
     }
-}
-
-/// Adds cells.
-pub fn push_cells<P: Places>(places: P, cells: &[Cell], out: &mut Vec<u8>) -> Result<(), AllocError>
-    ensures { OnOk result (out.new.items ≡ out.old.items
-        ++ fields.cells_text (P.width places) (P.names places) cells.now) }
-{
-    let field = CellField {
-        places,
-        framed: true,
-    };
-    push_list_or_mark(&field, b';', b"-".as_slice(), cells, out)
 }

@@ -8,17 +8,18 @@
 mod bits;
 mod cells;
 mod members;
+mod ram;
 mod ranges;
 mod sets;
 mod words;
 mod writing;
 
-pub use bits::{push_bits, read_bits};
-pub use cells::{push_cells, read_cells};
+pub use bits::{push_bit, push_bits, read_bit, read_bits};
 pub use members::is_even_set;
+pub use ram::{push_cells, read_cells};
 pub use ranges::{push_ranges, read_ranges};
 pub use sets::{read_byte_set, read_word_set};
-pub use words::{Places, push_byte, push_word, read_byte, read_word};
+pub use words::{Places, push_byte, push_relation, push_word, read_byte, read_relation, read_word};
 pub use writing::{push_byte_set, push_word_set};
 
 #[cfg(test)]

@@ -3,9 +3,10 @@
 ghost use Rattle.std.specs.Prelude.{ℕ, Bool, true, false, List, [], ◌∷◌, codes};
 ghost use Rattle.text_fields.specs.Fields.{one_named};
 
+use crate::cells::listed_cells;
 use crate::{
-    Places, is_even_set, push_bits, push_cells, push_ranges, push_word, read_bits, read_byte_set,
-    read_cells, read_ranges, read_word, read_word_set,
+    Places, is_even_set, push_bits, push_ranges, push_word, read_bits, read_byte_set, read_ranges,
+    read_word, read_word_set,
 };
 use entry_value::Cell;
 use std::alloc::AllocError;
@@ -29,6 +30,8 @@ impl Places for Three {
     fn digits(&self) -> u8 {
         4
     }
+
+    fn names_are_exact(&self) {}
 
     fn read_place(&self, text: &[u8]) -> Option<u16> {
         read_name(NAMES.as_slice(), text)
@@ -151,14 +154,9 @@ fn cells(rt: HostRuntime) {
         ("0200.2:0000;", false),
         ("0200:0000", false),
     ] {
-        let read = read_cells(rt.alloc(), Three, true, 0x200, 0x3FF, text.as_bytes());
+        let read = listed_cells(rt.alloc(), Three, true, 0x200, 0x3FF, text.as_bytes());
         let found = read.expect(&rt, "memory");
         assert_eq!(rt; found.is_some(), spells, "{text}");
-        if let Some(cells) = found {
-            let mut again = Vec::new(rt.alloc());
-            push_cells(Three, cells.as_slice(), &mut again).expect(&rt, "memory");
-            assert_eq!(rt; again.as_slice(), text.as_bytes());
-        }
     }
 }
 

@@ -2,7 +2,7 @@
 
 ghost use Rattle.std.specs.Prelude.{◌≡◌, ◌++◌, ◌<◌, ◌^◌, ℕ, Bool, OnOk};
 ghost use Rattle.entry_value.specs.declared.cells.Cell.{Cell as ACell};
-ghost use Rattle.text_fields.specs.Spelling.{Spelling};
+ghost use Rattle.text_fields.specs.Spelling.{Spelling, IsExact, Avoids};
 ghost use Rattle.text_fields.specs.Numbers.{IsWidth, hex_number};
 ghost use Rattle.text_fields.specs.Fields.{beside, with_tail};
 ghost use Rattle.value_text.specs.Sets.{set_field};
@@ -31,6 +31,12 @@ pub trait Places: Copy {
         ensures value { result ≡ width self.now }
         ensures width { IsWidth result };
 
+    /// No two places have one name, and no name has an ampersand or a semicolon.
+    fn names_are_exact(&self)
+        ensures exact { IsExact (names self.now) }
+        ensures apart { Avoids (names self.now) 38 }
+        ensures parted { Avoids (names self.now) 59 };
+
     /// The place that a name is of.
     fn read_place(&self, text: &[u8]) -> Option<u16>
         ensures { result ≡ (names self.now).value text.now };
@@ -53,8 +59,8 @@ fn read_masks(text: &[u8], digits: u8) -> Option<(u16, u16)>
     Some((number(and, digits)?, number(or, digits)?))
 }
 
-/// A place and both masks.
-fn read_relation<P: Places>(places: P, text: &[u8]) -> Option<Entry>
+/// The relation that a text spells: a place and both masks.
+pub fn read_relation<P: Places>(places: P, text: &[u8]) -> Option<Entry>
     ensures { result ≡ (fields.relation_field (P.width places) (P.names places)).value text.now }
 {
     let (name, masks) = cut(text, b'&')?;
@@ -113,8 +119,12 @@ pub fn read_byte<P: Places>(places: P, framed: bool, text: &[u8]) -> Option<Byte
     }
 }
 
-/// Adds a place and both masks.
-fn push_relation<P: Places>(places: P, entry: &Entry, out: &mut Vec<u8>) -> Result<(), AllocError>
+/// Adds a relation.
+pub fn push_relation<P: Places>(
+    places: P,
+    entry: &Entry,
+    out: &mut Vec<u8>,
+) -> Result<(), AllocError>
     ensures { OnOk result (out.new.items ≡ out.old.items
         ++ (fields.relation_field (P.width places) (P.names places)).text entry.now) }
 {

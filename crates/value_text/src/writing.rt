@@ -7,8 +7,9 @@ ghost use Rattle.text_fields.specs.Numbers.{IsWidth};
 ghost use Rattle.value_text.specs.Sets as fields;
 
 use crate::sets::modulus;
+use hex_digits::push_short_hex;
 use std::alloc::AllocError;
-use text_fields::{push_number, push_short};
+use text_fields::push_number;
 use value_set::{Form, Progression, Vs8, Vs16};
 
 /// Adds numbers with commas between them.
@@ -26,17 +27,16 @@ fn push_values(out: &mut Vec<u8>, values: &[u16], digits: u8) -> Result<(), Allo
     Ok(())
 }
 
-/// Adds a run, which isn't of all numbers.
+/// Adds a run, by its numbers.
 fn push_run(out: &mut Vec<u8>, run: &Progression, digits: u8) -> Result<(), AllocError>
-    requires { run.now.count < 65536 }
     ensures { OnOk result (out.new.items ≡ out.old.items
         ++ (fields.run_field digits).text (run.now.base, (run.now.stride, run.now.count))) }
 {
     push_number(out, run.base, digits)?;
     out.push(b'/')?;
-    push_short(out, run.stride)?;
+    push_short_hex(out, run.stride as u32)?;
     out.push(b'/')?;
-    push_short(out, run.count as u16)
+    push_short_hex(out, run.count)
 }
 
 /// Adds the set of numbers of so many digits.

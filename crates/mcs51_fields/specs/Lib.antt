@@ -1,0 +1,7 @@
+pub mod Places
+pub mod Facts
+pub mod Parts
+pub mod Nodes
+pub mod States
+pub mod Fronts
+pub mod Outside

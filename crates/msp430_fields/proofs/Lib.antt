@@ -1,0 +1,3 @@
+pub mod RegisterLemmas
+pub mod StateLemmas
+pub mod OutsideLemmas
