@@ -24,8 +24,8 @@ pub record Analysis (A : Type 0) : Type 1 where
   pub top : Node → A
   -- a node and a state as the analysis makes them: numbers in range, sets in their normal shape
   pub HasForm : Node → A → Type 0
-  -- at this address the stated limit that an open names is broken
-  pub Breaks : ℕ → Cause → Type 0
+  -- at a node, by its state, the stated limit that an open names is broken
+  pub Breaks : Node → A → Cause → Type 0
 
 module _ {A : Type 0} (a : Analysis A) where
   -- the input states of a unit have the form of their nodes

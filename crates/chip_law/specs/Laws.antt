@@ -77,10 +77,10 @@ module _ {S A : Type 0} (machine : Machine S) (analysis : Analysis A) (covers : 
     pub keeps : KeepsForm analysis
     pub ordered : IsOrdered analysis
     pub exit_form : (exit : Node) (x : A) → ¬ IsLocation exit → analysis.HasForm exit x → HasEntry (frame_of exit)
-    -- an open is at the address of its unit's location, where it breaks a stated limit
+    -- an open is at the address of its unit's location, where it breaks a stated limit by the location's state
     pub opens_break : (unit : WorkUnit) (at : A) (exit : Option A) (pc : ℕ) (cause : Cause) → AreFormed analysis unit at exit
         → Contains (analysis.work unit at exit).opens (pc, cause)
-        → (pc_of (location_of unit) ≡ pc) × analysis.Breaks pc cause
+        → (pc_of (location_of unit) ≡ pc) × analysis.Breaks (location_of unit) at cause
     -- THE START
     pub first_is_location : IsLocation analysis.first_node
     pub first_frame : frame_of analysis.first_node ≡ Base

@@ -5,4 +5,4 @@ mod chip;
 mod line;
 
 pub use chip::{Chip, ChipText, InstrText, LawfulChip, Work};
-pub use line::{item_line, open_line, put_item, put_open};
+pub use line::{item_line, open_line, put_item, put_open, space_name};

@@ -94,7 +94,7 @@ pub fn push_set(line: &mut Vec<u8>, values: &Set) -> Result<(), AllocError>
 }
 
 /// The name of a space of addresses.
-fn space_name(space: Space) -> &'static [u8]
+pub fn space_name(space: Space) -> &'static [u8]
     ensures { result.now ≡ space_text space }
 {
     match space {

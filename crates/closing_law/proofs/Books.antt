@@ -1,8 +1,8 @@
 -- From a finished book without opens to its closed table, and back to the works that it has.
-use Rattle.std.proofs.Common.{◌≡◌, Option, None, Some, List, refl, subst}
+use Prim.Native.Nat.{zero, suc}
+use Rattle.std.proofs.Common.{◌≡◌, Option, None, Some, List, [], ◌∷◌, sym, ap, ◌∙◌, subst, arith}
 use Rattle.std.specs.Prelude.{ℕ, Contains}
 use Rattle.std.specs.Map.{values_of}
-use Rattle.std.specs.Option.{option_map}
 use Rattle.std.proofs.lemmas.Map.Made.{Contains-values_of}
 use Rattle.call_context.specs.declared.node.Node.{Node}
 use Rattle.call_context.specs.declared.node.Node.TheVariants.{At, Exit}
@@ -14,12 +14,13 @@ use Rattle.chip_law.specs.declared.chip.Work.{Work}
 use Rattle.chip_law.specs.Analysis.{Analysis, AreFormed}
 use Rattle.chip_law.specs.Laws.{Cover, IsLawful, location_of}
 use Rattle.chip_law.specs.Machine.{Machine}
-use Rattle.chip_law.specs.Table.{IsUnitOver}
+use Rattle.chip_law.specs.Table.{IsFormedTable, IsUnitOver}
 use Rattle.closing_law.specs.ClosedBook.{IsClosedBook, table_in}
 use Rattle.closing_law.specs.Covered.{AreCovering, CoversRuns, IsBroken, NoneIsOpen}
-use Rattle.round_core.specs.Kept.{live_works}
-use Rattle.round_core.specs.Machine.{BookState, Held, Done, done_at, held_at, inputs_of, IsUnit, IsFinished, IsClosed}
-use Rattle.round_core.specs.Table.{table_of, IsOfUnit}
+use Rattle.round_core.specs.Kept.{live_pairs, live_works}
+use Rattle.round_core.specs.Machine.{BookState, Done, done_at, IsUnit, IsFinished, IsClosed}
+use Rattle.round_core.specs.Table.{table_of}
+use Rattle.closing_law.proofs.ClosedBooks.{ArePairs, IsItsTable, one_done}
 
 -- what is known of the works of a book
 abbrev AreListed : {A : Type 0} → BookState A → Type 0
@@ -59,29 +60,66 @@ works_cover machine m covers nodes works closed runs = record {
   stays = runs.stays;
 }
 
-held_by : {A : Type 0} (found : Option (Held A)) (inputs : A × Option A) → option_map (λ (h : Held A). (h.state, None)) found ≡ Some inputs
-    → (h : Held A) × (found ≡ Some h)
-held_by None inputs e = absurd (cc)
-held_by (Some h) inputs e = (h, refl)
+-- the location of a unit over a formed table, and the form of its states
+record IsHome {A : Type 0} (m : Analysis A) (table : Node → Option A) (unit : WorkUnit) (at : A) (exit : Option A) : Type 0 where
+  pub is_location : IsLocation (location_of unit)
+  pub is_held : table (location_of unit) ≡ Some at
+  pub formed : AreFormed m unit at exit
 
-held_first : {A : Type 0} (found other : Option (Held A)) (inputs : A × Option A)
-    → Rattle.std.specs.Prelude.option_and_then (λ (h : Held A). option_map (λ (x : Held A). (h.state, Some x.state)) other) found ≡ Some inputs
-    → (h : Held A) × (found ≡ Some h)
-held_first None other inputs e = absurd (cc)
-held_first (Some h) other inputs e = (h, refl)
+home_of : {A : Type 0} (m : Analysis A) (table : Node → Option A) → IsFormedTable m table → (unit : WorkUnit) (at : A) (exit : Option A)
+    → IsUnitOver m table unit at exit → IsHome m table unit at exit
+home_of m table formed (One (At pc calls frame)) at None over =
+    record { is_location = tt; is_held = over; formed = formed (At pc calls frame) at over }
+home_of m table formed (One (At pc calls frame)) at (Some exit) over = absurd over
+home_of m table formed (One (Exit pc frame)) at exit over = absurd over
+home_of m table formed (Back (At pc calls frame) (Exit from left)) at (Some exit) over =
+    record { is_location = tt; is_held = over.0; formed = (formed (At pc calls frame) at over.0, formed (Exit from left) exit over.1) }
+home_of m table formed (Back (At pc calls frame) (Exit from left)) at None over = absurd over
+home_of m table formed (Back (At pc calls frame) (At from calls' frame')) at exit over = absurd over
+home_of m table formed (Back (Exit pc frame) node) at exit over = absurd over
 
--- the location of a unit whose inputs are there
-home_of : {A : Type 0} (m : Analysis A) (nodes : List (Held A)) (unit : WorkUnit) (at : A) (exit : Option A) (inputs : A × Option A)
-    → AreFormed m unit at exit → inputs_of nodes unit ≡ Some inputs
-    → IsLocation (location_of unit) × ((h : Held A) × (held_at nodes (location_of unit) ≡ Some h))
-home_of m nodes (One (At pc calls frame)) at exit inputs formed e = (tt, held_by (held_at nodes (At pc calls frame)) inputs e)
-home_of m nodes (One (Exit pc frame)) at exit inputs formed e = absurd formed
-home_of m nodes (Back (At pc calls frame) other) at exit inputs formed e = (tt, held_first (held_at nodes (At pc calls frame)) (held_at nodes other) inputs e)
-home_of m nodes (Back (Exit pc frame) other) at exit inputs formed e = absurd formed
+-- a value stands with some key
+from_values : {K X : Type 0} (pairs : List (K × X)) (value : X) → Contains (values_of pairs) value → (key : K) × Contains pairs (key, value)
+from_values [] value h = absurd (omega (arith, h.1))
+from_values (pair ∷ pairs) value (zero, inside, is) = (pair.0, (0, omega arith, ap (λ v. (pair.0, v)) is))
+from_values (pair ∷ pairs) value (suc k, inside, is) = let (key, there) = from_values pairs value (k, omega (arith, inside), is) in
+    (key, (suc there.0, omega (arith, there.1), there.2))
 
-pub is_broken : {S A : Type 0} (machine : Machine S) (m : Analysis A) (covers : Cover S A) → IsLawful machine m covers → (nodes : List (Held A))
-    (work : Work A) (pc : ℕ) (cause : Cause) → IsOfUnit m nodes work → Contains work.opens (pc, cause) → IsBroken m nodes pc cause
-is_broken machine m covers laws nodes work pc cause is h =
-    let home = home_of m nodes is.unit is.at is.exit is.held.0 is.formed is.held.1 in
-    let breaks = laws.opens_break is.unit is.at is.exit pc cause is.formed (subst (λ (w : Work _). Contains w.opens (pc, cause)) is.is_work h) in
-    record { node = location_of is.unit; is_location = home.0; held = home.1; at = breaks.0; limit = breaks.1 }
+-- the works of a closed book leave none open
+pub none_open : {A : Type 0} (m : Analysis A) (nodes : List (Node × A)) (works : List (WorkUnit × Work A)) → IsClosedBook m nodes works
+    → NoneIsOpen (values_of works)
+none_open m nodes works closed work h =
+    let (unit, there) = from_values works work h in
+    let is = closed.units (unit, work) there in
+    ap (λ (w : Work _). w.opens) is.is_work ∙ closed.closed.no_open unit is.at is.exit is.is_unit
+
+-- a work that a finished book lists is that of a unit over its table's states
+record IsOver {A : Type 0} (m : Analysis A) (b : BookState A) (work : Work A) : Type 0 where
+  pub unit : WorkUnit
+  pub at : A
+  pub exit : Option A
+  pub is_unit : IsUnitOver m (table_of b.nodes) unit at exit
+  pub is_work : work ≡ m.work unit at exit
+
+over_of : {A : Type 0} (m : Analysis A) (b : BookState A) → ArePairs b → IsItsTable m b → (work : Work A) → Contains (live_works b) work → IsOver m b work
+over_of {A = A} m b are its work h =
+    let (unit, listed) = from_values (live_pairs b) work h in
+    let (is_unit, done, found, same) = are.units unit work listed in
+    let (at, exit, over) = its.units unit is_unit in
+    let (other, found_so, is_work) = its.works unit at exit over in
+    record {
+      unit = unit;
+      at = at;
+      exit = exit;
+      is_unit = over;
+      is_work = sym same ∙ ap (λ (d : Done A). d.work) (one_done done other (done_at b.done unit) found found_so) ∙ is_work;
+    }
+
+pub is_broken : {S A : Type 0} (machine : Machine S) (m : Analysis A) (covers : Cover S A) → IsLawful machine m covers → (b : BookState A)
+    → IsFormedTable m (table_of b.nodes) → ArePairs b → IsItsTable m b → (work : Work A) (pc : ℕ) (cause : Cause)
+    → Contains (live_works b) work → Contains work.opens (pc, cause) → IsBroken m b.nodes pc cause
+is_broken machine m covers laws b formed are its work pc cause listed h =
+    let is = over_of m b are its work listed in
+    let home = home_of m (table_of b.nodes) formed is.unit is.at is.exit is.is_unit in
+    let breaks = laws.opens_break is.unit is.at is.exit pc cause home.formed (subst (λ (w : Work _). Contains w.opens (pc, cause)) is.is_work h) in
+    record { node = location_of is.unit; state = is.at; is_location = home.is_location; is_held = home.is_held; at = breaks.0; limit = breaks.1 }

@@ -22,7 +22,7 @@ use Rattle.round_core.specs.Table.{table_of}
 
 -- TABLES THAT HOLD THE SAME
 module _ {A : Type 0} (m : Analysis A) (f g : Node → Option A) (same : (node : Node) → f node ≡ g node) where
-  unit_like : (unit : WorkUnit) (at : A) (exit : Option A) → IsUnitOver m f unit at exit → IsUnitOver m g unit at exit
+  pub unit_like : (unit : WorkUnit) (at : A) (exit : Option A) → IsUnitOver m f unit at exit → IsUnitOver m g unit at exit
   unit_like (One (At pc calls frame)) at None u = sym (same (At pc calls frame)) ∙ u
   unit_like (One (At pc calls frame)) at (Some exit) u = absurd u
   unit_like (One (Exit pc frame)) at exit u = absurd u
@@ -38,7 +38,7 @@ module _ {A : Type 0} (m : Analysis A) (f g : Node → Option A) (same : (node :
 formed_like : {A : Type 0} (m : Analysis A) (f g : Node → Option A) → ((node : Node) → f node ≡ g node) → IsFormedTable m f → IsFormedTable m g
 formed_like m f g same formed = λ node state e. formed node state (same node ∙ e)
 
-closed_like : {A : Type 0} (m : Analysis A) (f g : Node → Option A) → ((node : Node) → f node ≡ g node) → IsClosedTable m f → IsClosedTable m g
+pub closed_like : {A : Type 0} (m : Analysis A) (f g : Node → Option A) → ((node : Node) → f node ≡ g node) → IsClosedTable m f → IsClosedTable m g
 closed_like m f g same closed = record {
   started = held_like m f g same m.first_node m.first_state closed.started;
   no_open = λ unit at exit u. closed.no_open unit at exit (unit_like m g f (λ node. sym (same node)) unit at exit u);
@@ -144,7 +144,7 @@ pub record IsItsTable {A : Type 0} (m : Analysis A) (b : BookState A) : Type 0 w
   pub works : (unit : WorkUnit) (at : A) (exit : Option A) → IsUnitOver m (table_of b.nodes) unit at exit
       → (d : Done A) × (done_at b.done unit ≡ Some d) × (d.work ≡ m.work unit at exit)
 
-one_done : {A : Type 0} (d e : Done A) (o : Option (Done A)) → o ≡ Some d → o ≡ Some e → d ≡ e
+pub one_done : {A : Type 0} (d e : Done A) (o : Option (Done A)) → o ≡ Some d → o ≡ Some e → d ≡ e
 one_done d e o f g = let s : Some d ≡ Some e = sym f ∙ g in cc
 
 pub closed_book : {A : Type 0} (m : Analysis A) (b : BookState A) → ArePairs b → IsItsTable m b → AreApart b.nodes

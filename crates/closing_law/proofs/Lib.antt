@@ -1,3 +1,4 @@
 pub mod Books
 pub mod ClosedBooks
 pub mod Closing
+pub mod TableOrder

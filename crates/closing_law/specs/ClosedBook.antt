@@ -1,5 +1,5 @@
 -- A closed book: a closed table with the works of its units.
-use Rattle.std.specs.Prelude.{◌≡◌, Option, List, Contains}
+use Rattle.std.specs.Prelude.{◌≡◌, ◌↔◌, Option, List, Contains}
 use Rattle.std.specs.List.{IsDistinct}
 use Rattle.std.specs.Map.{keys_of, lookup}
 use Rattle.call_context.specs.declared.node.Node.{Node}
@@ -18,6 +18,10 @@ pub record Closed (B A : Type 0) : Type 0 where
 -- the table of nodes with their states
 abbrev pub table_in : {A : Type 0} → List (Node × A) → Node → Option A
 table_in nodes node = lookup (same_node node) nodes
+
+-- the members of one list are those of the other, in any order
+abbrev pub HaveSame : {X : Type 0} → List X → List X → Type 0
+HaveSame {X = X} xs ys = (x : X) → Contains xs x ↔ Contains ys x
 
 -- the pair is a unit of the table with its work over the table's states
 pub record IsUnitWithWork {A : Type 0} (a : Analysis A) (table : Node → Option A) (pair : WorkUnit × Work A) : Type 0 where

@@ -13,7 +13,8 @@ use Rattle.chip_law.specs.Runs.{RunsTo, Meets, GoesWild}
 use Rattle.chip_law.specs.Table.{IsUnitOver}
 use Rattle.chip_law.specs.declared.chip.Work.{Work}
 use Rattle.closing_law.specs.Standing.{Stands}
-use Rattle.round_core.specs.Machine.{Held, held_at}
+use Rattle.round_core.specs.Machine.{Held}
+use Rattle.round_core.specs.Table.{table_of}
 
 -- the state stands under some location of the table, with some suspended states
 pub record StandsSomewhere {S A : Type 0} (analysis : Analysis A) (covers : Cover S A) (table : Node → Option A) (s : S) : Type 0 where
@@ -48,10 +49,12 @@ pub record AreCovering {S A : Type 0} (machine : Machine S) (works : List (Work 
       → (work : Work A) × Contains works work × AreShowing work.items item
   pub stays : (n : ℕ) → GoesWild machine n → ⊥
 
--- The site of an open is the address of a location of the book, and at it the stated limit that the cause names is broken.
+-- The site of an open is the address of a location of the book, where by the location's state the stated limit that the
+-- cause names is broken.
 pub record IsBroken {A : Type 0} (analysis : Analysis A) (nodes : List (Held A)) (pc : ℕ) (cause : Cause) : Type 0 where
   pub node : Node
+  pub state : A
   pub is_location : IsLocation node
-  pub held : (h : Held A) × (held_at nodes node ≡ Some h)
+  pub is_held : table_of nodes node ≡ Some state
   pub at : pc_of node ≡ pc
-  pub limit : analysis.Breaks pc cause
+  pub limit : analysis.Breaks node state cause

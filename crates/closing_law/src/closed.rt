@@ -4,17 +4,14 @@ ghost use Rattle.std.specs.Prelude.{◌≡◌, ◌==◌, ◌↔◌, ◌||◌, no
 ghost use Rattle.std.specs.List.{list_all};
 ghost use Rattle.std.specs.Map.{values_of};
 ghost use Rattle.closing_law.specs.ClosedBook.{IsClosedBook, table_in};
-ghost use Rattle.closing_law.specs.Covered.{AreCovering, CoversRuns};
+ghost use Rattle.closing_law.specs.Covered.{AreCovering, CoversRuns, NoneIsOpen};
 ghost use Rattle.round_core.specs.Kept.{is_live, live_pairs, nodes_of, works_of};
 ghost use Rattle.round_core.specs.Machine.{replay, IsClosed};
 
-use crate::closed_tables_cover_runs;
+use crate::{closed_book_is_its_table, closed_tables_cover_runs};
 use call_context::{Node, Unit};
 use chip_law::{Chip, LawfulChip, Work};
-use round_core::{
-    Book, closed_book_has_closed_table, finished_book_is_its_table, live_pairs_are_units,
-    nodes_stay,
-};
+use round_core::{Book, Event, live_pairs_are_units};
 use std::marker::Model;
 use std::snapshot::Snapshot;
 
@@ -67,13 +64,14 @@ impl<C: LawfulChip> ClosedBook<C> {
         self.works.as_slice()
     }
 
-    /// Every run stands, at each state, under a location of the table. The works show whatever a run meets, and no run
-    /// leaves the model.
+    /// Every run stands, at each state, under a location of the table. The works show whatever a run meets, no run leaves the
+    /// model, and no work leaves a site open.
     pub fn covers_runs(&self)
         ensures closed { IsClosedBook (C.analysis self.now.base) self.now.nodes self.now.works }
         ensures runs { CoversRuns (C.machine self.now.base) (C.analysis self.now.base) (C.covers self.now.base)
             (table_in self.now.nodes) }
         ensures works { AreCovering (C.machine self.now.base) (values_of self.now.works) }
+        ensures no_open { NoneIsOpen (values_of self.now.works) }
     {
         let _nodes = &self.nodes;
         closed_tables_cover_runs::<C>();
@@ -97,8 +95,28 @@ fn is_closed<C: Chip>(book: &Book<C>) -> bool
     book.finished() && has_no_open(book)
 }
 
-/// The closed book of a book that is finished, where no work of its units leaves a site open. Its works are those of
-/// the book's units: former returns are left out. It takes no memory. Any other book is handed back.
+/// The closed book of a book that is finished, where no work of its units leaves a site open, and the book's journal. Its
+/// works are those of the book's units: former returns are left out. It takes no memory. Any other book is handed back.
+pub fn read_closed_with_journal<C: LawfulChip>(
+    book: Book<C>,
+) -> Result<(ClosedBook<C>, Vec<Event>), Book<C>>
+    requires { C.program book.base }
+    ensures exact { IsOk result ↔ IsClosed (replay (C.analysis book.base) book.journal) }
+    ensures closed { IfOk result (λ closed. (let b = replay (C.analysis book.base) book.journal in
+        closed.0 ≡ record { base = book.base; nodes = nodes_of b; works = live_pairs b })) }
+    ensures journal { IfOk result (λ closed. closed.1.items ≡ book.journal) }
+    ensures handed_back { IfErr result (λ same. same ≡ book) }
+{
+    closed_book_is_its_table::<C>();
+    let _journal = book.journal();
+    if !is_closed(&book) {
+        return Err(book);
+    }
+    let (chip, nodes, works, journal) = book.into_live();
+    Ok((ClosedBook { chip, nodes, works }, journal))
+}
+
+/// The closed book of such a book alone.
 pub fn read_closed<C: LawfulChip>(book: Book<C>) -> Result<ClosedBook<C>, Book<C>>
     requires { C.program book.base }
     ensures exact { IsOk result ↔ IsClosed (replay (C.analysis book.base) book.journal) }
@@ -106,15 +124,8 @@ pub fn read_closed<C: LawfulChip>(book: Book<C>) -> Result<ClosedBook<C>, Book<C
         closed ≡ record { base = book.base; nodes = nodes_of b; works = live_pairs b })) }
     ensures handed_back { IfErr result (λ same. same ≡ book) }
 {
-    C::laws();
-    nodes_stay::<C>();
-    closed_book_has_closed_table::<C>();
-    finished_book_is_its_table::<C>();
-    live_pairs_are_units::<C>();
-    let _journal = book.journal();
-    if !is_closed(&book) {
-        return Err(book);
+    match read_closed_with_journal(book) {
+        Ok((closed, _)) => Ok(closed),
+        Err(book) => Err(book),
     }
-    let (chip, nodes, works) = book.into_live();
-    Ok(ClosedBook { chip, nodes, works })
 }

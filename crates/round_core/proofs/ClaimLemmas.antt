@@ -3,6 +3,7 @@ use Rattle.std.specs.Prelude.{◌≡◌, ℕ, zero, suc, ◌+◌, ◌<◌, ◌�
 use Rattle.std.specs.Option.{option_map}
 use Rattle.std.proofs.Common.{refl, sym, ◌∙◌, ap, subst, inl, inr, arith}
 use Rattle.std.proofs.lemmas.Bool.Decides.{nat_tests}
+use Rattle.std.proofs.Math.Path.{ap₂}
 use Rattle.call_context.specs.declared.node.Node.{Node}
 use Rattle.call_context.specs.declared.node.Node.TheVariants.{At, Exit}
 use Rattle.call_context.specs.declared.node.Unit.{Unit as WorkUnit}
@@ -176,6 +177,42 @@ module _ {A : Type 0} where
             ap (λ o. option_and_then (λ (v : WorkUnit). if is_some (place_out out v) then None else if due_of (done_at b.done v) (versions_of b.nodes v) then Some v else None) o) (known-unit_at u p k.known e)
             ∙ if_false _ _ _ (ap (λ o. is_some o) (home u k.at_home))
             ∙ if_true _ _ _ (due-is _ _ k.due)
+
+  place_one : (hs : List (Held A)) (n m : Node) (i : ℕ) → place_of hs n ≡ Some i → place_of hs m ≡ Some i → n ≡ m
+  place_one hs n m i e f =
+      let h = held-place hs n i e in
+      let g = held-place hs m i f in
+      let same : Some h.0 ≡ Some g.0 = sym h.2 ∙ g.2 in
+      let one : h.0 ≡ g.0 = cc in
+      sym h.3 ∙ ap (λ x. x.node) one ∙ g.3
+
+  -- a place has one unit
+  pub placed_one : (hs : List (Held A)) (u v : WorkUnit) (q : Place) → placed hs u ≡ Some q → placed hs v ≡ Some q → u ≡ v
+  placed_one hs (unit.One n) (unit.One m) q e f =
+      let i = map_some (λ (i : ℕ). place.One i) (place_of hs n) q e in
+      let j = map_some (λ (i : ℕ). place.One i) (place_of hs m) q f in
+      let same : place.One i.0 ≡ place.One j.0 = i.2 ∙ sym j.2 in
+      let at : i.0 ≡ j.0 = cc in
+      ap (λ x. unit.One x) (place_one hs n m j.0 (i.1 ∙ ap (λ k. Some k) at) j.1)
+  placed_one hs (unit.One n) (unit.Back m y) q e f =
+      let i = map_some (λ (i : ℕ). place.One i) (place_of hs n) q e in
+      let j = then_some (λ (i : ℕ). option_map (λ j. place.Back i j) (place_of hs y)) (place_of hs m) q f in
+      let k = map_some (λ (k : ℕ). place.Back j.0 k) (place_of hs y) q j.2 in
+      let bad : place.One i.0 ≡ place.Back j.0 k.0 = i.2 ∙ sym k.2 in absurd (cc)
+  placed_one hs (unit.Back n x) (unit.One m) q e f =
+      let i = map_some (λ (i : ℕ). place.One i) (place_of hs m) q f in
+      let j = then_some (λ (i : ℕ). option_map (λ j. place.Back i j) (place_of hs x)) (place_of hs n) q e in
+      let k = map_some (λ (k : ℕ). place.Back j.0 k) (place_of hs x) q j.2 in
+      let bad : place.One i.0 ≡ place.Back j.0 k.0 = i.2 ∙ sym k.2 in absurd (cc)
+  placed_one hs (unit.Back n x) (unit.Back m y) q e f =
+      let i = then_some (λ (i : ℕ). option_map (λ j. place.Back i j) (place_of hs x)) (place_of hs n) q e in
+      let l = map_some (λ (k : ℕ). place.Back i.0 k) (place_of hs x) q i.2 in
+      let j = then_some (λ (i : ℕ). option_map (λ j. place.Back i j) (place_of hs y)) (place_of hs m) q f in
+      let k = map_some (λ (k : ℕ). place.Back j.0 k) (place_of hs y) q j.2 in
+      let same : place.Back i.0 l.0 ≡ place.Back j.0 k.0 = l.2 ∙ sym k.2 in
+      let first : i.0 ≡ j.0 = cc in
+      let second : l.0 ≡ k.0 = cc in
+      ap₂ (λ a b. unit.Back a b) (place_one hs n m j.0 (i.1 ∙ ap (λ r. Some r) first) j.1) (place_one hs x y k.0 (l.1 ∙ ap (λ r. Some r) second) k.1)
 
   -- the order of units is the order of their places
   pub before-places : (hs : List (Held A)) (u v : WorkUnit) (p q : Place) → placed hs u ≡ Some p → placed hs v ≡ Some q → ComesBefore hs u v → IsBefore p q

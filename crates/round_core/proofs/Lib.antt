@@ -2,6 +2,7 @@ pub mod Cases
 pub mod ClaimEvent
 pub mod ClaimLemmas
 pub mod CountLaws
+pub mod CountedLemmas
 pub mod DerivedTests
 pub mod EntryLaws
 pub mod ExpectLemmas
@@ -22,10 +23,10 @@ pub mod PlacesLemmas
 pub mod PostEvent
 pub mod PostLemmas
 pub mod RaiseLemmas
+pub mod RaisedLemmas
 pub mod ReplayLaws
 pub mod RiseLaws
 pub mod SameLaws
-pub mod SetAllLemmas
 pub mod ShownLemmas
 pub mod TableLaws
 pub mod TableLemmas

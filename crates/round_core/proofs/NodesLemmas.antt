@@ -1,5 +1,5 @@
 -- The nodes of a book in the rows of a table.
-use Rattle.std.specs.Prelude.{◌≡◌, ◌≤◌, ℕ, Bool, Option, None, Some, List, [], ◌∷◌, map, length, slice_get, position, MatchOption}
+use Rattle.std.specs.Prelude.{◌≡◌, ◌≤◌, ℕ, Bool, Option, None, Some, List, [], ◌∷◌, map, length, slice_get, position, unwrap_or, IfSome, MatchOption}
 use Rattle.std.specs.Borrow.{Bor}
 use Rattle.std.specs.Option.{option_map}
 use Rattle.std.specs.Map.{keys_of, lookup}
@@ -9,19 +9,15 @@ use Rattle.indexmap.specs.IndexMap.{insert_entry}
 use Rattle.call_context.specs.declared.node.Node.{Node}
 use Rattle.round_core.specs.Same.{same_node}
 use Rattle.round_core.proofs.SameLaws.{same_node-eq}
-use Rattle.round_core.specs.Machine.{Held, held_at, with_held, place_of}
-use Rattle.round_core.specs.Nodes.{held_of, small_part, big_part}
+use Rattle.round_core.specs.Machine.{Held, held_at, with_held, place_of, version_of}
+use Rattle.round_core.specs.Nodes.{held_of, big_part}
 use Rattle.round_core.specs.Rows.{mark_part, value_part}
-use Rattle.round_core.proofs.Cases.{truth, if_true, if_false, no_place, get-map, map-get, length-parts}
+use Rattle.round_core.proofs.Cases.{truth, if_true, if_false, no_place, map-get, length-parts}
 
 abbrev some_zero : Option ℕ
 some_zero = Some 0
 
 module _ {A : Type 0} where
-  pub marks-nodes : (rows : List (Node × (A × ℕ))) → map mark_part rows ≡ map small_part (map held_of rows)
-  marks-nodes [] = refl
-  marks-nodes (row ∷ rows) = ap (λ t. mark_part row ∷ t) (marks-nodes rows)
-
   pub values-nodes : (rows : List (Node × (A × ℕ))) → map value_part rows ≡ map big_part (map held_of rows)
   values-nodes [] = refl
   values-nodes (row ∷ rows) = ap (λ t. value_part row ∷ t) (values-nodes rows)
@@ -48,9 +44,9 @@ module _ {A : Type 0} where
     ]
 
     -- what a table finds is what the book holds
-    pub found-held : (rows : List (Node × (A × ℕ))) (r : Option (Bor A × ℕ))
-        → MatchOption r (lookup test rows ≡ None) (λ found. lookup test rows ≡ Some (found.0.now, found.1))
-        → MatchOption r (held_at (map held_of rows) node ≡ None) (λ found. held_at (map held_of rows) node ≡ Some (record { node = node; state = found.0.now; rises = found.1 }))
+    pub found-held : (rows : List (Node × (A × ℕ))) (r : Option (ℕ × Bor A × ℕ))
+        → MatchOption r (lookup test rows ≡ None) (λ found. lookup test rows ≡ Some (found.1.now, found.2))
+        → MatchOption r (held_at (map held_of rows) node ≡ None) (λ found. held_at (map held_of rows) node ≡ Some (record { node = node; state = found.1.now; rises = found.2 }))
     found-held rows None h = lookup-held rows ∙ ap (option_map found_as) h
     found-held rows (Some found) h = lookup-held rows ∙ ap (option_map found_as) h
 
@@ -61,14 +57,31 @@ module _ {A : Type 0} where
       | inr s ↦ let e = t row.0 ∙ s in let i = position-nodes rows in grind (arith, nat_tests, e, s, i)
     ]
 
-  -- the node of a key at a place
-  pub node-at : (rows : List (Node × (A × ℕ))) (place : ℕ) (r : Option (Bor Node))
-      → MatchOption r (length rows ≤ place) (λ key. slice_get (keys_of rows) place ≡ Some key.now)
-      → MatchOption r (length (map held_of rows) ≤ place) (λ key. (row : Held A) × (slice_get (map held_of rows) place ≡ Some row) × (key.now ≡ row.node))
-  node-at rows place None h = let l = length-parts held_of rows in omega arith
-  node-at rows place (Some key) h =
-      let row = get-map (λ (e : Node × (A × ℕ)). e.0) rows place key.now h in
-      (held_of row.0, map-get held_of rows place row.0 row.1, row.2)
+  -- the row at a place
+  pub row-at : (rows : List (Node × (A × ℕ))) (place : ℕ) (r : Option (Bor Node × Bor A × ℕ))
+      → MatchOption r (length rows ≤ place) (λ found. slice_get rows place ≡ Some (found.0.now, (found.1.now, found.2)))
+      → MatchOption r (length (map held_of rows) ≤ place) (λ found. slice_get (map held_of rows) place ≡ Some (held_of (found.0.now, (found.1.now, found.2))))
+  row-at rows place None h = let l = length-parts held_of rows in omega arith
+  row-at rows place (Some found) h = map-get held_of rows place (found.0.now, (found.1.now, found.2)) h
+
+  version-marks : (node : Node) (test : Node → Bool) → ((k : Node) → test k ≡ same_node node k) → (rows : List (Node × (A × ℕ))) (count : ℕ)
+      → lookup test (map mark_part rows) ≡ Some count → version_of (map held_of rows) node ≡ count
+  version-marks node test t [] count h = absurd (cc)
+  version-marks node test t (row ∷ rows) count h = elim (truth (same_node node row.0)) [
+    | inl s ↦
+        let here : Some row.1.1 ≡ Some count = sym (if_true _ _ _ (t row.0 ∙ s)) ∙ h in
+        let same : row.1.1 ≡ count = cc in
+        ap (λ o. unwrap_or (option_map (λ (h : Held A). h.rises) o) 0) (if_true _ _ _ s) ∙ same
+    | inr s ↦
+        ap (λ o. unwrap_or (option_map (λ (h : Held A). h.rises) o) 0) (if_false _ _ _ s)
+        ∙ version-marks node test t rows count (sym (if_false _ _ _ (t row.0 ∙ s)) ∙ h)
+  ]
+
+  -- what a mark is found to be is how often its node rose
+  pub version-at : (eq : Node → Node → Bool) → ((n k : Node) → eq n k ≡ same_node n k) → (rows : List (Node × (A × ℕ))) (r : Option (Bor Node × Bor A × ℕ))
+      → IfSome r (λ found. lookup (eq found.0.now) (map mark_part rows) ≡ Some found.2) → IfSome r (λ found. version_of (map held_of rows) found.0.now ≡ found.2)
+  version-at eq t rows None h = tt
+  version-at eq t rows (Some found) h = version-marks found.0.now (eq found.0.now) (t found.0.now) rows found.2 h
 
   pub set-nodes : (eq : Node → Node → Bool) (node : Node) → ((k : Node) → eq node k ≡ same_node node k) → (state : A) (rises : ℕ) (rows : List (Node × (A × ℕ)))
       → map held_of (insert_entry eq rows node (state, rises)) ≡ with_held (map held_of rows) (held_of (node, (state, rises)))

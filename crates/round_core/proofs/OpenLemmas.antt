@@ -13,7 +13,7 @@ use Rattle.round_core.specs.declared.agenda.Agenda.{Agenda}
 use Rattle.round_core.specs.declared.parts.Parts.{Parts}
 use Rattle.round_core.specs.declared.place.Place.TheVariants as place
 use Rattle.round_core.specs.Machine.{Held, place_of, held_at, IsUnit}
-use Rattle.round_core.specs.Agenda.{IsIn, places_in}
+use Rattle.round_core.specs.Agenda.{AreDifferent, IsIn, places_in}
 use Rattle.round_core.specs.Expected.{ExpectsNode}
 use Rattle.round_core.specs.Opening.{one_node}
 use Rattle.round_core.specs.Shown.{IsExpected, Shows}
@@ -43,6 +43,10 @@ module _ {A : Type 0} (node : Node) (state : A) where
     out = λ u o h. absurd (cc);
     count = ap Rattle.std.specs.Prelude.length os;
     apart = tt;
+    given_back = record {
+      once = subst (λ l. AreDifferent l) (sym rs) tt;
+      home = λ u q h i. let none : IsIn q [] = subst (λ l. IsIn q l) rs i in none;
+    };
     expected = λ u k. expect u k.known;
     waiting = λ n f w. let bad : false ≡ true = w in absurd (cc);
     exits = λ pc f i at. exit pc f i at;

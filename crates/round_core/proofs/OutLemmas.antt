@@ -1,5 +1,6 @@
 -- Units that go out and come home.
 use Rattle.std.specs.Prelude.{◌≡◌, ◌+◌, true, false, if◌then◌else◌, Option, None, Some, List, [], ◌∷◌, ◌++◌, length}
+use Rattle.std.specs.BTreeSet.{BTreeSet}
 use Rattle.std.proofs.Common.{refl, sym, ◌∙◌, ap, subst, inl, inr, arith, length-append}
 use Rattle.call_context.specs.declared.node.Node.TheVariants.{At, Exit}
 use Rattle.call_context.specs.declared.node.Unit.{Unit as WorkUnit}
@@ -10,10 +11,13 @@ use Rattle.round_core.specs.declared.place.Place.{Place}
 use Rattle.round_core.specs.declared.parts.Parts.{Parts}
 use Rattle.round_core.specs.Machine.{BookState, Out, out_at, without, IsUnit, IsClaimable}
 use Rattle.round_core.specs.Claims.{placed}
-use Rattle.round_core.specs.Turns.{place_out, Standing, TakesHome}
+use Rattle.round_core.specs.Turns.{place_out, AreGivenBack, Standing, TakesHome}
+use Rattle.round_core.specs.Agenda.{AreDifferent, IsIn}
 use Rattle.round_core.specs.Shown.{AreApart, IsExpected, Shows}
+use Rattle.round_core.proofs.ClaimLemmas.{placed_one}
+use Rattle.round_core.proofs.ShownLemmas.{none_in, with_returned}
 use Rattle.round_core.proofs.Cases.{truth, if_true, if_false}
-use Rattle.round_core.proofs.ListLemmas.{IsIn-append, IsIn-last}
+use Rattle.round_core.proofs.ListLemmas.{IsIn-append, IsIn-last, IsIn-split, different_append}
 
 -- the test of units, the other way round
 pub same_unit-sym : (u v : WorkUnit) → same_unit u v ≡ false → same_unit v u ≡ false
@@ -39,6 +43,20 @@ place_out-last (f ∷ es) e u h = elim (truth (same_unit u f.0)) [
   | inl s ↦ let bad : Some f.1 ≡ None = sym (if_true _ _ _ s) ∙ h in absurd (cc)
   | inr s ↦ if_false _ _ _ s ∙ place_out-last es e u (sym (if_false _ _ _ s) ∙ h)
 ]
+
+-- what is out once a unit is home was out before, and is another one
+was_out : (old new : List (WorkUnit × Place)) (u v : WorkUnit) (q : Place) → TakesHome old u new → place_out new v ≡ Some q
+    → (same_unit u v ≡ false) × (place_out old v ≡ Some q)
+was_out old new u v q t e = elim (truth (same_unit u v)) [
+  | inl i ↦ let bad : None ≡ Some q = sym (if_true _ _ _ i) ∙ sym (t.places v) ∙ e in absurd (cc)
+  | inr i ↦ (i, sym (if_false _ _ _ i) ∙ sym (t.places v) ∙ e)
+]
+
+pub posted_back : (old new : Standing) (u : WorkUnit) → TakesHome old.out u new.out → new.returned ≡ old.returned → AreGivenBack old → AreGivenBack new
+posted_back old new u t e a = record {
+  once = subst (λ l. AreDifferent l) (sym e) a.once;
+  home = λ v q h i. a.home v q (was_out old.out new.out u v q t h).1 (subst (λ l. IsIn q l) e i);
+}
 
 module _ {A : Type 0} where
   pub out_at-last-there : (os : List (Out A)) (o : Out A) (u : WorkUnit) (x : Out A) → out_at os u ≡ Some x → out_at (os ++ o ∷ []) u ≡ Some x
@@ -77,12 +95,21 @@ module _ {A : Type 0} where
   abbrev pub with_turns : Parts A → Standing → Parts A
   with_turns p turns = record p { turns = turns }
 
-  -- a unit goes out
-  pub claim-shown : (b : BookState A) (p : Parts A) (turns : Standing) (o : Out A) (u : WorkUnit) (place : Place)
+  -- the place that goes out with a unit is that of the unit
+  placed_out : (b : BookState A) (p : Parts A) → Shows b p → (v : WorkUnit) (q : Place) → place_out p.turns.out v ≡ Some q → placed b.nodes v ≡ Some q
+  placed_out b p s v q e = at (out_at b.out v) refl
+    where
+      at : (o : Option (Out A)) → out_at b.out v ≡ o → placed b.nodes v ≡ Some q
+      at None h = let bad : None ≡ Some q = sym (s.home v h) ∙ e in absurd (cc)
+      at (Some o) h = let g = s.out v o h in let same : Some g.0 ≡ Some q = sym g.1 ∙ e in g.2 ∙ same
+
+  -- a unit goes out, and its place is no candidate any more
+  pub claim-shown : (b : BookState A) (p : Parts A) (turns : Standing) (set : BTreeSet Place) (o : Out A) (u : WorkUnit) (place : Place)
       → Shows b p → IsClaimable b u → placed b.nodes u ≡ Some place → o.unit ≡ u
-      → turns.out ≡ p.turns.out ++ (u, place) ∷ [] → turns.returned ≡ p.turns.returned
-      → Shows (record b { out = b.out ++ o ∷ [] }) (with_turns p turns)
-  claim-shown b p turns o u place s k at own outs returned = record {
+      → turns.out ≡ p.turns.out ++ (u, place) ∷ [] → turns.returned ≡ [] → p.turns.returned ≡ []
+      → ((q : Place) → IsIn q p.agenda.candidates.keys → (q ≡ place → ⊥) → IsIn q set.keys)
+      → Shows (record b { out = b.out ++ o ∷ [] }) (with_returned p set turns)
+  claim-shown b p turns set o u place s k at own outs returned empty kept = record {
     nodes = s.nodes;
     done = s.done;
     distinct = s.distinct;
@@ -97,17 +124,31 @@ module _ {A : Type 0} where
         let e = ap length outs in
         let c = s.count in omega arith;
     apart = apart-last b.out o s.apart (ap (λ w. out_at b.out w) own ∙ k.at_home);
+    given_back = record { once = subst (λ l. AreDifferent l) (sym returned) tt; home = λ v q h i. none_in q _ returned i };
     expected = λ v c.
         let was : IsClaimable b v = record {
           known = unit-of b (b.out ++ o ∷ []) v c.known;
           at_home = none_before b.out o v (out_at b.out v) refl c.at_home;
           due = c.due;
         } in
-        subst (λ r. IsExpected b.nodes p.agenda.candidates.keys r v) (sym returned) (s.expected v was);
+        let x = s.expected v was in (
+          x.0,
+          x.1,
+          elim x.2 [
+            | inl i ↦ inl (kept x.0 i (λ same. taken v (placed_one b.nodes v u x.0 x.1 (at ∙ ap (λ q. Some q) (sym same))) was.at_home c.at_home))
+            | inr r ↦ absurd (none_in x.0 _ empty r)
+          ],
+        );
     waiting = s.waiting;
     exits = s.exits;
   }
     where
+      -- the unit itself is out
+      taken : (v : WorkUnit) → v ≡ u → out_at b.out v ≡ None → out_at (b.out ++ o ∷ []) v ≡ None → ⊥
+      taken v e before h =
+          let i : same_unit v o.unit ≡ true = subst (λ w. same_unit v w ≡ true) (e ∙ sym own) (same_unit-refl v) in
+          let bad : Some o ≡ None = sym (if_true _ _ _ i) ∙ sym (out_at-last b.out o v before) ∙ h in absurd (cc)
+
       not_it : (v : WorkUnit) → out_at (o ∷ []) v ≡ None → place_out ((u, place) ∷ []) v ≡ None
       not_it v h = elim (truth (same_unit v u)) [
         | inl t ↦
@@ -199,6 +240,30 @@ module _ {A : Type 0} where
     apart = apart-without b.out u s.apart;
   }
 
+  returned_back : (b : BookState A) (p : Parts A) (turns : Standing) (u : WorkUnit) (place : Place)
+      → Shows b p → TakesHome p.turns.out u turns.out → place_out p.turns.out u ≡ Some place
+      → turns.returned ≡ p.turns.returned ++ place ∷ [] → AreGivenBack turns
+  returned_back b p turns u place s t at returned = record {
+    once = subst (λ l. AreDifferent l) (sym returned)
+        (different_append p.turns.returned (place ∷ []) s.given_back.once (λ h. h, tt) (λ q a h. elim h [
+          | inl e ↦ s.given_back.home u place at (subst (λ r. IsIn r p.turns.returned) e a)
+          | inr none ↦ none
+        ]));
+    home = λ v q h i.
+        let w = was_out p.turns.out turns.out u v q t h in
+        elim (IsIn-split q p.turns.returned (place ∷ []) (subst (λ l. IsIn q l) returned i)) [
+          | inl old ↦ s.given_back.home v q w.1 old
+          | inr last ↦ elim last [
+            | inl e ↦
+                let at_u : placed b.nodes u ≡ Some q = placed_out b p s u place at ∙ ap (λ r. Some r) (sym e) in
+                let one : u ≡ v = placed_one b.nodes u v q at_u (placed_out b p s v q w.1) in
+                let same : same_unit u v ≡ true = subst (λ x. same_unit u x ≡ true) one (same_unit-refl u) in
+                let bad : true ≡ false = sym same ∙ w.0 in absurd (cc)
+            | inr none ↦ none
+          ]
+        ];
+  }
+
   -- a unit comes home without work
   pub give_back-shown : (b : BookState A) (p : Parts A) (turns : Standing) (u : WorkUnit) (o : Out A) (place : Place)
       → Shows b p → out_at b.out u ≡ Some o → TakesHome p.turns.out u turns.out → place_out p.turns.out u ≡ Some place
@@ -213,6 +278,7 @@ module _ {A : Type 0} where
         out = h.out;
         count = h.count;
         apart = h.apart;
+        given_back = returned_back b p turns u place s t at returned;
         expected = λ v c. subst (λ r. IsExpected b.nodes p.agenda.candidates.keys r v) (sym returned) (elim (truth (same_unit u v)) [
           | inl i ↦
               let same : u ≡ v = same_unit-eq u v i in

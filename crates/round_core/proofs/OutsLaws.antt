@@ -1,5 +1,5 @@
 -- What is out to a seat, through the events of others, and over a turn of one worker.
-use Rattle.std.specs.Prelude.{◌≡◌, ◌≢◌, ℕ, false, None, Some, List, [], ◌∷◌, ◌++◌, if◌then◌else◌}
+use Rattle.std.specs.Prelude.{◌≡◌, ◌≢◌, ℕ, false, Option, None, Some, List, [], ◌∷◌, ◌++◌, if◌then◌else◌}
 use Rattle.std.proofs.Common.{refl, sym, ◌∙◌, ap, subst}
 use Rattle.std.proofs.lemmas.Bool.{false_from_ne_true}
 use Rattle.std.proofs.lemmas.Option.{same_Some}
@@ -7,8 +7,8 @@ use Rattle.call_context.specs.declared.node.Unit.{Unit as WorkUnit}
 use Rattle.round_core.specs.Same.{same_unit}
 use Rattle.round_core.proofs.SameLaws.{same_unit-eq, same_unit-refl}
 use Rattle.chip_law.specs.Analysis.{Analysis}
-use Rattle.round_core.specs.Counts.{seat_of, NoneOfSeat}
-use Rattle.round_core.specs.Machine.{BookState, Out, out_at, without, after, posted, replay_from, IsFirst, IsLegal, AllLegal}
+use Rattle.round_core.specs.Counts.{seat_of, NoneOfSeat, unit_of}
+use Rattle.round_core.specs.Machine.{BookState, Out, out_at, without, with_out, inputs_of, after, posted, replay_from, IsFirst, IsLegal, AllLegal}
 use Rattle.round_core.specs.declared.event.Event.{Event}
 use Rattle.round_core.specs.declared.event.Event.TheVariants.{Claim, Post, GiveBack}
 use Rattle.round_core.proofs.EntryLaws.{all-any, out_at-all, out_at-push_found, out_at-without_other}
@@ -46,6 +46,24 @@ unfolding replay_from AllLegal
 outs-stay m b [] unit o legal e none = e
 outs-stay m b (event ∷ more) unit o legal e none =
     outs-stay m (after m b event) more unit o legal.1 (out-after m b event unit o legal.0 none.0 e) none.1
+
+-- an event of another unit leaves a unit out
+pub out-beside : {A : Type 0} (m : Analysis A) (b : BookState A) (event : Event) (unit : WorkUnit) (o : Out A) → out_at b.out unit ≡ Some o
+    → same_unit unit (unit_of event) ≡ false → out_at (after m b event).out unit ≡ Some o
+unfolding after
+out-beside {A = A} m b (Claim seat u) unit o e other = claimed (inputs_of b.nodes u)
+  where
+    claimed : (inputs : Option (A × Option A)) → out_at (with_out b seat u inputs) unit ≡ Some o
+    claimed None = e
+    claimed (Some i) = out_at-push_found b.out (taken b seat u i) unit o e
+out-beside {A = A} m b (Post seat u) unit o e other = home (out_at b.out u) refl
+  where
+    home : (p : Option (Out A)) → out_at b.out u ≡ p → out_at (posted m b p).out unit ≡ Some o
+    home None is = e
+    home (Some p) is =
+        let own : p.unit ≡ u = unit_of_out b.out u p is in
+        out_at-without_other b.out p.unit unit (subst (λ v. same_unit unit v ≡ false) (sym own) other) ∙ e
+out-beside {A = A} m b (GiveBack seat u) unit o e other = out_at-without_other b.out u unit other ∙ e
 
 -- what a turn of one worker leaves: the post is legal, and then nothing is out again
 pub record IsTurned {A : Type 0} (m : Analysis A) (b : BookState A) (seat : ℕ) (unit : WorkUnit) : Type 0 where

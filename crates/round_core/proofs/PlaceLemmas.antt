@@ -1,22 +1,23 @@
 -- The order of places, and sets of them.
-use Rattle.std.specs.Prelude.{◌≡◌, ℕ, ◌<◌, ◌⊎◌, true, false, List, [], ◌∷◌, length, slice_get, Option, None, Some, IfSome, IsSome, ◌↔◌}
+use Rattle.std.specs.Prelude.{◌≡◌, ℕ, ◌<◌, ◌⊎◌, ◌||◌, Bool, cond, true, false, List, [], ◌∷◌, length, slice_get, Option, None, Some, IfSome, IsSome, ◌↔◌}
+use Rattle.std.specs.List.{AllByRecursion, list_any}
+use Rattle.std.specs.List.Sorted.{IsStrictlySortedBy}
 use Rattle.std.specs.Option.{option_map}
 use Rattle.std.specs.Borrow.{Bor}
 use Rattle.std.proofs.Common.{refl, sym, ◌∙◌, ap, subst, inl, inr, arith}
 use Rattle.std.proofs.Math.Path.{ap₂}
 use Rattle.std.proofs.lemmas.Bool.Decides.{nat_tests}
 use Rattle.std.specs.Cmp.{nat_cmp_is}
-use Rattle.std.specs.Ordering.{nat_cmp, match_ordering, ordering_then, is_gt}
+use Rattle.std.specs.Ordering.{nat_cmp, match_ordering, ordering_then, is_eq, is_gt}
+use Rattle.std.specs.BTreeMap.{is_at}
 use Rattle.std.specs.BTreeSet.{insert_key}
+use Rattle.std.specs.Set.{remove_key}
 use Rattle.std.specs.declared.cmp.Ordering.{Ordering}
 use Rattle.std.specs.declared.cmp.Ordering.TheVariants.{Less, Equal, Greater}
 use Rattle.round_core.specs.declared.place.Place.{Place}
 use Rattle.round_core.specs.declared.place.Place.TheVariants.{One, Back}
-use Rattle.round_core.specs.contracts.place.PlaceOrd.TheImpl as place_impl
-use Rattle.round_core.specs.Agenda.{IsIn}
-
-abbrev pub place_cmp : Place → Place → Ordering
-place_cmp = (place_impl.ghosts).cmp
+use Rattle.round_core.specs.Agenda.{AreDifferent, IsIn}
+use Rattle.round_core.specs.Shown.{place_cmp}
 
 -- a place before another one
 abbrev pub IsBefore : Place → Place → Type 0
@@ -86,3 +87,69 @@ pub popped : (old new : List Place) (r : Option Place) (p : Place) → slice_get
 popped [] new r p g h v = absurd (cc)
 popped (x ∷ old) new None p g h v = let some : false ≡ true = v.1 (omega arith) in absurd (cc)
 popped (x ∷ old) new (Some k) p g h v = let e : x ≡ p = cc in let d : old ≡ new = cc in ap₂ (λ a b. a ∷ b) e d
+
+-- a place is equal to itself alone
+cmp-same : (p : Place) → place_cmp p p ≡ Equal
+cmp-same (One a) = nat_same a a refl
+cmp-same (Back a x) = ap₂ (λ o u. ordering_then o u) (nat_same a a refl) (nat_same x x refl)
+
+equal_from_test : (o : Ordering) → is_eq o ≡ true → o ≡ Equal
+equal_from_test Less h = absurd (cc)
+equal_from_test Equal h = refl
+equal_from_test Greater h = absurd (cc)
+
+is_place : (k x : Place) → is_at (place_cmp k) x ≡ true → k ≡ x
+is_place k x h = cmp-equal k x (equal_from_test (place_cmp k x) h)
+
+removed_at : (t : Bool) (x p : Place) (xs more : List Place) → (t ≡ true → p ≡ x → ⊥) → (IsIn p xs → IsIn p more) → IsIn p (x ∷ xs) → IsIn p (cond t xs (x ∷ more))
+removed_at true x p xs more other e h = elim h [ inl s ↦ absurd (other refl s) | inr r ↦ r ]
+removed_at false x p xs more other e h = elim h [ inl s ↦ inl s | inr r ↦ inr (e r) ]
+
+-- where a place is removed the others stay
+pub remove_key-kept : (ks : List Place) (k p : Place) → IsIn p ks → (p ≡ k → ⊥) → IsIn p (remove_key (is_at (place_cmp k)) ks)
+remove_key-kept [] k p h other = absurd h
+remove_key-kept (x ∷ xs) k p h other =
+    removed_at (is_at (place_cmp k) x) x p xs _ (λ t s. other (s ∙ sym (is_place k x t))) (λ r. remove_key-kept xs k p r other) h
+
+-- whether a place is in a list
+either_true : (a b : Bool) → (a || b) ≡ true → (a ≡ true) ⊎ (b ≡ true)
+either_true true b h = inl refl
+either_true false b h = inr h
+
+neither_true : (a b : Bool) → (a || b) ≡ false → (a ≡ false) × (b ≡ false)
+neither_true true b h = absurd (cc)
+neither_true false b h = (refl, h)
+
+pub there : (ks : List Place) (q : Place) → list_any (is_at (place_cmp q)) ks ≡ true → IsIn q ks
+there [] q h = absurd (cc)
+there (x ∷ xs) q h = elim (either_true (is_at (place_cmp q) x) (list_any (is_at (place_cmp q)) xs) h) [
+  | inl here ↦ inl (is_place q x here)
+  | inr more ↦ inr (there xs q more)
+]
+
+pub not_there : (ks : List Place) (q : Place) → list_any (is_at (place_cmp q)) ks ≡ false → IsIn q ks → ⊥
+not_there [] q h i = i
+not_there (x ∷ xs) q h i =
+    let n = neither_true (is_at (place_cmp q) x) (list_any (is_at (place_cmp q)) xs) h in
+    elim i [
+      | inl e ↦
+          let here : is_at (place_cmp q) q ≡ false = subst (λ z. is_at (place_cmp q) z ≡ false) (sym e) n.0 in
+          let same : is_at (place_cmp q) q ≡ true = ap is_eq (cmp-same q) in
+          let bad : true ≡ false = sym same ∙ here in absurd (cc)
+      | inr r ↦ not_there xs q n.1 r
+    ]
+
+not_above : (x : Place) (xs : List Place) → AllByRecursion (λ y. place_cmp x y ≡ Less) xs → IsIn x xs → ⊥
+not_above x [] a h = h
+not_above x (y ∷ ys) a h = elim h [
+  | inl e ↦
+      let less : place_cmp x x ≡ Less = subst (λ z. place_cmp x z ≡ Less) (sym e) a.0 in
+      let bad : Equal ≡ Less = sym (cmp-same x) ∙ less in absurd (cc)
+  | inr r ↦ not_above x ys a.1 r
+]
+
+-- the places of a set are different
+pub sorted-different : (ks : List Place) → IsStrictlySortedBy place_cmp ks → AreDifferent ks
+unfolding IsStrictlySortedBy
+sorted-different [] s = tt
+sorted-different (x ∷ xs) s = (λ h. not_above x xs s.0 h, sorted-different xs s.1)

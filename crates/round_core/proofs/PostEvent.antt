@@ -12,7 +12,7 @@ use Rattle.round_core.specs.Expected.{Grows, ExpectsRows, ExpectsUnit}
 use Rattle.round_core.specs.Prepared.{IsPrepared}
 use Rattle.round_core.specs.Raise.{with_all}
 use Rattle.round_core.specs.Shown.{Shows}
-use Rattle.round_core.specs.Turns.{place_out, TakesHome}
+use Rattle.round_core.specs.Turns.{place_out, AreGivenBack, TakesHome}
 use Rattle.round_core.proofs.MachineLemmas.{replay-more, after-post}
 use Rattle.round_core.proofs.PostLemmas.{behind-shown}
 
@@ -27,6 +27,7 @@ module _ {A : Type 0} where
     out = λ u o h. let x = s.out u o h in (x.0, ap (λ t. place_out t.out u) ts ∙ x.1, x.2);
     count = ap (λ t. length t.out) ts ∙ s.count;
     apart = s.apart;
+    given_back = subst (λ t. AreGivenBack t) (sym ts) s.given_back;
     expected = λ u k.
         let x = s.expected u k in (
           x.0,

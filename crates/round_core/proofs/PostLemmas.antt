@@ -25,7 +25,7 @@ use Rattle.round_core.specs.Shown.{AreDistinct, IsExpected, Shows}
 use Rattle.round_core.specs.Turns.{TakesHome}
 use Rattle.round_core.proofs.Cases.{truth, if_true, if_false, then_some, map_some}
 use Rattle.round_core.proofs.ClaimLemmas.{held-place, place-held}
-use Rattle.round_core.proofs.OutLemmas.{same_unit-sym, comes_home, out_at-without}
+use Rattle.round_core.proofs.OutLemmas.{same_unit-sym, comes_home, out_at-without, posted_back}
 use Rattle.round_core.proofs.RaiseLemmas.{held_at-with_all-none, distinct-with_all, place-with_all}
 use Rattle.round_core.proofs.WaitLemmas.{any-in}
 
@@ -255,6 +255,7 @@ module _ {A : Type 0} (b : BookState A) (p p' : Parts A) (o : Out A) (work : Rat
         out = λ v x h. let q = c.out v x h in (q.0, q.1, placed-kept b.nodes raised v q.0 q.2);
         count = c.count;
         apart = c.apart;
+        given_back = posted_back p.turns p'.turns o.unit home ret s.given_back;
         expected = expect;
         waiting = wait;
         exits = λ pc f i at. g2.exits f i (exits-mid pc f i at);

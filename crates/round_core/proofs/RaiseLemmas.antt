@@ -143,6 +143,13 @@ module _ {A : Type 0} where
     | inr s ↦ if_false _ _ _ s ∙ ap (λ t. g ∷ t) (with_held-there hs h (sym (if_false _ _ _ s) ∙ e))
   ]
 
+  pub place-none : (hs : List (Held A)) (n : Node) → held_at hs n ≡ None → place_of hs n ≡ None
+  place-none [] n e = refl
+  place-none (h ∷ hs) n e = elim (truth (same_node n h.node)) [
+    | inl s ↦ let bad : Some h ≡ None = sym (if_true _ _ _ s) ∙ e in absurd (cc)
+    | inr s ↦ if_false _ _ _ s ∙ ap (λ o. option_map (λ place. place + 1) o) (place-none hs n (sym (if_false _ _ _ s) ∙ e))
+  ]
+
   -- places stay, and a new row goes last
   pub place-with_held : (hs : List (Held A)) (x : Held A) (n : Node) (p : ℕ) → place_of hs n ≡ Some p → place_of (with_held hs x) n ≡ Some p
   place-with_held [] x n p e = absurd (cc)

@@ -11,15 +11,15 @@ use Rattle.round_core.specs.Machine.{BookState, IsClaimable, IsFirst, NoneClaima
 use Rattle.round_core.specs.Claims.{placed, claimable_at}
 use Rattle.round_core.specs.Agenda.{IsIn}
 use Rattle.round_core.specs.Turns.{Standing}
-use Rattle.round_core.specs.Shown.{IsExpected, Shows, found_at}
+use Rattle.round_core.specs.Shown.{IsExpected, Shows, found_at, place_cmp}
 use Rattle.round_core.proofs.ClaimLemmas.{claimable_at-is, claimable_at-finds, before-places}
 use Rattle.round_core.proofs.ListLemmas.{index_of}
-use Rattle.round_core.proofs.PlaceLemmas.{place_cmp, not_before}
+use Rattle.round_core.proofs.PlaceLemmas.{not_before}
 
 some_place : (o : Option Place) (p : Place) → o ≡ Some p → is_some o ≡ true
 some_place o p e = ap (λ t. is_some t) e
 
-none_in : {X : Type 0} → (x : X) (xs : List X) → xs ≡ [] → IsIn x xs → ⊥
+pub none_in : {X : Type 0} → (x : X) (xs : List X) → xs ≡ [] → IsIn x xs → ⊥
 none_in x xs e h = subst (λ ys. IsIn x ys) e h
 
 module _ {A : Type 0} where
@@ -36,6 +36,7 @@ module _ {A : Type 0} where
     out = s.out;
     count = s.count;
     apart = s.apart;
+    given_back = s.given_back;
     expected = e;
     waiting = s.waiting;
     exits = s.exits;
@@ -112,6 +113,7 @@ module _ {A : Type 0} where
         out = s.out;
         count = s.count;
         apart = s.apart;
+        given_back = record { once = tt; home = λ u q h i. i };
         expected = λ u k. let x = s.expected u k in (x.0, x.1, inl (elim x.2 [ inl i ↦ kept x.0 i | inr i ↦ added x.0 i ]));
         waiting = s.waiting;
         exits = s.exits;

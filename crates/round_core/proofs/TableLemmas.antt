@@ -1,11 +1,13 @@
 -- The two lists of a table are the parts of the same rows.
-use Rattle.std.specs.Prelude.{◌≡◌, ℕ, zero, suc, ◌+◌, ◌<◌, Bool, cond, Option, None, Some, List, [], ◌∷◌, ◌++◌, map, length, slice_get, slice_index_or, slice_set, position}
+use Rattle.std.specs.Prelude.{◌≡◌, ℕ, zero, suc, ◌+◌, ◌<◌, Bool, true, false, cond, Option, None, Some, List, [], ◌∷◌, ◌++◌, map, length, slice_get, slice_index_or, slice_set, position}
 use Rattle.std.specs.Option.{option_map}
+use Rattle.std.specs.Cmp.{IsEquivalence}
+use Rattle.std.specs.List.{AllByRecursion, IsDistinct}
 use Rattle.std.specs.Map.{keys_of, lookup}
 use Rattle.std.proofs.Common.{refl, sym, ◌∙◌, ap, subst, inl, inr, arith}
 use Rattle.std.proofs.Math.Path.{ap₂}
 use Rattle.std.proofs.lemmas.Bool.Decides.{nat_tests}
-use Rattle.indexmap.specs.IndexMap.{insert_entry}
+use Rattle.indexmap.specs.IndexMap.{insert_entry, set_value_at}
 use Rattle.round_core.specs.Rows.{mark_part, value_part, rows_of, AreRowsOf, with_value, with_entry}
 use Rattle.round_core.proofs.Cases.{truth, if_true, if_false, next_place, no_place}
 
@@ -41,6 +43,14 @@ module _ {K V M : Type 0} where
   rows_are marks values rows m v =
       let e : rows_of marks values ≡ rows = ap₂ (λ x y. rows_of x y) m v ∙ rows_of-parts rows in
       (e, record { marks_are = m ∙ ap (λ t. map mark_part t) (sym e); values_are = v ∙ ap (λ t. map value_part t) (sym e) })
+
+  -- the row at a place, by its two parts
+  pub row-of : (rows : List (K × (V × M))) (i : ℕ) (k : K) (m : M) → slice_get (map mark_part rows) i ≡ Some (k, m)
+      → (b : K × V) → slice_get (map value_part rows) i ≡ Some b → slice_get rows i ≡ Some (k, (b.1, m))
+  row-of [] i k m g b q = absurd (cc)
+  row-of (row ∷ rows) zero k m g b q =
+      let e : mark_part row ≡ (k, m) = cc in let f : value_part row ≡ b = cc in ap₂ (λ t v. Some (t.0, (v, t.1))) e (ap (λ t. t.1) f)
+  row-of (row ∷ rows) (suc i) k m g b q = row-of rows i k m g b q
 
   pub keys-marks : (rows : List (K × (V × M))) → keys_of (map mark_part rows) ≡ keys_of rows
   keys-marks [] = refl
@@ -152,3 +162,52 @@ module _ {K V M : Type 0} where
     pub values-set : (rows : List (K × (V × M))) (o : Option ℕ) → o ≡ position (eq key) (keys_of rows)
         → with_entry (map value_part rows) o key value ≡ map value_part (insert_entry eq rows key (value, mark))
     values-set rows o e = value-set rows o (e ∙ position-place (eq key) rows)
+
+-- a value that is put at the place of its key
+insert-place : {K X : Type 0} → (eq : K → K → Bool) (key : K) (x : X) (es : List (K × X)) (i : ℕ) → place_by (eq key) es ≡ Some i → set_value_at es i x ≡ insert_entry eq es key x
+insert-place eq key x [] i p = absurd (cc)
+insert-place eq key x (e ∷ es) i p = elim (truth (eq key e.0)) [
+  | inl s ↦
+      let here : some_zero ≡ Some i = sym (if_true _ _ _ s) ∙ p in
+      let z : 0 ≡ i = cc in
+      subst (λ n. set_value_at (e ∷ es) n x ≡ (e.0, x) ∷ es) z refl ∙ sym (if_true _ _ _ s)
+  | inr s ↦
+      let n = next_place (place_by (eq key) es) i (sym (if_false _ _ _ s) ∙ p) in
+      let below : suc n.0 ≡ i = omega arith in
+      subst (λ m. set_value_at (e ∷ es) m x ≡ e ∷ insert_entry eq es key x) below (ap (λ t. e ∷ t) (insert-place eq key x es n.0 n.1))
+      ∙ sym (if_false _ _ _ s)
+]
+
+pub insert-there : {K X : Type 0} → (eq : K → K → Bool) (key : K) (x : X) (es : List (K × X)) (i : ℕ) → position (eq key) (keys_of es) ≡ Some i
+    → set_value_at es i x ≡ insert_entry eq es key x
+insert-there eq key x es i p = insert-place eq key x es i (sym (position-place (eq key) es) ∙ p)
+
+bound-by : {K X : Type 0} → (test : K → Bool) (es : List (K × X)) (i : ℕ) → place_by test es ≡ Some i → i < length es
+bound-by test [] i p = absurd (cc)
+bound-by test (e ∷ es) i p = elim (truth (test e.0)) [
+  | inl s ↦ let here : some_zero ≡ Some i = sym (if_true _ _ _ s) ∙ p in let z : i ≡ 0 = cc in omega arith
+  | inr s ↦ let n = next_place (place_by test es) i (sym (if_false _ _ _ s) ∙ p) in let b = bound-by test es n.0 n.1 in omega arith
+]
+
+pub place-bound : {K X : Type 0} → (test : K → Bool) (es : List (K × X)) (i : ℕ) → position test (keys_of es) ≡ Some i → i < length es
+place-bound test es i p = bound-by test es i (sym (position-place test es) ∙ p)
+
+all-keys : {K X : Type 0} → (P : K → Type 0) (es : List (K × X)) → AllByRecursion P (keys_of es) → (i : ℕ) (k : K) (x : X) → slice_get es i ≡ Some (k, x) → P k
+all-keys P [] a i k x h = absurd (cc)
+all-keys P (e ∷ es) a zero k x h = let same : e ≡ (k, x) = cc in subst (λ t. P t) (ap (λ t. t.0) same) a.0
+all-keys P (e ∷ es) a (suc i) k x h = all-keys P es a.1 i k x h
+
+near-by : {K X : Type 0} → (eq : K → K → Bool) → IsEquivalence eq → (es : List (K × X)) → IsDistinct eq (keys_of es)
+    → (i : ℕ) (k : K) (x : X) → slice_get es i ≡ Some (k, x) → (key : K) → eq key k ≡ true → place_by (eq key) es ≡ Some i
+unfolding IsDistinct
+near-by eq laws [] d i k x h key t = absurd (cc)
+near-by eq laws (e ∷ es) d zero k x h key t = let same : e ≡ (k, x) = cc in if_true _ _ _ (ap (λ s. eq key s.0) same ∙ t)
+near-by eq laws (e ∷ es) d (suc i) k x h key t =
+    let no : eq key e.0 ≡ false = laws.congr key k e.0 t ∙ laws.symm k e.0 ∙ all-keys (λ y. eq e.0 y ≡ false) es d.0 i k x h in
+    let up : i + 1 ≡ suc i = omega arith in
+    if_false _ _ _ no ∙ ap (λ o. option_map (λ place. place + 1) o) (near-by eq laws es d.1 i k x h key t) ∙ ap (λ n. Some n) up
+
+-- a key that stands at a place is found there
+pub near-place : {K X : Type 0} → (eq : K → K → Bool) → IsEquivalence eq → (es : List (K × X)) → IsDistinct eq (keys_of es)
+    → (i : ℕ) (k : K) (x : X) → slice_get es i ≡ Some (k, x) → (key : K) → eq key k ≡ true → position (eq key) (keys_of es) ≡ Some i
+near-place eq laws es d i k x h key t = position-place (eq key) es ∙ near-by eq laws es d i k x h key t

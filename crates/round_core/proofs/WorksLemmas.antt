@@ -1,5 +1,5 @@
 -- The units of a book that were done in the rows of a table.
-use Rattle.std.specs.Prelude.{◌≡◌, Bool, Option, None, Some, List, [], ◌∷◌, map, MatchOption}
+use Rattle.std.specs.Prelude.{◌≡◌, ℕ, Bool, Option, None, Some, List, [], ◌∷◌, map, MatchOption}
 use Rattle.std.specs.Borrow.{Bor}
 use Rattle.std.specs.Option.{option_map}
 use Rattle.std.specs.Map.{lookup}
@@ -35,9 +35,9 @@ module _ {A : Type 0} where
     ]
 
     -- what a table finds is what the book has done
-    pub found-done : (rows : List (WorkUnit × (Work A × Versions))) (r : Option (Bor (Work A) × Versions))
-        → MatchOption r (lookup test rows ≡ None) (λ found. lookup test rows ≡ Some (found.0.now, found.1))
-        → MatchOption r (done_at (map done_of rows) unit ≡ None) (λ found. done_at (map done_of rows) unit ≡ Some (record { unit = unit; work = found.0.now; versions = found.1 }))
+    pub found-done : (rows : List (WorkUnit × (Work A × Versions))) (r : Option (ℕ × Bor (Work A) × Versions))
+        → MatchOption r (lookup test rows ≡ None) (λ found. lookup test rows ≡ Some (found.1.now, found.2))
+        → MatchOption r (done_at (map done_of rows) unit ≡ None) (λ found. done_at (map done_of rows) unit ≡ Some (record { unit = unit; work = found.1.now; versions = found.2 }))
     found-done rows None h = lookup-done rows ∙ ap (option_map found_as) h
     found-done rows (Some found) h = lookup-done rows ∙ ap (option_map found_as) h
 

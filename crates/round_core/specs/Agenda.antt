@@ -11,6 +11,11 @@ abbrev pub IsIn : {X : Type 0} → X → List X → Type 0
 IsIn x [] = ⊥
 IsIn x (y ∷ ys) = (x ≡ y) ⊎ IsIn x ys
 
+-- no element stands twice
+abbrev pub AreDifferent : {X : Type 0} → List X → Type 0
+AreDifferent [] = Unit {0}
+AreDifferent (x ∷ xs) = (IsIn x xs → ⊥) × AreDifferent xs
+
 -- the places that are kept for a frame
 abbrev pub places_in : List (Frame × List ℕ) → Frame → List ℕ
 places_in es frame = unwrap_or (lookup (same_frame frame) es) []

@@ -60,12 +60,19 @@ abbrev pub outs : {A : Type 0} → (ℕ → Bool) → Option (Out A) → ℕ
 outs seats None = 0
 outs seats (Some o) = cond (seats o.seat) 1 0
 
--- no event of the list is that seat's
+-- the seat of an event
 abbrev pub seat_of : Event → ℕ
 seat_of (Claim seat unit) = seat
 seat_of (Post seat unit) = seat
 seat_of (GiveBack seat unit) = seat
 
+-- the unit of an event
+abbrev pub unit_of : Event → WorkUnit
+unit_of (Claim seat unit) = unit
+unit_of (Post seat unit) = unit
+unit_of (GiveBack seat unit) = unit
+
+-- no event of the list is that seat's
 abbrev pub NoneOfSeat : ℕ → List Event → Type 0
 NoneOfSeat seat [] = Unit {0}
 NoneOfSeat seat (event ∷ events) = (seat_of event ≢ seat) × NoneOfSeat seat events

@@ -1,5 +1,6 @@
 pub mod Agenda
 pub mod Answers
+pub mod Claimable
 pub mod Claims
 pub mod Counts
 pub mod Expected

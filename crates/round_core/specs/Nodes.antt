@@ -7,9 +7,6 @@ module _ {A : Type 0} where
   abbrev pub held_of : Node × (A × ℕ) → Held A
   held_of row = record { node = row.0; state = row.1.0; rises = row.1.1 }
 
-  -- the two parts of a row
-  abbrev pub small_part : Held A → Node × ℕ
-  small_part row = (row.node, row.rises)
-
+  -- a node with its state
   abbrev pub big_part : Held A → Node × A
   big_part row = (row.node, row.state)

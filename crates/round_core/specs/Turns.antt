@@ -1,7 +1,8 @@
 -- Units that are out with their places, and the journal.
-use Rattle.std.specs.Prelude.{◌≡◌, ◌+◌, if◌then◌else◌, Option, None, List, length}
+use Rattle.std.specs.Prelude.{◌≡◌, ◌+◌, if◌then◌else◌, Option, None, Some, List, length}
 use Rattle.std.specs.Map.{lookup}
 use Rattle.call_context.specs.declared.node.Unit.{Unit as WorkUnit}
+use Rattle.round_core.specs.Agenda.{AreDifferent, IsIn}
 use Rattle.round_core.specs.Same.{same_unit}
 use Rattle.round_core.specs.declared.event.Event.{Event}
 use Rattle.round_core.specs.declared.place.Place.{Place}
@@ -15,6 +16,11 @@ pub record Standing : Type 0 where
 -- the place of a unit that is out
 abbrev pub place_out : List (WorkUnit × Place) → WorkUnit → Option Place
 place_out out unit = lookup (same_unit unit) out
+
+-- no place was given back twice since the last claim, and none of a unit that is out
+pub record AreGivenBack (turns : Standing) : Type 0 where
+  pub once : AreDifferent turns.returned
+  pub home : (unit : WorkUnit) (place : Place) → place_out turns.out unit ≡ Some place → IsIn place turns.returned → ⊥
 
 -- one unit that was out is home, and the others are out as before
 pub record TakesHome (old : List (WorkUnit × Place)) (unit : WorkUnit) (new : List (WorkUnit × Place)) : Type 0 where

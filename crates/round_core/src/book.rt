@@ -1,11 +1,13 @@
 //! The book and its readings.
 
 ghost use Rattle.std.specs.Prelude.{◌≡◌, ◌↔◌, [], IsTrue, IfOk};
+ghost use Rattle.round_core.specs.Claimable.{HasAtLeast};
 ghost use Rattle.round_core.specs.Kept.{nodes_of, works_of, is_live, live_pairs};
 ghost use Rattle.round_core.specs.Machine.{replay, HasClaimable, IsFinished, IsLegalJournal};
 
 use crate::event::Event;
 use crate::parts::Parts;
+use crate::spent::Spent;
 use call_context::{Node, Unit};
 use chip_law::{Chip, Work};
 use no_memory::Memory;
@@ -20,6 +22,7 @@ pub struct Book<C: Chip> {
     /// Only clauses read it: a snapshot has no bytes, so that a book holds no program.
     chip: Snapshot<C>,
     pub(crate) parts: Parts<C::Abs>,
+    pub(crate) spent: Spent<C::Abs>,
 }
 
 impl<C: Chip> Model for Book<C> {
@@ -43,6 +46,7 @@ impl<C: Chip> Book<C> {
         Ok(Book {
             chip: Snapshot::of(chip),
             parts,
+            spent: Spent::new(alloc),
         })
     }
 
@@ -77,16 +81,36 @@ impl<C: Chip> Book<C> {
         self.parts.into_vecs()
     }
 
-    /// What contracts see of the chip, the nodes with their states, and the units of the book with their last works.
-    /// Returns whose location no longer waits for the exit's frame are left out, in place.
-    pub fn into_live(self) -> (Snapshot<C>, Vec<(Node, C::Abs)>, Vec<(Unit, Work<C::Abs>)>)
+    /// What contracts see of the chip, the nodes with their states, the units of the book with their last works, and the
+    /// journal. Returns whose location no longer waits for the exit's frame are left out, in place.
+    pub fn into_live(
+        self,
+    ) -> (
+        Snapshot<C>,
+        Vec<(Node, C::Abs)>,
+        Vec<(Unit, Work<C::Abs>)>,
+        Vec<Event>,
+    )
         ensures base { C.base result.0.value ≡ self.base }
         ensures nodes { result.1.items ≡ nodes_of (replay (C.analysis self.base) self.journal) }
         ensures works { result.2.items ≡ live_pairs (replay (C.analysis self.base) self.journal) }
+        ensures journal { result.3.items ≡ self.journal }
     {
-        let Book { chip, parts } = self;
-        let (nodes, works) = parts.into_live();
-        (chip, nodes, works)
+        let Book {
+            chip,
+            parts,
+            spent: _,
+        } = self;
+        let (nodes, works, journal) = parts.into_live();
+        (chip, nodes, works, journal)
+    }
+
+    /// Hands out what posts have replaced since it was last handed out, so that it is freed where no one waits for the book.
+    pub fn take_spent(&mut self) -> Spent<C::Abs>
+        ensures { self.new ≡ self.old }
+    {
+        let alloc = self.parts.nodes.allocator();
+        self.spent.take(alloc)
     }
 
     /// Whether a unit that was done is still one of the book: a return whose location no longer waits for the frame of
@@ -95,6 +119,13 @@ impl<C: Chip> Book<C> {
         ensures { result ≡ is_live (replay (C.analysis self.now.base) self.now.journal).done unit.now }
     {
         self.parts.works.is_live(unit)
+    }
+
+    /// Whether at least so many units can be claimed.
+    pub fn can_claim(&self, least: u32) -> bool
+        ensures { IsTrue result ↔ HasAtLeast (replay (C.analysis self.now.base) self.now.journal) least }
+    {
+        self.parts.can_claim(least)
     }
 
     /// Whether a unit can be claimed.

@@ -9,47 +9,53 @@ ghost use Rattle.round_core.specs.declared.event.Event.{Event};
 
 use crate::book::Book;
 use crate::nodes::Nodes;
+use crate::place::Place;
 use crate::ticket::{Claimed, Ticket};
+use crate::versions::Versions;
 use call_context::{Node, Unit};
 use chip_law::Chip;
 use no_memory::Memory;
 use std::alloc::Global;
 
-/// A copy of the state of a node.
+/// A copy of the state of a node, whose place this is, and how often that rose.
 fn copy_of<C: Chip>(
     alloc: Global,
     chip: &C,
     nodes: &Nodes<C::Abs>,
     node: &Node,
-) -> Result<C::Abs, Memory>
-    ensures { IfOk result (λ state. (held : Held C.Abs) × (held_at nodes.now.rows node.now ≡ Some held) × (state ≡ held.state)) }
+    place: usize,
+) -> Result<(C::Abs, u32), Memory>
+    ensures { IfOk result (λ copy. held_at nodes.now.rows node.now ≡ Some (record { node = node.now; state = copy.0; rises = copy.1 })) }
 {
-    match nodes.find(node) {
-        Some((state, _)) => chip.copy(alloc, state),
+    match nodes.find_near(node, place) {
+        Some((_, state, rises)) => Ok((chip.copy(alloc, state)?, rises)),
         None => Err(Memory),
     }
 }
 
-/// The ticket of a unit, with copies of its input states.
+/// The ticket of the unit of a place, with copies of its input states.
 fn ticket_of<C: Chip>(
     alloc: Global,
     chip: &C,
     nodes: &Nodes<C::Abs>,
     seat: u32,
     unit: &Unit,
+    place: Place,
 ) -> Result<Ticket<C>, Memory>
     ensures { IfOk result (IsTicketOf nodes.now.rows seat unit.now) }
 {
-    let versions = nodes.versions(unit);
+    let (at_node, at_exit) = place.of_nodes();
     match unit {
         Unit::One(node) => {
-            let at = copy_of(alloc, chip, nodes, node)?;
-            Ok(Ticket::new(seat, *unit, at, None, versions))
+            let (state, at) = copy_of(alloc, chip, nodes, node, at_node)?;
+            let versions = Versions { at, exit: 0 };
+            Ok(Ticket::new(seat, *unit, place, state, None, versions))
         }
         Unit::Back(node, exit) => {
-            let at = copy_of(alloc, chip, nodes, node)?;
-            let exit = copy_of(alloc, chip, nodes, exit)?;
-            Ok(Ticket::new(seat, *unit, at, Some(exit), versions))
+            let (state, at) = copy_of(alloc, chip, nodes, node, at_node)?;
+            let (left, exit) = copy_of(alloc, chip, nodes, exit, at_exit)?;
+            let versions = Versions { at, exit };
+            Ok(Ticket::new(seat, *unit, place, state, Some(left), versions))
         }
     }
 }
@@ -69,7 +75,7 @@ impl<C: Chip> Book<C> {
             });
         };
         let alloc = self.parts.nodes.allocator();
-        let ticket = ticket_of(alloc, chip, &self.parts.nodes, seat, &unit)?;
+        let ticket = ticket_of(alloc, chip, &self.parts.nodes, seat, &unit, place)?;
         self.parts.take_out(seat, &unit, place)?;
         Ok(Claimed::Ticket(ticket))
     }
@@ -79,7 +85,7 @@ impl<C: Chip> Book<C> {
         requires { IsOutOf (replay (C.analysis self.old.base) self.old.journal) ticket }
         ensures { self.new ≡ with_event self.old (Event.GiveBack ticket.seat ticket.unit) }
     {
-        let (seat, unit, _) = ticket.into_parts();
+        let (seat, unit, _, _, _) = ticket.into_parts();
         self.parts.give_back(seat, &unit);
     }
 }

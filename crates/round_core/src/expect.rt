@@ -1,19 +1,19 @@
 //! Candidates that a post adds.
 
-ghost use Rattle.std.specs.Prelude.{◌≡◌, ◌+◌, ◌-◌, ◌^◌, ◌<◌, ℕ, true, IfOk, OnOk, MatchOption};
+ghost use Rattle.std.specs.Prelude.{◌≡◌, true, OnOk};
 ghost use Rattle.call_context.specs.declared.node.Frame.{Frame};
 ghost use Rattle.round_core.specs.Agenda.{IsIn, places_in, KeepsCandidates, KeepsPlaces};
-ghost use Rattle.round_core.specs.Expected.{Grows, ExpectsNode, ExpectsRows, ExpectsUnit};
-ghost use Rattle.round_core.specs.Raise.{with_all};
-ghost use Rattle.round_core.specs.Shown.{AreDistinct};
+ghost use Rattle.round_core.specs.Expected.{Grows, ExpectsNode, ExpectsUnit};
+ghost use Rattle.round_core.specs.declared.raised.Risen.{Risen};
 ghost use Rattle.round_core.specs.Returns.{HasReturnsTo, HasReturnsFrom};
-ghost use Rattle.round_core.specs.Machine.{place_of, waits_for};
+ghost use Rattle.round_core.specs.Machine.{waits_for};
 
 use crate::agenda::Agenda;
 use crate::candidates::{add_candidate, add_returns_from, add_returns_to};
 use crate::nodes::Nodes;
 use crate::place::Place;
 use crate::places::Places;
+use crate::raised::Risen;
 use crate::works::Works;
 use call_context::{Frame, Node, Unit};
 use no_memory::Memory;
@@ -48,8 +48,8 @@ fn expect_location<A>(
     ensures kept { KeepsCandidates candidates.old.keys candidates.new.keys }
 {
     add_candidate(candidates, Place::One(place))?;
-    match works.find(&Unit::One(*node)) {
-        Some((work, _)) => add_returns(candidates, exits, place, work.waits.as_slice()),
+    match works.find(&Unit::One(*node), Place::One(place)) {
+        Some((_, work, _)) => add_returns(candidates, exits, place, work.waits.as_slice()),
         None => Ok(()),
     }
 }
@@ -84,48 +84,17 @@ pub fn expect_node<A>(
     }
 }
 
-/// Adds what may be claimable once a row has risen, of which there are as many new ones before it as make `next` the
-/// place of another new one. Answers the next place behind it.
-fn expect_row<A>(
-    agenda: &mut Agenda,
-    works: &Works<A>,
-    nodes: &Nodes<A>,
-    node: &Node,
-    next: usize,
-) -> Result<usize, Memory>
-    requires { next < 2 ^ 64 - 1 }
-    ensures expected { IfOk result (λ after. MatchOption (place_of nodes.now.rows node.now) ((after ≡ next + 1) × ExpectsNode works.now.rows agenda.old agenda.new node.now next) (λ place. (after ≡ next) × ExpectsNode works.now.rows agenda.old agenda.new node.now place)) }
-    ensures grows { Grows agenda.old agenda.new }
-{
-    match nodes.place(node) {
-        Some(place) => {
-            expect_node(agenda, works, node, place)?;
-            Ok(next)
-        }
-        None => {
-            expect_node(agenda, works, node, next)?;
-            Ok(next + 1)
-        }
-    }
-}
-
 /// Adds what may be claimable once these nodes have risen.
 pub fn expect_raised<A>(
     agenda: &mut Agenda,
     works: &Works<A>,
-    nodes: &Nodes<A>,
-    raised: &Nodes<A>,
+    raised: &[Risen<A>],
 ) -> Result<(), Memory>
-    requires { AreDistinct raised.now.rows }
-    ensures expected { OnOk result (ExpectsRows works.now.rows agenda.old agenda.new (with_all nodes.now.rows raised.now.rows) raised.now.rows) }
+    ensures expected { OnOk result ((r : Risen A) → IsIn r raised.now → ExpectsNode works.now.rows agenda.old agenda.new r.node r.place) }
     ensures grows { Grows agenda.old agenda.new }
 {
-    let mut next = nodes.len();
-    for index in 0..raised.len() {
-        match raised.at(index) {
-            Some(node) => next = expect_row(agenda, works, nodes, node, next)?,
-            None => unreachable!(),
-        }
+    for risen in raised {
+        expect_node(agenda, works, &risen.node, risen.place)?;
     }
     Ok(())
 }
@@ -142,26 +111,32 @@ fn expect_waits(agenda: &mut Agenda, place: usize, frames: &[Frame]) -> Result<(
     add_returns(&mut agenda.candidates, &agenda.exits, place, frames)
 }
 
-/// Adds a unit itself, and the returns that its work waits for.
+/// Adds a unit itself, whose place may be this one, and the returns that its work waits for.
 pub fn expect_unit<A>(
     agenda: &mut Agenda,
     nodes: &Nodes<A>,
     unit: &Unit,
+    place: Place,
     frames: &[Frame],
 ) -> Result<(), Memory>
     ensures expected { OnOk result (ExpectsUnit agenda.old agenda.new nodes.now.rows unit.now frames.now) }
     ensures grows { Grows agenda.old agenda.new }
 {
+    let (at_node, at_exit) = place.of_nodes();
     match unit {
         Unit::One(node) => {
-            let Some(place) = nodes.place(node) else {
+            let Some(place) = nodes.place_near(node, at_node) else {
                 return Ok(());
             };
             add_candidate(&mut agenda.candidates, Place::One(place))?;
             expect_waits(agenda, place, frames)
         }
         Unit::Back(node, exit) => {
-            let (Some(node), Some(exit)) = (nodes.place(node), nodes.place(exit)) else {
+            let places = (
+                nodes.place_near(node, at_node),
+                nodes.place_near(exit, at_exit),
+            );
+            let (Some(node), Some(exit)) = places else {
                 return Ok(());
             };
             add_candidate(&mut agenda.candidates, Place::Back(node, exit))

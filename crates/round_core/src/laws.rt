@@ -2,7 +2,7 @@
 //! that asks something of the analysis says so: that it keeps its form, that top is greatest, or that within orders the
 //! states of the form.
 
-ghost use Rattle.std.specs.Prelude.{◌≡◌, ◌+◌, ◌≤◌, ◌≢◌, ◌==◌, ℕ, Option, List, ◌∷◌, [], ◌++◌, Some, Contains};
+ghost use Rattle.std.specs.Prelude.{false, ◌≡◌, ◌+◌, ◌≤◌, ◌≢◌, ◌==◌, ℕ, Option, List, ◌∷◌, [], ◌++◌, Some, Contains};
 ghost use Rattle.std.specs.List.{AllByRecursion, IsDistinct};
 ghost use Rattle.std.specs.Map.{keys_of};
 ghost use Rattle.call_context.specs.declared.node.Node.{Node as ANode};
@@ -16,7 +16,7 @@ ghost use Rattle.round_core.specs.Kept.{live_pairs, live_works};
 ghost use Rattle.round_core.specs.Machine.{BookState, Held, Done, Out, versions_of, HasRisen, IsClaimable, held_at, done_at, out_at, place_of, version_of, IsFirst, IsUnit, IsFinished, IsClosed, IsLegal, IsLegalJournal, replay};
 ghost use Rattle.round_core.specs.Same.{same_unit};
 ghost use Rattle.round_core.specs.Table.{table_of, IsUnder, IsWorkOf, IsOfUnit};
-ghost use Rattle.round_core.specs.Counts.{anyone, outs, claims_of, posts_of, give_backs_of, claims_by, posts_by, give_backs_by, AreApart, AreOutOnce, NoneOfSeat};
+ghost use Rattle.round_core.specs.Counts.{anyone, outs, claims_of, posts_of, give_backs_of, claims_by, posts_by, give_backs_by, AreApart, AreOutOnce, NoneOfSeat, unit_of};
 
 use chip_law::Chip;
 
@@ -76,6 +76,14 @@ pub fn outs_stay<C: Chip>()
         → IsLegalJournal a (journal ++ more)
         → out_at (replay a journal).out unit ≡ Some o → NoneOfSeat o.seat more
         → out_at (replay a (journal ++ more)).out unit ≡ Some o) }
+{}
+
+/// What is out stays out, with the same copies of its inputs, behind an event of another unit, whatever its seat.
+pub fn outs_stay_beside<C: Chip>()
+    ensures { (base : C.Base) → (let a = C.analysis base in
+        (journal : List AnEvent) (event : AnEvent) (unit : WorkUnit) (o : Out C.Abs)
+        → out_at (replay a journal).out unit ≡ Some o → same_unit unit (unit_of event) ≡ false
+        → out_at (replay a (journal ++ event ∷ [])).out unit ≡ Some o) }
 {}
 
 /// A legal journal is legal so far at each of its places, and takes one more legal event.

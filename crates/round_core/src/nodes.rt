@@ -1,16 +1,14 @@
 //! The nodes of a book.
 
-ghost use Rattle.std.specs.Prelude.{◌≡◌, ◌≤◌, ◌+◌, ◌<◌, [], map, IfOk, OnOk, IfSome, MatchOption, length, slice_get, Some, None, ◌^◌, ℕ};
+ghost use Rattle.std.specs.Prelude.{◌≡◌, ◌≤◌, ◌+◌, ◌<◌, [], map, nat_lt, if◌then◌else◌, IfOk, OnOk, IfSome, MatchOption, length, slice_get, Some, None, ◌^◌, ℕ};
 ghost use Rattle.std.specs.Option.{option_map};
-ghost use Rattle.round_core.specs.Machine.{Held, held_at, with_held, place_of, version_of, versions_of};
-ghost use Rattle.std.specs.Map.{lookup};
-ghost use Rattle.round_core.specs.Raise.{with_all};
-ghost use Rattle.round_core.specs.Shown.{AreDistinct};
+ghost use Rattle.round_core.specs.Machine.{Held, held_at, with_held, place_of, version_of};
+ghost use Rattle.round_core.specs.Raise.{held_rows, place_for, with_all, ArePlaced};
 
+use crate::raised::{Raised, Risen};
+use crate::spent::Spent;
 use crate::table::Table;
-use crate::versions::Versions;
-use call_context::{Node, Unit, equal_nodes_are_one};
-use indexmap::IndexMap;
+use call_context::{Node, equal_nodes_are_one};
 use no_memory::Memory;
 use std::alloc::Global;
 use std::marker::Model;
@@ -21,14 +19,11 @@ pub struct Nodes<A> {
     table: Table<Node, A, u32>,
 }
 
-/// How often a node rose, where that is known.
-fn rises_of(rises: &IndexMap<Node, u32>, node: &Node) -> u32
-    ensures { (count : ℕ) → lookup (⟦<Node as PartialEq>⟧.eq node.now) rises.now.entries ≡ Some count → result ≡ count }
+/// A place, unless it is behind all.
+fn known_place(place: usize, len: usize) -> Option<usize>
+    ensures { result ≡ (if nat_lt place len then Some place else None) }
 {
-    match rises.get(node) {
-        Some(count) => *count,
-        None => 0,
-    }
+    if place < len { Some(place) } else { None }
 }
 
 impl<A> Model for Nodes<A> {
@@ -67,12 +62,22 @@ impl<A> Nodes<A> {
         states
     }
 
-    /// The state of a node, and how often it rose.
-    pub fn find(&self, node: &Node) -> Option<(&A, u32)>
-        ensures { MatchOption result (held_at self.now.rows node.now ≡ None) (λ found. held_at self.now.rows node.now ≡ Some (record { node = node.now; state = found.0.now; rises = found.1 })) }
+    /// The place of a node, its state, and how often that rose.
+    pub fn find(&self, node: &Node) -> Option<(usize, &A, u32)>
+        ensures place { option_map (λ found. found.0) result ≡ place_of self.now.rows node.now }
+        ensures held { MatchOption result (held_at self.now.rows node.now ≡ None) (λ found. held_at self.now.rows node.now ≡ Some (record { node = node.now; state = found.1.now; rises = found.2 })) }
     {
         equal_nodes_are_one();
         self.table.find(node)
+    }
+
+    /// The same, which is quickly found where the guess of its place is right.
+    pub fn find_near(&self, node: &Node, guess: usize) -> Option<(usize, &A, u32)>
+        ensures place { option_map (λ found. found.0) result ≡ place_of self.now.rows node.now }
+        ensures held { MatchOption result (held_at self.now.rows node.now ≡ None) (λ found. held_at self.now.rows node.now ≡ Some (record { node = node.now; state = found.1.now; rises = found.2 })) }
+    {
+        equal_nodes_are_one();
+        self.table.find_near(node, guess)
     }
 
     /// The allocator.
@@ -88,45 +93,21 @@ impl<A> Nodes<A> {
         self.table.len()
     }
 
-    /// The place of a node.
-    pub fn place(&self, node: &Node) -> Option<usize>
+    /// The place of a node, which is quickly found where the guess is right.
+    pub fn place_near(&self, node: &Node, guess: usize) -> Option<usize>
         ensures { result ≡ place_of self.now.rows node.now }
     {
         equal_nodes_are_one();
-        self.table.place(node)
+        self.table.place_near(node, guess)
     }
 
-    /// The node at a place.
-    pub fn at(&self, place: usize) -> Option<&Node>
-        ensures { MatchOption result (length self.now.rows ≤ place) (λ node. (row : Held A) × (slice_get self.now.rows place ≡ Some row) × (node.now ≡ row.node)) }
+    /// The node at a place, its state, and how often that rose.
+    pub fn at(&self, place: usize) -> Option<(&Node, &A, u32)>
+        ensures row { MatchOption result (length self.now.rows ≤ place) (λ found. slice_get self.now.rows place ≡ Some (record { node = found.0.now; state = found.1.now; rises = found.2 })) }
+        ensures version { IfSome result (λ found. version_of self.now.rows found.0.now ≡ found.2) }
     {
-        self.table.key_at(place)
-    }
-
-    /// How often the state of a node has risen.
-    pub fn version(&self, node: &Node) -> u32
-        ensures { result ≡ version_of self.now.rows node.now }
-    {
-        match self.find(node) {
-            Some((_, rises)) => rises,
-            None => 0,
-        }
-    }
-
-    /// The versions of a unit's inputs.
-    pub fn versions(&self, unit: &Unit) -> Versions
-        ensures { result ≡ versions_of self.now.rows unit.now }
-    {
-        match unit {
-            Unit::One(node) => Versions {
-                at: self.version(node),
-                exit: 0,
-            },
-            Unit::Back(node, exit) => Versions {
-                at: self.version(node),
-                exit: self.version(exit),
-            },
-        }
+        equal_nodes_are_one();
+        self.table.at(place)
     }
 
     /// Room for more of them. The rows stay as they are.
@@ -137,42 +118,36 @@ impl<A> Nodes<A> {
         self.table.reserve(more)
     }
 
-    /// Puts a row in the place of the one with its node, or last. There is room for it.
-    pub fn set(&mut self, node: Node, state: A, rises: u32)
+    /// Puts a row in the place that its node has, or else last. There is room for it. It answers the state that it replaces.
+    pub fn set_at(&mut self, place: usize, node: Node, state: A, rises: u32) -> Option<A>
     where
         A: Drop,
-        requires { 0 < self.old.room }
+        requires place { place ≡ place_for self.old.rows node }
+        requires room { 0 < self.old.room }
         ensures rows { self.new.rows ≡ with_held self.old.rows (record { node = node; state = state; rises = rises }) }
         ensures room { self.old.room ≤ self.new.room + 1 }
     {
         equal_nodes_are_one();
-        self.table.set(node, state, rises);
+        let known = known_place(place, self.len());
+        self.table.set_at(known, node, state, rises)
     }
 
-    /// Puts a row in the place of the one with its node, or last.
-    pub fn insert(&mut self, node: Node, state: A, rises: u32) -> Result<(), Memory>
+    /// Puts raised nodes in their places, and keeps what they replace. There is room for them.
+    pub fn set_all(&mut self, raised: Raised<A>, spent: &mut Spent<A>)
     where
         A: Drop,
-        ensures { OnOk result (self.new.rows ≡ with_held self.old.rows (record { node = node; state = state; rises = rises })) }
+        requires room { length raised.rows.items ≤ self.old.room }
+        requires placed { ArePlaced self.old.rows raised.rows.items }
+        ensures { self.new.rows ≡ with_all self.old.rows (held_rows raised.rows.items) }
     {
-        self.reserve(1)?;
-        self.set(node, state, rises);
-        Ok(())
-    }
-
-    /// Puts other rows in their places. There is room for them.
-    pub fn set_all(&mut self, more: Nodes<A>)
-    where
-        A: Drop,
-        requires room { length more.rows ≤ self.old.room }
-        requires distinct { AreDistinct more.rows }
-        ensures { self.new.rows ≡ with_all self.old.rows more.rows }
-    {
-        equal_nodes_are_one();
-        let (rises, states) = more.table.into_parts();
-        for (node, state) in states {
-            let rises = rises_of(&rises, &node);
-            self.set(node, state, rises);
+        for risen in raised.rows {
+            let Risen {
+                place,
+                node,
+                state,
+                rises,
+            } = risen;
+            spent.keep_state(self.set_at(place, node, state, rises));
         }
     }
 }

@@ -1,16 +1,19 @@
 //! What a book keeps.
 
-ghost use Rattle.std.specs.Prelude.{false, filter, ◌≡◌, ◌<◌, ◌≤◌, length, ◌++◌, ◌∷◌, [], None, IsSome, OnErr, Some, IfOk, MatchOption, OnOk, IsTrue, is_some, map, not, ◌↔◌};
-ghost use Rattle.std.specs.List.{AllByRecursion, list_any};
+ghost use Rattle.std.specs.Prelude.{count_by, min, false, filter, ◌≡◌, ◌<◌, ◌≤◌, length, ◌++◌, ◌∷◌, [], None, IsSome, OnErr, Some, IfOk, IfSome, MatchOption, OnOk, IsTrue, is_some, map, not, ◌↔◌};
+ghost use Rattle.std.specs.List.{AllByRecursion};
+ghost use Rattle.std.specs.Option.{option_map};
+ghost use Rattle.round_core.specs.Agenda.{AreDifferent};
+ghost use Rattle.round_core.specs.Claimable.{HasAtLeast};
 ghost use Rattle.round_core.specs.Former.{is_no_unit};
 ghost use Rattle.round_core.specs.Kept.{is_live};
 ghost use Rattle.round_core.specs.Claims.{one_of, back_of, unit_at, due_of, claimable_at, placed};
 ghost use Rattle.round_core.specs.Machine.{BookState, Out, done_at, out_at, versions_of, with_done, without, IsClaimable, IsFirst, IsFinished, NoneClaimable, HasClaimable};
 ghost use Rattle.round_core.specs.Turns.{place_out, TakesHome};
 ghost use Rattle.round_core.specs.Opening.{one_node};
-ghost use Rattle.round_core.specs.Shown.{AreDistinct, Shows, StaysShown, found_at};
+ghost use Rattle.round_core.specs.Shown.{Shows, StaysShown, found_at, is_new_return};
 ghost use Rattle.round_core.specs.Prepared.{IsPrepared};
-ghost use Rattle.round_core.specs.Raise.{with_all};
+ghost use Rattle.round_core.specs.Raise.{held_rows, with_all, ArePlaced, RisesOver};
 
 use crate::agenda::Agenda;
 use crate::candidates::add_all;
@@ -18,6 +21,8 @@ use crate::event::Event;
 use crate::expect::{expect_node, expect_raised, expect_unit};
 use crate::nodes::Nodes;
 use crate::place::Place;
+use crate::raised::Raised;
+use crate::spent::Spent;
 use crate::turns::Turns;
 use crate::versions::Versions;
 use crate::works::Works;
@@ -58,7 +63,7 @@ impl<A: Drop> Parts<A> {
         let mut agenda = Agenda::new(alloc);
         expect_node(&mut agenda, &works, node, 0)?;
         nodes.reserve(1)?;
-        nodes.set(*node, state, 1);
+        nodes.set_at(0, *node, state, 1);
         Ok(Parts {
             nodes,
             works,
@@ -69,13 +74,13 @@ impl<A: Drop> Parts<A> {
 }
 
 impl<A> Parts<A> {
-    /// The return from an exit to a location that waits for its frame.
-    fn back_of(&self, node: &Node, exit: &Node) -> Option<Unit>
+    /// The return from an exit to the location at a place, if that waits for the exit's frame.
+    fn back_of(&self, place: usize, node: &Node, exit: &Node) -> Option<Unit>
         ensures { result ≡ back_of self.now.works.rows node.now exit.now }
     {
         match (node, exit) {
             (Node::At(..), Node::Exit(_, frame)) => {
-                if self.works.waits_for(node, frame) {
+                if self.works.waits_for(place, node, frame) {
                     Some(Unit::Back(*node, *exit))
                 } else {
                     None
@@ -85,32 +90,32 @@ impl<A> Parts<A> {
         }
     }
 
-    /// The unit of a place.
-    fn unit_at(&self, place: Place) -> Option<Unit>
-        ensures { result ≡ unit_at self.now.nodes.rows self.now.works.rows place }
+    /// The unit of a place, and the present versions of its inputs.
+    fn unit_at(&self, place: Place) -> Option<(Unit, Versions)>
+        ensures unit { option_map (λ found. found.0) result ≡ unit_at self.now.nodes.rows self.now.works.rows place }
+        ensures versions { IfSome result (λ found. found.1 ≡ versions_of self.now.nodes.rows found.0) }
     {
         match place {
             Place::One(node) => {
-                let node = self.nodes.at(node)?;
-                one_of(node)
+                let (node, _, at) = self.nodes.at(node)?;
+                let unit = one_of(node)?;
+                Some((unit, Versions { at, exit: 0 }))
             }
-            Place::Back(node, exit) => {
-                let node = self.nodes.at(node)?;
-                let exit = self.nodes.at(exit)?;
-                self.back_of(node, exit)
+            Place::Back(to, from) => {
+                let (node, _, at) = self.nodes.at(to)?;
+                let (left, _, exit) = self.nodes.at(from)?;
+                let unit = self.back_of(to, node, left)?;
+                Some((unit, Versions { at, exit }))
             }
         }
     }
 
     /// Whether a unit was never done, or has an input that rose since.
-    fn is_due(&self, unit: &Unit) -> bool
-        ensures { result ≡ due_of (done_at self.now.works.rows unit.now) (versions_of self.now.nodes.rows unit.now) }
+    fn is_due(&self, place: Place, unit: &Unit, now: Versions) -> bool
+        ensures { result ≡ due_of (done_at self.now.works.rows unit.now) now }
     {
-        match self.works.find(unit) {
-            Some((_, then)) => {
-                let now = self.nodes.versions(unit);
-                then.at < now.at || then.exit < now.exit
-            }
+        match self.works.find(unit, place) {
+            Some((_, _, then)) => then.at < now.at || then.exit < now.exit,
             None => true,
         }
     }
@@ -119,10 +124,10 @@ impl<A> Parts<A> {
     pub fn claimable_at(&self, place: Place) -> Option<Unit>
         ensures { result ≡ claimable_at self.now.nodes.rows self.now.works.rows self.now.turns.out place }
     {
-        let unit = self.unit_at(place)?;
+        let (unit, now) = self.unit_at(place)?;
         if self.turns.is_out(&unit) {
             None
-        } else if self.is_due(&unit) {
+        } else if self.is_due(place, &unit, now) {
             Some(unit)
         } else {
             None
@@ -160,23 +165,46 @@ impl<A> Parts<A> {
         None
     }
 
-    /// Whether a unit of these places can be claimed.
-    fn has_claimable_among(&self, places: &[Place]) -> bool
-        ensures { result ≡ list_any (λ place. is_some (found_at self.now place)) places.now }
-    {
-        places
-            .iter()
-            .any(|place| self.claimable_at(*place).is_some())
-    }
-
-    /// Whether a unit of a candidate can be claimed.
-    fn has_claimable_candidate(&self) -> bool
-        ensures { result ≡ list_any (λ place. is_some (found_at self.now place)) self.now.agenda.candidates.keys }
+    /// How many candidates have units that can be claimed, counted up to `most`.
+    fn claimable_candidates(&self, most: usize) -> usize
+        ensures count { result ≡ min most (count_by (λ place. is_some (found_at self.now place)) self.now.agenda.candidates.keys) }
+        ensures once { AreDifferent self.now.agenda.candidates.keys }
     {
         self.agenda
             .candidates
             .iter()
-            .any(|place| self.claimable_at(*place).is_some())
+            .filter(|place| self.claimable_at(**place).is_some())
+            .take(most)
+            .count()
+    }
+
+    /// Whether a place that was given back is no candidate, and its unit can be claimed.
+    fn is_new_return(&self, place: Place) -> bool
+        ensures { result ≡ is_new_return self.now place }
+    {
+        !self.agenda.candidates.contains(&place) && self.claimable_at(place).is_some()
+    }
+
+    /// How many such places there are, counted up to `most`.
+    fn new_returns(&self, most: usize) -> usize
+        ensures { result ≡ min most (count_by (is_new_return self.now) self.now.turns.returned) }
+    {
+        self.turns
+            .returned()
+            .iter()
+            .filter(|place| self.is_new_return(**place))
+            .take(most)
+            .count()
+    }
+
+    /// Whether at least so many units can be claimed. It looks at no more candidates than it needs.
+    pub fn can_claim(&self, least: u32) -> bool
+        ensures enough { (b : BookState A) → Shows b self.now → IsTrue result → HasAtLeast b least }
+        ensures few { (b : BookState A) → Shows b self.now → HasAtLeast b least → IsTrue result }
+    {
+        let least = least as usize;
+        let found = self.claimable_candidates(least);
+        least <= found + self.new_returns(least - found)
     }
 
     /// Whether a unit can be claimed.
@@ -184,7 +212,7 @@ impl<A> Parts<A> {
         ensures some { (b : BookState A) → Shows b self.now → IsTrue result → HasClaimable b }
         ensures none { (b : BookState A) → Shows b self.now → IsTrue (not result) → NoneClaimable b }
     {
-        self.has_claimable_candidate() || self.has_claimable_among(self.turns.returned())
+        self.can_claim(1)
     }
 }
 
@@ -215,19 +243,20 @@ impl<A: Drop> Parts<A> {
 }
 
 impl<A: Drop> Parts<A> {
-    /// The nodes with their states, and the units that are still units of the book with their last works.
-    pub fn into_live(self) -> (Vec<(Node, A)>, Vec<(Unit, Work<A>)>)
+    /// The nodes with their states, the units that are still units of the book with their last works, and the journal.
+    pub fn into_live(self) -> (Vec<(Node, A)>, Vec<(Unit, Work<A>)>, Vec<Event>)
         requires { AllByRecursion (λ row. is_no_unit row.unit ≡ false) self.works.rows }
         ensures nodes { result.0.items ≡ map (λ row. (row.node, row.state)) self.nodes.rows }
         ensures works { result.1.items ≡ filter (λ p. is_live self.works.rows p.0) (map (λ row. (row.unit, row.work)) self.works.rows) }
+        ensures journal { result.2.items ≡ self.turns.journal }
     {
         let Parts {
             nodes,
             works,
-            turns: _,
+            turns,
             agenda: _,
         } = self;
-        (nodes.into_vec(), works.into_live())
+        (nodes.into_vec(), works.into_live(), turns.into_journal())
     }
 }
 
@@ -236,20 +265,24 @@ impl<A> Parts<A> {
     pub fn take_first(&mut self) -> Result<Option<(Place, Unit)>, Memory>
         ensures shown { StaysShown self.old self.new }
         ensures journal { self.new.turns.journal ≡ self.old.turns.journal }
+        ensures returned { OnOk result (self.new.turns.returned ≡ []) }
         ensures found { IfOk result (λ found. (b : BookState A) → Shows b self.old → MatchOption found (NoneClaimable b) (λ first. IsFirst b first.1 × (placed b.nodes first.1 ≡ Some first.0))) }
     {
         self.take_returned()?;
         Ok(self.first())
     }
 
-    /// Takes out a unit at its place.
+    /// Takes out a unit at its place, which is no candidate any more.
     pub fn take_out(&mut self, seat: u32, unit: &Unit, place: Place) -> Result<(), Memory>
-        requires { place_out self.old.turns.out unit.now ≡ None }
+        requires home { place_out self.old.turns.out unit.now ≡ None }
+        requires returned { self.old.turns.returned ≡ [] }
         ensures journal { OnOk result (self.new.turns.journal ≡ self.old.turns.journal ++ Event.Claim seat unit.now ∷ []) }
         ensures out { OnOk result ((b : BookState A) (o : Out A) → Shows b self.old → IsClaimable b unit.now → placed b.nodes unit.now ≡ Some place → o.unit ≡ unit.now → Shows (record b { out = b.out ++ o ∷ [] }) self.new) }
         ensures refused { OnErr result (self.new ≡ self.old) }
     {
-        self.turns.claim(seat, unit, place)
+        self.turns.claim(seat, unit, place)?;
+        self.agenda.candidates.remove(&place);
+        Ok(())
     }
 
     /// Takes home a unit without work.
@@ -268,45 +301,47 @@ impl<A> Parts<A> {
     pub fn prepare(
         &mut self,
         unit: &Unit,
+        place: Place,
         frames: &[Frame],
-        raised: &Nodes<A>,
+        raised: &Raised<A>,
     ) -> Result<(), Memory>
-        requires { AreDistinct raised.now.rows }
+        requires { RisesOver self.old.nodes.rows raised.now }
         ensures shown { StaysShown self.old self.new }
         ensures journal { self.new.turns.journal ≡ self.old.turns.journal }
-        ensures prepared { OnOk result (IsPrepared self.old self.new unit.now frames.now raised.now.rows) }
+        ensures prepared { OnOk result (IsPrepared self.old self.new unit.now frames.now (held_rows raised.now.rows.items)) }
     {
-        expect_raised(&mut self.agenda, &self.works, &self.nodes, raised)?;
-        expect_unit(&mut self.agenda, &self.nodes, unit, frames)?;
-        self.nodes.reserve(raised.len())?;
-        self.works.reserve(1)?;
+        expect_raised(&mut self.agenda, &self.works, raised.rows.as_slice())?;
+        expect_unit(&mut self.agenda, &self.nodes, unit, place, frames)?;
+        self.nodes.reserve(raised.rows.len())?;
+        self.works.reserve(self.nodes.len())?;
         Ok(())
     }
 }
 
 impl<A: Drop> Parts<A> {
-    /// Takes in the raised nodes and the work of a unit that is out, for which there is room.
+    /// Takes in the raised nodes and the work of a unit that is out, for which there is room, and keeps what they replace.
     pub fn post(
         &mut self,
-        raised: Nodes<A>,
+        raised: Raised<A>,
         seat: u32,
         unit: &Unit,
         work: Work<A>,
         versions: Versions,
+        spent: &mut Spent<A>,
     )
         requires out { IsSome (place_out self.old.turns.out unit.now) }
-        requires distinct { AreDistinct raised.rows }
-        requires room { length raised.rows ≤ self.old.nodes.room }
+        requires placed { ArePlaced self.old.nodes.rows raised.rows.items }
+        requires room { length raised.rows.items ≤ self.old.nodes.room }
         requires work_room { 0 < self.old.works.room }
-        ensures nodes { self.new.nodes.rows ≡ with_all self.old.nodes.rows raised.rows }
+        ensures nodes { self.new.nodes.rows ≡ with_all self.old.nodes.rows (held_rows raised.rows.items) }
         ensures works { self.new.works.rows ≡ with_done self.old.works.rows (record { unit = unit.now; work = work; versions = versions }) }
         ensures journal { self.new.turns.journal ≡ self.old.turns.journal ++ Event.Post seat unit.now ∷ [] }
         ensures out { TakesHome self.old.turns.out unit.now self.new.turns.out }
         ensures returned { self.new.turns.returned ≡ self.old.turns.returned }
         ensures agenda { self.new.agenda ≡ self.old.agenda }
     {
-        self.nodes.set_all(raised);
-        self.works.set(*unit, work, versions);
-        self.turns.post(seat, unit);
+        self.nodes.set_all(raised, spent);
+        let place = self.turns.post(seat, unit);
+        spent.keep_work(self.works.set(*unit, work, versions, place));
     }
 }

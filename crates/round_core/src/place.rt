@@ -9,3 +9,13 @@ pub enum Place {
     /// The return to the node at a place from the exit at a place.
     Back(usize, usize),
 }
+
+impl Place {
+    /// The places of the unit's node and of its exit, or for one that has none its node's twice.
+    pub fn of_nodes(self) -> (usize, usize) {
+        match self {
+            Place::One(node) => (node, node),
+            Place::Back(node, exit) => (node, exit),
+        }
+    }
+}

@@ -4,14 +4,14 @@ ghost use Rattle.std.specs.Prelude.{◌≡◌, OnOk, OnErr, IfOk, IfErr};
 ghost use Rattle.round_core.specs.Kept.{with_event, IsOutOf};
 ghost use Rattle.round_core.specs.Machine.{Out, all_raised, replay};
 ghost use Rattle.round_core.specs.Prepared.{IsPrepared};
-ghost use Rattle.round_core.specs.Raise.{with_all};
+ghost use Rattle.round_core.specs.Raise.{held_rows, with_all, ArePlaced};
 ghost use Rattle.round_core.specs.Shown.{StaysShown};
 ghost use Rattle.round_core.specs.declared.event.Event.{Event};
 
 use crate::book::Book;
-use crate::nodes::Nodes;
 use crate::parts::Parts;
 use crate::raise::all_raised;
+use crate::raised::Raised;
 use crate::ticket::Done;
 use chip_law::Chip;
 use no_memory::Memory;
@@ -22,15 +22,17 @@ fn prepare<C: Chip>(
     chip: &C,
     parts: &mut Parts<C::Abs>,
     done: &Done<C>,
-) -> Result<Nodes<C::Abs>, Memory>
+) -> Result<Raised<C::Abs>, Memory>
     ensures shown { StaysShown parts.old parts.new }
     ensures journal { parts.new.turns.journal ≡ parts.old.turns.journal }
-    ensures raised { IfOk result (λ raised. with_all parts.old.nodes.rows raised.rows ≡ all_raised (C.analysis (C.base chip.now)) parts.old.nodes.rows done.now.work.posts) }
-    ensures prepared { IfOk result (λ raised. IsPrepared parts.old parts.new done.now.ticket.unit done.now.work.waits raised.rows) }
+    ensures raised { IfOk result (λ raised. with_all parts.old.nodes.rows (held_rows raised.rows.items) ≡ all_raised (C.analysis (C.base chip.now)) parts.old.nodes.rows done.now.work.posts) }
+    ensures prepared { IfOk result (λ raised. IsPrepared parts.old parts.new done.now.ticket.unit done.now.work.waits (held_rows raised.rows.items)) }
+    ensures placed { IfOk result (λ raised. ArePlaced parts.old.nodes.rows raised.rows.items) }
 {
     let alloc = parts.nodes.allocator();
     let raised = all_raised(alloc, chip, &parts.nodes, done.work.posts.as_slice())?;
-    parts.prepare(done.ticket.unit(), done.work.waits.as_slice(), &raised)?;
+    let (unit, place) = (done.ticket.unit(), done.ticket.place());
+    parts.prepare(unit, place, done.work.waits.as_slice(), &raised)?;
     Ok(raised)
 }
 
@@ -47,8 +49,11 @@ impl<C: Chip> Book<C> {
         match prepare(chip, &mut self.parts, &done) {
             Ok(raised) => {
                 let Done { ticket, work } = done;
-                let (seat, unit, versions) = ticket.into_parts();
-                self.parts.post(raised, seat, &unit, work, versions);
+                let (seat, unit, versions, at, exit) = ticket.into_parts();
+                self.spent.keep_state(Some(at));
+                self.spent.keep_state(exit);
+                let spent = &mut self.spent;
+                self.parts.post(raised, seat, &unit, work, versions, spent);
                 Ok(())
             }
             Err(memory) => Err((memory, done)),

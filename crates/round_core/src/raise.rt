@@ -1,11 +1,12 @@
 //! What posts make of nodes.
 
+ghost use Rattle.std.specs.Option.{option_map};
 ghost use Rattle.std.specs.Prelude.{◌≡◌, ◌+◌, IfOk, OnOk, MatchOption, Some, None, true, false};
-ghost use Rattle.round_core.specs.Machine.{held_at, with_held, risen_state, raised, all_raised};
-ghost use Rattle.round_core.specs.Raise.{with_all};
-ghost use Rattle.round_core.specs.Shown.{AreDistinct};
+ghost use Rattle.round_core.specs.Machine.{held_at, place_of, risen_state, raised, all_raised};
+ghost use Rattle.round_core.specs.Raise.{held_rows, with_all, RisesOver};
 
 use crate::nodes::Nodes;
+use crate::raised::{Raised, Risen, index_of};
 use call_context::Node;
 use chip_law::Chip;
 use no_memory::Memory;
@@ -40,13 +41,21 @@ fn state_after<C: Chip>(
     }
 }
 
-/// The state of a node and how often it rose, where earlier posts raised some nodes.
-fn held_in<'a, A>(nodes: &'a Nodes<A>, earlier: &'a Nodes<A>, node: &Node) -> Option<(&'a A, u32)>
-    requires { AreDistinct earlier.now.rows }
-    ensures { MatchOption result (held_at (with_all nodes.now.rows earlier.now.rows) node.now ≡ None) (λ found. held_at (with_all nodes.now.rows earlier.now.rows) node.now ≡ Some (record { node = node.now; state = found.0.now; rises = found.1 })) }
+/// The place of a node, its state, and how often that rose, where earlier posts raised some nodes.
+fn held_in<'a, A>(
+    nodes: &'a Nodes<A>,
+    earlier: &'a Raised<A>,
+    node: &Node,
+) -> Option<(usize, &'a A, u32)>
+    requires { RisesOver nodes.now.rows earlier.now }
+    ensures place { option_map (λ found. found.0) result ≡ place_of (with_all nodes.now.rows (held_rows earlier.now.rows.items)) node.now }
+    ensures held { MatchOption result (held_at (with_all nodes.now.rows (held_rows earlier.now.rows.items)) node.now ≡ None) (λ found. held_at (with_all nodes.now.rows (held_rows earlier.now.rows.items)) node.now ≡ Some (record { node = node.now; state = found.1.now; rises = found.2 })) }
 {
-    match earlier.find(node) {
-        Some(found) => Some(found),
+    match index_of(earlier.rows.as_slice(), node) {
+        Some(index) => {
+            let risen = &earlier.rows[index];
+            Some((risen.place, &risen.state, risen.rises))
+        }
         None => nodes.find(node),
     }
 }
@@ -77,22 +86,35 @@ fn raise_one<C: Chip>(
     alloc: Global,
     chip: &C,
     nodes: &Nodes<C::Abs>,
-    all: &mut Nodes<C::Abs>,
+    all: &mut Raised<C::Abs>,
     node: &Node,
     posted: &C::Abs,
 ) -> Result<(), Memory>
-    requires { AreDistinct all.old.rows }
-    ensures distinct { OnOk result (AreDistinct all.new.rows) }
-    ensures raised { OnOk result (with_all nodes.now.rows all.new.rows ≡ raised (C.analysis (C.base chip.now)) (with_all nodes.now.rows all.old.rows) (node.now, posted.now)) }
+    requires { RisesOver nodes.now.rows all.old }
+    ensures over { OnOk result (RisesOver nodes.now.rows all.new) }
+    ensures raised { OnOk result (with_all nodes.now.rows (held_rows all.new.rows.items) ≡ raised (C.analysis (C.base chip.now)) (with_all nodes.now.rows (held_rows all.old.rows.items)) (node.now, posted.now)) }
 {
     match held_in(nodes, all, node) {
-        Some((held, rises)) => match risen_row(alloc, chip, node, held, rises, posted)? {
-            Some((state, rises)) => all.insert(*node, state, rises),
-            None => Ok(()),
-        },
+        Some((place, held, rises)) => {
+            match risen_row(alloc, chip, node, held, rises, posted)? {
+                Some((state, rises)) => all.put(Risen {
+                    place,
+                    node: *node,
+                    state,
+                    rises,
+                }),
+                None => Ok(()),
+            }
+        }
         None => {
             let state = chip.copy(alloc, posted)?;
-            all.insert(*node, state, 1)
+            let place = all.next;
+            all.put(Risen {
+                place,
+                node: *node,
+                state,
+                rises: 1,
+            })
         }
     }
 }
@@ -103,11 +125,11 @@ pub fn all_raised<C: Chip>(
     chip: &C,
     nodes: &Nodes<C::Abs>,
     posts: &[(Node, C::Abs)],
-) -> Result<Nodes<C::Abs>, Memory>
-    ensures distinct { IfOk result (λ all. AreDistinct all.rows) }
-    ensures raised { IfOk result (λ all. with_all nodes.now.rows all.rows ≡ all_raised (C.analysis (C.base chip.now)) nodes.now.rows posts.now) }
+) -> Result<Raised<C::Abs>, Memory>
+    ensures over { IfOk result (RisesOver nodes.now.rows) }
+    ensures raised { IfOk result (λ all. with_all nodes.now.rows (held_rows all.rows.items) ≡ all_raised (C.analysis (C.base chip.now)) nodes.now.rows posts.now) }
 {
-    let mut all = Nodes::new(alloc);
+    let mut all = Raised::new(alloc, nodes.len());
     for (node, posted) in posts {
         raise_one(alloc, chip, nodes, &mut all, node, posted)?;
     }

@@ -1,8 +1,9 @@
 //! Tables of rows in the order of their first entries, which are found by their keys.
 
-ghost use Rattle.std.specs.Prelude.{◌≡◌, ◌≤◌, ◌+◌, ◌<◌, [], map, OnOk, MatchOption, length, position, slice_get, Some, None, ◌^◌, vec_len, vec_capacity};
+ghost use Rattle.std.specs.Prelude.{true, ◌≡◌, ◌≤◌, ◌+◌, ◌<◌, [], map, OnOk, IfSome, MatchOption, length, position, slice_get, Some, None, ◌^◌, vec_len, vec_capacity};
 ghost use Rattle.std.specs.Map.{keys_of, lookup};
-ghost use Rattle.indexmap.specs.IndexMap.{insert_entry};
+ghost use Rattle.indexmap.specs.IndexMap.{insert_entry, spare};
+ghost use Rattle.std.specs.Option.{option_map};
 ghost use Rattle.round_core.specs.Reserved.{HasPlace};
 ghost use Rattle.round_core.specs.Rows.{mark_part, value_part, with_entry};
 
@@ -12,6 +13,7 @@ use no_memory::Memory;
 use std::alloc::Global;
 use std::hash::Hash;
 use std::marker::Model;
+use std::mem;
 
 /// Keys with their values and marks, in the order in which the keys came.
 #[derive(Drop)]
@@ -35,16 +37,45 @@ impl<K: Eq + Hash, V, M> Model for Table<K, V, M> {
     ghost invariant = { λ table. AreRowsOf table.marks.entries table.values.items };
 }
 
-/// Puts a value in the place of its key, or last where there is room.
-fn put_value<K: Drop, V: Drop>(values: &mut Vec<(K, V)>, place: Option<usize>, key: K, value: V)
+/// Puts a value in the place of its key, or last where there is room. It answers the value that it replaces.
+fn put_value<K: Drop, V: Drop>(
+    values: &mut Vec<(K, V)>,
+    place: Option<usize>,
+    key: K,
+    value: V,
+) -> Option<V>
     requires { HasPlace (vec_len values.old) (vec_capacity values.old) place }
     ensures items { values.new.items ≡ with_entry values.old.items place key value }
     ensures len { vec_len values.new ≤ vec_len values.old + 1 }
     ensures capacity { vec_capacity values.old ≤ vec_capacity values.new }
 {
     match place {
-        Some(place) => values[place].1 = value,
-        None => push_reserved(values, (key, value)),
+        Some(place) => Some(mem::replace(&mut values[place].1, value)),
+        None => {
+            push_reserved(values, (key, value));
+            None
+        }
+    }
+}
+
+/// Puts a mark in the place of its key, or last where there is room.
+fn put_mark<K: Eq + Hash + Drop, M: Copy>(
+    marks: &mut IndexMap<K, M>,
+    place: Option<usize>,
+    key: K,
+    mark: M,
+)
+    requires place { place ≡ position (K.eq key) (keys_of marks.old.entries) }
+    requires room { 0 < spare marks.old }
+    ensures entries { marks.new.entries ≡ insert_entry K.eq marks.old.entries key mark }
+    ensures spare { spare marks.old ≤ spare marks.new + 1 }
+{
+    match place {
+        Some(place) => marks[place] = mark,
+        None => match marks.insert(key, mark) {
+            Ok(_) => {}
+            Err(_) => unreachable!(),
+        },
     }
 }
 
@@ -75,13 +106,14 @@ impl<K: Copy + Eq + Hash + Drop, V, M: Copy> Table<K, V, M> {
         (marks, values)
     }
 
-    /// The value of a key, and its mark.
-    pub fn find(&self, key: &K) -> Option<(&V, M)>
-        ensures { MatchOption result (lookup (K.eq key.now) self.now.rows ≡ None) (λ found. lookup (K.eq key.now) self.now.rows ≡ Some (found.0.now, found.1)) }
+    /// The place of a key, its value, and its mark.
+    pub fn find(&self, key: &K) -> Option<(usize, &V, M)>
+        ensures place { option_map (λ found. found.0) result ≡ position (K.eq key.now) (keys_of self.now.rows) }
+        ensures row { MatchOption result (lookup (K.eq key.now) self.now.rows ≡ None) (λ found. lookup (K.eq key.now) self.now.rows ≡ Some (found.1.now, found.2)) }
     {
         let (index, _, mark) = self.marks.get_full(key)?;
         let (_, value) = self.values.get(index)?;
-        Some((value, *mark))
+        Some((index, value, *mark))
     }
 
     /// The allocator.
@@ -104,12 +136,46 @@ impl<K: Copy + Eq + Hash + Drop, V, M: Copy> Table<K, V, M> {
         self.marks.get_index_of(key)
     }
 
-    /// The key at a place.
-    pub fn key_at(&self, place: usize) -> Option<&K>
-        ensures { MatchOption result (length self.now.rows ≤ place) (λ key. slice_get (keys_of self.now.rows) place ≡ Some key.now) }
+    /// Whether a key stands at a place.
+    fn stands_at(&self, key: &K, place: usize) -> bool
+        ensures { result ≡ true → position (K.eq key.now) (keys_of self.now.rows) ≡ Some place }
     {
-        let (key, _) = self.values.get(place)?;
-        Some(key)
+        match self.marks.as_slice().get_index(place) {
+            Some((stored, _)) => *key == *stored,
+            None => false,
+        }
+    }
+
+    /// The place of a key, which is quickly found where the guess is right.
+    pub fn place_near(&self, key: &K, guess: usize) -> Option<usize>
+        ensures { result ≡ position (K.eq key.now) (keys_of self.now.rows) }
+    {
+        if self.stands_at(key, guess) {
+            Some(guess)
+        } else {
+            self.place(key)
+        }
+    }
+
+    /// The place of a key, its value, and its mark, which are quickly found where the guess is right.
+    pub fn find_near(&self, key: &K, guess: usize) -> Option<(usize, &V, M)>
+        ensures place { option_map (λ found. found.0) result ≡ position (K.eq key.now) (keys_of self.now.rows) }
+        ensures row { MatchOption result (lookup (K.eq key.now) self.now.rows ≡ None) (λ found. lookup (K.eq key.now) self.now.rows ≡ Some (found.1.now, found.2)) }
+    {
+        let index = self.place_near(key, guess)?;
+        let (_, mark) = self.marks.get_index(index)?;
+        let (_, value) = self.values.get(index)?;
+        Some((index, value, *mark))
+    }
+
+    /// The row at a place: its key, its value and its mark, which is what the key is found with.
+    pub fn at(&self, place: usize) -> Option<(&K, &V, M)>
+        ensures row { MatchOption result (length self.now.rows ≤ place) (λ found. slice_get self.now.rows place ≡ Some (found.0.now, (found.1.now, found.2))) }
+        ensures mark { IfSome result (λ found. lookup (K.eq found.0.now) (map mark_part self.now.rows) ≡ Some found.2) }
+    {
+        let (key, mark) = self.marks.get_index(place)?;
+        let (_, value) = self.values.get(place)?;
+        Some((key, value, *mark))
     }
 
     /// Room for more rows. They stay as they are.
@@ -122,19 +188,17 @@ impl<K: Copy + Eq + Hash + Drop, V, M: Copy> Table<K, V, M> {
         Ok(())
     }
 
-    /// Gives a key a value and a mark, in its place or last. There is room for it.
-    pub fn set(&mut self, key: K, value: V, mark: M)
+    /// Gives a key a value and a mark, in its place or last. There is room for it. It answers the value that it replaces.
+    pub fn set_at(&mut self, place: Option<usize>, key: K, value: V, mark: M) -> Option<V>
     where
         V: Drop,
-        requires { 0 < self.old.room }
+        requires place { place ≡ position (K.eq key) (keys_of self.old.rows) }
+        requires room { 0 < self.old.room }
         ensures rows { self.new.rows ≡ insert_entry K.eq self.old.rows key (value, mark) }
         ensures room { self.old.room ≤ self.new.room + 1 }
     {
-        let place = self.marks.get_index_of(&key);
-        put_value(&mut self.values, place, key, value);
-        match self.marks.insert(key, mark) {
-            Ok(_) => {}
-            Err(_) => unreachable!(),
-        }
+        let replaced = put_value(&mut self.values, place, key, value);
+        put_mark(&mut self.marks, place, key, mark);
+        replaced
     }
 }

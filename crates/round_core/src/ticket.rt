@@ -3,6 +3,7 @@
 ghost use Rattle.std.specs.Prelude.{◌≡◌};
 ghost use Rattle.std.specs.Option.{option_copied};
 
+use crate::place::Place;
 use crate::versions::Versions;
 use call_context::Unit;
 use chip_law::{Chip, Work};
@@ -13,6 +14,8 @@ use std::marker::Model;
 pub struct Ticket<C: Chip> {
     seat: u32,
     unit: Unit,
+    /// Where the unit's nodes stand in the book that gave it. Another book looks whether they stand there in it.
+    place: Place,
     at: C::Abs,
     exit: Option<C::Abs>,
     versions: Versions,
@@ -31,6 +34,7 @@ impl<C: Chip> Ticket<C> {
     pub(crate) fn new(
         seat: u32,
         unit: Unit,
+        place: Place,
         at: C::Abs,
         exit: Option<C::Abs>,
         versions: Versions,
@@ -40,17 +44,23 @@ impl<C: Chip> Ticket<C> {
         Ticket {
             seat,
             unit,
+            place,
             at,
             exit,
             versions,
         }
     }
 
-    /// The seat, the unit, and the versions of its inputs.
-    pub(crate) fn into_parts(self) -> (u32, Unit, Versions)
+    /// The seat, the unit, the versions of its inputs, and the copies of them.
+    pub(crate) fn into_parts(self) -> (u32, Unit, Versions, C::Abs, Option<C::Abs>)
         ensures { (result.0 ≡ self.seat) × (result.1 ≡ self.unit) × (result.2 ≡ self.versions) }
     {
-        (self.seat, self.unit, self.versions)
+        (self.seat, self.unit, self.versions, self.at, self.exit)
+    }
+
+    /// Where the unit's nodes stood when it was claimed.
+    pub(crate) fn place(&self) -> Place {
+        self.place
     }
 
     /// The unit that is out.

@@ -100,7 +100,7 @@ impl Turns {
         ensures { result ≡ is_some (place_out self.now.out unit.now) }
     {
         equal_nodes_are_one();
-        self.out.contains_key(unit)
+        !self.out.is_empty() && self.out.contains_key(unit)
     }
 
     /// Takes a unit out. A refusal leaves all as it was.
@@ -122,15 +122,16 @@ impl Turns {
         Ok(())
     }
 
-    /// Takes home a unit whose work came in.
-    pub fn post(&mut self, seat: u32, unit: &Unit)
+    /// Takes home a unit whose work came in, and answers its place.
+    pub fn post(&mut self, seat: u32, unit: &Unit) -> Place
         requires { IsSome (place_out self.old.out unit.now) }
         ensures journal { self.new.journal ≡ self.old.journal ++ Event.Post seat unit.now ∷ [] }
         ensures out { TakesHome self.old.out unit.now self.new.out }
         ensures returned { self.new.returned ≡ self.old.returned }
     {
-        take_home(&mut self.out, unit);
+        let place = take_home(&mut self.out, unit);
         push_reserved(&mut self.journal, Event::Post { seat, unit: *unit });
+        place
     }
 
     /// Takes home a unit without work.

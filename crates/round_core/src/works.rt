@@ -8,6 +8,7 @@ ghost use Rattle.round_core.specs.Kept.{is_live};
 ghost use Rattle.round_core.specs.Machine.{Done, done_at, with_done, waits_for};
 
 use crate::former::{live_works, waits};
+use crate::place::Place;
 use crate::table::Table;
 use crate::versions::Versions;
 use call_context::{Frame, Node, Unit, equal_nodes_are_one};
@@ -20,6 +21,18 @@ use std::marker::Model;
 #[derive(Drop)]
 pub struct Works<A> {
     table: Table<Unit, Work<A>, Versions>,
+    /// Where the last work of the location at a place may stand. Who looks there sees whether it does, and else looks the
+    /// unit up, so no contract speaks of it.
+    own: Vec<usize>,
+}
+
+/// Notes where the last work of the unit at a place stands.
+fn note(own: &mut Vec<usize>, place: Place, index: usize) {
+    if let Place::One(node) = place {
+        if let Some(known) = own.get_mut(node) {
+            *known = index;
+        }
+    }
 }
 
 impl<A> Model for Works<A> {
@@ -40,6 +53,7 @@ impl<A> Works<A> {
     {
         Works {
             table: Table::new(alloc),
+            own: Vec::new(alloc),
         }
     }
 
@@ -69,20 +83,28 @@ impl<A> Works<A> {
         live_works(&places, works)
     }
 
-    /// The last work of a unit, and the versions of its inputs.
-    pub fn find(&self, unit: &Unit) -> Option<(&Work<A>, Versions)>
-        ensures { MatchOption result (done_at self.now.rows unit.now ≡ None) (λ found. done_at self.now.rows unit.now ≡ Some (record { unit = unit.now; work = found.0.now; versions = found.1 })) }
-    {
-        equal_nodes_are_one();
-        self.table.find(unit)
+    /// Where the last work of the unit at a place may stand.
+    fn guess(&self, place: Place) -> usize {
+        match place {
+            Place::One(node) => self.own.get(node).copied().unwrap_or(usize::MAX),
+            Place::Back(..) => usize::MAX,
+        }
     }
 
-    /// Whether the last work of a location waits for a frame.
-    pub fn waits_for(&self, node: &Node, frame: &Frame) -> bool
+    /// Where the last work of a unit stands, whose place may be this one, with that work and the versions of its inputs.
+    pub fn find(&self, unit: &Unit, place: Place) -> Option<(usize, &Work<A>, Versions)>
+        ensures { MatchOption result (done_at self.now.rows unit.now ≡ None) (λ found. done_at self.now.rows unit.now ≡ Some (record { unit = unit.now; work = found.1.now; versions = found.2 })) }
+    {
+        equal_nodes_are_one();
+        self.table.find_near(unit, self.guess(place))
+    }
+
+    /// Whether the last work of a location, whose place may be this one, waits for a frame.
+    pub fn waits_for(&self, place: usize, node: &Node, frame: &Frame) -> bool
         ensures { result ≡ waits_for self.now.rows node.now frame.now }
     {
-        match self.find(&Unit::One(*node)) {
-            Some((work, _)) => waits(work, frame),
+        match self.find(&Unit::One(*node), Place::One(place)) {
+            Some((_, work, _)) => waits(work, frame),
             None => false,
         }
     }
@@ -94,21 +116,30 @@ impl<A> Works<A> {
         match unit {
             Unit::One(_) => true,
             Unit::Back(node, Node::At(_, _, frame) | Node::Exit(_, frame)) => {
-                self.waits_for(node, frame)
+                self.waits_for(usize::MAX, node, frame)
             }
         }
     }
 
-    /// Room for more of them. The rows stay as they are.
-    pub fn reserve(&mut self, more: usize) -> Result<(), Memory>
+    /// Room for one more, over a book with so many nodes. The rows stay as they are.
+    pub fn reserve(&mut self, nodes: usize) -> Result<(), Memory>
         ensures rows { self.new.rows ≡ self.old.rows }
-        ensures room { OnOk result (more ≤ self.new.room) }
+        ensures room { OnOk result (1 ≤ self.new.room) }
     {
-        self.table.reserve(more)
+        if self.own.len() < nodes {
+            self.own.resize(nodes, usize::MAX)?;
+        }
+        self.table.reserve(1)
     }
 
-    /// Puts a row in the place of the one with its unit, or last. There is room for it.
-    pub fn set(&mut self, unit: Unit, work: Work<A>, versions: Versions)
+    /// Puts a row in the place of the one with its unit, or last. There is room for it. It answers the work that it replaces.
+    pub fn set(
+        &mut self,
+        unit: Unit,
+        work: Work<A>,
+        versions: Versions,
+        place: Place,
+    ) -> Option<Work<A>>
     where
         A: Drop,
         requires { 0 < self.old.room }
@@ -116,6 +147,9 @@ impl<A> Works<A> {
         ensures room { self.old.room ≤ self.new.room + 1 }
     {
         equal_nodes_are_one();
-        self.table.set(unit, work, versions);
+        let known = self.table.place_near(&unit, self.guess(place));
+        let index = known.unwrap_or(self.table.len());
+        note(&mut self.own, place, index);
+        self.table.set_at(known, unit, work, versions)
     }
 }

@@ -1,1 +1,2 @@
+pub mod OneJournal
 pub mod TurnLemmas

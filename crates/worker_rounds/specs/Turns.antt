@@ -1,5 +1,7 @@
 -- The journal of one worker alone.
 use Rattle.std.specs.Prelude.{◌≡◌, List, [], ◌∷◌}
+use Rattle.chip_law.specs.Analysis.{Analysis}
+use Rattle.round_core.specs.Machine.{IsFinished, IsLegalJournal, replay}
 use Rattle.round_core.specs.declared.event.Event.{Event}
 use Rattle.round_core.specs.declared.event.Event.TheVariants.{Claim, Post, GiveBack}
 
@@ -12,3 +14,9 @@ AreTurns (Claim seat unit ∷ Claim other taken ∷ events) = ⊥
 AreTurns (Claim seat unit ∷ GiveBack other taken ∷ events) = ⊥
 AreTurns (Post seat unit ∷ events) = ⊥
 AreTurns (GiveBack seat unit ∷ events) = ⊥
+
+-- the journal of one worker's whole analysis: turns, each of which is legal, to a finished book
+pub record FinishesAlone {A : Type 0} (analysis : Analysis A) (journal : List Event) : Type 0 where
+  pub turns : AreTurns journal
+  pub legal : IsLegalJournal analysis journal
+  pub finished : IsFinished (replay analysis journal)

@@ -1,42 +1,38 @@
-use Rattle.std.proofs.Common.{◌≡◌, ◌≤◌, ◌+◌, subst, arith, length, take_all, MatchOption}
-use Rattle.round_core.specs.Expected.{ExpectsNode, ExpectsRows}
-use Rattle.round_core.specs.Machine.{place_of}
-use Rattle.round_core.specs.Raise.{with_all}
-use Rattle.round_core.proofs.ExpectLemmas.{grows-then, next-step, rows-step, after-bound}
+use Rattle.std.proofs.Common.{◌∙◌, ◌<◌, ap, inl, inr, sym, subst, arith, length, take, take_all, ◌++◌, ◌∷◌, []}
+use Rattle.std.proofs.lemmas.List.{take_more}
+use Rattle.round_core.specs.Agenda.{IsIn}
+use Rattle.round_core.specs.Expected.{ExpectsNode}
+use Rattle.round_core.specs.declared.raised.Risen.{Risen}
+use Rattle.round_core.proofs.ExpectLemmas.{grows-then, node-later, node-earlier}
+use Rattle.round_core.proofs.ListLemmas.{IsIn-split}
 use Rattle.round_core.proofs.expect.expect_raised.Goals as goal
 
-pub returns-in_err-next-in-Some-clause-grows : goal.returns-in_err-next-in-Some-clause-grows
-returns-in_err-next-in-Some-clause-grows g c =
-    grows-then c.args.agenda.now c.loop-index.agenda c.expect_row.new.agenda c.loop-index.invariant.grows c.expect_row.ensures.grows
+pub returns-in_err-expect_node-clause-grows : goal.returns-in_err-expect_node-clause-grows
+returns-in_err-expect_node-clause-grows g c =
+    grows-then c.args.agenda.now c.loop-risen.agenda c.expect_node.new.agenda c.loop-risen.invariant.grows c.expect_node.ensures.grows
 
-pub loop-index-preserved : goal.loop-index-preserved
-loop-index-preserved g c =
+pub loop-risen-preserved : goal.loop-risen-preserved
+loop-risen-preserved g c =
     let done = c.args.works.now.rows in
-    let ns = c.args.nodes.now.rows in
-    let rows = c.args.raised.now.rows in
-    let w = c.in-Some.ensures in
-    let i = c.loop-index.invariant in
-    let mid = c.loop-index.agenda in
-    let new = c.expect_row.new.agenda in
-    let after = c.in_ok-next-in-Some.next in
-    let r : MatchOption (place_of ns w.0.node) ((after ≡ c.loop-index.next + 1) × ExpectsNode done mid new w.0.node c.loop-index.next) (λ p. (after ≡ c.loop-index.next) × ExpectsNode done mid new w.0.node p) =
-    subst (λ n. MatchOption (place_of ns n) ((after ≡ c.loop-index.next + 1) × ExpectsNode done mid new n c.loop-index.next) (λ p. (after ≡ c.loop-index.next) × ExpectsNode done mid new n p))
-    w.2 c.in_ok-next-in-Some.ensures.expected in
-    let small : after ≤ c.loop-index.next + 1 =
-    after-bound (place_of ns w.0.node) after c.loop-index.next (ExpectsNode done mid new w.0.node c.loop-index.next) (λ p. ExpectsNode done mid new w.0.node p) r in
-    let b = i.bound in
+    let rows = c.args.raised.now in
+    let i = c.loop-risen.risen-index in
+    let x = c.risen-item.result in
+    let old = c.args.agenda.now in
+    let mid = c.loop-risen.agenda in
+    let new = c.expect_node.new.agenda in
+    let k = c.loop-risen.invariant in
+    let inside : i < length rows = omega arith in
     record {
-      next = next-step done ns rows c.requires c.loop-index.index w.0 w.1 c.loop-index.next after c.args.agenda.now mid new i.next i.grows c.expect_row.ensures.grows r;
-      bound = omega arith;
-      grows = grows-then c.args.agenda.now mid new i.grows c.expect_row.ensures.grows;
-      expected = rows-step done ns rows c.requires c.loop-index.index w.0 w.1 c.loop-index.next after c.args.agenda.now mid new i.next i.grows c.expect_row.ensures.grows r i.expected;
+      grows = grows-then old mid new k.grows c.expect_node.ensures.grows;
+      expected = λ r h. elim (IsIn-split r (take i rows) (x ∷ []) (subst (λ t. IsIn r t) (take_more rows i x inside ∙ ap (λ y. take i rows ++ y ∷ []) (sym c.risen-item.is)) h)) [
+        | inl before ↦ node-later done old mid new r.node r.place c.expect_node.ensures.grows (k.expected r before)
+        | inr last ↦ elim last [
+          | inl e ↦ subst (λ (y : Risen _). ExpectsNode done old new y.node y.place) (sym e) (node-earlier done old mid new x.node x.place k.grows c.in_ok-expect_node.ensures.expected)
+          | inr none ↦ absurd none
+        ]
+      ];
     }
 
 pub returns-clause-expected : goal.returns-clause-expected
-returns-clause-expected g c =
-    let rows = c.args.raised.now.rows in
-    let n = c.len-index-end.ensures.len in
-    let t = c.loop-index-test.false in
-    let short : length rows ≤ c.loop-index.index = omega arith in
-    subst (λ t. ExpectsRows c.args.works.now.rows c.args.agenda.now c.loop-index.agenda (with_all c.args.nodes.now.rows t) t)
-    (take_all c.loop-index.index rows short) c.loop-index.invariant.expected
+returns-clause-expected g c = λ r h.
+    c.loop-risen.invariant.expected r (subst (λ t. IsIn r t) (sym (take_all c.loop-risen.risen-index c.args.raised.now c.loop-risen-test.false)) h)

@@ -1,12 +1,11 @@
-use Rattle.std.proofs.Common.{◌≡◌, ◌+◌, ◌≤◌, take, length}
-use Rattle.round_core.specs.Expected.{Grows, ExpectsRows}
-use Rattle.round_core.specs.Raise.{with_all}
+use Rattle.std.proofs.Common.{take}
+use Rattle.round_core.specs.Agenda.{IsIn}
+use Rattle.round_core.specs.Expected.{Grows, ExpectsNode}
+use Rattle.round_core.specs.declared.raised.Risen.{Risen}
 use Rattle.round_core.proofs.expect.expect_raised.Given as goal
 
-abbrev pub invariant-loop-index : goal.invariant-loop-index
-invariant-loop-index g l = record {
-  next : l.next ≡ length (with_all l.nodes.rows (take l.index l.raised.rows));
-  bound : l.next ≤ length l.nodes.rows + l.index;
+abbrev pub invariant-loop-risen : goal.invariant-loop-risen
+invariant-loop-risen g l = record {
   grows : Grows l.fn.agenda l.agenda;
-  expected : ExpectsRows l.works.rows l.fn.agenda l.agenda (with_all l.nodes.rows (take l.index l.raised.rows)) (take l.index l.raised.rows);
+  expected : (r : Risen _) → IsIn r (take l.risen-index l.raised) → ExpectsNode l.works.rows l.fn.agenda l.agenda r.node r.place;
 }

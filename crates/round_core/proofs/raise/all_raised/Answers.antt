@@ -13,7 +13,7 @@ loop-node-preserved g c =
     let x = c.loop-node-item.result in
     let inside : i < length posts = omega arith in
     record {
-      distinct = c.in_ok-raise_one.ensures.distinct;
+      over = c.in_ok-raise_one.ensures.over;
       raised = c.in_ok-raise_one.ensures.raised
           ∙ ap (λ hs. raised m hs x) c.loop-node.invariant.raised
           ∙ sym (all_raised-append m ns (take i posts) x)

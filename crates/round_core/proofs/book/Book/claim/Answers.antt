@@ -44,3 +44,8 @@ invariant_of-self-in_err-take_out g c =
     let m = g.C.Chip.analysis (g.C.Chip.base c.self.inside.chip.value) in
     subst (λ p. IsBook m p.turns.journal p) (sym c.in_err-take_out.ensures.refused)
     (book-stays m c.self.inside.parts c.take_first.new.self c.take_first.ensures.shown c.take_first.ensures.journal c.self.invariant)
+
+pub invariant_of-self-in_err-ticket : goal.invariant_of-self-in_err-ticket
+invariant_of-self-in_err-ticket g c =
+    let m = g.C.Chip.analysis (g.C.Chip.base c.self.inside.chip.value) in
+    book-stays m c.self.inside.parts c.take_first.new.self c.take_first.ensures.shown c.take_first.ensures.journal c.self.invariant

@@ -1,9 +1,10 @@
 use Rattle.std.proofs.Common.{◌≡◌, ◌∙◌, ◌++◌, ◌∷◌, [], ap, sym, subst, refl}
 use Rattle.std.proofs.Math.Path.{ap₂}
 use Rattle.round_core.specs.declared.event.Event.TheVariants.{Post}
-use Rattle.round_core.specs.Machine.{all_raised, with_done}
-use Rattle.round_core.specs.Raise.{with_all}
-use Rattle.round_core.specs.Turns.{TakesHome}
+use Rattle.round_core.specs.Machine.{all_raised, replay, with_done}
+use Rattle.round_core.specs.Raise.{held_rows, with_all, ArePlaced}
+use Rattle.round_core.specs.Turns.{place_out, TakesHome}
+use Rattle.round_core.proofs.Cases.{is_some_of}
 use Rattle.round_core.proofs.ClaimEvent.{legal-out, book-stays, legal-more}
 use Rattle.round_core.proofs.PostEvent.{posted-shown}
 use Rattle.round_core.proofs.book.Book.post.Goals as goal
@@ -16,7 +17,7 @@ invariant_of-self g c =
     let p' = c.post.new.self in
     let t = c.args.done.ticket in
     let work = c.args.done.work in
-    let raised = c.in-Ok.raised.rows in
+    let raised = held_rows c.in-Ok.raised.rows.items in
     let seat = c.into_parts-seat.result.0 in
     let parts = c.into_parts-seat.ensures in
     let same_base : (g.C.Chip.base c.self.inside.chip.value) ≡ c.args.self.now.base = ap (λ k. k.base) c.self.view_is in
@@ -41,3 +42,17 @@ pub invariant_of-self-in-Err : goal.invariant_of-self-in-Err
 invariant_of-self-in-Err g c =
     let m = g.C.Chip.analysis (g.C.Chip.base c.self.inside.chip.value) in
     book-stays m c.self.inside.parts c.prepare.new.parts c.prepare.ensures.shown c.prepare.ensures.journal c.self.invariant
+
+pub post-requires-clause-out : goal.post-requires-clause-out
+post-requires-clause-out g c =
+    let m = g.C.Chip.analysis (g.C.Chip.base c.self.inside.chip.value) in
+    let p = c.self.inside.parts in
+    let q = c.prepare.new.parts in
+    let t = c.args.done.ticket in
+    let out = legal-out (λ base. g.C.Chip.analysis base) c.args.self.now (g.C.Chip.base c.self.inside.chip.value) p.turns.journal t c.self.view_is c.requires.out in
+    let x = (c.prepare.ensures.shown (replay m p.turns.journal) c.self.invariant.shows).out t.unit t out in
+    is_some_of (place_out q.turns.out c.into_parts-seat.result.1) x.0 (ap (λ u. place_out q.turns.out u) c.into_parts-seat.ensures.1 ∙ x.1)
+
+pub post-requires-clause-placed : goal.post-requires-clause-placed
+post-requires-clause-placed g c =
+    subst (λ hs. ArePlaced hs c.in-Ok.raised.rows.items) (sym c.in-Ok.ensures.prepared.nodes) c.in-Ok.ensures.placed

@@ -1,6 +1,7 @@
 use Rattle.std.proofs.Common.{◌≡◌, ◌∙◌, ap, sym, Some, All, slice_get}
 use Rattle.std.specs.BTreeMap.Range.{IsLeBy}
-use Rattle.round_core.proofs.PlaceLemmas.{place_cmp, of_copied, popped}
+use Rattle.round_core.proofs.PlaceLemmas.{of_copied, popped}
+use Rattle.round_core.specs.Shown.{place_cmp}
 use Rattle.round_core.proofs.ShownLemmas.{forget-shown, found-first}
 use Rattle.round_core.proofs.parts.Parts.first.Goals as goal
 

@@ -1,22 +1,15 @@
-use Rattle.std.proofs.Common.{◌≡◌, ◌∙◌, ap, sym, is_some, true, false, not, Bool, IsTrue, refl}
-use Rattle.std.specs.List.{list_any}
-use Rattle.round_core.specs.Shown.{found_at}
-use Rattle.round_core.proofs.ShownLemmas.{some-claimable, no-claimable}
+use Rattle.std.proofs.Common.{◌≡◌, ◌∙◌, sym, true, false, not, Bool, IsTrue, refl}
+use Rattle.round_core.proofs.CountedLemmas.{one_of_them, some_of_them}
 use Rattle.round_core.proofs.parts.Parts.has_claimable.Goals as goal
 
 not_true : (b : Bool) → IsTrue (not b) → b ≡ false
 not_true true h = absurd (cc)
 not_true false h = refl
 
-pub returns-then-has_claimable_candidate-clause-some : goal.returns-then-has_claimable_candidate-clause-some
-returns-then-has_claimable_candidate-clause-some g c = λ b s t.
-    some-claimable b c.args.self.now s c.args.self.now.agenda.candidates.keys (sym c.has_claimable_candidate.ensures ∙ t)
+pub returns-clause-some : goal.returns-clause-some
+returns-clause-some g c = λ b s t. some_of_them b (c.can_claim.ensures.enough b s t)
 
-pub returns-else-has_claimable_candidate-clause-some : goal.returns-else-has_claimable_candidate-clause-some
-returns-else-has_claimable_candidate-clause-some g c = λ b s t.
-    some-claimable b c.args.self.now s c.returned.result.now (sym c.has_claimable_among.ensures ∙ t)
-
-pub returns-else-has_claimable_candidate-clause-none : goal.returns-else-has_claimable_candidate-clause-none
-returns-else-has_claimable_candidate-clause-none g c = λ b s t.
-    no-claimable b c.args.self.now s (sym c.has_claimable_candidate.ensures ∙ c.if-has_claimable_candidate.false)
-    (ap (λ ps. list_any (λ place. is_some (found_at c.args.self.now place)) ps) (sym c.returned.ensures) ∙ sym c.has_claimable_among.ensures ∙ not_true _ t)
+pub returns-clause-none : goal.returns-clause-none
+returns-clause-none g c = λ b s t u k.
+    let some : IsTrue c.can_claim.result = c.can_claim.ensures.few b s (one_of_them b (u, k)) in
+    let bad : true ≡ false = sym some ∙ not_true _ t in absurd (cc)

@@ -1,0 +1,50 @@
+//! What posts have replaced.
+
+use chip_law::Work;
+use std::alloc::Global;
+use std::mem;
+
+/// States and works that posts have replaced. To free them takes as long as much of a post, so who shares a book frees them once
+/// its turn is passed. No contract speaks of them.
+#[derive(Drop)]
+pub struct Spent<A> {
+    states: Vec<A>,
+    works: Vec<Work<A>>,
+}
+
+/// How many are kept of each. Where no one takes them they are freed together.
+const MOST: usize = 64;
+
+impl<A: Drop> Spent<A> {
+    pub(crate) fn new(alloc: Global) -> Self {
+        Spent {
+            states: Vec::new(alloc),
+            works: Vec::new(alloc),
+        }
+    }
+
+    /// Keeps a state, or frees it at once where there is no memory.
+    pub(crate) fn keep_state(&mut self, state: Option<A>) {
+        if MOST <= self.states.len() {
+            self.states.clear();
+        }
+        if let Some(state) = state {
+            let _kept = self.states.push(state);
+        }
+    }
+
+    /// Keeps a work, or frees it at once where there is no memory.
+    pub(crate) fn keep_work(&mut self, work: Option<Work<A>>) {
+        if MOST <= self.works.len() {
+            self.works.clear();
+        }
+        if let Some(work) = work {
+            let _kept = self.works.push(work);
+        }
+    }
+
+    /// Hands out all, and keeps nothing.
+    pub(crate) fn take(&mut self, alloc: Global) -> Self {
+        mem::replace(self, Spent::new(alloc))
+    }
+}
