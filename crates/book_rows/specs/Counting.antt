@@ -28,7 +28,7 @@ counts_by work = record {
   widen = λ coarse. max;
   top = λ node. 4294967295;
   HasForm = λ node a. a ≤ 4294967295;
-  Breaks = λ pc cause. ⊥;
+  Breaks = λ node a cause. ⊥;
 }
 
 -- the same, where no number is within another: whatever is posted raises its node

@@ -34,5 +34,5 @@ tree end = record {
   widen = λ coarse. max;
   top = λ node. 4294967295;
   HasForm = λ node a. a ≤ 4294967295;
-  Breaks = λ pc cause. ⊥;
+  Breaks = λ node a cause. ⊥;
 }

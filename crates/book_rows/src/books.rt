@@ -424,6 +424,24 @@ fn two_seats_claim_at_once(rt: HostRuntime) -> Result<(), Fail> {
     Ok(())
 }
 
+/// Behind the first turn two units can be claimed. The first goes out and comes back, and then both go out.
+#[test]
+fn units_to_claim_are_counted(rt: HostRuntime) -> Result<(), Fail> {
+    let mut book = run_for(rt.alloc(), &Interrupted, 1)?;
+    assert!(rt; book.can_claim(2));
+    assert!(rt; !book.can_claim(3));
+    assert!(rt; claim_in_vain(&mut book, &Interrupted, 1)?);
+    assert!(rt; book.can_claim(2));
+    assert!(rt; !book.can_claim(3));
+    assert!(rt; claim_one(&mut book, &Interrupted, 1)?);
+    assert!(rt; book.can_claim(1));
+    assert!(rt; !book.can_claim(2));
+    assert!(rt; claim_one(&mut book, &Interrupted, 2)?);
+    assert!(rt; book.can_claim(0));
+    assert!(rt; !book.can_claim(1));
+    Ok(())
+}
+
 #[test]
 fn a_handler_is_entered_and_left(rt: HostRuntime) -> Result<(), Fail> {
     let book = run_for(rt.alloc(), &Interrupted, 100)?;
@@ -436,8 +454,9 @@ fn a_handler_is_entered_and_left(rt: HostRuntime) -> Result<(), Fail> {
     ];
     assert_eq!(rt; book.nodes(), nodes.as_slice());
     assert_eq!(rt; book.journal().len(), 10);
-    let (_, nodes, works) = book.into_live();
+    let (_, nodes, works, journal) = book.into_live();
     assert_eq!(rt; nodes.len(), 4);
     assert_eq!(rt; works.len(), 4);
+    assert_eq!(rt; journal.len(), 10);
     Ok(())
 }

@@ -17,13 +17,13 @@ use worker_rounds::{Gate, NoGate};
 
 /// Locations from 0 to an even last one, each of which leads to two more. Its first works run out of memory.
 #[derive(Drop)]
-struct Tree {
+pub(crate) struct Tree {
     last: u16,
     failures: u64,
     works: AtomicU64,
 }
 
-fn tree_to(last: u16, failures: u64) -> Tree {
+pub(crate) fn tree_to(last: u16, failures: u64) -> Tree {
     Tree {
         last,
         failures,

@@ -6,6 +6,8 @@ mod books;
 #[cfg(test)]
 mod crews;
 #[cfg(test)]
+mod exchanges;
+#[cfg(test)]
 mod facts;
 #[cfg(test)]
 mod stack_pointers;

@@ -1,2 +1,3 @@
-pub mod TurnLemmas
+pub mod ExchangeLemmas
 pub mod Sent
+pub mod TurnLemmas

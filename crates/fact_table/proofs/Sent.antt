@@ -5,6 +5,7 @@ use denote.Param.Send.{IsSend, sendable, view_send, recorded_send, struct_send}
 use Rattle.std.proofs.Crossing.{crosses}
 use Rattle.chip_law.specs.declared.chip.Chip.{Ghosts}
 use Rattle.round_core.proofs.parts.Parts.TheSendSync as parts
+use Rattle.round_core.proofs.spent.Spent.TheSendSync as spent
 use Rattle.round_core.specs.contracts.book.Book.TheInside as inside
 use Rattle.round_core.specs.contracts.book.Book as book
 use Rattle.fact_table.specs.contracts.facts.Facts as facts
@@ -13,7 +14,10 @@ module _ (C B A : RattleType) (g : Ghosts C.Denot B.Denot A.Denot) where
   inside_send : IsSend A → IsSend (inside.the_row C B A g)
   inside_send s =
       recorded_send (inside.the_field C B A g).row _ _ (inside.the_type C B A g).to_one
-      (struct_send (shape (inside.the_type C B A g)) (search (sendable, crosses) depth 20, (search (sendable, crosses, parts.the_field_send, s) depth 20, tt)))
+      (struct_send (shape (inside.the_type C B A g)) (
+        search (sendable, crosses) depth 20,
+        (search (sendable, crosses, parts.the_field_send, s) depth 20, (search (sendable, crosses, spent.the_field_send, s) depth 20, tt)),
+      ))
 
   pub book_send : IsSend A → IsSend (book.the_row C B A g)
   book_send s = view_send (inside.the_row C B A g) _ _ _ _ (inside_send s)

@@ -1,22 +1,28 @@
 -- Turns of a seat at the book.
-use Rattle.std.proofs.Common.{◌≡◌, ◌≢◌, ℕ, ◌==◌, Bool, true, false, cond, List, [], ◌∷◌, ◌++◌, length, Some, Result, Ok, Err, IfOk, OnOk, OnErr, sym, refl, ap, ◌∙◌, subst, append-nil, append_assoc, arith, length-append, eq-eqb, true≢false}
+use Rattle.std.proofs.Common.{◌≡◌, ◌≢◌, ℕ, ◌==◌, Bool, true, false, cond, List, [], ◌∷◌, ◌++◌, length, Some, Result, Ok, Err, IfOk, OnOk, OnErr, sym, refl, ap, ◌∙◌, subst, append-nil, append_assoc, arith, length-append, eq-eqb, true≢false, inr}
 use Rattle.std.proofs.Math.Path.{ap₂}
+use Rattle.std.specs.List.{AllByRecursion}
 use Rattle.std.proofs.Math.Seq.{drop-append_seam}
 use Rattle.std.proofs.lemmas.List.{nil_from_length}
 use Rattle.std.proofs.lemmas.List.Elements.{All-nil, All-cons, All-append, filter-append}
 use Rattle.std.proofs.lemmas.Option.{same_Some}
 use Rattle.call_context.specs.declared.node.Unit.{Unit as WorkUnit}
 use Rattle.chip_law.specs.Analysis.{Analysis}
-use Rattle.fact_table.specs.Next.{TellsOf, AnswersNext}
-use Rattle.fact_table.specs.Seats.{looked, recorded, claimed_seat, Looks, IsOutTo, Ends, Claims, TellsAnother, ClaimsNext, EndsAndClaims}
+use Rattle.fact_table.specs.Exchange.{AreClaimed, AreOutOf, AreShared, ExchangesOn, TellsLast, claim_events, post_events, tickets_of}
+use Rattle.fact_table.specs.Seats.{looked, recorded_all, claimed_seat, Looks, IsOutTo, AreOutTo, Ends, Claims, Exchanges}
+use Rattle.fact_table.specs.declared.exchange.Exchanged.{Exchanged}
+use Rattle.fact_table.specs.declared.exchange.Last.{Last}
+use Rattle.fact_table.specs.declared.exchange.Last.TheVariants.{Memory}
+use Rattle.fact_table.proofs.ExchangeLemmas.{Beside, all_append, all_both, all_map, others_out}
 use Rattle.round_core.specs.Answers.{AnswersClaim}
-use Rattle.round_core.specs.Counts.{seat_of, NoneOfSeat}
+use Rattle.round_core.specs.Counts.{seat_of, NoneOfSeat, unit_of}
 use Rattle.round_core.specs.Kept.{Kept, with_event, IsOutOf}
 use Rattle.round_core.specs.Machine.{Out, out_at, replay, IsLegalJournal}
 use Rattle.round_core.specs.declared.event.Event.{Event}
-use Rattle.round_core.specs.declared.event.Event.TheVariants.{Claim}
+use Rattle.round_core.specs.declared.event.Event.TheVariants.{Claim, Post}
 use Rattle.round_core.specs.declared.ticket.Claimed.{Claimed}
 use Rattle.round_core.specs.declared.ticket.Claimed.TheVariants.{Ticket, Idle, Finished}
+use Rattle.round_core.specs.declared.ticket.Done.{Done}
 use Rattle.turn_table.specs.Events.{StartsWith, AllOf, events_of}
 use Rattle.turn_table.specs.Shown.{ShownSeat, IsOwn, turn_begun, turn_ended}
 
@@ -66,6 +72,28 @@ looked_turn old begun new log journal idle b n j =
     behind_turn old begun new log [] journal idle b n (j ∙ sym (append-nil log))
     ∙ ap₂ (λ s m. record old { seen = s; mine = m }) (append-nil log) (append-nil old.mine)
 
+-- the events of a seat's tickets are the seat's
+posts_of_seat : {A : Type 0} (number : ℕ) (ts : List (Out A)) → AllByRecursion (λ t. t.seat ≡ number) ts → AllOf seat_of number (post_events ts)
+posts_of_seat number [] a = All-nil (λ x. seat_of x ≡ number)
+posts_of_seat number (t ∷ ts) a = All-cons (λ x. seat_of x ≡ number) (Post t.seat t.unit) (post_events ts) a.0 (posts_of_seat number ts a.1)
+
+claims_of_seat : {A : Type 0} (number : ℕ) (ts : List (Out A)) → AllOf seat_of number (claim_events number ts)
+claims_of_seat number [] = All-nil (λ x. seat_of x ≡ number)
+claims_of_seat number (t ∷ ts) = All-cons (λ x. seat_of x ≡ number) (Claim number t.unit) (claim_events number ts) refl (claims_of_seat number ts)
+
+seats_split : {C B A : Type 0} (number : ℕ) (xs ys : List (Done C B A)) → AllByRecursion (λ t. t.seat ≡ number) (tickets_of (xs ++ ys))
+    → AllByRecursion (λ t. t.seat ≡ number) (tickets_of xs) × AllByRecursion (λ t. t.seat ≡ number) (tickets_of ys)
+seats_split number [] ys a = (tt, a)
+seats_split number (x ∷ xs) ys a = let r = seats_split number xs ys a.1 in ((a.0, r.0), r.1)
+
+seats_shared : {A : Type 0} (m : Analysis A) (seat share : ℕ) (journal : List Event) (ts : List (Out A)) → AreShared m seat share journal ts → AllByRecursion (λ t. t.seat ≡ seat) ts
+seats_shared m seat share journal [] a = tt
+seats_shared m seat share journal (t ∷ ts) a = (a.1.seat_is, seats_shared m seat share (journal ++ Claim seat t.unit ∷ []) ts a.2)
+
+seats_claimed : {A : Type 0} (m : Analysis A) (seat share : ℕ) (journal : List Event) (ts : List (Out A)) → AreClaimed m seat share journal ts → AllByRecursion (λ t. t.seat ≡ seat) ts
+seats_claimed m seat share journal [] a = tt
+seats_claimed m seat share journal (t ∷ ts) a = (a.0.seat_is, seats_shared m seat share (journal ++ Claim seat t.unit ∷ []) ts a.1)
+
 -- what a call adds to the book's journal, all of it the seat's
 abbrev pub Grows : {B : Type 0} → ℕ → Kept B → Kept B → Type 0
 Grows number k k' = (added : List Event) × (k'.journal ≡ k.journal ++ added) × AllOf seat_of number added
@@ -95,15 +123,20 @@ module _ {B : Type 0} where
     grows_claim number k k' Idle a = grows_not number k k' a.0
     grows_claim number k k' Finished a = grows_not number k k' a.0
 
-    pub grows_next : {C X : Type 0} (number : ℕ) (k k' : Kept B) (r : Result (Claimed C B A × Bool) X) → AnswersNext m k k' number r → Grows number k k'
-    grows_next number k k' (Ok (claimed, another)) a = grows_claim number k k' claimed a.0
-    grows_next number k k' (Err x) a = grows_not number k k' a
+    pub grows_claimed : {C X : Type 0} (number : ℕ) (k k' : Kept B) (r : Result (Claimed C B A) X) → IfOk r (λ claimed. AnswersClaim m k k' number claimed)
+        → OnErr r (k' ≡ k) → Grows number k k'
+    grows_claimed number k k' (Ok claimed) a e = grows_claim number k k' claimed a
+    grows_claimed number k k' (Err x) a e = grows_not number k k' e
 
-    pub grows_both : {C X Y : Type 0} (number : ℕ) (k k' : Kept B) (event : Event) (r : Result (Result (Claimed C B A × Bool) X) Y)
-        → IfOk r (λ next. AnswersNext m (with_event k event) k' number next) → OnErr r (k' ≡ k) → seat_of event ≡ number → Grows number k k'
-    grows_both number k k' event (Ok next) a e s =
-        grows_then number k (with_event k event) k' (grows_by number k (with_event k event) event refl s) (grows_next number (with_event k event) k' next a)
-    grows_both number k k' event (Err y) a e s = grows_not number k k' e
+    pub grows_exchange : {C : Type 0} (number : ℕ) (k k' : Kept B) (done : List (Done C B A)) (want share : ℕ) (unposted : List (Done C B A)) (ts : List (Out A)) (last : Last)
+        → AllByRecursion (λ t. t.seat ≡ number) (tickets_of done) → ExchangesOn m number k done want share unposted ts last k' → Grows number k k'
+    grows_exchange number k k' done want share unposted ts last seats x = (
+      post_events (tickets_of x.posted) ++ claim_events number ts,
+      ap (λ b. b.journal) x.book,
+      All-append (λ e. seat_of e ≡ number) (post_events (tickets_of x.posted)) (claim_events number ts)
+          (posts_of_seat number (tickets_of x.posted) (seats_split number x.posted unposted (subst (λ ds. AllByRecursion (λ t. t.seat ≡ number) (tickets_of ds)) x.whole seats)).0)
+          (claims_of_seat number ts),
+    )
 
   -- a seat's turn at the book, and what the call made of both
   pub record IsTurn (old begun new : ShownSeat Event B) (k k' : Kept B) : Type 0 where
@@ -157,81 +190,92 @@ module _ {B : Type 0} where
         let s = looked_turn old begun new k.journal k'.journal t.idle t.begun_is t.new_is (ap (λ b. b.journal) a.0) in
         claims_as old new k k' Finished t.base t.begins (ap (λ b. b.base) a.0) (ap (λ b. b.journal) a.0 ∙ sym (ap (λ x. x.seen) s)) a s
 
-    pub claims_ok : {C X : Type 0} (old begun new : ShownSeat Event B) (k k' : Kept B) (r : Result (Claimed C B A × Bool) X) → IsTurn old begun new k k'
-        → AnswersNext (analysis k.base) k k' old.number r → IfOk r (λ next. Claims analysis old next.0 new)
-    claims_ok old begun new k k' (Ok (claimed, another)) t a = claimed_turn old begun new k k' claimed t a.0
+    pub claims_ok : {C X : Type 0} (old begun new : ShownSeat Event B) (k k' : Kept B) (r : Result (Claimed C B A) X) → IsTurn old begun new k k'
+        → IfOk r (λ claimed. AnswersClaim (analysis k.base) k k' old.number claimed) → IfOk r (λ claimed. Claims analysis old claimed new)
+    claims_ok old begun new k k' (Ok claimed) t a = claimed_turn old begun new k k' claimed t a
     claims_ok old begun new k k' (Err x) t a = tt
 
-    -- a turn ends with what the book tells behind it
-    tells : (old begun new : ShownSeat Event B) (k k' : Kept B) (another : Bool) → IsTurn old begun new k k'
-        → TellsOf (analysis k.base) k'.journal another → TellsAnother analysis new another
-    tells old begun new k k' another t a = record {
-      base = k.base;
-      base_is = t.base ∙ sym (ap (λ s. s.base) t.new_is ∙ ap (λ s. s.base) t.begun_is);
-      tells = subst (λ l. TellsOf (analysis k.base) l another) (sym (ap (λ s. s.seen) t.new_is)) a;
-    }
+    -- tickets that are out to a seat are out when its turn begins
+    pub outs_at_turn : (old begun : ShownSeat Event B) (k : Kept B) (tickets : List (Out A)) → ((base : B) → Stays (analysis base)) → Some k.base ≡ old.base
+        → begun ≡ turn_begun old k.journal → StartsWith k.journal old.seen → IsOwn seat_of old → IsOwn seat_of begun
+        → IsLegalJournal (analysis k.base) k.journal → AreOutTo analysis old tickets → AreOutOf (replay (analysis k.base) k.journal) tickets
+    outs_at_turn old begun k tickets stays base b begins own own' legal out =
+        let same : out.base ≡ k.base = same_Some out.base k.base (out.base_is ∙ sym base) in
+        record {
+          each = all_map _ (IsOutOf (replay (analysis k.base) k.journal)) tickets
+              (λ t h. out_still (analysis k.base) old.number old.seen k.journal old.mine t (stays k.base) begins own (subst (IsOwn seat_of) b own') legal
+              (subst (λ c. IsOutOf (replay (analysis c) old.seen) t) same h.0) h.1) (all_both _ _ tickets out.out.each out.seat);
+          distinct = out.out.distinct;
+        }
 
-    pub tells_ok : {C X : Type 0} (old begun new : ShownSeat Event B) (k k' : Kept B) (r : Result (Claimed C B A × Bool) X) → IsTurn old begun new k k'
-        → AnswersNext (analysis k.base) k k' old.number r → IfOk r (λ next. TellsAnother analysis new next.1)
-    tells_ok old begun new k k' (Ok (claimed, another)) t a = tells old begun new k k' another t a.1
-    tells_ok old begun new k k' (Err x) t a = tt
+    -- the tickets behind one that ends are still out
+    pub outs_behind : (old begun new : ShownSeat Event B) (k k' : Kept B) (ticket : Out A) (event : Event) (tickets : List (Out A)) → ((base : B) → Stays (analysis base))
+        → ((base : B) → Beside (analysis base)) → unit_of event ≡ ticket.unit → IsTurn old begun new k k' → IsOwn seat_of old → IsOwn seat_of begun
+        → IsLegalJournal (analysis k.base) k.journal → k' ≡ with_event k event → AreOutTo analysis old (ticket ∷ tickets) → AreOutTo analysis new tickets
+    outs_behind old begun new k k' ticket event tickets stays beside own_unit t own own' legal e out =
+        let m = analysis k.base in
+        let at = outs_at_turn old begun k (ticket ∷ tickets) stays t.base t.begun_is t.begins own own' legal out in
+        let seen : k.journal ++ event ∷ [] ≡ new.seen = sym (ap (λ b. b.journal) e) ∙ sym (ap (λ s. s.seen) t.new_is) in
+        record {
+          base = k.base;
+          base_is = t.base ∙ sym (ap (λ s. s.base) t.new_is ∙ ap (λ s. s.base) t.begun_is);
+          out = subst (λ l. AreOutOf (replay m l) tickets) seen (others_out m (beside k.base) k.journal event ticket tickets own_unit at);
+          seat = subst (λ n. AllByRecursion (λ s. s.seat ≡ n) tickets) (sym (ap (λ s. s.number) t.new_is ∙ ap (λ s. s.number) t.begun_is)) out.seat.1;
+        }
 
-    pub looks_err : {C X : Type 0} (old begun new : ShownSeat Event B) (k k' : Kept B) (r : Result (Claimed C B A × Bool) X) → IsTurn old begun new k k'
-        → AnswersNext (analysis k.base) k k' old.number r → OnErr r (Looks old new)
-    looks_err old begun new k k' (Ok (claimed, another)) t a = tt
-    looks_err old begun new k k' (Err x) t a = looks old begun new k k' t a
-
-    -- the seat behind an event of its own in its turn
-    ended_turn : (old begun new : ShownSeat Event B) (k k' : Kept B) (event : Event) → IsTurn old begun new k k' → k' ≡ with_event k event
-        → new ≡ recorded old k.journal event
-    ended_turn old begun new k k' event t e =
-        behind_turn old begun new k.journal (event ∷ []) k'.journal t.idle t.begun_is t.new_is (ap (λ b. b.journal) e)
-
-    -- and behind two
-    twice_turn : (old begun new : ShownSeat Event B) (k k' : Kept B) (event more : Event) → IsTurn old begun new k k'
-        → k' ≡ with_event (with_event k event) more
-        → new ≡ recorded (recorded old k.journal event) (k.journal ++ event ∷ []) more
-    twice_turn old begun new k k' event more t e =
-        let both = append_assoc k.journal (event ∷ []) (more ∷ []) in
-        behind_turn old begun new k.journal (event ∷ more ∷ []) k'.journal t.idle t.begun_is t.new_is (ap (λ b. b.journal) e ∙ both)
-        ∙ ap₂ (λ s m. record old { seen = s; mine = m }) (sym both) (sym (append_assoc old.mine (event ∷ []) (more ∷ [])))
-
-    claimed_behind : {C : Type 0} (old begun new : ShownSeat Event B) (k k' : Kept B) (event : Event) (claimed : Claimed C B A) → IsTurn old begun new k k'
-        → AnswersClaim (analysis k.base) (with_event k event) k' old.number claimed
-        → new ≡ claimed_seat (recorded old k.journal event) (k.journal ++ event ∷ []) claimed
-    claimed_behind old begun new k k' event (Ticket ticket) t a = twice_turn old begun new k k' event (Claim old.number ticket.unit) t a.2
-    claimed_behind old begun new k k' event Idle t a = ended_turn old begun new k k' event t a.0
-    claimed_behind old begun new k k' event Finished t a = ended_turn old begun new k k' event t a.0
-
-    claims_next : {C X : Type 0} (old begun new : ShownSeat Event B) (k k' : Kept B) (event : Event) (r : Result (Claimed C B A × Bool) X) → IsTurn old begun new k k'
-        → AnswersNext (analysis k.base) (with_event k event) k' old.number r → ClaimsNext analysis (recorded old k.journal event) r new
-    claims_next old begun new k k' event (Ok (claimed, another)) t a =
-        let base : k'.base ≡ k.base = base_kept (analysis k.base) old.number (with_event k event) k' claimed a.0 in
-        let seen : k'.journal ≡ new.seen = sym (ap (λ s. s.seen) t.new_is) in (
-          record {
+    -- what an exchange on the book makes of the seat
+    pub exchange_turn : {C : Type 0} (old begun new : ShownSeat Event B) (k k' : Kept B) (done : List (Done C B A)) (want share : ℕ) (r : Exchanged C B A)
+        → IsTurn old begun new k k' → AreOutOf (replay (analysis k.base) k.journal) (tickets_of done)
+        → AllByRecursion (λ t. t.seat ≡ old.number) (tickets_of done)
+        → ExchangesOn (analysis k.base) old.number k done want share r.unposted.items r.tickets.items r.last k' → Exchanges analysis old done want share r new
+    exchange_turn old begun new k k' done want share r t out seats x =
+        let m = analysis k.base in
+        let number : old.number ≡ new.number = sym (ap (λ s. s.number) t.new_is ∙ ap (λ s. s.number) t.begun_is) in
+        let base : Some k.base ≡ new.base = t.base ∙ sym (ap (λ s. s.base) t.new_is ∙ ap (λ s. s.base) t.begun_is) in
+        let seen : k'.journal ≡ new.seen = sym (ap (λ s. s.seen) t.new_is) in
+        let left : AllByRecursion (λ s. s.seat ≡ old.number) (tickets_of r.unposted.items) =
+        (seats_split old.number x.posted r.unposted.items (subst (λ ds. AllByRecursion (λ s. s.seat ≡ old.number) (tickets_of ds)) x.whole seats)).1 in
+        record {
+          base = k.base;
+          base_is = t.base;
+          log = k.journal;
+          begins = t.begins;
+          out = out;
+          posted = x.posted;
+          whole = x.whole;
+          claims = x.claims;
+          seat = behind_turn old begun new k.journal (post_events (tickets_of x.posted) ++ claim_events old.number r.tickets.items) k'.journal t.idle t.begun_is t.new_is
+              (ap (λ b. b.journal) x.book);
+          still_out = record {
             base = k.base;
-            base_is = t.base;
-            log = k.journal ++ event ∷ [];
-            begins = ([], sym (append-nil (k.journal ++ event ∷ [])));
-            answer = subst (λ x. AnswersClaim (analysis k.base) (with_event k event) x old.number claimed) (ap₂ (λ c l. record { base = c; journal = l }) base seen) a.0;
-            seat = claimed_behind old begun new k k' event claimed t a.0;
-          },
-          refl,
-          tells old begun new k k' another t a.1,
-        )
-    claims_next old begun new k k' event (Err x) t a = ended_turn old begun new k k' event t a
+            base_is = base;
+            out = subst (λ l. AreOutOf (replay m l) (tickets_of r.unposted.items ++ r.tickets.items)) seen x.out;
+            seat = subst (λ n. AllByRecursion (λ s. s.seat ≡ n) (tickets_of r.unposted.items ++ r.tickets.items)) number
+                (all_append (λ s. s.seat ≡ old.number) (tickets_of r.unposted.items) r.tickets.items left (seats_claimed m old.number share _ r.tickets.items x.claims));
+          };
+          last_is = subst (λ l. TellsLast (replay m l) want share r.unposted.items r.tickets.items r.last) seen x.last_is;
+        }
 
-    -- the ticket was out, and the post and the next claim were told of the seat
-    pub ends_and_claims_ok : {C X Y : Type 0} (old begun new : ShownSeat Event B) (k k' : Kept B) (ticket : Out A) (event : Event)
-        (r : Result (Result (Claimed C B A × Bool) X) Y) → IsTurn old begun new k k' → IsOutOf (replay (analysis k.base) k.journal) ticket
-        → IfOk r (λ next. AnswersNext (analysis k.base) (with_event k event) k' old.number next)
-        → IfOk r (λ next. EndsAndClaims analysis old ticket event next new)
-    ends_and_claims_ok old begun new k k' ticket event (Ok next) t out a = record {
-      ended = recorded old k.journal event;
-      ends = record { base = k.base; base_is = t.base; log = k.journal; begins = t.begins; out = out; seat = refl };
-      claims = claims_next old begun new k k' event next t a;
-    }
-    ends_and_claims_ok old begun new k k' ticket event (Err y) t out a = tt
+    -- an exchange for which there is no memory before its turn
+    pub exchange_none : {C : Type 0} (s : ShownSeat Event B) (done : List (Done C B A)) (want share : ℕ) (r : Exchanged C B A) → AreOutTo analysis s (tickets_of done)
+        → r.unposted.items ≡ done → r.tickets.items ≡ [] → r.last ≡ Memory → Exchanges analysis s done want share r s
+    exchange_none s done want share r out left none last =
+        let m = analysis out.base in
+        record {
+          base = out.base;
+          base_is = out.base_is;
+          log = s.seen;
+          begins = ([], sym (append-nil s.seen));
+          out = out.out;
+          posted = [];
+          whole = sym left;
+          claims = subst (λ ts. AreClaimed m s.number share (s.seen ++ []) ts) (sym none) tt;
+          seat = ap₂ (λ l e. record s { seen = l; mine = e }) (sym (append-nil s.seen)) (sym (append-nil s.mine))
+              ∙ ap (λ ts. recorded_all s s.seen (claim_events s.number ts)) (sym none);
+          still_out = subst (λ ts. AreOutTo analysis s (tickets_of r.unposted.items ++ ts)) (sym none)
+              (subst (λ ts. AreOutTo analysis s ts) (sym (append-nil (tickets_of r.unposted.items))) (subst (λ ds. AreOutTo analysis s (tickets_of ds)) (sym left) out));
+          last_is = subst (λ l. TellsLast (replay m s.seen) want share r.unposted.items r.tickets.items l) (sym last) (inr none);
+        }
 
     pub out_at_turn : (old begun : ShownSeat Event B) (k : Kept B) (ticket : Out A) → ((base : B) → Stays (analysis base)) → Some k.base ≡ old.base
         → begun ≡ turn_begun old k.journal → StartsWith k.journal old.seen → IsOwn seat_of old → IsOwn seat_of begun

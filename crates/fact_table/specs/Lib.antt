@@ -1,4 +1,4 @@
+pub mod Exchange
 pub mod Named
-pub mod Next
 pub mod Seats
 pub mod Still

@@ -1,7 +1,9 @@
 -- What each call makes of a seat at the book.
-use Rattle.std.specs.Prelude.{◌≡◌, Bool, Some, Result, Ok, Err, List, [], ◌∷◌, ◌++◌}
+use Rattle.std.specs.Prelude.{◌≡◌, ℕ, Some, List, [], ◌∷◌, ◌++◌}
+use Rattle.std.specs.List.{AllByRecursion}
 use Rattle.chip_law.specs.Analysis.{Analysis}
-use Rattle.fact_table.specs.Next.{TellsOf}
+use Rattle.fact_table.specs.Exchange.{AreClaimed, AreOutOf, TellsLast, claim_events, post_events, tickets_of}
+use Rattle.fact_table.specs.declared.exchange.Exchanged.{Exchanged}
 use Rattle.round_core.specs.Answers.{AnswersClaim}
 use Rattle.round_core.specs.Kept.{IsOutOf}
 use Rattle.round_core.specs.Machine.{Out, replay}
@@ -9,6 +11,7 @@ use Rattle.round_core.specs.declared.event.Event.{Event}
 use Rattle.round_core.specs.declared.event.Event.TheVariants.{Claim}
 use Rattle.round_core.specs.declared.ticket.Claimed.{Claimed}
 use Rattle.round_core.specs.declared.ticket.Claimed.TheVariants.{Ticket, Idle, Finished}
+use Rattle.round_core.specs.declared.ticket.Done.{Done}
 use Rattle.turn_table.specs.Events.{StartsWith}
 use Rattle.turn_table.specs.Shown.{ShownSeat}
 
@@ -19,6 +22,10 @@ module _ {B : Type 0} where
 
   abbrev pub recorded : ShownSeat Event B → List Event → Event → ShownSeat Event B
   recorded s log event = record s { seen = log ++ event ∷ []; mine = s.mine ++ event ∷ [] }
+
+  -- or any number of its events
+  abbrev pub recorded_all : ShownSeat Event B → List Event → List Event → ShownSeat Event B
+  recorded_all s log events = record s { seen = log ++ events; mine = s.mine ++ events }
 
   -- the seat's turn began with a journal that begins with what it had seen, and added nothing
   pub record Looks (old new : ShownSeat Event B) : Type 0 where
@@ -59,19 +66,24 @@ module _ {B : Type 0} where
         pub answer : AnswersClaim (analysis base) (record { base = base; journal = log }) (record { base = base; journal = new.seen }) old.number claimed
         pub seat : new ≡ claimed_seat old log claimed
 
-      -- whether another unit can be claimed, behind the journal that the seat has seen
-      pub record TellsAnother (s : ShownSeat Event B) (another : Bool) : Type 0 where
+      -- these tickets are out to the seat, as far as it has seen
+      pub record AreOutTo (s : ShownSeat Event B) (tickets : List (Out A)) : Type 0 where
         pub base : B
         pub base_is : Some base ≡ s.base
-        pub tells : TellsOf (analysis base) s.seen another
+        pub out : AreOutOf (replay (analysis base) s.seen) tickets
+        pub seat : AllByRecursion (λ t. t.seat ≡ s.number) tickets
 
-      -- what the book answers a claim behind just the journal that the seat has seen, or memory ran out at it
-      abbrev pub ClaimsNext : {C X : Type 0} → ShownSeat Event B → Result (Claimed C B A × Bool) X → ShownSeat Event B → Type 0
-      ClaimsNext old (Ok next) new = (claims : Claims old next.0 new) × (claims.log ≡ old.seen) × TellsAnother new next.1
-      ClaimsNext old (Err refused) new = new ≡ old
-
-      -- the seat ended a ticket and claimed the next unit in one turn, with no event of others in between
-      pub record EndsAndClaims {C X : Type 0} (old : ShownSeat Event B) (ticket : Out A) (event : Event) (next : Result (Claimed C B A × Bool) X) (new : ShownSeat Event B) : Type 0 where
-        pub ended : ShownSeat Event B
-        pub ends : Ends old ticket event ended
-        pub claims : ClaimsNext ended next new
+      -- The seat's turn began with a journal in which the tickets of all works are out. It posted the works that aren't handed
+      -- back, in their order, and then claimed, as the book answers at each place.
+      pub record Exchanges {C : Type 0} (old : ShownSeat Event B) (done : List (Done C B A)) (want share : ℕ) (r : Exchanged C B A) (new : ShownSeat Event B) : Type 0 where
+        pub base : B
+        pub base_is : Some base ≡ old.base
+        pub log : List Event
+        pub begins : StartsWith log old.seen
+        pub out : AreOutOf (replay (analysis base) log) (tickets_of done)
+        pub posted : List (Done C B A)
+        pub whole : done ≡ posted ++ r.unposted.items
+        pub claims : AreClaimed (analysis base) old.number share (log ++ post_events (tickets_of posted)) r.tickets.items
+        pub seat : new ≡ recorded_all old log (post_events (tickets_of posted) ++ claim_events old.number r.tickets.items)
+        pub still_out : AreOutTo new (tickets_of r.unposted.items ++ r.tickets.items)
+        pub last_is : TellsLast (replay (analysis base) new.seen) want share r.unposted.items r.tickets.items r.last

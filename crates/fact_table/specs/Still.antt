@@ -14,5 +14,5 @@ still = record {
   widen = λ coarse. max;
   top = λ node. 4294967295;
   HasForm = λ node a. a ≤ 4294967295;
-  Breaks = λ pc cause. ⊥;
+  Breaks = λ node a cause. ⊥;
 }

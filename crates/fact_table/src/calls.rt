@@ -1,35 +1,38 @@
 //! The calls of a worker, each in a turn of its own.
 
-ghost use Rattle.std.specs.Prelude.{◌≡◌, false, Some, IfOk, OnOk, OnErr, IfErr};
-ghost use Rattle.fact_table.specs.Seats.{Claims, Ends, EndsAndClaims, IsOutTo, Looks, TellsAnother};
+ghost use Rattle.std.specs.Prelude.{List, ◌∷◌, ◌≡◌, ◌+◌, ◌≤◌, false, length, Some, IfOk, OnOk, OnErr, IfErr};
+ghost use Rattle.std.specs.List.{AllByRecursion};
+ghost use Rattle.fact_table.specs.Exchange.{IsWorked, tickets_of};
+ghost use Rattle.fact_table.specs.Seats.{AreOutTo, Claims, Ends, Exchanges, IsOutTo, Looks};
+ghost use Rattle.round_core.specs.Machine.{Out};
 ghost use Rattle.round_core.specs.declared.event.Event.TheVariants.{Post, GiveBack};
 ghost use Rattle.turn_table.specs.Named.{name_of};
 
+use crate::exchange::{Exchanged, Last, exchange_on, post_one};
 use crate::facts::{Seat, Turns};
-use crate::next::{claim_next, post_and_claim};
 use chip_law::Chip;
 use no_memory::Memory;
-use round_core::{Claimed, Done, Ticket, outs_stay};
+use round_core::{Claimed, Done, Ticket, outs_stay, outs_stay_beside};
+use std::alloc::Global;
 use std::sync::Wait;
 
-/// Claims a unit for the seat, and says whether another one is left to claim. A refusal adds nothing.
+/// Claims a unit for the seat. A refusal adds nothing.
 pub fn claim_at<R: Wait, C: Chip>(
     rt: &R,
     turns: &Turns<C>,
     chip: &C,
     seat: &mut Seat<C>,
-) -> Result<(Claimed<C>, bool), Memory>
+) -> Result<Claimed<C>, Memory>
     requires table { seat.old.table ≡ name_of turns.now }
     requires idle { seat.old.holds ≡ false }
     requires chip { Some (C.base chip.now) ≡ seat.old.base }
-    ensures answer { IfOk result (λ next. Claims C.analysis seat.old next.0 seat.new) }
-    ensures another { IfOk result (λ next. TellsAnother C.analysis seat.new next.1) }
+    ensures answer { IfOk result (λ claimed. Claims C.analysis seat.old claimed seat.new) }
     ensures refused { OnErr result (Looks seat.old seat.new) }
 {
     let mut turn = turns.turn(rt, seat);
-    let next = claim_next(&mut turn.value.book, chip, seat.number());
+    let claimed = turn.value.book.claim(chip, seat.number());
     turns.pass(seat, turn);
-    next
+    claimed
 }
 
 /// Posts the work of a ticket that is out to the seat. A refusal adds nothing, and hands the work back.
@@ -55,41 +58,64 @@ pub fn post_at<R: Wait, C: Chip>(
     seat.number();
     let mut turn = turns.turn(rt, seat);
     turn.value.book.journal();
-    let posted = turn.value.book.post(chip, done);
+    let (posted, spent) = post_one(&mut turn.value.book, chip, done);
     turns.pass(seat, turn);
+    // Others wait no longer while it is freed.
+    drop(spent);
     posted
 }
 
-/// Posts the work of a ticket that is out to the seat, and claims the next unit for it in the same turn, as [`post_at`] and
-/// [`claim_at`] do. A refused post adds nothing, and hands the work back; where the claim is refused, the post stands.
-pub fn post_and_claim_at<R: Wait, C: Chip>(
+/// Posts works whose tickets are out to the seat, in their order, and then claims up to `want` units for it, all in one turn. It
+/// claims a second or later unit only where at least `share` units can be claimed. Where memory runs out at a post, that work
+/// and those behind it are handed back, and nothing is claimed.
+pub fn exchange_at<R: Wait, C: Chip>(
     rt: &R,
+    alloc: Global,
     turns: &Turns<C>,
     chip: &C,
     seat: &mut Seat<C>,
-    done: Done<C>,
-) -> Result<Result<(Claimed<C>, bool), Memory>, (Memory, Done<C>)>
+    done: Vec<Done<C>>,
+    want: u32,
+    share: u32,
+) -> Exchanged<C>
     requires table { seat.old.table ≡ name_of turns.now }
     requires idle { seat.old.holds ≡ false }
     requires chip { Some (C.base chip.now) ≡ seat.old.base }
-    requires ticket { IsOutTo C.analysis seat.old done.ticket }
-    requires work { done.work ≡ (C.analysis (C.base chip.now)).work done.ticket.unit done.ticket.at done.ticket.exit }
-    ensures posted { IfOk result (λ next. EndsAndClaims C.analysis seat.old done.ticket
-        (Post done.ticket.seat done.ticket.unit) next seat.new) }
-    ensures refused { OnErr result (Looks seat.old seat.new) }
-    ensures still_out { OnErr result (IsOutTo C.analysis seat.new done.ticket) }
-    ensures handed_back { IfErr result (λ refused. refused.1 ≡ done) }
+    requires some { 1 ≤ want }
+    requires few { length done.items + want ≤ 8 }
+    requires tickets { AreOutTo C.analysis seat.old (tickets_of done.items) }
+    requires works { AllByRecursion (IsWorked (C.analysis (C.base chip.now))) done.items }
+    ensures { Exchanges C.analysis seat.old done.items want share result seat.new }
 {
     outs_stay::<C>();
     seat.number();
+    let Ok(tickets) = Vec::with_capacity(alloc, want as usize) else {
+        return Exchanged {
+            unposted: done,
+            tickets: Vec::new(alloc),
+            last: Last::Memory,
+        };
+    };
     let mut turn = turns.turn(rt, seat);
     turn.value.book.journal();
-    let posted = post_and_claim(&mut turn.value.book, chip, seat.number(), done);
+    let number = seat.number();
+    let exchanged = exchange_on(
+        &mut turn.value.book,
+        chip,
+        number,
+        done,
+        tickets,
+        want,
+        share,
+    );
+    let spent = turn.value.book.take_spent();
     turns.pass(seat, turn);
-    posted
+    // Others wait no longer while it is freed.
+    drop(spent);
+    exchanged
 }
 
-/// Gives the unit of a ticket back that is out to the seat.
+/// Gives the unit of a ticket back that is out to the seat. Its other tickets are still out.
 pub fn give_back_at<R: Wait, C: Chip>(
     rt: &R,
     turns: &Turns<C>,
@@ -100,8 +126,11 @@ pub fn give_back_at<R: Wait, C: Chip>(
     requires idle { seat.old.holds ≡ false }
     requires ticket { IsOutTo C.analysis seat.old ticket }
     ensures given_back { Ends C.analysis seat.old ticket (GiveBack ticket.seat ticket.unit) seat.new }
+    ensures others_out { (others : List (Out C.Abs)) → AreOutTo C.analysis seat.old (ticket ∷ others)
+        → AreOutTo C.analysis seat.new others }
 {
     outs_stay::<C>();
+    outs_stay_beside::<C>();
     seat.number();
     let mut turn = turns.turn(rt, seat);
     turn.value.book.journal();

@@ -3,23 +3,24 @@
 //!
 //! [`FactTable::new`] lays a book down, and [`FactTable::split`] gives a seat to each worker. [`FactTable::claim`] takes
 //! out a unit for the seat, [`FactTable::post`] takes in its work, and [`FactTable::give_back`] puts it back without.
-//! [`post_and_claim_at`] takes in a work and takes out the next unit in one turn, and like [`claim_at`] it says whether
-//! another unit is left for other workers.
+//! [`FactTable::exchange`] takes in several works and takes out the next units in one turn, and says why it takes out no more.
 //! [`FactTable::join`] takes in the seat of a worker that has ended, and [`FactTable::close`] gives the book back.
 //!
 //! Contracts see a seat as `turn_table` shows it: `seen` is the journal as far as the seat knows it. Each call is one
 //! equation of such seats (`specs/Seats.antt`): its turn began with a journal that begins with the old `seen`, and the
-//! new one is that journal with the call's one event, or with none where the answer is no ticket, or memory ran out.
+//! new one is that journal with the call's one event, or with none where the answer is no ticket, or memory ran out. An
+//! exchange adds its posts and then its claims, each of which is what the book answers at its place.
 //!
 //! A ticket is out to a seat where it is out by the seat's `seen`, and claimed by it. It stays so until that seat ends
 //! it, whatever others do in between.
 #![tactic(auto)]
 
 mod calls;
+mod exchange;
 mod facts;
-mod next;
 mod table;
 
-pub use calls::{claim_at, give_back_at, post_and_claim_at, post_at};
+pub use calls::{claim_at, exchange_at, give_back_at, post_at};
+pub use exchange::{Exchanged, Last};
 pub use facts::{Facts, Seat, Turns};
 pub use table::FactTable;

@@ -1,15 +1,18 @@
 //! The shared book.
 
-ghost use Rattle.std.specs.Prelude.{◌≡◌, ◌<◌, false, [], Some, IfOk, OnOk, OnErr, IfErr};
+ghost use Rattle.std.specs.Prelude.{◌≡◌, ◌+◌, ◌<◌, ◌≤◌, length, ℕ, false, [], Some, IfOk, OnOk, OnErr, IfErr};
+ghost use Rattle.std.specs.List.{AllByRecursion};
+ghost use Rattle.fact_table.specs.Exchange.{IsWorked, tickets_of};
 ghost use Rattle.fact_table.specs.Named.{table_of};
-ghost use Rattle.fact_table.specs.Seats.{Claims, Ends, IsOutTo, Looks};
+ghost use Rattle.fact_table.specs.Seats.{AreOutTo, Claims, Ends, Exchanges, IsOutTo, Looks};
 ghost use Rattle.round_core.specs.Counts.{seat_of};
 ghost use Rattle.round_core.specs.declared.event.Event.TheVariants.{Post, GiveBack};
-ghost use Rattle.turn_table.specs.Events.{StartsWith, AllBelow};
+ghost use Rattle.turn_table.specs.Events.{StartsWith, AllBelow, events_of, events_under};
 ghost use Rattle.turn_table.specs.Named.{name_of};
-ghost use Rattle.turn_table.specs.Shown.{IsOwn, first_seat, seat_split, new_seat, seats_joined};
+ghost use Rattle.turn_table.specs.Shown.{IsOwn, first_seat, seat_split, new_seat, seats_joined, seats_known};
 
-use crate::calls::{claim_at, give_back_at, post_at};
+use crate::calls::{claim_at, exchange_at, give_back_at, post_at};
+use crate::exchange::Exchanged;
 use crate::facts::{Facts, Seat, Turns};
 use chip_law::Chip;
 use no_memory::Memory;
@@ -36,8 +39,8 @@ impl<C: Chip> FactTable<C> {
         Ok((FactTable { turns }, seat))
     }
 
-    /// The lock around the book, which threads share: they call [`claim_at`], [`post_at`],
-    /// [`post_and_claim_at`](crate::post_and_claim_at) and [`give_back_at`] on it.
+    /// The lock around the book, which threads share: they call [`claim_at`], [`post_at`], [`exchange_at`] and
+    /// [`give_back_at`] on it.
     pub fn turns(&self) -> &Turns<C>
         ensures { name_of result.now ≡ table_of self.now }
     {
@@ -52,8 +55,7 @@ impl<C: Chip> FactTable<C> {
         ensures answer { IfOk result (λ claimed. Claims C.analysis seat.old claimed seat.new) }
         ensures refused { OnErr result (Looks seat.old seat.new) }
     {
-        let (claimed, _another) = claim_at(rt, &self.turns, chip, seat)?;
-        Ok(claimed)
+        claim_at(rt, &self.turns, chip, seat)
     }
 
     /// Posts the work of a ticket, as [`post_at`] does.
@@ -75,6 +77,29 @@ impl<C: Chip> FactTable<C> {
         ensures handed_back { IfErr result (λ refused. refused.1 ≡ done) }
     {
         post_at(rt, &self.turns, chip, seat, done)
+    }
+
+    /// Posts works and claims units in one turn, as [`exchange_at`] does.
+    pub fn exchange<R: Wait>(
+        &self,
+        rt: &R,
+        alloc: Global,
+        chip: &C,
+        seat: &mut Seat<C>,
+        done: Vec<Done<C>>,
+        want: u32,
+        share: u32,
+    ) -> Exchanged<C>
+        requires table { seat.old.table ≡ table_of self.now }
+        requires idle { seat.old.holds ≡ false }
+        requires chip { Some (C.base chip.now) ≡ seat.old.base }
+        requires some { 1 ≤ want }
+        requires few { length done.items + want ≤ 8 }
+        requires tickets { AreOutTo C.analysis seat.old (tickets_of done.items) }
+        requires works { AllByRecursion (IsWorked (C.analysis (C.base chip.now))) done.items }
+        ensures { Exchanges C.analysis seat.old done.items want share result seat.new }
+    {
+        exchange_at(rt, alloc, &self.turns, chip, seat, done, want, share)
     }
 
     /// Gives a unit back, as [`give_back_at`] does.
@@ -107,7 +132,8 @@ impl<C: Chip> FactTable<C> {
         self.turns.join(seat, other);
     }
 
-    /// Takes the table apart, once every seat stands in this one. The book's journal is what the seat has seen.
+    /// Takes the table apart, once every seat stands in this one. The book's journal is what the seat has seen, and each
+    /// number has the events in it that the seat knows of it.
     pub fn close(self, seat: Seat<C>) -> Book<C>
         requires table { seat.table ≡ table_of self }
         requires idle { seat.holds ≡ false }
@@ -115,6 +141,7 @@ impl<C: Chip> FactTable<C> {
         ensures journal { result.journal ≡ seat.seen }
         ensures below { AllBelow seat_of seat.seats result.journal }
         ensures base { Some result.base ≡ seat.base }
+        ensures events { (n : ℕ) → events_of seat_of n result.journal ≡ events_under n (seats_known seat) }
     {
         let FactTable { turns } = self;
         let Facts { book } = turns.close(seat);

@@ -1,17 +1,17 @@
 -- A table opens, seats come and go, and the table is closed.
-use Rattle.std.proofs.Common.{◌≡◌, ◌≢◌, ℕ, zero, suc, ◌<◌, ◌⊎◌, List, [], ◌∷◌, ◌++◌, length, set, Option, Some, sym, refl, ap, ◌∙◌, subst, inl, inr, ⊎_elim, arith}
+use Rattle.std.proofs.Common.{◌≡◌, ◌≢◌, ℕ, zero, suc, ◌-◌, ◌<◌, ◌⊎◌, List, [], ◌∷◌, ◌++◌, length, set, get_or, Option, Some, sym, refl, ap, ◌∙◌, subst, inl, inr, ⊎_elim, arith}
 use mathlib.Core.Logic.{dite}
 use mathlib.Core.Option.{some, none, some-injective}
 use native.Mathlib.Decide.{ℕ_discrete}
 use lib.ListN.{get_elem?}
 use Rattle.atomic_table.specs.Table.{State, opening, Splits, Joins, Final, Seen}
 use Rattle.atomic_table.proofs.Lists.{set_here, set_else, at_longer}
-use Rattle.turn_table.specs.Events.{AllBelow}
+use Rattle.turn_table.specs.Events.{AllBelow, AreClear, IsAmong, events_of, events_under}
 use Rattle.turn_table.specs.Views.{idle, Known, Standing, spent, seated, SeatedAnd, on, tickets_in, tickets_of, stands_of, says_of, made_of, room_of, opening_seat, gives, given_seat, takes_in, both_seats}
 use Rattle.turn_table.specs.Rule.{total, At, Apart, Fits, IsAtHome, Kept}
-use Rattle.turn_table.proofs.Lists.{starts_whole, events_none}
-use Rattle.turn_table.proofs.Totals.{total_set, total_more, total_one, total_two, total_only, at_within, at_more, seated-injective, each_set, pairs_set, each_spent}
-use Rattle.turn_table.proofs.Moves.{same_view, latest_set, away_set, idle-not-serving}
+use Rattle.turn_table.proofs.Lists.{starts_whole, events_none, all_under, among_left, among_right, clear_append, clear_given, clear_less, have_append}
+use Rattle.turn_table.proofs.Totals.{total_set, total_more, total_one, total_two, total_only, at_within, at_more, seated-injective, each_set, pairs_in, pairs_set, each_spent}
+use Rattle.turn_table.proofs.Moves.{same_view, known_set, latest_set, away_set, idle-not-serving}
 
 -- what a seat owes that closes the table
 pub record MayClose {E C : Type 0} (v : Known E C) : Type 0 where
@@ -24,6 +24,7 @@ pub record Closes {B E C : Type 0} (history : B → List E) (seat_of : E → ℕ
   pub whole : history x ≡ v.seen
   pub below : AllBelow seat_of v.seats (history x)
   pub based : base_of x ≡ v.base
+  pub events : (n : ℕ) → events_of seat_of n (history x) ≡ events_under n ((v.number, v.mine) ∷ v.ended)
 
 module _ {B E C : Type 0} (history : B → List E) (seat_of : E → ℕ) (base_of : B → C) (base : C) (seats : ℕ) where
   abbrev K : State (Option B) (Standing E C) → Type 0
@@ -62,11 +63,14 @@ module _ {B E C : Type 0} (history : B → List E) (seat_of : E → ℕ) (base_o
             unsaid = (λ e. absurd (omega (arith, e)));
             first = (λ _. (refl, omega arith));
             to_give = (λ n p q. refl);
+            ended = tt;
+            clear = tt;
           };
           stage = tt;
         }));
         apart = (λ i j v w ne at bt. absurd (ne ((only_first first v i at).0 ∙ sym (only_first first w j bt).0)));
         below = (λ k d le. absurd (omega (arith, le)));
+        known = (λ k d le. absurd (omega (arith, le)));
         latest = (0, first, refl, inl refl);
         slot = inl (x, refl, hx, bx);
       }
@@ -115,6 +119,8 @@ module _ {B E C : Type 0} (history : B → List E) (seat_of : E → ℕ) (base_o
           unsaid = (λ e. absurd (omega (arith, e, says_it)));
           first = (λ _. first);
           to_give = (λ m p q. sv.to_give m p (omega (arith, q)));
+          ended = sv.ended;
+          clear = clear_less v.number v.room (v.room - 1) v.ended (omega arith) sv.clear;
         };
         stage = fv.stage;
       } in
@@ -131,6 +137,8 @@ module _ {B E C : Type 0} (history : B → List E) (seat_of : E → ℕ) (base_o
           unsaid = (λ _. refl);
           first = (λ p. absurd (omega (arith, p)));
           to_give = (λ m p q. absurd (omega (arith, p, q)));
+          ended = tt;
+          clear = tt;
         };
         stage = tt;
       } in
@@ -139,22 +147,39 @@ module _ {B E C : Type 0} (history : B → List E) (seat_of : E → ℕ) (base_o
       let beside : (j : ℕ) (u : Known E C) → j ≢ id → At s.views j u → Apart w u × Apart u w = λ j u ne bt.
       let a = k.apart id j v u (λ e. ne (sym e)) at bt in
       let b = k.apart j id u v ne bt at in (
-        record { numbers = a.numbers; tickets = a.tickets; not_to_give = a.not_to_give },
-        record { numbers = b.numbers; tickets = b.tickets; not_to_give = (λ p q. b.not_to_give p (omega (arith, q))) },
+        record { numbers = a.numbers; tickets = a.tickets; not_to_give = a.not_to_give; clear = a.clear },
+        record {
+          numbers = b.numbers;
+          tickets = b.tickets;
+          not_to_give = (λ p q. b.not_to_give p (omega (arith, q)));
+          clear = clear_less v.number v.room (v.room - 1) u.ended (omega arith) b.clear;
+        },
       ) in
       -- the new seat beside an old one, both ways
-      let new_beside : (u : Known E C) → F k.turns k.drawn k.log u → (v.room ≢ u.number) → (0 < u.room → ⊥) ⊎ (u.room < v.room) → Apart n u × Apart u n = λ u fu ne no_room. (
-        record { numbers = ne; tickets = (λ t x y. absurd x); not_to_give = (λ p q. ⊎_elim (λ z. z (omega (arith, p, q))) (λ z. omega (arith, q, z)) no_room) },
-        record { numbers = (λ e. ne (sym e)); tickets = (λ t x y. absurd y); not_to_give = (λ p q. omega (arith, p, q)) },
+      let new_beside : (u : Known E C) → F k.turns k.drawn k.log u → (v.room ≢ u.number) → (0 < u.room → ⊥) ⊎ (u.room < v.room)
+      → AreClear v.number v.room u.ended → Apart n u × Apart u n = λ u fu ne no_room clear. (
+        record {
+          numbers = ne;
+          tickets = (λ t x y. absurd x);
+          not_to_give =
+              (λ p q. ⊎_elim (λ z. z (omega (arith, p, q))) (λ z. omega (arith, q, z)) no_room);
+          clear = tt;
+        },
+        record {
+          numbers = (λ e. ne (sym e));
+          tickets = (λ t x y. absurd y);
+          not_to_give = (λ p q. omega (arith, p, q));
+          clear = clear_given v.number v.room u.ended has_room clear;
+        },
       ) in
       let new_and : (j : ℕ) (u : Known E C) → At changed j u → Apart n u × Apart u n = each_set s.views id w (λ u. Apart n u × Apart u n)
-      (new_beside w left (λ e. omega (arith, e, zero_number, has_room)) (inr (omega (arith, has_room))))
+      (new_beside w left (λ e. omega (arith, e, zero_number, has_room)) (inr (omega (arith, has_room))) sv.clear)
       (λ j u ne bt.
       let b = k.apart j id u v ne bt at in
       let fu = k.fits j u bt in
       new_beside u fu
       (λ e. b.not_to_give (subst (λ (m : ℕ). 0 < m) e has_room) (omega (arith, e)))
-      (inl (λ p. b.numbers ((fu.suits.first p).0 ∙ sym zero_number)))) in
+      (inl (λ p. b.numbers ((fu.suits.first p).0 ∙ sym zero_number))) b.clear) in
       record {
         drawn = k.drawn;
         turns = k.turns;
@@ -177,6 +202,8 @@ module _ {B E C : Type 0} (history : B → List E) (seat_of : E → ℕ) (base_o
             (at_more changed (seated n) (seated x) j ct))
             (at_more changed (seated n) (seated u) i bt));
         below = k.below;
+        known = (λ m d le. let h = known_set s.views id v w (seat_of (get_or k.log m d)) lt at refl refl (k.known m d le) in
+            (h.0, h.1, at_longer changed (seated n ∷ []) h.0 (seated h.1) h.2, h.3));
         latest = (let l = latest_set s.views id v w k.log lt at (λ x. x) k.latest in (l.0, l.1, at_longer changed (seated n ∷ []) l.0 (seated l.1) l.2, l.3));
         slot = ⊎_elim (λ x. inl x)
             (λ x. let a = away_set s.views id v w s.homes lt at (λ t e. e) x in let (i, u, t, bt, is) = a.1 in inr (a.0, (i, u, t, at_longer changed (seated n ∷ []) i (seated u) bt, is)))
@@ -215,6 +242,9 @@ module _ {B E C : Type 0} (history : B → List E) (seat_of : E → ℕ) (base_o
       let r₂ = total_set room_of changed other (seated w) spent at' in
       let r₃ = k.made in
       let stands_v = sv.stands in
+      -- what another seat may not have or give of the seat that ends
+      let ended_clear : (u : Known E C) → Apart w u → AreClear u.number u.room ((w.number, w.mine) ∷ w.ended) = λ u apart.
+      (apart.numbers, apart.not_to_give, apart.clear) in
       let here : F k.turns k.drawn k.log b = record {
         suits = record {
           seen = sv.seen;
@@ -228,14 +258,21 @@ module _ {B E C : Type 0} (history : B → List E) (seat_of : E → ℕ) (base_o
           unsaid = (λ e. let p = sv.unsaid (omega (arith, e)) in let q = sw.unsaid (omega (arith, e)) in omega (arith, p, q));
           first = (λ p. let q = sv.first p in let says_it = q.1 in (q.0, omega (arith, says_it)));
           to_give = sv.to_give;
+          ended = have_append seat_of k.log v.ended ((w.number, w.mine) ∷ w.ended) sv.ended (sw.own, sw.ended);
+          clear = clear_append v.number v.room v.ended ((w.number, w.mine) ∷ w.ended) sv.clear (ended_clear v (k.apart other id w v ne atw at));
         };
         stage = fv.stage;
       } in
-      let beside : (j : ℕ) (u : Known E C) → j ≢ id → At s.views j u → Apart b u × Apart u b = λ j u ne' bt.
+      let beside : (j : ℕ) (u : Known E C) → j ≢ id → j ≢ other → At s.views j u → Apart b u × Apart u b = λ j u ne' ne'' bt.
       let a = k.apart id j v u (λ e. ne' (sym e)) at bt in
       let c = k.apart j id u v ne' bt at in (
-        record { numbers = a.numbers; tickets = a.tickets; not_to_give = a.not_to_give },
-        record { numbers = c.numbers; tickets = c.tickets; not_to_give = c.not_to_give },
+        record {
+          numbers = a.numbers;
+          tickets = a.tickets;
+          not_to_give = a.not_to_give;
+          clear = clear_append u.number u.room v.ended ((w.number, w.mine) ∷ w.ended) a.clear (ended_clear u (k.apart other j w u (λ e. ne'' (sym e)) atw bt));
+        },
+        record { numbers = c.numbers; tickets = c.tickets; not_to_give = c.not_to_give; clear = c.clear },
       ) in
       let kept : (j : ℕ) (u : Known E C) → j ≢ other → At changed j u → At (set changed other spent) j u = λ j u ne' bt. set_else changed other j spent ne' ∙ bt in
       let itself : At (set changed other spent) id b = kept id b (λ e. ne (sym e)) (set_here s.views id (seated b) lt) in
@@ -251,8 +288,29 @@ module _ {B E C : Type 0} (history : B → List E) (seat_of : E → ℕ) (base_o
         one_says = omega (arith, c₁, c₂, c₃);
         made = omega (arith, d₁, d₂, r₁, r₂, r₃);
         fits = (λ j u bt. let t = each_spent changed other j u bt in each_set s.views id b (F k.turns k.drawn k.log) here (λ j u ne' ct. k.fits j u ct) j u t.1);
-        apart = (λ i j u x ne' bt ct. pairs_set s.views id b Apart beside k.apart i j u x ne' (each_spent changed other i u bt).1 (each_spent changed other j x ct).1);
+        apart = (λ i j u x ne' bt ct. let p = each_spent changed other i u bt in let q = each_spent changed other j x ct in
+            pairs_in s.views id b Apart (λ j. j ≢ other) beside k.apart i j u x ne' p.0 q.0 p.1 q.1);
         below = k.below;
+        known = (λ m d le. let (j, u, bt, is) = k.known m d le in
+            let n : ℕ = seat_of (get_or k.log m d) in
+            let more : List (ℕ × List E) = (w.number, w.mine) ∷ w.ended in
+            dite (ℕ_discrete j id)
+            (λ e. let same : u ≡ v = same_view s.views id u v (subst (λ n. At s.views n u) e bt) at in (
+              id,
+              b,
+              itself,
+              ⊎_elim (λ x. inl (ap (λ z. z.number) (sym same) ∙ x))
+                  (λ x. inr (among_left n v.ended more (subst (IsAmong n) (ap (λ z. z.ended) same) x))) is,
+            ))
+            (λ ne'. dite (ℕ_discrete j other)
+            (λ e. let same : u ≡ w = same_view s.views other u w (subst (λ n. At s.views n u) e bt) atw in (
+              id,
+              b,
+              itself,
+              inr (among_right n v.ended more (⊎_elim (λ x. inl (ap (λ z. z.number) (sym same) ∙ x)) (λ x. inr (subst (IsAmong n) (ap
+                  (λ z. z.ended) same) x)) is)),
+            ))
+            (λ ne''. (j, u, kept j u ne'' (set_else s.views id j (seated b) ne' ∙ bt), is))));
         latest = (let (j, u, bt, is) = k.latest in dite (ℕ_discrete j id)
             (λ e. let same : u ≡ v = same_view s.views id u v (subst (λ n. At s.views n u) e bt) at in
             (id, b, itself, inl (⊎_elim (λ x. ap (λ z. z.seen) (sym same) ∙ x) (λ x. sym (starts_whole k.log v.seen sv.seen (omega (arith, ap length (sym x ∙ ap (λ z. z.told) same ∙ v_told))))) is)))
@@ -300,6 +358,9 @@ module _ {B E C : Type 0} (history : B → List E) (seat_of : E → ℕ) (base_o
           whole = home.2 ∙ sym whole;
           below = subst (λ n. AllBelow seat_of n (history home.0)) (sym sv.seats_is) (subst (AllBelow seat_of seats) (sym home.2) k.below);
           based = home.3 ∙ sym sv.base_is;
+          events = (λ n. ap (events_of seat_of n) home.2 ∙ all_under seat_of k.log ((v.number, v.mine) ∷ v.ended) (sv.own, sv.ended)
+              (λ m d le. let (j, u, bt, is) = k.known m d le in let same = alone j u bt in let number : ℕ = seat_of (get_or k.log m d) in
+              ⊎_elim (λ x. inl (ap (λ z. z.number) (sym same) ∙ x)) (λ x. inr (subst (IsAmong number) (ap (λ z. z.ended) same) x)) is) n);
         },
       )
     where

@@ -1,8 +1,10 @@
 -- Beginnings of one history, and the events of one seat in it.
-use Rattle.std.proofs.Common.{◌≡◌, ◌≢◌, ℕ, suc, ◌<◌, ◌≤◌, ◌==◌, Bool, true, false, cond, nat_lt, ◌⊎◌, List, [], ◌∷◌, ◌++◌, length, drop, sym, refl, ap, ◌∙◌, subst, inl, inr, append_assoc, append-nil, arith, length-append, eq-eqb, ne_eqb, ltb-true, ltb-false}
+use Rattle.std.proofs.Common.{◌≡◌, ◌≢◌, ℕ, suc, ◌<◌, ◌≤◌, ◌==◌, Bool, true, false, cond, nat_lt, ◌⊎◌, List, [], ◌∷◌, ◌++◌, length, drop, sym, refl, ap, ◌∙◌, subst, inl, inr, ⊎_elim, All, append_assoc, append-nil, arith, length-append, eq-eqb, ne_eqb, ltb-true, ltb-false}
 use Rattle.std.proofs.lemmas.List.{nil_from_length}
 use Rattle.std.proofs.lemmas.List.Elements.{filter-append}
-use Rattle.turn_table.specs.Events.{StartsWith, longer, events_of, AllOf, AllBelow}
+use mathlib.Core.Logic.{dite}
+use native.Mathlib.Decide.{ℕ_discrete}
+use Rattle.turn_table.specs.Events.{StartsWith, longer, events_of, events_under, AllOf, AllBelow, AreClear, HaveEvents, IsAmong}
 
 module _ {E : Type 0} where
   pub starts_same : (xs ys : List E) → xs ≡ ys → StartsWith xs ys
@@ -102,3 +104,74 @@ module _ {E : Type 0} where
 
     pub below_of : (n seats : ℕ) (xs : List E) → n < seats → AllOf seat_of n xs → AllBelow seat_of seats xs
     below_of n seats xs lt h k d le = let e = h k d le in subst (λ (m : ℕ). m < seats) (sym e) lt
+
+    -- seats that ended have the same events of a history that grew by another seat's
+    pub ended_more : (log added : List E) (n room : ℕ) (ended : List (ℕ × List E)) → HaveEvents seat_of log ended → AreClear n room ended
+        → AllOf seat_of n added
+        → HaveEvents seat_of (log ++ added) ended
+    ended_more log added n room [] have clear all = tt
+    ended_more log added n room (seat ∷ ended) have clear all = (
+      events_more seat.0 log added ∙ ap (λ l. events_of seat_of seat.0 log ++ l) (events_others seat.0 n added clear.0 all)
+          ∙ append-nil (events_of seat_of seat.0 log) ∙ have.0,
+      ended_more log added n room ended have.1 clear.2 all,
+    )
+
+    pub have_append : (log : List E) (xs ys : List (ℕ × List E)) → HaveEvents seat_of log xs → HaveEvents seat_of log ys → HaveEvents seat_of log (xs ++ ys)
+    have_append log [] ys h k = k
+    have_append log (x ∷ xs) ys h k = (h.0, have_append log xs ys h.1 k)
+
+    -- a history without events of a number
+    none_of : (n : ℕ) (log : List E) → All (λ e. seat_of e ≢ n) log → events_of seat_of n log ≡ []
+    none_of n [] none = refl
+    none_of n (x ∷ xs) none = subst (λ b. cond b (x ∷ ev n xs) (ev n xs) ≡ []) (sym (ne_eqb (seat_of x) n (none 0 x (omega arith))))
+        (none_of n xs (λ k d le. none (suc k) d (omega (arith, le))))
+
+    found_under : (n : ℕ) (log : List E) (seats : List (ℕ × List E)) → HaveEvents seat_of log seats → IsAmong n seats
+        → events_of seat_of n log ≡ events_under n seats
+    found_under n log [] have among = absurd among
+    found_under n log (seat ∷ seats) have among = dite (ℕ_discrete seat.0 n)
+        (λ e. subst (λ b. events_of seat_of n log ≡ cond b seat.1 (events_under n seats)) (sym (eq-eqb seat.0 n e))
+        (subst (λ m. events_of seat_of m log ≡ seat.1) e have.0))
+        (λ ne. subst (λ b. events_of seat_of n log ≡ cond b seat.1 (events_under n seats)) (sym (ne_eqb seat.0 n ne))
+        (found_under n log seats have.1 (⊎_elim (λ e. absurd (ne e)) (λ rest. rest) among)))
+
+    none_under : (n : ℕ) (seats : List (ℕ × List E)) → (IsAmong n seats → ⊥) → events_under n seats ≡ []
+    none_under n [] none = refl
+    none_under n (seat ∷ seats) none = subst (λ b. cond b seat.1 (events_under n seats) ≡ []) (sym (ne_eqb seat.0 n (λ e. none (inl e))))
+        (none_under n seats (λ rest. none (inr rest)))
+
+    among_or : (n : ℕ) (seats : List (ℕ × List E)) → IsAmong n seats ⊎ (IsAmong n seats → ⊥)
+    among_or n [] = inr (λ none. none)
+    among_or n (seat ∷ seats) = dite (ℕ_discrete seat.0 n) (λ e. inl (inl e))
+        (λ ne. ⊎_elim (λ rest. inl (inr rest)) (λ none. inr (λ h. ⊎_elim ne none h)) (among_or n seats))
+
+    -- where each event is of one of these seats, whatever number has the events that stand with it
+    pub all_under : (log : List E) (seats : List (ℕ × List E)) → HaveEvents seat_of log seats → All (λ e. IsAmong (seat_of e) seats) log
+        → (n : ℕ) → events_of seat_of n log ≡ events_under n seats
+    all_under log seats have all n = ⊎_elim (λ among. found_under n log seats have among)
+        (λ none. none_of n log (λ k d le e. none (subst (λ m. IsAmong m seats) e (all k d le))) ∙ sym (none_under n seats none))
+        (among_or n seats)
+
+module _ {E : Type 0} where
+  pub among_left : (n : ℕ) (xs ys : List (ℕ × List E)) → IsAmong n xs → IsAmong n (xs ++ ys)
+  among_left n [] ys h = absurd h
+  among_left n (x ∷ xs) ys h = ⊎_elim (λ e. inl e) (λ rest. inr (among_left n xs ys rest)) h
+
+  pub among_right : (n : ℕ) (xs ys : List (ℕ × List E)) → IsAmong n ys → IsAmong n (xs ++ ys)
+  among_right n [] ys h = h
+  among_right n (x ∷ xs) ys h = inr (among_right n xs ys h)
+
+  pub clear_append : (number room : ℕ) (xs ys : List (ℕ × List E)) → AreClear number room xs → AreClear number room ys → AreClear number room (xs ++ ys)
+  clear_append number room [] ys h k = k
+  clear_append number room (x ∷ xs) ys h k = (h.0, h.1, clear_append number room xs ys h.2 k)
+
+  -- a seat that may give fewer numbers
+  pub clear_less : (number room less : ℕ) (seats : List (ℕ × List E)) → less ≤ room → AreClear number room seats → AreClear number less seats
+  clear_less number room less [] le h = tt
+  clear_less number room less (seat ∷ seats) le h = (h.0, (λ p q. h.1 p (omega (arith, q, le))), clear_less number room less seats le h.2)
+
+  -- the seat that has the greatest number that could be given
+  pub clear_given : (number room : ℕ) (seats : List (ℕ × List E)) → 0 < room → AreClear number room seats → AreClear room 0 seats
+  clear_given number room [] some h = tt
+  clear_given number room (seat ∷ seats) some h =
+      ((λ e. h.1 (omega (arith, e, some)) (omega (arith, e))), (λ p q. omega (arith, p, q)), clear_given number room seats some h.2)

@@ -1,5 +1,5 @@
 -- The steps of one seat keep the rule: a ticket is drawn, a turn comes, a turn is passed, and a seat catches up.
-use Rattle.std.proofs.Common.{◌≡◌, ◌≢◌, ℕ, ◌+◌, ◌%◌, ◌<◌, ◌≤◌, ◌⊎◌, List, [], ◌∷◌, ◌++◌, length, drop, set, get_or, Option, Some, None, sym, refl, ap, ◌∙◌, subst, inl, inr, ⊎_elim, arith, append-nil}
+use Rattle.std.proofs.Common.{◌≡◌, ◌≢◌, ℕ, ◌+◌, ◌%◌, ◌<◌, ◌≤◌, ◌⊎◌, List, [], ◌∷◌, ◌++◌, length, drop, set, get_or, Option, Some, None, sym, refl, ap, ◌∙◌, subst, inl, inr, ⊎_elim, All, arith, append-nil}
 use Rattle.std.proofs.lemmas.List.Elements.{All-append}
 use mathlib.Core.Logic.{dite}
 use mathlib.Core.Option.{some, none, some-injective}
@@ -8,11 +8,11 @@ use native.Mathlib.Decide.{ℕ_discrete}
 use lib.ListN.{get_elem?}
 use Rattle.atomic_table.specs.Table.{State, Me, Act, keeps, takes, gives, stepped, Allows}
 use Rattle.atomic_table.proofs.Lists.{set_here, set_else, one_turn}
-use Rattle.turn_table.specs.Events.{StartsWith, longer, events_of, AllOf, AllBelow}
+use Rattle.turn_table.specs.Events.{StartsWith, longer, events_of, AllOf, AllBelow, AreClear, IsAmong}
 use Rattle.turn_table.specs.Views.{Stage, idle, waiting, serving, Known, Standing, spent, seated, tickets_in, ticket_in, HasTicket, SeatedAnd, on, tickets_of, stands_of, says_of, made_of, room_of, draws, serves, passes, catches_up}
-use Rattle.turn_table.specs.Rule.{total, At, FitsStage, Apart, IsLatest, Suits, Fits, IsAway, IsAtHome, Kept}
+use Rattle.turn_table.specs.Rule.{total, At, FitsStage, Apart, IsKnown, IsLatest, Suits, Fits, IsAway, IsAtHome, Kept}
 use Rattle.turn_table.specs.Plays.{MayPass, drew, Served, looked, passed, caught_up}
-use Rattle.turn_table.proofs.Lists.{starts_same, starts_more, longer_is, longer_whole, drop_front, events_more, events_own, events_others, events_between, events_none, below_of}
+use Rattle.turn_table.proofs.Lists.{starts_same, starts_more, longer_is, longer_whole, drop_front, events_more, events_own, events_others, events_between, events_none, ended_more, below_of}
 use Rattle.turn_table.proofs.Totals.{total_set, total_below, at_within, seated-injective, each_set, pairs_set}
 
 abbrev M : ℕ
@@ -77,6 +77,19 @@ module _ {E C : Type 0} where
       (λ e. (h, (i, w, t, set_here views i (seated w) lt, move t (subst (λ z. z.stage ≡ serving t) (same_view views i u v (subst (λ n. At views n u) e bt) at) is))))
       (λ ne. (h, (j, u, t, set_else views i j (seated w) ne ∙ bt, is)))
 
+  -- a number that is known stays known where a seat keeps its number and those of the seats that it took in
+  pub known_set : (views : List (Standing E C)) (i : ℕ) (v w : Known E C) (n : ℕ) → i < length views → At views i v → w.number ≡ v.number → w.ended ≡ v.ended
+      → IsKnown views n → IsKnown (set views i (seated w)) n
+  known_set views i v w n lt at number ended (j, u, bt, is) = dite (ℕ_discrete j i)
+      (λ e. let same : u ≡ v = same_view views i u v (subst (λ n. At views n u) e bt) at in (
+        i,
+        w,
+        set_here views i (seated w) lt,
+        ⊎_elim (λ x. inl (number ∙ ap (λ z. z.number) (sym same) ∙ x))
+            (λ x. inr (subst (IsAmong n) (ap (λ z. z.ended) same ∙ sym ended) x)) is,
+      ))
+      (λ ne. (j, u, set_else views i j (seated w) ne ∙ bt, is))
+
 module _ {B E C : Type 0} (history : B → List E) (seat_of : E → ℕ) (base_of : B → C) (base : C) (seats : ℕ) where
   abbrev K : State (Option B) (Standing E C) → Type 0
   K = Kept history seat_of base_of base seats
@@ -91,6 +104,7 @@ module _ {B E C : Type 0} (history : B → List E) (seat_of : E → ℕ) (base_o
     pub says : w.says ≡ v.says
     pub made : w.made ≡ v.made
     pub room : w.room ≡ v.room
+    pub ended : w.ended ≡ v.ended
 
   pub record Move (s : State (Option B) (Standing E C)) (k : K s) (i : ℕ) (v w : Known E C) (words : List ℕ) (homes : List (mathlib.Core.Option.Option (Option B))) : Type 0 where
     pub drawn : ℕ
@@ -100,9 +114,10 @@ module _ {B E C : Type 0} (history : B → List E) (seat_of : E → ℕ) (base_o
     pub words_are : words ≡ (drawn % M) ∷ (turns % M) ∷ []
     pub tickets : tickets_in w.stage + turns + k.drawn ≡ tickets_in v.stage + k.turns + drawn
     pub here : F turns drawn log w
-    pub others : (u : Known E C) → F k.turns k.drawn k.log u → Apart v u → F turns drawn log u
+    pub others : (u : Known E C) → F k.turns k.drawn k.log u → Apart v u → Apart u v → F turns drawn log u
     pub apart : (u : Known E C) → F k.turns k.drawn k.log u → (t : ℕ) → HasTicket w.stage t → HasTicket u.stage t → (HasTicket v.stage t → ⊥) → ⊥
     pub below : AllBelow seat_of seats log
+    pub known : All (λ e. IsKnown (set s.views i (seated w)) (seat_of e)) log
     pub latest : IsLatest log (set s.views i (seated w))
     pub slot : IsAtHome history seat_of base_of base seats log homes ⊎ IsAway homes (set s.views i (seated w))
 
@@ -128,7 +143,8 @@ module _ {B E C : Type 0} (history : B → List E) (seat_of : E → ℕ) (base_o
         stand = st ∙ k.stand ∙ sym ma;
         one_says = sa ∙ k.one_says;
         made = (let a = k.made in omega arith);
-        fits = each_set s.views i w (F m.turns m.drawn m.log) m.here (λ j u ne bt. m.others u (k.fits j u bt) (k.apart i j v u (λ e. ne (sym e)) at bt));
+        fits = each_set s.views i w (F m.turns m.drawn m.log) m.here
+            (λ j u ne bt. m.others u (k.fits j u bt) (k.apart i j v u (λ e. ne (sym e)) at bt) (k.apart j i u v ne bt at));
         apart = pairs_set s.views i w Apart
             (λ j u ne bt.
             let a = k.apart i j v u (λ e. ne (sym e)) at bt in
@@ -138,15 +154,19 @@ module _ {B E C : Type 0} (history : B → List E) (seat_of : E → ℕ) (base_o
                 numbers = (λ e. a.numbers (sym m.same.number ∙ e));
                 tickets = (λ t x y. m.apart u fu t x y (λ z. a.tickets t z y));
                 not_to_give = (λ x y. a.not_to_give (subst (λ (n : ℕ). 0 < n) m.same.number x) (subst (λ (n : ℕ). n ≤ u.room) m.same.number y));
+                clear = subst (AreClear u.number u.room) (sym m.same.ended) a.clear;
               },
               record {
                 numbers = (λ e. b.numbers (e ∙ m.same.number));
                 tickets = (λ t y x. m.apart u fu t x y (λ z. a.tickets t z y));
                 not_to_give = (λ x y. b.not_to_give x (subst (λ (n : ℕ). u.number ≤ n) m.same.room y));
+                clear = subst (λ (n : ℕ). AreClear n w.room u.ended) (sym m.same.number)
+                    (subst (λ (n : ℕ). AreClear v.number n u.ended) (sym m.same.room) b.clear);
               },
             ))
             k.apart;
         below = m.below;
+        known = m.known;
         latest = m.latest;
         slot = m.slot;
       }
@@ -163,7 +183,21 @@ module _ {B E C : Type 0} (history : B → List E) (seat_of : E → ℕ) (base_o
   drawn_more turns drawn log seen (serving u) f = let b = f.1 in (f.0, omega arith, f.2)
 
   suits_stage : (log : List E) (v : Known E C) (st : Stage) → Suits seat_of base seats log v → Suits seat_of base seats log (record v { stage = st })
-  suits_stage log v st f = record { seen = f.seen; told = f.told; own = f.own; own_seen = f.own_seen; below = f.below; base_is = f.base_is; seats_is = f.seats_is; stands = f.stands; unsaid = f.unsaid; first = f.first; to_give = f.to_give }
+  suits_stage log v st f = record {
+    seen = f.seen;
+    told = f.told;
+    own = f.own;
+    own_seen = f.own_seen;
+    below = f.below;
+    base_is = f.base_is;
+    seats_is = f.seats_is;
+    stands = f.stands;
+    unsaid = f.unsaid;
+    first = f.first;
+    to_give = f.to_give;
+    ended = f.ended;
+    clear = f.clear;
+  }
 
   -- fewer tickets are held than a word counts
   few_held : (s : State (Option B) (Standing E C)) (k : K s) → k.drawn < k.turns + M
@@ -177,7 +211,7 @@ module _ {B E C : Type 0} (history : B → List E) (seat_of : E → ℕ) (base_o
       held i (seated v) at = let p = (k.fits i v at).suits.stands in let q = tickets_few v.stage in omega arith
 
   same_seat : (v : Known E C) → IsSameSeat v v
-  same_seat v = record { number = refl; stands = refl; says = refl; made = refl; room = refl }
+  same_seat v = record { number = refl; stands = refl; says = refl; made = refl; room = refl; ended = refl }
 
   drawing : (slots id : ℕ) (v : Known E C) (c : List (ℕ × Option B)) → v.stage ≡ idle → Allows K slots id (seated v, c) 0 (λ n. (n + 1) % M) (drew (seated v, c))
   drawing slots id v c rest s k len at fits =
@@ -192,13 +226,14 @@ module _ {B E C : Type 0} (history : B → List E) (seat_of : E → ℕ) (base_o
           drawn = k.drawn + 1;
           turns = k.turns;
           log = k.log;
-          same = record { number = refl; stands = refl; says = refl; made = refl; room = refl };
+          same = record { number = refl; stands = refl; says = refl; made = refl; room = refl; ended = refl };
           words_are = ap (λ l. set l 0 ((get_or l 0 0 + 1) % M)) k.words ∙ ap (λ n. n ∷ (k.turns % M) ∷ []) (mod-add-mod k.drawn M 1);
           tickets = omega (arith, none_held);
           here = record { suits = suits_stage k.log v (waiting k.drawn) (k.fits id v at).suits; stage = (omega (arith, sums), omega arith) };
-          others = (λ u fu a. record { suits = fu.suits; stage = drawn_more k.turns k.drawn k.log u.seen u.stage fu.stage });
+          others = (λ u fu a b. record { suits = fu.suits; stage = drawn_more k.turns k.drawn k.log u.seen u.stage fu.stage });
           apart = (λ u fu t x y z. let b = ticket_fits k.turns k.drawn k.log u.seen u.stage t fu.stage y in let e : k.drawn ≡ t = x in let lt' = b.1 in absurd (omega (arith, e, lt')));
           below = k.below;
+          known = (λ n d le. known_set s.views id v w (seat_of (get_or k.log n d)) lt at refl refl (k.known n d le));
           latest = latest_set s.views id v w k.log lt at (λ x. x) k.latest;
           slot = ⊎_elim (λ x. inl x) (λ x. inr (away_set s.views id v w s.homes lt at (λ t e. absurd (idle-not-serving v.stage t rest e)) x)) k.slot;
         }),
@@ -221,9 +256,10 @@ module _ {B E C : Type 0} (history : B → List E) (seat_of : E → ℕ) (base_o
         words_are = ap (λ l. set l 1 (get_or l 1 0)) k.words;
         tickets = refl;
         here = k.fits id v at;
-        others = (λ u fu a. fu);
+        others = (λ u fu a b. fu);
         apart = (λ u fu t x y z. absurd (z x));
         below = k.below;
+        known = (λ n d le. known_set s.views id v v (seat_of (get_or k.log n d)) lt at refl refl (k.known n d le));
         latest = latest_set s.views id v v k.log lt at (λ x. x) k.latest;
         slot = ⊎_elim (λ x. inl x) (λ x. inr (away_set s.views id v v s.homes lt at (λ t e. e) x)) k.slot;
       })
@@ -248,7 +284,7 @@ module _ {B E C : Type 0} (history : B → List E) (seat_of : E → ℕ) (base_o
           drawn = k.drawn;
           turns = k.turns;
           log = k.log;
-          same = record { number = refl; stands = refl; says = refl; made = refl; room = refl };
+          same = record { number = refl; stands = refl; says = refl; made = refl; room = refl; ended = refl };
           words_are = ap (λ l. set l 1 (get_or l 1 0)) k.words;
           tickets = omega (arith, one_held);
           here = record {
@@ -264,12 +300,15 @@ module _ {B E C : Type 0} (history : B → List E) (seat_of : E → ℕ) (base_o
               unsaid = sv.unsaid;
               first = sv.first;
               to_give = sv.to_give;
+              ended = sv.ended;
+              clear = sv.clear;
             };
             stage = (tk ∙ sym now, omega (arith, tk, below_drawn), hx);
           };
-          others = (λ u fu a. fu);
+          others = (λ u fu a b. fu);
           apart = (λ u fu n y z q. q (subst (λ st. HasTicket st n) (sym waits) (sym tk ∙ y)));
           below = k.below;
+          known = (λ n d le. known_set s.views id v w (seat_of (get_or k.log n d)) lt at refl refl (k.known n d le));
           latest = (id, w, set_here s.views id (seated w) lt, inl hx);
           slot = inr (ap (λ h. set h 0 none) home, (id, w, ticket_in v.stage, set_here s.views id (seated w) lt, refl));
         }),
@@ -303,8 +342,9 @@ module _ {B E C : Type 0} (history : B → List E) (seat_of : E → ℕ) (base_o
   looks slots id spent c t h = absurd h
   looks slots id (seated v) c t h = looking slots id v c t h
 
-  suits_more : (log added : List E) (n : ℕ) (u : Known E C) → Suits seat_of base seats log u → AllOf seat_of n added → u.number ≢ n → ((m : ℕ) → 0 < m → m ≤ u.room → m ≢ n) → Suits seat_of base seats (log ++ added) u
-  suits_more log added n u f all ne to_give = record {
+  suits_more : (log added : List E) (n : ℕ) (u : Known E C) → Suits seat_of base seats log u → AllOf seat_of n added → u.number ≢ n
+      → ((m : ℕ) → 0 < m → m ≤ u.room → m ≢ n) → (room : ℕ) → AreClear n room u.ended → Suits seat_of base seats (log ++ added) u
+  suits_more log added n u f all ne to_give room clear = record {
     seen = starts_more log u.seen added f.seen;
     told = starts_more log u.told added f.told;
     own = events_more seat_of u.number log added ∙ ap (λ l. events_of seat_of u.number log ++ l) (events_others seat_of u.number n added ne all) ∙ append-nil (events_of seat_of u.number log) ∙ f.own;
@@ -316,6 +356,8 @@ module _ {B E C : Type 0} (history : B → List E) (seat_of : E → ℕ) (base_o
     unsaid = f.unsaid;
     first = f.first;
     to_give = (λ m p q. events_more seat_of m log added ∙ ap (λ l. events_of seat_of m log ++ l) (events_others seat_of m n added (to_give m p q) all) ∙ append-nil (events_of seat_of m log) ∙ f.to_give m p q);
+    ended = ended_more seat_of log added n room u.ended f.ended clear all;
+    clear = f.clear;
   }
 
   -- one slot, whatever is in it
@@ -348,7 +390,7 @@ module _ {B E C : Type 0} (history : B → List E) (seat_of : E → ℕ) (base_o
           drawn = k.drawn;
           turns = k.turns + 1;
           log = log';
-          same = record { number = refl; stands = refl; says = refl; made = refl; room = refl };
+          same = record { number = refl; stands = refl; says = refl; made = refl; room = refl; ended = refl };
           words_are = ap (λ l. set l 1 ((get_or l 1 0 + 1) % M)) k.words ∙ ap (λ n. (k.drawn % M) ∷ n ∷ []) (mod-add-mod k.turns M 1);
           tickets = omega (arith, one_held);
           here = record {
@@ -367,16 +409,21 @@ module _ {B E C : Type 0} (history : B → List E) (seat_of : E → ℕ) (base_o
                   let zero_number = (sv.first (omega (arith, p, q))).0 in
                   events_more seat_of m k.log added ∙ ap (λ l. events_of seat_of m k.log ++ l) (events_others seat_of m v.number added (λ e. omega (arith, e, zero_number, p)) all)
                   ∙ append-nil (events_of seat_of m k.log) ∙ sv.to_give m p q);
+              ended = ended_more seat_of k.log added v.number v.room v.ended sv.ended sv.clear all;
+              clear = sv.clear;
             };
             stage = tt;
           };
-          others = (λ u fu a. record {
+          others = (λ u fu a b. record {
             suits = suits_more k.log added v.number u fu.suits all (λ e. a.numbers (sym e))
-                (λ m p q e. a.not_to_give (subst (λ (n : ℕ). 0 < n) e p) (subst (λ (n : ℕ). n ≤ u.room) e q));
+                (λ m p q e. a.not_to_give (subst (λ (n : ℕ). 0 < n) e p) (subst (λ (n : ℕ). n ≤ u.room) e q)) v.room b.clear;
             stage = turn_over k.turns k.drawn k.log log' u.seen u.stage fu.stage (λ h. a.tickets k.turns has h);
           });
           apart = (λ u fu n x y' z. absurd x);
           below = All-append (λ e. seat_of e < seats) k.log added k.below (below_of seat_of v.number seats added sv.below all);
+          known = All-append (λ e. IsKnown (set s.views id (seated w)) (seat_of e)) k.log added
+              (λ n d le. known_set s.views id v w (seat_of (get_or k.log n d)) lt at refl refl (k.known n d le))
+              (λ n d le. (id, w, set_here s.views id (seated w) lt, inl (sym (all n d le))));
           latest = (id, w, set_here s.views id (seated w) lt, inl whole);
           slot = inl (y, homes_is, whole, based ∙ sv.base_is);
         }),
@@ -408,7 +455,7 @@ module _ {B E C : Type 0} (history : B → List E) (seat_of : E → ℕ) (base_o
           drawn = k.drawn;
           turns = k.turns;
           log = k.log;
-          same = record { number = refl; stands = refl; says = refl; made = refl; room = refl };
+          same = record { number = refl; stands = refl; says = refl; made = refl; room = refl; ended = refl };
           words_are = ap (λ z. set z 1 (get_or z 1 0)) k.words;
           tickets = refl;
           here = record {
@@ -424,12 +471,15 @@ module _ {B E C : Type 0} (history : B → List E) (seat_of : E → ℕ) (base_o
               unsaid = sv.unsaid;
               first = sv.first;
               to_give = sv.to_give;
+              ended = sv.ended;
+              clear = sv.clear;
             };
             stage = stage_seen k.turns k.drawn k.log v.seen (longer v.seen v.told) v.stage fv.stage (λ e. longer_whole k.log v.seen v.told sv.seen sv.told (inl e));
           };
-          others = (λ u fu a. fu);
+          others = (λ u fu a b. fu);
           apart = (λ u fu t x y z. absurd (z x));
           below = k.below;
+          known = (λ n d le. known_set s.views id v w (seat_of (get_or k.log n d)) lt at refl refl (k.known n d le));
           latest = latest_set s.views id v w k.log lt at (λ e. inl (longer_whole k.log v.seen v.told sv.seen sv.told e)) k.latest;
           slot = ⊎_elim (λ x. inl x) (λ x. inr (away_set s.views id v w s.homes lt at (λ t e. e) x)) k.slot;
         }),

@@ -4,9 +4,9 @@ use mathlib.Core.Option.{some, some-injective}
 use lib.ListN.{get_elem?}
 use Rattle.atomic_table.specs.Seated.{TableId}
 use Rattle.atomic_table.specs.Table.{Me, rest, Final, Seen}
-use Rattle.turn_table.specs.Events.{events_of, AllOf, AllBelow}
+use Rattle.turn_table.specs.Events.{events_of, events_under, AllOf, AllBelow}
 use Rattle.turn_table.specs.Rule.{Kept}
-use Rattle.turn_table.specs.Shown.{ShownSeat, shown, is_serving, IsAtRest, IsSeated, IsSeat, IsOwn}
+use Rattle.turn_table.specs.Shown.{ShownSeat, shown, is_serving, IsAtRest, IsSeated, IsSeat, IsOwn, seats_known}
 use Rattle.turn_table.specs.Views.{Stage, idle, waiting, serving, Standing, spent, seated, SeatedAnd, on, draws, serves, passes, gives, given_seat, catches_up, ticket_of, both_seats}
 use Rattle.turn_table.specs.Plays.{Begins, Catches, Served, looked, passed}
 use Rattle.turn_table.proofs.Lists.{events_more, events_own, events_others, drop_front}
@@ -201,6 +201,7 @@ module _ {B E C : Type 0} (history : B → List E) (seat_of : E → ℕ) (base_o
     pub whole : history x ≡ s.seen
     pub below : AllBelow seat_of s.seats (history x)
     pub based : Some (base_of x) ≡ s.base
+    pub events : (n : ℕ) → events_of seat_of n (history x) ≡ events_under n (seats_known s)
 
   shown_closes : (id : TableId) (m : Standing E C) (s : ShownSeat E C) (x : B) → shown id m ≡ s → SeatedAnd m (Closes history seat_of base_of x) → ClosesAs s x
   shown_closes id spent s x e h = absurd h
@@ -208,6 +209,7 @@ module _ {B E C : Type 0} (history : B → List E) (seat_of : E → ℕ) (base_o
     whole = h.whole ∙ ap (λ z. z.seen) e;
     below = subst (λ (n : ℕ). AllBelow seat_of n (history x)) (ap (λ z. z.seats) e) h.below;
     based = ap (λ b. Some b) h.based ∙ ap (λ z. z.base) e;
+    events = (λ n. h.events n ∙ ap (λ z. events_under n (seats_known z)) e);
   }
 
   pub closed : (base : C) (seats number room : ℕ) (id : TableId) (place : ℕ) (m : Me (Option B) (Standing E C)) (s : ShownSeat E C) (words : List ℕ) (slots : List (Option B)) (r : Option B)

@@ -76,20 +76,28 @@ module _ {E C : Type 0} where
   each_set views i w P here there j u at =
       ⊎_elim (λ t. subst P (seated-injective w u t.1) here) (λ t. there j u t.0 t.1) (at_set views i j (seated w) (seated u) at)
 
+  -- what holds of each two of the places that are looked at
+  pub pairs_in : (views : List (Standing E C)) (i : ℕ) (w : Known E C) (R : Known E C → Known E C → Type 0) (Looked : ℕ → Type 0)
+      → ((j : ℕ) (u : Known E C) → j ≢ i → Looked j → At views j u → R w u × R u w)
+      → ((j k : ℕ) (u x : Known E C) → j ≢ k → At views j u → At views k x → R u x)
+      → (j k : ℕ) (u x : Known E C) → j ≢ k → Looked j → Looked k → At (set views i (seated w)) j u → At (set views i (seated w)) k x → R u x
+  pairs_in views i w R Looked with_it others j k u x ne here there at bt = ⊎_elim
+      (λ t. ⊎_elim
+      (λ s. absurd (ne (t.0 ∙ sym s.0)))
+      (λ s. subst (λ z. R z x) (seated-injective w u t.1) (with_it k x s.0 there s.1).0)
+      (at_set views i k (seated w) (seated x) bt))
+      (λ t. ⊎_elim
+      (λ s. subst (λ z. R u z) (seated-injective w x s.1) (with_it j u t.0 here t.1).1)
+      (λ s. others j k u x ne t.1 s.1)
+      (at_set views i k (seated w) (seated x) bt))
+      (at_set views i j (seated w) (seated u) at)
+
   pub pairs_set : (views : List (Standing E C)) (i : ℕ) (w : Known E C) (R : Known E C → Known E C → Type 0)
       → ((j : ℕ) (u : Known E C) → j ≢ i → At views j u → R w u × R u w)
       → ((j k : ℕ) (u x : Known E C) → j ≢ k → At views j u → At views k x → R u x)
       → (j k : ℕ) (u x : Known E C) → j ≢ k → At (set views i (seated w)) j u → At (set views i (seated w)) k x → R u x
-  pairs_set views i w R with_it others j k u x ne at bt = ⊎_elim
-      (λ t. ⊎_elim
-      (λ s. absurd (ne (t.0 ∙ sym s.0)))
-      (λ s. subst (λ z. R z x) (seated-injective w u t.1) (with_it k x s.0 s.1).0)
-      (at_set views i k (seated w) (seated x) bt))
-      (λ t. ⊎_elim
-      (λ s. subst (λ z. R u z) (seated-injective w x s.1) (with_it j u t.0 t.1).1)
-      (λ s. others j k u x ne t.1 s.1)
-      (at_set views i k (seated w) (seated x) bt))
-      (at_set views i j (seated w) (seated u) at)
+  pairs_set views i w R with_it others j k u x ne at bt =
+      pairs_in views i w R (λ _. Unit {0}) (λ l z ne' _ ct. with_it l z ne' ct) others j k u x ne tt tt at bt
 
   pub each_spent : (views : List (Standing E C)) (i : ℕ) (j : ℕ) (u : Known E C) → At (set views i spent) j u → (j ≢ i) × At views j u
   each_spent views i j u at = ⊎_elim (λ t. absurd (spent-not-seated u t.1)) (λ t. t) (at_set views i j spent (seated u) at)

@@ -1,9 +1,9 @@
 -- The rule that holds of a table between any two atomic steps.
-use Rattle.std.specs.Prelude.{◌≡◌, ◌≢◌, ℕ, ◌+◌, ◌%◌, ◌<◌, ◌≤◌, ◌⊎◌, List, [], ◌∷◌, Option, Some}
+use Rattle.std.specs.Prelude.{◌≡◌, ◌≢◌, ℕ, ◌+◌, ◌%◌, ◌<◌, ◌≤◌, ◌⊎◌, All, List, [], ◌∷◌, Option, Some}
 use mathlib.Core.Option.{some, none}
 use lib.ListN.{get_elem?}
 use Rattle.atomic_table.specs.Table.{State}
-use Rattle.turn_table.specs.Events.{StartsWith, events_of, AllBelow}
+use Rattle.turn_table.specs.Events.{StartsWith, events_of, AllBelow, AreClear, HaveEvents, IsAmong}
 use Rattle.turn_table.specs.Views.{Stage, idle, waiting, serving, Known, Standing, seated, HasTicket, tickets_of, stands_of, says_of, made_of, room_of}
 
 -- f of each, added up
@@ -27,10 +27,16 @@ module _ {E C : Type 0} where
     pub numbers : v.number ≢ w.number
     pub tickets : (t : ℕ) → HasTicket v.stage t → HasTicket w.stage t → ⊥
     pub not_to_give : 0 < v.number → v.number ≤ w.room → ⊥
+    -- nor has w the number of a seat that v took in, nor may it give that
+    pub clear : AreClear w.number w.room v.ended
 
   -- some seat knows the whole history
   abbrev pub IsLatest : List E → List (Standing E C) → Type 0
   IsLatest log views = (i : ℕ) × (v : Known E C) × At views i v × ((v.seen ≡ log) ⊎ (v.told ≡ log))
+
+  -- some seat has the number, or took in the one that had it
+  abbrev pub IsKnown : List (Standing E C) → ℕ → Type 0
+  IsKnown views n = (i : ℕ) × (v : Known E C) × At views i v × ((v.number ≡ n) ⊎ IsAmong n v.ended)
 
   module _ (seat_of : E → ℕ) (base : C) (seats : ℕ) where
     -- what a seat knows is true of the history
@@ -46,6 +52,8 @@ module _ {E C : Type 0} where
       pub unsaid : v.says ≡ 0 → v.made ≡ 0
       pub first : 0 < v.room → (v.number ≡ 0) × (0 < v.says)
       pub to_give : (n : ℕ) → 0 < n → n ≤ v.room → events_of seat_of n log ≡ []
+      pub ended : HaveEvents seat_of log v.ended
+      pub clear : AreClear v.number v.room v.ended
 
     pub record Fits (turns drawn : ℕ) (log : List E) (v : Known E C) : Type 0 where
       pub suits : Suits log v
@@ -74,5 +82,6 @@ module _ {E C : Type 0} where
       pub fits : (i : ℕ) (v : Known E C) → At s.views i v → Fits seat_of base seats turns drawn log v
       pub apart : (i j : ℕ) (v w : Known E C) → i ≢ j → At s.views i v → At s.views j w → Apart v w
       pub below : AllBelow seat_of seats log
+      pub known : All (λ e. IsKnown s.views (seat_of e)) log
       pub latest : IsLatest log s.views
       pub slot : IsAtHome log s.homes ⊎ IsAway s.homes s.views

@@ -34,6 +34,8 @@ pub record ShownSeat (E C : Type 0) : Type 0 where
   pub made : ℕ
   -- the greatest number that it may give, or 0
   pub room : ℕ
+  -- the numbers of the seats that it took in, each with its events
+  pub ended : List (ℕ × List E)
 
 -- between calls a seat is idle, or it is served and the slot that it took is empty
 abbrev pub IsAtRest : {B : Type 0} → Stage → List (ℕ × Option B) → Type 0
@@ -43,8 +45,20 @@ IsAtRest (serving t) slots = slots ≡ (0, None) ∷ []
 
 module _ {E C : Type 0} where
   abbrev pub shown : TableId → Standing E C → ShownSeat E C
-  shown id spent = record { table = id; number = 0; seats = 0; base = None; holds = false; seen = []; mine = []; stands = 0; made = 0; room = 0 }
-  shown id (seated v) = record { table = id; number = v.number; seats = v.seats; base = Some v.base; holds = is_serving v.stage; seen = v.seen; mine = v.mine; stands = v.stands; made = v.made; room = v.room }
+  shown id spent = record { table = id; number = 0; seats = 0; base = None; holds = false; seen = []; mine = []; stands = 0; made = 0; room = 0; ended = [] }
+  shown id (seated v) = record {
+    table = id;
+    number = v.number;
+    seats = v.seats;
+    base = Some v.base;
+    holds = is_serving v.stage;
+    seen = v.seen;
+    mine = v.mine;
+    stands = v.stands;
+    made = v.made;
+    room = v.room;
+    ended = v.ended;
+  }
 
   -- the events of the seat's number that it has seen are its own, and no others
   abbrev pub IsOwn : (E → ℕ) → ShownSeat E C → Type 0
@@ -52,7 +66,19 @@ module _ {E C : Type 0} where
 
   -- the first seat of a table
   abbrev pub first_seat : TableId → C → ℕ → ShownSeat E C
-  first_seat id base seats = record { table = id; number = 0; seats = seats; base = Some base; holds = false; seen = []; mine = []; stands = 1; made = 1; room = seats - 1 }
+  first_seat id base seats = record {
+    table = id;
+    number = 0;
+    seats = seats;
+    base = Some base;
+    holds = false;
+    seen = [];
+    mine = [];
+    stands = 1;
+    made = 1;
+    room = seats - 1;
+    ended = [];
+  }
 
   -- the seat holds the turn, which began with this history
   abbrev pub turn_begun : ShownSeat E C → List E → ShownSeat E C
@@ -67,11 +93,20 @@ module _ {E C : Type 0} where
   seat_split s = record s { made = s.made + 1; room = s.room - 1 }
 
   abbrev pub new_seat : ShownSeat E C → ShownSeat E C
-  new_seat s = record s { number = s.room; holds = false; mine = []; stands = 1; made = 0; room = 0 }
+  new_seat s = record s { number = s.room; holds = false; mine = []; stands = 1; made = 0; room = 0; ended = [] }
 
   -- the seat after another was joined
   abbrev pub seats_joined : ShownSeat E C → ShownSeat E C → ShownSeat E C
-  seats_joined s o = record s { seen = longer s.seen o.seen; stands = s.stands + o.stands; made = s.made + o.made }
+  seats_joined s o = record s {
+    seen = longer s.seen o.seen;
+    stands = s.stands + o.stands;
+    made = s.made + o.made;
+    ended = s.ended ++ (o.number, o.mine) ∷ o.ended;
+  }
+
+  -- all seats that a seat knows of, itself and those that it took in
+  abbrev pub seats_known : ShownSeat E C → List (ℕ × List E)
+  seats_known s = (s.number, s.mine) ∷ s.ended
 
   module _ {B : Type 0} where
     pub record IsSeated (seat_of : E → ℕ) (number room : ℕ) (slots : List (ℕ × Option B)) (v : Known E C) : Type 0 where

@@ -1,5 +1,5 @@
 -- What a seat knows, and how its calls change it.
-use Rattle.std.specs.Prelude.{◌≡◌, ℕ, ◌+◌, ◌-◌, List, [], ◌++◌, length, drop}
+use Rattle.std.specs.Prelude.{◌≡◌, ℕ, ◌+◌, ◌-◌, List, [], ◌∷◌, ◌++◌, length, drop}
 use Rattle.turn_table.specs.Events.{longer}
 
 -- A seat waits for its turn, or has it, with the ticket that it drew; or neither. Tickets count from 0 and never wrap.
@@ -25,6 +25,8 @@ pub record Known (E C : Type 0) : Type 0 where
   pub made : ℕ
   -- the greatest number that this seat may give, 0 where it may give none
   pub room : ℕ
+  -- the numbers of the seats that it took in, each with its events
+  pub ended : List (ℕ × List E)
 
 -- a joined seat is spent
 pub data Standing (E C : Type 0) : Type 0 where
@@ -81,7 +83,20 @@ module _ {E C : Type 0} where
 
   -- the seat that a table begins with
   abbrev pub opening_seat : C → ℕ → Known E C
-  opening_seat base seats = record { number = 0; seats = seats; base = base; stage = idle; seen = []; mine = []; told = []; stands = 1; says = 1; made = 1; room = seats - 1 }
+  opening_seat base seats = record {
+    number = 0;
+    seats = seats;
+    base = base;
+    stage = idle;
+    seen = [];
+    mine = [];
+    told = [];
+    stands = 1;
+    says = 1;
+    made = 1;
+    room = seats - 1;
+    ended = [];
+  }
 
   abbrev pub draws : ℕ → Known E C → Known E C
   draws t v = record v { stage = waiting t }
@@ -100,11 +115,30 @@ module _ {E C : Type 0} where
 
   -- the seat that has that number
   abbrev pub given_seat : Known E C → Known E C
-  given_seat v = record { number = v.room; seats = v.seats; base = v.base; stage = idle; seen = v.seen; mine = []; told = []; stands = 1; says = 0; made = 0; room = 0 }
+  given_seat v = record {
+    number = v.room;
+    seats = v.seats;
+    base = v.base;
+    stage = idle;
+    seen = v.seen;
+    mine = [];
+    told = [];
+    stands = 1;
+    says = 0;
+    made = 0;
+    room = 0;
+    ended = [];
+  }
 
-  -- it was told what the seat w had seen, whose seats stand in it now
+  -- it was told what the seat w had seen, whose seats stand in it now, and whose number is over
   abbrev pub takes_in : Known E C → Known E C → Known E C
-  takes_in v w = record v { told = w.seen; stands = v.stands + w.stands; says = v.says + w.says; made = v.made + w.made }
+  takes_in v w = record v {
+    told = w.seen;
+    stands = v.stands + w.stands;
+    says = v.says + w.says;
+    made = v.made + w.made;
+    ended = v.ended ++ (w.number, w.mine) ∷ w.ended;
+  }
 
   abbrev pub catches_up : Known E C → Known E C
   catches_up v = record v { seen = longer v.seen v.told; told = [] }

@@ -16,6 +16,8 @@
 //! - `stands` counts the seats that stand in it, and `made` those that were made (0 where another seat says it).
 //!   They are equal exactly in a seat in which all stand, and such a seat has seen the whole history.
 //! - `room` is the greatest number that `split` may still give, or 0.
+//! - `ended` has the numbers of the seats that it took in, each with its events: in the closed table's history these are
+//!   all that the number has.
 //!
 //! The rule between any two atomic steps is `Kept` (`specs/Rule.antt`). Nothing is promised of progress: not that a
 //! call of `turn` returns, nor how long it waits. Between seats that told each other nothing no order is known.

@@ -29,8 +29,9 @@ const TICKETS: usize = 0;
 /// The word that counts the turns passed.
 const TURNS: usize = 1;
 
-/// How often a waiting seat looks at the turns before it sleeps: for some microseconds, as long as a few turns take.
-const LOOKS: u32 = 256;
+/// How often a waiting seat looks at the turns before it sleeps: for some tenths of a millisecond, many times as long as the
+/// turns in front of it take. Who sleeps makes all behind it wait for the system.
+const LOOKS: u32 = 8_000;
 
 /// What a waiting seat does between two looks, where it doesn't sleep yet. It answers how often it has looked.
 fn look_again(looks: u32) -> u32 {

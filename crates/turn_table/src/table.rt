@@ -1,8 +1,8 @@
 //! The lock itself.
-ghost use Rattle.std.specs.Prelude.{◌≡◌, ◌<◌, false, true, [], ◌++◌, List, Some, IfOk};
-ghost use Rattle.turn_table.specs.Events.{StartsWith, AllOf, AllBelow};
+ghost use Rattle.std.specs.Prelude.{◌≡◌, ◌<◌, ℕ, false, true, [], ◌++◌, List, Some, IfOk};
+ghost use Rattle.turn_table.specs.Events.{StartsWith, AllOf, AllBelow, events_of, events_under};
 ghost use Rattle.turn_table.specs.Named.{name_of};
-ghost use Rattle.turn_table.specs.Shown.{IsOwn, first_seat, turn_begun, turn_ended, seat_split, new_seat, seats_joined};
+ghost use Rattle.turn_table.specs.Shown.{IsOwn, first_seat, turn_begun, turn_ended, seat_split, new_seat, seats_joined, seats_known};
 
 use crate::bells::Bells;
 use crate::board::{About, Knowledge, Turns};
@@ -113,7 +113,8 @@ impl<B: Journaled> TurnTable<B> {
         take_in(&self.board.shared, &mut seat.place, place);
     }
 
-    /// Takes the table apart, once every seat stands in this one. The value's history is the whole journal.
+    /// Takes the table apart, once every seat stands in this one. The value's history is the whole journal. In it each
+    /// number has the events that the seat knows of it, from itself or from a seat that it took in, and others have none.
     pub fn close(self, seat: Seat<B>) -> B
         requires table { seat.table ≡ name_of self }
         requires idle { seat.holds ≡ false }
@@ -121,6 +122,7 @@ impl<B: Journaled> TurnTable<B> {
         ensures history { B.history result ≡ seat.seen }
         ensures below { AllBelow B.seat_of seat.seats (B.history result) }
         ensures base { Some (B.base result) ≡ seat.base }
+        ensures events { (n : ℕ) → events_of B.seat_of n (B.history result) ≡ events_under n (seats_known seat) }
     {
         let Seat {
             number: _,

@@ -1,42 +1,60 @@
 -- What a worker makes of its seat.
-use Rattle.std.specs.Prelude.{◌≡◌, ◌+◌, false, Some, List, [], ◌∷◌, ◌++◌}
+use Rattle.std.specs.Prelude.{◌≡◌, ℕ, ◌+◌, ◌≤◌, false, Some, List, [], ◌∷◌, ◌++◌, length, map}
 use Rattle.atomic_table.specs.Seated.{TableId}
+use Rattle.call_context.specs.declared.node.Unit.{Unit as WorkUnit}
+use Rattle.chip_law.specs.Analysis.{Analysis}
+use Rattle.fact_table.specs.Seats.{AreOutTo}
+use Rattle.round_core.specs.Machine.{Out}
 use Rattle.round_core.specs.declared.event.Event.{Event}
 use Rattle.round_core.specs.declared.event.Event.TheVariants.{Claim, Post, GiveBack}
 use Rattle.turn_table.specs.Events.{StartsWith}
-use Rattle.turn_table.specs.Shown.{ShownSeat}
+use Rattle.turn_table.specs.Shown.{ShownSeat, seats_known}
 
--- each claim is followed at once by the post or the give-back of its unit by the same seat, and there is no other event
+-- Units wait in the order of their claims. A post or a give-back is of the one that has waited longest, and `left` are those that
+-- still wait behind the events.
+abbrev pub Answers : (waiting : List WorkUnit) → List Event → (left : List WorkUnit) → Type 0
+Answers waiting [] left = waiting ≡ left
+Answers waiting (Claim seat unit ∷ events) left = Answers (waiting ++ unit ∷ []) events left
+Answers [] (Post seat unit ∷ events) left = ⊥
+Answers (first ∷ waiting) (Post seat unit ∷ events) left = (unit ≡ first) × Answers waiting events left
+Answers [] (GiveBack seat unit ∷ events) left = ⊥
+Answers (first ∷ waiting) (GiveBack seat unit ∷ events) left = (unit ≡ first) × Answers waiting events left
+
+-- each claim is followed by the post or the give-back of its unit, in the order of the claims, and there is no other event
 abbrev pub AreAnswered : List Event → Type 0
-AreAnswered [] = Unit {0}
-AreAnswered (Claim seat unit ∷ Post other posted ∷ events) = (other ≡ seat) × (posted ≡ unit) × AreAnswered events
-AreAnswered (Claim seat unit ∷ GiveBack other back ∷ events) = (other ≡ seat) × (back ≡ unit) × AreAnswered events
-AreAnswered (Claim seat unit ∷ []) = ⊥
-AreAnswered (Claim seat unit ∷ Claim other taken ∷ events) = ⊥
-AreAnswered (Post seat unit ∷ events) = ⊥
-AreAnswered (GiveBack seat unit ∷ events) = ⊥
+AreAnswered events = Answers [] events []
+
+-- the events of each of these seats are
+abbrev pub EachAnswered : List (ℕ × List Event) → Type 0
+EachAnswered [] = Unit {0}
+EachAnswered (seat ∷ seats) = AreAnswered seat.1 × EachAnswered seats
+
+abbrev pub units_of : {A : Type 0} → List (Out A) → List WorkUnit
+units_of tickets = map (λ t. t.unit) tickets
 
 module _ {B : Type 0} where
   -- the seat is idle, at this table, whose book is of this program
   abbrev pub IsReady : TableId → B → ShownSeat Event B → Type 0
   IsReady table base seat = (seat.table ≡ table) × (seat.holds ≡ false) × (Some base ≡ seat.base)
 
-  -- The seat has seen a journal that begins with what it had seen, and has made these events since: claims, each of
-  -- which it answered at once.
-  pub record Works (old new : ShownSeat Event B) : Type 0 where
+  -- The seat has seen a journal that begins with what it had seen, and has made these events since. They answer units that
+  -- waited, in their order, and leave others.
+  pub record Serves (waiting left : List WorkUnit) (old new : ShownSeat Event B) : Type 0 where
     pub log : List Event
     pub events : List Event
     pub begins : StartsWith log old.seen
-    pub answered : AreAnswered events
+    pub answered : Answers waiting events left
     pub seat : new ≡ record old { seen = log; mine = old.mine ++ events }
 
-  -- The seat's last event was this claim. It has answered it at once, and so each claim that it has made since.
-  pub record Finishes (claim : Event) (old new : ShownSeat Event B) : Type 0 where
-    pub log : List Event
-    pub events : List Event
-    pub begins : StartsWith log old.seen
-    pub answered : AreAnswered (claim ∷ events)
-    pub seat : new ≡ record old { seen = log; mine = old.mine ++ events }
+  -- it has answered each claim that it has made
+  abbrev pub Works : (old new : ShownSeat Event B) → Type 0
+  Works old new = Serves [] [] old new
+
+  -- it has answered tickets, and has claimed others, which are out to it
+  pub record GoesOn {A : Type 0} (analysis : B → Analysis A) (tickets : List (Out A)) (old : ShownSeat Event B) (next : List (Out A)) (new : ShownSeat Event B) : Type 0 where
+    pub serves : Serves (units_of tickets) (units_of next) old new
+    pub out : AreOutTo analysis new next
+    pub few : length next ≤ 4
 
   -- The seat is idle at the same table. It has seen what it had seen, and each seat that it gave stands in it again.
   pub record TakesIn (old new : ShownSeat Event B) : Type 0 where
@@ -46,3 +64,7 @@ module _ {B : Type 0} where
     pub base : new.base ≡ old.base
     pub idle : new.holds ≡ false
     pub stands : new.stands + old.made ≡ old.stands + new.made
+
+  -- where the seat and those that it took in had answered each of their claims, they have again
+  abbrev pub StaysAnswered : (old new : ShownSeat Event B) → Type 0
+  StaysAnswered old new = EachAnswered (seats_known old) → EachAnswered (seats_known new)

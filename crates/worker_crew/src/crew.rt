@@ -1,12 +1,12 @@
 //! The workers' threads.
 
-ghost use Rattle.std.specs.Prelude.{◌≡◌, ◌+◌, ◌<◌, ◌≤◌, false, Some, IfOk};
+ghost use Rattle.std.specs.Prelude.{◌≡◌, ◌+◌, ◌<◌, ◌≤◌, ℕ, false, Some, IfOk};
 ghost use Rattle.round_core.specs.Counts.{seat_of};
 ghost use Rattle.round_core.specs.Machine.{replay, IsFinished, IsLegalJournal};
 ghost use Rattle.std.specs.Thread.{IsSend, IsSync};
-ghost use Rattle.turn_table.specs.Events.{AllBelow};
+ghost use Rattle.turn_table.specs.Events.{AllBelow, events_of};
 ghost use Rattle.turn_table.specs.Named.{name_of};
-ghost use Rattle.worker_crew.specs.Turns.{IsReady, TakesIn, Works};
+ghost use Rattle.worker_crew.specs.Turns.{AreAnswered, IsReady, StaysAnswered, TakesIn, Works};
 
 use crate::worker::work;
 use chip_law::Chip;
@@ -16,11 +16,51 @@ use no_memory::Memory;
 use round_core::Book;
 use std::alloc::Global;
 use std::sync::Wait;
-use std::thread::{Threads, join};
+use std::thread::{Threads, available_parallelism, join};
 use worker_rounds::Gate;
 
-/// Works at the seat, and lets so many helpers work beside it, each in a thread of its own. Where a thread can't be
-/// started, this one does its helper's work too. The helpers' seats are taken in.
+/// How many threads work for so many workers: at most one for each processor, since turns are served in order and all would
+/// wait for a thread that isn't running, but at least two.
+fn threads_for<R: Threads>(rt: &R, workers: u32) -> u32
+    requires { 0 < workers }
+    ensures some { 0 < result }
+    ensures few { result ≤ workers }
+{
+    let processors = match available_parallelism(rt) {
+        Ok(processors) => u32::try_from(processors.get()).unwrap_or(workers),
+        Err(_) => 2,
+    };
+    workers.min(processors.max(2))
+}
+
+/// Works at the seat, and then at so many more, one after the other: the seats of workers that have no thread.
+fn work_through<R: Wait, C: Chip, G: Gate>(
+    rt: &R,
+    alloc: Global,
+    turns: &Turns<C>,
+    chip: &C,
+    gate: &G,
+    answers: &EventCount,
+    share: u32,
+    seat: Seat<C>,
+    more: u32,
+) -> Seat<C>
+    requires ready { IsReady (name_of turns.now) (C.base chip.now) seat }
+    requires room { more ≤ seat.room }
+    ensures takes_in { TakesIn seat result }
+    ensures answered { StaysAnswered seat result }
+{
+    let mut seat = work(rt, alloc, turns, chip, gate, answers, share, seat);
+    for _ in 0..more {
+        let other = turns.split(&mut seat);
+        let other = work(rt, alloc, turns, chip, gate, answers, share, other);
+        turns.join(&mut seat, other);
+    }
+    seat
+}
+
+/// Works at the seat and at `more` others, and lets so many helpers work beside it, each in a thread of its own. Where a
+/// thread can't be started, this one does its helper's work too. The others' seats are taken in.
 #[cycle(crew)]
 fn work_beside<R: Threads + Wait + Sync, C: Chip<Base: Send> + Send + Sync, G: Gate + Sync>(
     rt: &R,
@@ -29,30 +69,47 @@ fn work_beside<R: Threads + Wait + Sync, C: Chip<Base: Send> + Send + Sync, G: G
     chip: &C,
     gate: &G,
     answers: &EventCount,
+    share: u32,
     mut seat: Seat<C>,
     helpers: u32,
+    more: u32,
 ) -> Seat<C>
     requires threads { IsSync R.row × IsSend C.row × IsSync C.row × IsSync G.row
         × IsSend C.Base.row × IsSend C.Abs.row }
     requires ready { IsReady (name_of turns.now) (C.base chip.now) seat }
-    requires room { helpers ≤ seat.room }
-    ensures { TakesIn seat result }
+    requires room { helpers + more ≤ seat.room }
+    ensures takes_in { TakesIn seat result }
+    ensures answered { StaysAnswered seat result }
 {
     if helpers == 0 {
-        return work(rt, alloc, turns, chip, gate, answers, seat);
+        return work_through(rt, alloc, turns, chip, gate, answers, share, seat, more);
     }
     let helper = turns.split(&mut seat);
     let help = move || -> Seat<C>
         requires { IsReady (name_of turns.now) (C.base chip.now) helper }
         ensures { Works helper result }
-    { work(rt, alloc, turns, chip, gate, answers, helper) };
+    { work(rt, alloc, turns, chip, gate, answers, share, helper) };
     let go_on = move || -> Seat<C>
         requires threads { IsSync R.row × IsSend C.row × IsSync C.row × IsSync G.row
             × IsSend C.Base.row × IsSend C.Abs.row }
         requires ready { IsReady (name_of turns.now) (C.base chip.now) seat }
-        requires room { (0 < helpers) × (helpers ≤ seat.room + 1) }
-        ensures { TakesIn seat result }
-    { work_beside(rt, alloc, turns, chip, gate, answers, seat, helpers - 1) };
+        requires room { (0 < helpers) × (helpers + more ≤ seat.room + 1) }
+        ensures takes_in { TakesIn seat result }
+        ensures answered { StaysAnswered seat result }
+    {
+        work_beside(
+            rt,
+            alloc,
+            turns,
+            chip,
+            gate,
+            answers,
+            share,
+            seat,
+            helpers - 1,
+            more,
+        )
+    };
     let (helper, mut seat) = join(rt, help, go_on);
     turns.join(&mut seat, helper);
     seat
@@ -73,10 +130,12 @@ pub fn fixpoint<R: Threads + Wait + Sync, C: Chip<Base: Send> + Send + Sync, G: 
     ensures legal { IfOk result (λ book. IsLegalJournal (C.analysis book.base) book.journal) }
     ensures finished { IfOk result (λ book. IsFinished (replay (C.analysis book.base) book.journal)) }
     ensures seats { IfOk result (λ book. AllBelow seat_of workers book.journal) }
+    ensures answered { IfOk result (λ book. (seat : ℕ) → AreAnswered (events_of seat_of seat book.journal)) }
 {
     let book = Book::open(alloc, chip)?;
     let (table, seat) = FactTable::new(alloc, book, workers)?;
     let answers = EventCount::new();
+    let threads = threads_for(rt, workers);
     let seat = work_beside(
         rt,
         alloc,
@@ -84,8 +143,10 @@ pub fn fixpoint<R: Threads + Wait + Sync, C: Chip<Base: Send> + Send + Sync, G: 
         chip,
         gate,
         &answers,
+        workers,
         seat,
-        workers - 1,
+        threads - 1,
+        workers - threads,
     );
     let book = table.close(seat);
     if !book.finished() {

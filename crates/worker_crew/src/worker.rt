@@ -1,115 +1,219 @@
 //! What one worker does.
 
-ghost use Rattle.std.specs.Prelude.{◌≡◌, IfOk, OnErr};
-ghost use Rattle.fact_table.specs.Seats.{Ends, EndsAndClaims, IsOutTo};
-ghost use Rattle.round_core.specs.declared.event.Event.TheVariants.{Claim, Post, GiveBack};
+ghost use Rattle.std.specs.Prelude.{◌≡◌, ◌+◌, ◌<◌, ◌≤◌, ◌++◌, ◌∷◌, [], length, false, not, true, IfErr, IfOk, IsTrue, MatchOption, OnErr, vec_len, vec_capacity};
+ghost use Rattle.std.specs.List.{AllByRecursion};
+ghost use Rattle.fact_table.specs.Exchange.{IsWorked, tickets_of};
+ghost use Rattle.fact_table.specs.Seats.{AreOutTo};
 ghost use Rattle.turn_table.specs.Named.{name_of};
-ghost use Rattle.worker_crew.specs.Turns.{Finishes, IsReady, Works};
+ghost use Rattle.worker_crew.specs.Turns.{GoesOn, IsReady, Serves, Works, units_of};
 
 use chip_law::Chip;
 use crossbeam_utils::sync::EventCount;
-use fact_table::{Seat, Turns, claim_at, give_back_at, post_and_claim_at};
+use fact_table::{Exchanged, Last, Seat, Turns, exchange_at, give_back_at};
 use no_memory::Memory;
-use round_core::{Claimed, Done, Ticket};
+use round_core::{Done, Ticket};
 use std::alloc::Global;
 use std::sync::Wait;
 use worker_rounds::Gate;
 
-/// Posts the work of a ticket, and claims the next unit in the same turn. Where memory runs out at the post, its unit is
-/// given back.
-fn deliver<R: Wait, C: Chip>(
-    rt: &R,
-    turns: &Turns<C>,
-    chip: &C,
-    seat: &mut Seat<C>,
-    done: Done<C>,
-) -> Result<Result<(Claimed<C>, bool), Memory>, Memory>
-    requires ready { IsReady (name_of turns.now) (C.base chip.now) seat.old }
-    requires ticket { IsOutTo C.analysis seat.old done.ticket }
-    requires work { done.work ≡ (C.analysis (C.base chip.now)).work done.ticket.unit done.ticket.at done.ticket.exit }
-    ensures posted { IfOk result (λ next. EndsAndClaims C.analysis seat.old done.ticket
-        (Post done.ticket.seat done.ticket.unit) next seat.new) }
-    ensures given_back { OnErr result (Ends C.analysis seat.old done.ticket
-        (GiveBack done.ticket.seat done.ticket.unit) seat.new) }
+/// For how many units a worker asks in one turn.
+const WANT: u32 = 4;
+
+/// Puts a ticket before all others, for which there is room.
+fn put_first<C: Chip>(tickets: &mut Vec<Ticket<C>>, ticket: Ticket<C>)
+    requires { vec_len tickets.old < vec_capacity tickets.old }
+    ensures { tickets.new.items ≡ ticket ∷ tickets.old.items }
 {
-    match post_and_claim_at(rt, turns, chip, seat, done) {
-        Ok(next) => Ok(next),
-        Err(refused) => {
-            let (memory, done) = refused;
-            let Done { ticket, work: _ } = done;
-            give_back_at(rt, turns, seat, ticket);
-            Err(memory)
-        }
+    match tickets.insert(0, ticket) {
+        Ok(()) => {}
+        Err(_) => unreachable!(),
     }
 }
 
-/// Works on the unit of a ticket, posts the work and claims the next unit. Where memory runs out before the post, the unit
-/// is given back.
-fn answer<R: Wait, C: Chip>(
+/// Puts a work behind all others, for which there is room.
+fn put_last<C: Chip>(done: &mut Vec<Done<C>>, one: Done<C>)
+    requires { vec_len done.old < vec_capacity done.old }
+    ensures items { done.new.items ≡ done.old.items ++ one ∷ [] }
+    ensures len { vec_len done.new ≡ vec_len done.old + 1 }
+    ensures capacity { vec_capacity done.old ≤ vec_capacity done.new }
+{
+    match done.push(one) {
+        Ok(()) => {}
+        Err(_) => unreachable!(),
+    }
+}
+
+/// Works on the unit of a ticket. Where memory runs out the ticket comes back.
+fn work_one<C: Chip, G: Gate>(
+    alloc: Global,
+    chip: &C,
+    gate: &G,
+    seat: u32,
+    ticket: Ticket<C>,
+) -> Result<Done<C>, Ticket<C>>
+    ensures worked { IfOk result (IsWorked (C.analysis (C.base chip.now))) }
+    ensures ticket { IfOk result (λ done. done.ticket ≡ ticket) }
+    ensures handed_back { IfErr result (λ back. back ≡ ticket) }
+{
+    gate.before(seat);
+    match chip.work(alloc, ticket.unit(), ticket.at(), ticket.exit()) {
+        Ok(work) => Ok(Done { ticket, work }),
+        Err(Memory) => Err(ticket),
+    }
+}
+
+/// Works on the units of tickets, in their order. Where memory runs out the tickets that are left come back.
+fn work_on<C: Chip, G: Gate>(
+    alloc: Global,
+    chip: &C,
+    gate: &G,
+    seat: u32,
+    tickets: Vec<Ticket<C>>,
+) -> (Vec<Done<C>>, Vec<Ticket<C>>)
+    ensures whole { tickets.items ≡ tickets_of result.0.items ++ result.1.items }
+    ensures works { AllByRecursion (IsWorked (C.analysis (C.base chip.now))) result.0.items }
+{
+    let mut left = tickets;
+    let Ok(mut done) = Vec::with_capacity(alloc, left.len()) else {
+        return (Vec::new(alloc), left);
+    };
+    while !left.is_empty() {
+        let first = left.remove(0);
+        match work_one(alloc, chip, gate, seat, first) {
+            Ok(one) => put_last(&mut done, one),
+            Err(ticket) => {
+                put_first(&mut left, ticket);
+                return (done, left);
+            }
+        }
+    }
+    (done, left)
+}
+
+/// The first of the tickets of works and of further ones.
+fn next_ticket<C: Chip>(done: &mut Vec<Done<C>>, tickets: &mut Vec<Ticket<C>>) -> Option<Ticket<C>>
+    ensures { MatchOption result (tickets_of done.old.items ++ tickets.old.items ≡ [])
+        (λ ticket. tickets_of done.old.items ++ tickets.old.items
+        ≡ ticket ∷ (tickets_of done.new.items ++ tickets.new.items)) }
+{
+    if !done.is_empty() {
+        let Done { ticket, work: _ } = done.remove(0);
+        return Some(ticket);
+    }
+    if tickets.is_empty() {
+        return None;
+    }
+    Some(tickets.remove(0))
+}
+
+/// Gives the units of works and of tickets back.
+fn give_back_all<R: Wait, C: Chip>(
+    rt: &R,
+    turns: &Turns<C>,
+    seat: &mut Seat<C>,
+    done: Vec<Done<C>>,
+    tickets: Vec<Ticket<C>>,
+)
+    requires ready { (seat.old.table ≡ name_of turns.now) × (seat.old.holds ≡ false) }
+    requires tickets { AreOutTo C.analysis seat.old (tickets_of done.items ++ tickets.items) }
+    ensures { Serves (units_of (tickets_of done.items ++ tickets.items)) [] seat.old seat.new }
+{
+    let mut done = done;
+    let mut tickets = tickets;
+    while let Some(ticket) = next_ticket(&mut done, &mut tickets) {
+        give_back_at(rt, turns, seat, ticket);
+    }
+}
+
+/// Works on the units of tickets. Where memory runs out all of them are given back.
+fn work_all<R: Wait, C: Chip, G: Gate>(
     rt: &R,
     alloc: Global,
     turns: &Turns<C>,
     chip: &C,
+    gate: &G,
     seat: &mut Seat<C>,
-    ticket: Ticket<C>,
-) -> Result<Result<(Claimed<C>, bool), Memory>, Memory>
-    requires ready { IsReady (name_of turns.now) (C.base chip.now) seat.old }
-    requires ticket { IsOutTo C.analysis seat.old ticket }
-    ensures posted { IfOk result (λ next. EndsAndClaims C.analysis seat.old ticket
-        (Post ticket.seat ticket.unit) next seat.new) }
-    ensures given_back { OnErr result (Ends C.analysis seat.old ticket
-        (GiveBack ticket.seat ticket.unit) seat.new) }
+    tickets: Vec<Ticket<C>>,
+) -> Result<Vec<Done<C>>, Memory>
+    requires ready { (seat.old.table ≡ name_of turns.now) × (seat.old.holds ≡ false) }
+    requires tickets { AreOutTo C.analysis seat.old tickets.items }
+    ensures seat { IfOk result (λ done. seat.new ≡ seat.old) }
+    ensures done { IfOk result (λ done. tickets_of done.items ≡ tickets.items) }
+    ensures works { IfOk result
+        (λ done. AllByRecursion (IsWorked (C.analysis (C.base chip.now))) done.items) }
+    ensures given_back { OnErr result (Serves (units_of tickets.items) [] seat.old seat.new) }
 {
-    match chip.work(alloc, ticket.unit(), ticket.at(), ticket.exit()) {
-        Ok(work) => deliver(rt, turns, chip, seat, Done { ticket, work }),
-        Err(memory) => {
-            give_back_at(rt, turns, seat, ticket);
-            Err(memory)
-        }
+    let (done, left) = work_on(alloc, chip, gate, seat.number(), tickets);
+    if left.is_empty() {
+        return Ok(done);
+    }
+    give_back_all(rt, turns, seat, done, left);
+    Err(Memory)
+}
+
+/// Tells of the works that were posted.
+fn tell_posts<G: Gate>(gate: &G, seat: u32, posts: usize) {
+    for _ in 0..posts {
+        gate.after(seat);
     }
 }
 
-/// Works on the unit of a ticket, and then on each unit that it claims with a post, until it finds none or memory runs
-/// out. Where a claim leaves another unit, one worker that sleeps is woken for it. True says that the book is finished.
-fn run<R: Wait, C: Chip, G: Gate>(
+/// Whether memory ran out.
+fn ran_out(last: Last) -> bool
+    ensures { IsTrue (not result) → last ≡ Last.Memory → ⊥ }
+{
+    matches!(last, Last::Memory)
+}
+
+/// Whether the book is finished.
+fn is_finished(last: Last) -> bool
+    ensures { IsTrue result → last ≡ Last.Finished }
+{
+    matches!(last, Last::Finished)
+}
+
+/// Works on units, posts their works and claims the next ones. Where units may be left for others, one worker that sleeps is
+/// woken for them. It answers the tickets, and why there are no more.
+fn go_on<R: Wait, C: Chip, G: Gate>(
     rt: &R,
     alloc: Global,
     turns: &Turns<C>,
     chip: &C,
     gate: &G,
     answers: &EventCount,
+    share: u32,
     seat: &mut Seat<C>,
-    first: Ticket<C>,
-    is_another: bool,
-) -> Result<bool, Memory>
+    tickets: Vec<Ticket<C>>,
+) -> Result<(Vec<Ticket<C>>, Last), Memory>
     requires ready { IsReady (name_of turns.now) (C.base chip.now) seat.old }
-    requires ticket { IsOutTo C.analysis seat.old first }
-    ensures { Finishes (Claim first.seat first.unit) seat.old seat.new }
+    requires tickets { AreOutTo C.analysis seat.old tickets.items }
+    requires few { length tickets.items ≤ 4 }
+    ensures goes_on { IfOk result
+        (λ next. GoesOn C.analysis tickets.items seat.old next.0.items seat.new) }
+    ensures finished { IfOk result (λ next. next.1 ≡ Last.Finished → next.0.items ≡ []) }
+    ensures ended { OnErr result (Serves (units_of tickets.items) [] seat.old seat.new) }
 {
-    let mut ticket = first;
-    let mut another = is_another;
-    for _ in rt.forever() {
-        if another {
-            answers.notify_one();
-        }
-        gate.before(seat.number());
-        let posted = answer(rt, alloc, turns, chip, seat, ticket)?;
-        gate.after(seat.number());
-        let (claimed, left) = posted?;
-        match claimed {
-            Claimed::Ticket(next) => {
-                ticket = next;
-                another = left;
-            }
-            Claimed::Idle => return Ok(false),
-            Claimed::Finished => return Ok(true),
-        }
+    let done = work_all(rt, alloc, turns, chip, gate, seat, tickets)?;
+    let works = done.len();
+    let exchanged = exchange_at(rt, alloc, turns, chip, seat, done, WANT, share);
+    let Exchanged {
+        unposted,
+        tickets,
+        last,
+    } = exchanged;
+    tell_posts(gate, seat.number(), works.saturating_sub(unposted.len()));
+    if ran_out(last) {
+        give_back_all(rt, turns, seat, unposted, tickets);
+        return Err(Memory);
     }
-    unreachable!()
+    if matches!(last, Last::Full | Last::Shared) {
+        answers.notify_one();
+    }
+    Ok((tickets, last))
 }
 
-/// Claims a unit, and works on it and those that follow it. Where there is none it sleeps until another worker wakes it.
-/// True says that the book is finished.
+/// The same, where a worker that has no unit and finds none sleeps until another one wakes it. True says that the book is
+/// finished.
 fn turn<R: Wait, C: Chip, G: Gate>(
     rt: &R,
     alloc: Global,
@@ -117,25 +221,27 @@ fn turn<R: Wait, C: Chip, G: Gate>(
     chip: &C,
     gate: &G,
     answers: &EventCount,
+    share: u32,
     seat: &mut Seat<C>,
-) -> Result<bool, Memory>
+    tickets: Vec<Ticket<C>>,
+) -> Result<(Vec<Ticket<C>>, bool), Memory>
     requires ready { IsReady (name_of turns.now) (C.base chip.now) seat.old }
-    ensures { Works seat.old seat.new }
+    requires tickets { AreOutTo C.analysis seat.old tickets.items }
+    requires few { length tickets.items ≤ 4 }
+    ensures goes_on { IfOk result
+        (λ next. GoesOn C.analysis tickets.items seat.old next.0.items seat.new) }
+    ensures finished { IfOk result (λ next. next.1 ≡ true → next.0.items ≡ []) }
+    ensures ended { OnErr result (Serves (units_of tickets.items) [] seat.old seat.new) }
 {
     // Announced before the claim, so that a unit that comes behind it ends the wait.
-    let wait = answers.prepare_wait();
-    let (claimed, another) = claim_at(rt, turns, chip, seat)?;
-    match claimed {
-        Claimed::Ticket(ticket) => {
-            drop(wait);
-            run(rt, alloc, turns, chip, gate, answers, seat, ticket, another)
+    let wait = tickets.is_empty().then(|| answers.prepare_wait());
+    let (next, last) = go_on(rt, alloc, turns, chip, gate, answers, share, seat, tickets)?;
+    if let Some(key) = wait {
+        if next.is_empty() && matches!(last, Last::Idle) {
+            key.wait(rt);
         }
-        Claimed::Idle => {
-            wait.wait(rt);
-            Ok(false)
-        }
-        Claimed::Finished => Ok(true),
     }
+    Ok((next, is_finished(last)))
 }
 
 /// Takes turns until the book is finished or memory runs out. Who finds it finished wakes all; who is out of memory wakes
@@ -147,23 +253,27 @@ pub(crate) fn work<R: Wait, C: Chip, G: Gate>(
     chip: &C,
     gate: &G,
     answers: &EventCount,
+    share: u32,
     mut seat: Seat<C>,
 ) -> Seat<C>
     requires ready { IsReady (name_of turns.now) (C.base chip.now) seat }
     ensures { Works seat result }
 {
+    let mut tickets = Vec::new(alloc);
     for _ in rt.forever() {
-        match turn(rt, alloc, turns, chip, gate, answers, &mut seat) {
-            Ok(false) => {}
-            Ok(true) => {
+        match turn(
+            rt, alloc, turns, chip, gate, answers, share, &mut seat, tickets,
+        ) {
+            Ok((next, false)) => tickets = next,
+            Ok((_, true)) => {
                 answers.notify_all();
-                break;
+                return seat;
             }
             Err(Memory) => {
                 answers.notify_one();
-                break;
+                return seat;
             }
         }
     }
-    seat
+    unreachable!()
 }

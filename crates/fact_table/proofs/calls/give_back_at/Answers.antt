@@ -1,4 +1,5 @@
-use Rattle.fact_table.proofs.TurnLemmas.{IsTurn, ends, out_at_turn}
+use Rattle.std.proofs.Common.{refl}
+use Rattle.fact_table.proofs.TurnLemmas.{IsTurn, ends, out_at_turn, outs_behind}
 use Rattle.round_core.specs.declared.event.Event.TheVariants.{GiveBack}
 use Rattle.fact_table.proofs.calls.give_back_at.Goals as goal
 
@@ -22,4 +23,8 @@ returns g c =
     } in
     let out = out_at_turn g.C.Chip.analysis c.args.seat.now c.turn-turn.new.seat k ticket c.outs_stay.ensures turn.base turn.begun_is turn.begins
     c.number.ensures.own c.turn-turn.ensures.own c.journal.ensures.legal c.requires.ticket in
-    record { given_back = ends g.C.Chip.analysis c.args.seat.now c.turn-turn.new.seat c.pass.new.seat k k' ticket (GiveBack ticket.seat ticket.unit) turn out c.give_back.ensures }
+    record {
+      given_back = ends g.C.Chip.analysis c.args.seat.now c.turn-turn.new.seat c.pass.new.seat k k' ticket (GiveBack ticket.seat ticket.unit) turn out c.give_back.ensures;
+      others_out = λ others h. outs_behind g.C.Chip.analysis c.args.seat.now c.turn-turn.new.seat c.pass.new.seat k k' ticket (GiveBack ticket.seat ticket.unit) others
+          c.outs_stay.ensures c.outs_stay_beside.ensures refl turn c.number.ensures.own c.turn-turn.ensures.own c.journal.ensures.legal c.give_back.ensures h;
+    }

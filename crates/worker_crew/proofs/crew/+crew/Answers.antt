@@ -7,6 +7,10 @@ use Rattle.turn_table.proofs.seat.Seat.TheSendSync.{the_send as seat_send}
 use Rattle.turn_table.proofs.table.TurnTable.TheSendSync.{the_sync as table_sync}
 use Rattle.worker_crew.proofs.crew.+crew.Lts-work_beside.{arg-2-1}
 use Rattle.worker_crew.proofs.crew.+crew.Given.{Over}
+use Rattle.std.proofs.Common.{refl, sym, subst}
+use Rattle.turn_table.specs.Shown.{seats_known}
+use Rattle.worker_crew.specs.Turns.{EachAnswered}
+use Rattle.worker_crew.proofs.Turns.{joined_answered, works_answered}
 use Rattle.worker_crew.proofs.crew.+crew.Goals as goal
 
 -- what the helper's closure captures may go to another thread
@@ -20,3 +24,12 @@ join-helper-requires-send-F g t c κs within =
 
 pub join-helper-requires-send-A : goal.join-helper-requires-send-A
 join-helper-requires-send-A g t c κs within = search (sendable, crosses, seat_send, facts_send) depth 40
+
+-- the helper begins with no events of its own, and the seat keeps those that it has
+pub returns-clause-answered : goal.returns-clause-answered
+returns-clause-answered g t c = λ known.
+    let own : EachAnswered (seats_known c.split-helper.new.seat) = subst (λ s. EachAnswered (seats_known s)) (sym c.split-helper.ensures.seat) known in
+    let new : EachAnswered (seats_known c.split-helper.result) = subst (λ s. EachAnswered (seats_known s)) (sym c.split-helper.ensures.new) (refl, tt) in
+    let helped = works_answered c.split-helper.result c.join-helper.result.0 c.join-helper.ensures.first new in
+    subst (λ s. EachAnswered (seats_known s)) (sym c.join.ensures.seat)
+    (joined_answered c.join-helper.result.1 c.join-helper.result.0 (c.join-helper.ensures.second.1 own) helped)

@@ -1,22 +1,43 @@
-use Rattle.std.proofs.Common.{sym, subst}
-use Rattle.worker_crew.specs.Turns.{Works}
-use Rattle.worker_crew.proofs.Turns.{works_not, works_then}
+use Rattle.std.proofs.Common.{◌≡◌, [], ap, arith, length, subst, sym}
+use Rattle.fact_table.specs.Seats.{AreOutTo}
+use Rattle.turn_table.specs.Named.{name_of}
+use Rattle.worker_crew.specs.Turns.{Serves, units_of}
+use Rattle.worker_crew.proofs.Turns.{no_tickets, ready_served, serves_not, serves_then}
 use Rattle.worker_crew.proofs.worker.work.Goals as goal
-use Rattle.worker_crew.proofs.worker.work.Goals.{in-None, in-Some+in-Ok-true, in-Some+in-Err}
 
 pub loop-init : goal.loop-init
-loop-init g c = works_not c.args.seat
+loop-init g c =
+    let none = c.new-tickets.ensures.items in
+    let count : length c.new-tickets.result.items ≡ 0 = ap length none in
+    record {
+      ready = c.requires.ready;
+      serves = subst (λ ts. Serves [] (units_of ts) c.args.seat c.args.seat) (sym none) (serves_not [] c.args.seat);
+      out = subst (λ ts. AreOutTo g.C.Chip.analysis c.args.seat ts) (sym none)
+          (no_tickets g.C.Chip.analysis (name_of c.args.turns.now) (g.C.Chip.base c.args.chip.now) c.args.seat c.requires.ready);
+      few = omega arith;
+    }
 
 pub loop-preserved : goal.loop-preserved
-loop-preserved g c = works_then c.args.seat c.loop.seat c.turn.new.seat c.loop.invariant c.turn.ensures
+loop-preserved g c =
+    let was = c.loop.invariant in
+    let a = units_of c.loop.tickets.items in
+    let b = units_of c.in-Ok-default-false.next.items in
+    let goes = c.in-Ok-default-false.ensures.goes_on in
+    record {
+      ready = ready_served (name_of c.args.turns.now) (g.C.Chip.base c.args.chip.now) a b c.loop.seat c.turn.new.seat goes.serves was.ready;
+      serves = serves_then [] a b c.args.seat c.loop.seat c.turn.new.seat was.serves goes.serves;
+      out = goes.out;
+      few = goes.few;
+    }
 
-pub returns : goal.returns
-returns g c = elim c.match-next.branch [
-  | in-None w ↦ subst (Works c.args.seat) (sym w.seat-is) c.loop.invariant
-  | in-Some+in-Ok-true w ↦
-      subst (Works c.args.seat) (sym w.seat-is)
-      (works_then c.args.seat c.loop.seat w.turn.new.seat c.loop.invariant w.turn.ensures)
-  | in-Some+in-Err w ↦
-      subst (Works c.args.seat) (sym w.seat-is)
-      (works_then c.args.seat c.loop.seat w.turn.new.seat c.loop.invariant w.turn.ensures)
-]
+pub returns-in-Err : goal.returns-in-Err
+returns-in-Err g c =
+    serves_then [] (units_of c.loop.tickets.items) [] c.args.seat c.loop.seat c.turn.new.seat c.loop.invariant.serves c.in-Err.ensures.ended
+
+pub returns-in-Ok-default-true : goal.returns-in-Ok-default-true
+returns-in-Ok-default-true g c =
+    let a = units_of c.loop.tickets.items in
+    let goes = c.in-Ok-default-true.ensures.goes_on in
+    let none = c.in-Ok-default-true.ensures.finished c.in-Ok-default-true.field-0-1-test in
+    serves_then [] a [] c.args.seat c.loop.seat c.turn.new.seat c.loop.invariant.serves
+    (subst (λ ts. Serves a (units_of ts) c.loop.seat c.turn.new.seat) none goes.serves)

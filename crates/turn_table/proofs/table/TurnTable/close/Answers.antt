@@ -19,4 +19,4 @@ returns g c =
     let a = closed J.history J.seat_of J.base (J.base key.first.value) key.seats inside.number inside.room inside.place.table_id inside.place.id inside.place.me c.args.seat _ _ c.take-slot.result
     c.seat.invariant.1 c.seat.view_is c.requires.idle c.requires.all c.close_with-closed.ensures.values.2 c.take-slot.ensures.value in
     let k = subst (ClosesAs J.history J.seat_of J.base c.args.seat) (Some-injective a.0 c.unwrap.result (sym a.1 ∙ c.unwrap.ensures)) a.2 in
-    record { history = k.whole; below = k.below; base = k.based }
+    record { history = k.whole; below = k.below; base = k.based; events = k.events }

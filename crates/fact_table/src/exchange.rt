@@ -1,0 +1,205 @@
+//! What an exchange does to the book: it posts works, and then claims units.
+
+ghost use Rattle.std.specs.Prelude.{IfErr, OnErr, OnOk, ◌≡◌, ◌≤◌, ◌<◌, ◌++◌, ◌∷◌, [], false, true, not, IsTrue, vec_len, vec_capacity};
+ghost use Rattle.std.specs.List.{AllByRecursion};
+ghost use Rattle.fact_table.specs.Exchange.{AnswersFurther, AreOutOf, ClaimsSome, ExchangesOn, IsWorked, Posts, tickets_of};
+ghost use Rattle.round_core.specs.Claimable.{HasAtLeast};
+ghost use Rattle.round_core.specs.Kept.{with_event, IsOutOf};
+ghost use Rattle.round_core.specs.Machine.{replay};
+ghost use Rattle.round_core.specs.declared.event.Event.TheVariants.{Post};
+
+use chip_law::Chip;
+use no_memory::Memory;
+use round_core::{Book, Claimed, Done, Spent, Ticket, outs_stay_beside, tests_tell_which_are_one};
+
+/// Why an exchange gave no further ticket.
+#[derive(Clone, Copy, Debug, PartialEq, Eq)]
+pub enum Last {
+    /// It gave as many as were wanted.
+    Full,
+    /// Some units can be claimed, but fewer than are to be left to share.
+    Shared,
+    /// No unit can be claimed, and some unit is out.
+    Idle,
+    /// No unit can be claimed, and none is out.
+    Finished,
+    /// Memory ran out.
+    Memory,
+}
+
+/// What an exchange answers: the works that weren't posted for want of memory, and the tickets of the units that were claimed.
+#[derive(Drop)]
+pub struct Exchanged<C: Chip> {
+    pub unposted: Vec<Done<C>>,
+    pub tickets: Vec<Ticket<C>>,
+    pub last: Last,
+}
+
+/// Puts an item before all others, for which there is room.
+fn put_first<T: Drop>(items: &mut Vec<T>, item: T)
+    requires { vec_len items.old < vec_capacity items.old }
+    ensures { items.new.items ≡ item ∷ items.old.items }
+{
+    match items.insert(0, item) {
+        Ok(()) => {}
+        Err(_) => unreachable!(),
+    }
+}
+
+/// Puts an item behind all others, for which there is room.
+fn put_last<T: Drop>(items: &mut Vec<T>, item: T)
+    requires { vec_len items.old < vec_capacity items.old }
+    ensures items { items.new.items ≡ items.old.items ++ item ∷ [] }
+    ensures capacity { vec_capacity items.old ≤ vec_capacity items.new }
+{
+    match items.push(item) {
+        Ok(()) => {}
+        Err(_) => unreachable!(),
+    }
+}
+
+/// Posts the work of a ticket, and hands out what the post replaces. A refused post leaves the book as it was and hands the work
+/// back.
+pub(crate) fn post_one<C: Chip>(
+    book: &mut Book<C>,
+    chip: &C,
+    done: Done<C>,
+) -> (Result<(), (Memory, Done<C>)>, Spent<C::Abs>)
+    requires chip { C.base chip.now ≡ book.old.base }
+    requires out { IsOutOf (replay (C.analysis book.old.base) book.old.journal) done.ticket }
+    requires work { IsWorked (C.analysis book.old.base) done }
+    ensures posted { OnOk result.0
+        (book.new ≡ with_event book.old (Post done.ticket.seat done.ticket.unit)) }
+    ensures refused { OnErr result.0 (book.new ≡ book.old) }
+    ensures handed_back { IfErr result.0 (λ refused. refused.1 ≡ done) }
+{
+    let posted = book.post(chip, done);
+    (posted, book.take_spent())
+}
+
+/// Posts works in their order, until memory runs out. Those that are left are handed back.
+fn post_all<C: Chip>(book: &mut Book<C>, chip: &C, done: Vec<Done<C>>) -> Vec<Done<C>>
+    requires chip { C.base chip.now ≡ book.old.base }
+    requires out { AreOutOf (replay (C.analysis book.old.base) book.old.journal)
+        (tickets_of done.items) }
+    requires works { AllByRecursion (IsWorked (C.analysis book.old.base)) done.items }
+    ensures { Posts (C.analysis book.old.base) book.old done.items result.items book.new }
+{
+    outs_stay_beside::<C>();
+    let mut left = done;
+    while !left.is_empty() {
+        let first = left.remove(0);
+        if let Err((_, refused)) = book.post(chip, first) {
+            put_first(&mut left, refused);
+            return left;
+        }
+    }
+    left
+}
+
+/// Whether a further claim of the turn may come: behind other tickets only where so many units can be claimed.
+fn may_claim<C: Chip>(book: &Book<C>, share: u32, behind: bool) -> bool
+    ensures may { IsTrue result → behind ≡ true
+        → HasAtLeast (replay (C.analysis book.now.base) book.now.journal) share }
+    ensures behind { IsTrue (not result) → behind ≡ true }
+    ensures few { IsTrue (not result)
+        → HasAtLeast (replay (C.analysis book.now.base) book.now.journal) share → ⊥ }
+{
+    !behind || book.can_claim(share)
+}
+
+/// Claims the first unit, or says why there is none.
+fn claim_first<C: Chip>(book: &mut Book<C>, chip: &C, seat: u32) -> Result<Ticket<C>, Last>
+    requires { C.base chip.now ≡ book.old.base }
+    ensures { AnswersFurther (C.analysis book.old.base) seat book.old book.new 0 false result }
+{
+    match book.claim(chip, seat) {
+        Ok(Claimed::Ticket(ticket)) => Ok(ticket),
+        Ok(Claimed::Idle) => Err(Last::Idle),
+        Ok(Claimed::Finished) => Err(Last::Finished),
+        Err(Memory) => Err(Last::Memory),
+    }
+}
+
+/// The same where the turn has given tickets before, and leaves so many units to share.
+fn claim_further<C: Chip>(
+    book: &mut Book<C>,
+    chip: &C,
+    seat: u32,
+    share: u32,
+    behind: bool,
+) -> Result<Ticket<C>, Last>
+    requires { C.base chip.now ≡ book.old.base }
+    ensures { AnswersFurther (C.analysis book.old.base) seat book.old book.new share behind result }
+{
+    if may_claim(book, share, behind) {
+        return claim_first(book, chip, seat);
+    }
+    if book.has_claimable() {
+        Err(Last::Shared)
+    } else {
+        Err(Last::Idle)
+    }
+}
+
+/// Claims units, as many as are wanted, and puts their tickets where there is room for them.
+fn claim_some<C: Chip>(
+    book: &mut Book<C>,
+    chip: &C,
+    seat: u32,
+    tickets: Vec<Ticket<C>>,
+    want: u32,
+    share: u32,
+) -> (Vec<Ticket<C>>, Last)
+    requires chip { C.base chip.now ≡ book.old.base }
+    requires empty { tickets.items ≡ [] }
+    requires room { want ≤ vec_capacity tickets }
+    ensures { ClaimsSome (C.analysis book.old.base) seat book.old want share
+        result.0.items result.1 book.new }
+{
+    outs_stay_beside::<C>();
+    tests_tell_which_are_one();
+    let mut tickets = tickets;
+    for count in 0..want {
+        match claim_further(book, chip, seat, share, 0 < count) {
+            Ok(ticket) => put_last(&mut tickets, ticket),
+            Err(last) => return (tickets, last),
+        }
+    }
+    (tickets, Last::Full)
+}
+
+/// Posts works, and claims units where all of them are posted.
+pub(crate) fn exchange_on<C: Chip>(
+    book: &mut Book<C>,
+    chip: &C,
+    seat: u32,
+    done: Vec<Done<C>>,
+    tickets: Vec<Ticket<C>>,
+    want: u32,
+    share: u32,
+) -> Exchanged<C>
+    requires chip { C.base chip.now ≡ book.old.base }
+    requires out { AreOutOf (replay (C.analysis book.old.base) book.old.journal)
+        (tickets_of done.items) }
+    requires works { AllByRecursion (IsWorked (C.analysis book.old.base)) done.items }
+    requires empty { tickets.items ≡ [] }
+    requires room { want ≤ vec_capacity tickets }
+    ensures { ExchangesOn (C.analysis book.old.base) seat book.old done.items want share
+        result.unposted.items result.tickets.items result.last book.new }
+{
+    let unposted = post_all(book, chip, done);
+    if !unposted.is_empty() {
+        return Exchanged {
+            unposted,
+            tickets,
+            last: Last::Memory,
+        };
+    }
+    let (tickets, last) = claim_some(book, chip, seat, tickets, want, share);
+    Exchanged {
+        unposted,
+        tickets,
+        last,
+    }
+}
