@@ -1,0 +1,5 @@
+pub mod Members
+pub mod Windows
+pub mod ItemTests
+pub mod LeastItems
+pub mod TextLemmas

@@ -1,0 +1,3 @@
+pub mod Assertions
+pub mod Holding
+pub mod Lines

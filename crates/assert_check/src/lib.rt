@@ -1,0 +1,28 @@
+//! Assertions over a closed book: sentences that every run of a chip keeps, or the line of the report that breaks them.
+//!
+//! - `specs/Lines.antt` says which assertions a text has (`assertions_of`), or which of its lines is the first of no form.
+//! - `specs/Assertions.antt` says when a step breaks an assertion (`breaks`), and which of them a book breaks
+//!   (`broken_of`): those which some item of its works breaks, with some number of the item's set.
+//!
+//! Proved:
+//!
+//! - [`read_lines`] gives exactly the assertions of a text, or its first line that is of no form.
+//! - [`decide`] gives exactly the assertions that a closed book breaks. Each set is decided by one or two cuts, so no number
+//!   of it is listed.
+//! - Where it gives none, nothing that the chip meets on any run breaks any of the assertions, and no run leaves the model
+//!   (`Holds` of `specs/Holding.antt`). [`unbroken_lists_hold`] is that law for any works that cover the runs.
+#![tactic(auto)]
+
+mod assertion;
+mod breaking;
+mod deciding;
+mod laws;
+mod lines;
+mod parsing;
+mod reaching;
+
+pub use assertion::Assertion;
+pub use breaking::breaks;
+pub use deciding::{Broken, decide};
+pub use laws::unbroken_lists_hold;
+pub use lines::{AssertError, MOST_BYTES, read_lines};
