@@ -1,4 +1,7 @@
+pub mod BookLemmas
 pub mod CertLemmas
-pub mod FaultLemmas
+pub mod OneLemmas
+pub mod OrderLemmas
+pub mod RowLemmas
 pub mod TextLemmas
 pub mod WriteLemmas

@@ -1,29 +1,49 @@
-//! Laws of the texts, as functions that do nothing.
+//! Laws of certificates, as functions that do nothing.
 
-ghost use Rattle.std.specs.Prelude.{◌≡◌, ◌+◌, ℕ, List, Ok, Err};
+ghost use Rattle.std.specs.Prelude.{◌≡◌, ◌↔◌, ℕ, List, Ok};
 ghost use Rattle.call_context.specs.declared.node.Node.{Node as ANode};
-ghost use Rattle.cert_text.specs.declared.fault.LineFault.{LineFault as AFault};
-ghost use Rattle.cert_text.specs.Certificate.{DenotesTable, FaultAt, FirstBadLine};
-ghost use Rattle.cert_text.specs.Reading.{at_first, lines_read, table_of};
+ghost use Rattle.round_core.specs.Kept.{nodes_of};
+ghost use Rattle.round_core.specs.Machine.{replay, IsLegalJournal};
+ghost use Rattle.round_core.specs.declared.event.Event.{Event};
+ghost use Rattle.cert_text.specs.Certificate.{AreRows, cert_of, table_of};
+ghost use Rattle.cert_text.specs.Writing.{AreNodes, IsCert};
 
-use crate::state_text::StateText;
+use chip_law::LawfulChip;
+use round_core::{closed_book_has_closed_table, nodes_stay, tests_tell_which_are_one};
+use state_text::LawfulText;
 
-/// What is read of lines is the one table that they denote, or their first fault.
-pub fn certificates_are_read<C: StateText>(chip: &C)
-    ensures table { (lines : List (List ℕ)) (rest : List ℕ) (table : List (ANode × C.Abs))
-        → table_of (C.texts chip.now) lines rest ≡ Ok table → DenotesTable (C.texts chip.now) lines rest table }
-    ensures denoted { (lines : List (List ℕ)) (rest : List ℕ) (table : List (ANode × C.Abs))
-        → DenotesTable (C.texts chip.now) lines rest table → table_of (C.texts chip.now) lines rest ≡ Ok table }
-    ensures once { (lines : List (List ℕ)) (rest : List ℕ) (a b : List (ANode × C.Abs))
-        → DenotesTable (C.texts chip.now) lines rest a → DenotesTable (C.texts chip.now) lines rest b → a ≡ b }
-    ensures bad { (lines : List (List ℕ)) (rest : List ℕ) (number : ℕ) (fault : AFault)
-        → table_of (C.texts chip.now) lines rest ≡ Err (number, fault) → FirstBadLine (C.texts chip.now) lines rest number fault }
-    ensures faulty { (lines : List (List ℕ)) (rest : List ℕ) (number : ℕ) (fault : AFault)
-        → FirstBadLine (C.texts chip.now) lines rest number fault → table_of (C.texts chip.now) lines rest ≡ Err (number, fault) }
-    ensures front { (lines : List (List ℕ)) (number : ℕ) (fault : AFault) → lines_read (C.texts chip.now) 0 at_first lines ≡ Err (number, fault)
-        → (count : ℕ) × FaultAt (C.texts chip.now) lines count fault × (number ≡ count + 1) }
-    ensures faulty_front { (lines : List (List ℕ)) (count : ℕ) (fault : AFault)
-        → FaultAt (C.texts chip.now) lines count fault → lines_read (C.texts chip.now) 0 at_first lines ≡ Err (count + 1, fault) }
+/// A text denotes a table exactly where it is the certificate of the table, whose nodes are in form and in order.
+pub fn certificates_are_tables<C: LawfulText>()
+    ensures { (b : C.Base) → C.program b → (let a = C.analysis b in let texts = C.texts b in
+        (text : List ℕ) (rows : List (ANode × C.Abs))
+        → (table_of a texts text ≡ Ok rows) ↔ (AreRows a texts rows × (text ≡ cert_of a texts rows))) }
 {
-    chip.laws();
+    C::texts_are_exact();
 }
+
+/// No node of a book has two states, and each is in form with its own: so the book has a certificate, closed or open.
+pub fn nodes_of_books_are_formed<C: LawfulChip>()
+    ensures { (b : C.Base) → C.program b → (let a = C.analysis b in
+        (journal : List Event) → IsLegalJournal a journal
+        → AreNodes a (nodes_of (replay a journal))) }
+{
+    C::laws();
+    nodes_stay::<C>();
+    closed_book_has_closed_table::<C>();
+    tests_tell_which_are_one();
+}
+
+/// The nodes of a text that denotes a table are in form with their states, and no two of them are one.
+pub fn tables_have_nodes<C: LawfulText>()
+    ensures { (b : C.Base) (text : List ℕ) (rows : List (ANode × C.Abs)) → C.program b
+        → table_of (C.analysis b) (C.texts b) text ≡ Ok rows → AreNodes (C.analysis b) rows }
+{
+    certificates_are_tables::<C>();
+    tests_tell_which_are_one();
+}
+
+/// Nodes with their states have one certificate, in whatever order they come.
+pub fn certificates_are_one<C: LawfulText>()
+    ensures { (b : C.Base) (nodes : List (ANode × C.Abs)) (one other : List ℕ)
+        → IsCert (C.analysis b) (C.texts b) nodes one → IsCert (C.analysis b) (C.texts b) nodes other → one ≡ other }
+{}

@@ -1,100 +1,96 @@
 //! The lines of a certificate.
 
-ghost use Rattle.std.specs.Prelude.{◌≡◌, ◌++◌, Ok, IfOk, IfErr, IfSome, OnOk, OnErr};
-ghost use Rattle.std.specs.Cmp.Lexicographic.{slice_cmp};
-ghost use Rattle.std.specs.Ordering.{nat_cmp};
-ghost use Rattle.node_fields.specs.Nodes.{IsNodeText};
-ghost use Rattle.cert_text.specs.Reading as entries;
-ghost use Rattle.cert_text.specs.Reading.{TellsLine, line_step};
+ghost use Rattle.std.specs.Prelude.{◌≡◌, ◌&&◌, Ok, IfOk, IfErr, IfSome, OnOk, OnErr};
+ghost use Rattle.std.specs.Ordering.{is_lt};
+ghost use Rattle.cert_text.specs.Certificate as certificates;
+ghost use Rattle.cert_text.specs.Certificate.{at_first, is_empty, node_text, placed, table_row, table_step};
+ghost use Rattle.cert_text.specs.Reading.{TellsLine};
 
 use crate::fault::{LineFault, ReadError};
-use crate::state_text::StateText;
 use call_context::Node;
 use no_memory::Memory;
 use node_fields::{push_node, split_row};
+use state_text::StateText;
 use std::alloc::Global;
-use std::cmp::Ordering;
 use std::marker::Model;
 
-/// What the lines so far have given.
+/// What the lines so far have given: the nodes with their states, and the last node as it is written.
 #[derive(Drop)]
 pub struct Progress<A> {
     begun: bool,
     ended: bool,
-    table: Vec<(Node, A)>,
+    rows: Vec<(Node, A)>,
     last: Vec<u8>,
 }
 
 impl<A> Model for Progress<A> {
-    ghost use Rattle.cert_text.specs.Reading.{Progress as AProgress};
+    ghost use Rattle.call_context.specs.declared.node.Node.{Node as ANode};
+    ghost use Rattle.cert_text.specs.Certificate.{Read};
 
-    ghost Value = { AProgress A };
+    ghost Value = { Read (ANode × A) };
 
-    ghost view = { λ p. record { begun = p.begun; ended = p.ended; table = p.table.items; last = p.last.items } };
-}
-
-/// Whether the first text stands before the second one in the order of bytes.
-fn precedes(first: &[u8], second: &[u8]) -> bool
-    ensures { result ≡ entries.is_less (slice_cmp nat_cmp first.now second.now) }
-{
-    match first.cmp(second) {
-        Ordering::Less => true,
-        Ordering::Equal => false,
-        Ordering::Greater => false,
-    }
-}
-
-/// The node and the state of a line.
-#[tactic(auto, unfolding(crate::specs::Reading::entry_of))]
-fn entry_of<C: StateText>(
-    alloc: Global,
-    chip: &C,
-    line: &[u8],
-) -> Result<Option<(Node, C::Abs)>, Memory>
-    ensures value { IfOk result (λ found. found ≡ entries.entry_of (C.texts chip.now) line.now) }
-    ensures form { IfOk result (λ found. IfSome found (λ entry. IsNodeText (C.texts chip.now).digits entry.0)) }
-{
-    chip.laws();
-    let Some((node, text)) = split_row(line, chip.digits()) else {
-        return Ok(None);
-    };
-    match chip.state_of(alloc, &node, text)? {
-        Some(state) => Ok(Some((node, state))),
-        None => Ok(None),
-    }
+    ghost view = { λ p. record { begun = p.begun; ended = p.ended; rows = p.rows.items; last = p.last.items } };
 }
 
 impl<A> Progress<A> {
     /// No line yet.
     pub fn new(alloc: Global) -> Progress<A>
-        ensures { result ≡ entries.at_first }
+        ensures { result ≡ at_first }
     {
         Progress {
             begun: false,
             ended: false,
-            table: Vec::new(alloc),
+            rows: Vec::new(alloc),
             last: Vec::new(alloc),
         }
     }
 
-    /// Whether the last line was read.
-    pub fn has_ended(&self) -> bool
-        ensures { result ≡ self.now.ended }
+    /// Whether the last line was read, and nothing stands behind it.
+    pub fn is_complete(&self, rest: &[u8]) -> bool
+        ensures { result ≡ (self.now.ended && is_empty rest.now) }
     {
-        self.ended
+        match rest {
+            [] => self.ended,
+            _ => false,
+        }
     }
 
     /// The nodes with their states.
-    pub fn into_table(self) -> Vec<(Node, A)>
-        ensures { result.items ≡ self.table }
+    pub fn into_rows(self) -> Vec<(Node, A)>
+        ensures { result.items ≡ self.rows }
     {
-        let Progress { table, .. } = self;
-        table
+        let Progress { rows, .. } = self;
+        rows
+    }
+}
+
+/// Whether the first text stands before the second one in the order of bytes.
+fn is_below(first: &[u8], second: &[u8]) -> bool
+    ensures { result ≡ certificates.is_below first.now second.now }
+{
+    first.cmp(second).is_lt()
+}
+
+/// The node and the state of a line.
+fn read_row<C: StateText>(
+    alloc: Global,
+    chip: &C,
+    line: &[u8],
+) -> Result<Option<(Node, C::Abs)>, Memory>
+    ensures { (let b = C.base chip.now in
+        IfOk result (λ found. found ≡ (table_row (C.analysis b) (C.texts b)).value line.now)) }
+{
+    let Some((node, text)) = split_row(line, chip.sp_digits()) else {
+        return Ok(None);
+    };
+    match chip.read_abs(alloc, &node, text)? {
+        Some(state) => Ok(Some((node, state))),
+        None => Ok(None),
     }
 }
 
 /// Takes the next line, which has this number. An error leaves all as it was.
-#[tactic(auto, unfolding(crate::specs::Reading::line_step))]
+#[tactic(auto, unfolding(crate::specs::Certificate::table_step))]
 pub fn accept<C: StateText>(
     alloc: Global,
     chip: &C,
@@ -102,8 +98,10 @@ pub fn accept<C: StateText>(
     line: &[u8],
     number: u32,
 ) -> Result<(), ReadError>
-    ensures ok { OnOk result (line_step (C.texts chip.now) progress.old line.now ≡ Ok progress.new) }
-    ensures bad { IfErr result (TellsLine (C.texts chip.now) progress.old line.now number) }
+    ensures ok { (let b = C.base chip.now in
+        OnOk result (table_step (C.analysis b) (C.texts b) progress.old line.now ≡ Ok progress.new)) }
+    ensures bad { (let b = C.base chip.now in
+        IfErr result (TellsLine (table_step (C.analysis b) (C.texts b) progress.old line.now) number)) }
     ensures stays { OnErr result (progress.new ≡ progress.old) }
 {
     let syntax = ReadError::Bad {
@@ -124,37 +122,38 @@ pub fn accept<C: StateText>(
         progress.ended = true;
         return Ok(());
     }
-    accept_entry(alloc, chip, progress, line, number)
+    accept_row(alloc, chip, progress, line, number)
 }
 
 /// Takes the line of a node.
-fn accept_entry<C: StateText>(
+fn accept_row<C: StateText>(
     alloc: Global,
     chip: &C,
     progress: &mut Progress<C::Abs>,
     line: &[u8],
     number: u32,
 ) -> Result<(), ReadError>
-    ensures ok { OnOk result (entries.entry_step (C.texts chip.now) progress.old line.now ≡ Ok progress.new) }
-    ensures bad { IfErr result (entries.TellsEntry (C.texts chip.now) progress.old line.now number) }
+    ensures ok { (let b = C.base chip.now in let row = table_row (C.analysis b) (C.texts b) in
+        OnOk result (placed row (node_text (C.texts b)) progress.old (row.value line.now) ≡ Ok progress.new)) }
+    ensures bad { (let b = C.base chip.now in let row = table_row (C.analysis b) (C.texts b) in
+        IfErr result (TellsLine (placed row (node_text (C.texts b)) progress.old (row.value line.now)) number)) }
     ensures stays { OnErr result (progress.new ≡ progress.old) }
 {
-    chip.laws();
-    let Some((node, state)) = entry_of(alloc, chip, line)? else {
+    let Some((node, state)) = read_row(alloc, chip, line)? else {
         return Err(ReadError::Bad {
             line: number,
             fault: LineFault::Syntax,
         });
     };
     let mut text = Vec::new(alloc);
-    push_node(&mut text, &node, chip.digits())?;
-    if !precedes(&progress.last, &text) {
+    push_node(&mut text, &node, chip.sp_digits())?;
+    if !is_below(&progress.last, &text) {
         return Err(ReadError::Bad {
             line: number,
             fault: LineFault::Order,
         });
     }
-    progress.table.push((node, state))?;
+    progress.rows.push((node, state))?;
     progress.last = text;
     Ok(())
 }

@@ -1,86 +1,160 @@
 //! The writer of certificates.
 
-ghost use Rattle.std.specs.Prelude.{◌≡◌, ◌++◌, ◌∷◌, [], map, IfOk, OnOk};
-ghost use Rattle.std.specs.BTreeSet.{insert_key};
+ghost use Rattle.std.specs.Prelude.{◌≡◌, ◌++◌, ◌∷◌, map, List, ℕ, IsPermutation, IfOk, IfErr, OnOk};
 ghost use Rattle.std.specs.Cmp.Lexicographic.{slice_cmp};
 ghost use Rattle.std.specs.List.{flat_map};
+ghost use Rattle.std.specs.List.Sorted.{IsSortedByKey};
 ghost use Rattle.std.specs.Ordering.{nat_cmp};
-ghost use Rattle.cert_text.specs.Certificate as certificates;
-ghost use Rattle.cert_text.specs.Certificate.{AreNodes, HasEntryForm, with_lines};
-ghost use Rattle.cert_text.specs.Writing.{bytes_of};
+ghost use Rattle.round_core.specs.Kept.{nodes_of};
+ghost use Rattle.round_core.specs.Machine.{replay};
+ghost use Rattle.vsa_io.specs.Stream.{AppendsPrefix, HasRisen, appended};
+ghost use Rattle.cert_text.specs.Writing as writing;
+ghost use Rattle.cert_text.specs.Writing.{AreNodes, IsCert, bytes_of, line_of};
 
-use crate::state_text::StateText;
+use crate::laws::nodes_of_books_are_formed;
 use call_context::Node;
 use no_memory::Memory;
 use node_fields::push_node;
+use report_text::PrintError;
+use round_core::{Book, tests_tell_which_are_one};
+use state_text::LawfulText;
 use std::alloc::{AllocError, Global};
-use std::collections::BTreeSet;
+use vsa_io::{Sink, write_all};
 
-/// The line of a node and its state.
-fn line_of<C: StateText>(
+/// A node and its state as they are written.
+fn written<C: LawfulText>(
     alloc: Global,
     chip: &C,
-    entry: &(Node, C::Abs),
-) -> Result<Vec<u8>, AllocError>
-    requires { HasEntryForm (C.texts chip.now) entry.now }
-    ensures { IfOk result (λ line. line.items ≡ certificates.line_of (C.texts chip.now) entry.now) }
+    row: &(Node, C::Abs),
+) -> Result<(Vec<u8>, Vec<u8>), Memory>
+    ensures { IfOk result (λ pair. bytes_of pair ≡ writing.written (C.texts (C.base chip.now)) row.now) }
 {
-    chip.laws();
-    let mut line = Vec::new(alloc);
-    push_node(&mut line, &entry.0, chip.digits())?;
-    line.push(b' ')?;
-    chip.push_state(&entry.1, &mut line)?;
-    Ok(line)
+    let (node, state) = row;
+    let mut node_text = Vec::new(alloc);
+    push_node(&mut node_text, node, chip.sp_digits())?;
+    let mut state_text = Vec::new(alloc);
+    chip.print_abs(state, &mut state_text)?;
+    Ok((node_text, state_text))
 }
 
-/// Puts a line into a set.
-fn add_line(lines: &mut BTreeSet<Vec<u8>>, line: Vec<u8>) -> Result<(), AllocError>
-    ensures { OnOk result (bytes_of lines.new.keys ≡ insert_key (slice_cmp nat_cmp) (bytes_of lines.old.keys) line.items) }
-{
-    lines.insert(line)?;
-    Ok(())
-}
-
-/// The lines of nodes with their states, in the order of their bytes.
-fn lines_of<C: StateText>(
+/// Nodes and their states as they are written.
+fn all_written<C: LawfulText>(
     alloc: Global,
     chip: &C,
-    table: &[(Node, C::Abs)],
-) -> Result<BTreeSet<Vec<u8>>, AllocError>
-    requires { AreNodes (C.texts chip.now) table.now }
-    ensures { IfOk result (λ lines. bytes_of lines.keys ≡ with_lines [] (map (certificates.line_of (C.texts chip.now)) table.now)) }
+    nodes: &[(Node, C::Abs)],
+) -> Result<Vec<(Vec<u8>, Vec<u8>)>, Memory>
+    ensures { IfOk result (λ pairs. map bytes_of pairs.items
+        ≡ map (writing.written (C.texts (C.base chip.now))) nodes.now) }
 {
-    let mut lines = BTreeSet::new(alloc);
-    for entry in table {
-        add_line(&mut lines, line_of(alloc, chip, entry)?)?;
+    let mut pairs = Vec::new(alloc);
+    for row in nodes {
+        pairs.push(written(alloc, chip, row)?)?;
     }
-    Ok(lines)
+    Ok(pairs)
 }
 
-/// Adds lines with a line feed each.
-fn push_lines(text: &mut Vec<u8>, lines: &BTreeSet<Vec<u8>>) -> Result<(), AllocError>
-    ensures { OnOk result (text.new.items ≡ text.old.items ++ flat_map (λ line. line ++ 10 ∷ []) (bytes_of lines.now.keys)) }
+/// Adds the line of each.
+fn push_lines(text: &mut Vec<u8>, pairs: &[(Vec<u8>, Vec<u8>)]) -> Result<(), AllocError>
+    ensures { OnOk result (text.new.items ≡ text.old.items ++ flat_map line_of (map bytes_of pairs.now)) }
 {
-    for line in lines {
-        text.extend_from_slice(line.as_slice())?;
+    for (node, state) in pairs {
+        text.extend_from_slice(node)?;
+        text.push(b' ')?;
+        text.extend_from_slice(state)?;
         text.push(b'\n')?;
     }
     Ok(())
 }
 
 /// The certificate of nodes with their states, which come in any order.
-pub fn certificate_of<C: StateText>(
+pub fn certificate_of<C: LawfulText>(
     alloc: Global,
     chip: &C,
-    table: &[(Node, C::Abs)],
+    nodes: &[(Node, C::Abs)],
 ) -> Result<Vec<u8>, Memory>
-    requires { AreNodes (C.texts chip.now) table.now }
-    ensures { IfOk result (λ text. text.items ≡ certificates.certificate_of (C.texts chip.now) table.now) }
+    requires { AreNodes (C.analysis (C.base chip.now)) nodes.now }
+    ensures { (let b = C.base chip.now in
+        IfOk result (λ text. IsCert (C.analysis b) (C.texts b) nodes.now text.items)) }
 {
-    let lines = lines_of(alloc, chip, table)?;
+    chip.is_program();
+    C::texts_are_exact();
+    tests_tell_which_are_one();
+    let mut pairs = all_written(alloc, chip, nodes)?;
+    pairs.sort()?;
     let mut text = Vec::new(alloc);
     text.extend_from_slice(b"CERT 1\n")?;
-    push_lines(&mut text, &lines)?;
+    push_lines(&mut text, &pairs)?;
     text.extend_from_slice(b"END\n")?;
     Ok(text)
+}
+
+/// Writes the certificate of nodes with their states, which come in any order.
+pub fn write_nodes<C: LawfulText, K: Sink>(
+    alloc: Global,
+    chip: &C,
+    nodes: &[(Node, C::Abs)],
+    sink: &mut K,
+) -> Result<(), PrintError>
+    requires { AreNodes (C.analysis (C.base chip.now)) nodes.now }
+    ensures written { (let b = C.base chip.now in OnOk result ((text : List ℕ)
+        × IsCert (C.analysis b) (C.texts b) nodes.now text
+        × (K.held sink.new ≡ appended (K.held sink.old) text))) }
+    ensures quiet { OnOk result (K.faults sink.new ≡ K.faults sink.old) }
+    ensures prefix { (let b = C.base chip.now in
+        IfErr result (λ error. error ≡ PrintError.Write → (text : List ℕ)
+        × IsCert (C.analysis b) (C.texts b) nodes.now text
+        × AppendsPrefix (K.held sink.old) text (K.held sink.new))) }
+    ensures cause { IfErr result (λ error. error ≡ PrintError.Write
+        → HasRisen (K.faults sink.old) (K.faults sink.new)) }
+    ensures unwritten { IfErr result (λ error. error ≡ PrintError.Memory
+        → K.held sink.new ≡ K.held sink.old) }
+{
+    let text = certificate_of(alloc, chip, nodes)?;
+    match write_all(sink, text.as_slice()) {
+        Ok(()) => Ok(()),
+        Err(_) => Err(PrintError::Write),
+    }
+}
+
+/// The certificate of a book: that of its nodes.
+pub fn book_certificate<C: LawfulText>(
+    alloc: Global,
+    chip: &C,
+    book: &Book<C>,
+) -> Result<Vec<u8>, Memory>
+    requires { C.base chip.now ≡ book.now.base }
+    ensures { (let b = book.now.base in IfOk result (λ text.
+        IsCert (C.analysis b) (C.texts b) (nodes_of (replay (C.analysis b) book.now.journal)) text.items)) }
+{
+    chip.is_program();
+    nodes_of_books_are_formed::<C>();
+    let _journal = book.journal();
+    certificate_of(alloc, chip, book.nodes())
+}
+
+/// Writes the certificate of a book: that of its nodes.
+pub fn write<C: LawfulText, K: Sink>(
+    alloc: Global,
+    chip: &C,
+    book: &Book<C>,
+    sink: &mut K,
+) -> Result<(), PrintError>
+    requires { C.base chip.now ≡ book.now.base }
+    ensures written { (let b = book.now.base in let nodes = nodes_of (replay (C.analysis b) book.now.journal) in
+        OnOk result ((text : List ℕ) × IsCert (C.analysis b) (C.texts b) nodes text
+        × (K.held sink.new ≡ appended (K.held sink.old) text))) }
+    ensures quiet { OnOk result (K.faults sink.new ≡ K.faults sink.old) }
+    ensures prefix { (let b = book.now.base in let nodes = nodes_of (replay (C.analysis b) book.now.journal) in
+        IfErr result (λ error. error ≡ PrintError.Write → (text : List ℕ)
+        × IsCert (C.analysis b) (C.texts b) nodes text
+        × AppendsPrefix (K.held sink.old) text (K.held sink.new))) }
+    ensures cause { IfErr result (λ error. error ≡ PrintError.Write
+        → HasRisen (K.faults sink.old) (K.faults sink.new)) }
+    ensures unwritten { IfErr result (λ error. error ≡ PrintError.Memory
+        → K.held sink.new ≡ K.held sink.old) }
+{
+    chip.is_program();
+    nodes_of_books_are_formed::<C>();
+    let _journal = book.journal();
+    write_nodes(alloc, chip, book.nodes(), sink)
 }

@@ -1,36 +1,51 @@
-use Rattle.std.proofs.Common.{◌≡◌, ◌≤◌, ◌+◌, length, map, sym, ap, ◌∙◌, arith, true, Ok, Err}
-use Rattle.std.proofs.lemmas.Bool.Decides.{nat_tests}
+use Rattle.std.proofs.Common.{◌+◌, ◌<◌, ◌^◌, length, map, sym, ap, ◌∙◌, subst, arith, Ok, Err}
 use Rattle.cert_text.specs.declared.fault.LineFault.TheVariants.{Syntax}
-use Rattle.cert_text.proofs.TextLemmas.{as_it_stands, count_lines, finish_ended, finish_more, finish_open, lines_fit}
-use Rattle.cert_text.proofs.reader.Reader.end.Goals.{else-is_empty-via-then-is_empty+else-has_ended, else-is_empty-via-else-is_empty}
+use Rattle.text_fields.specs.Lines.{joined}
+use Rattle.cert_text.specs.Certificate.{table_row}
+use Rattle.cert_text.specs.Reading.{IsTable}
+use Rattle.cert_text.proofs.RowLemmas.{lines_fit, rows_fit}
+use Rattle.cert_text.proofs.TextLemmas.{as_it_stands, count_lines, finish_bad, finish_complete}
 use Rattle.cert_text.proofs.reader.Reader.end.Goals as goal
 
 pub overflow_cast-number : goal.overflow_cast-number
 overflow_cast-number g c =
     let lines = map (λ line. line.value.items) c.self.inside.lines.items in
     let count = count_lines (λ line. line.value.items) c.self.inside.lines.items _ _ c.len.ensures c.self.inside.lines.ok.0 in
-    omega (arith, count, lines_fit lines c.self.inside.line.items, c.self.invariant.small)
+    omega (arith, count, lines_fit lines c.self.inside.line.items, c.self.invariant.1.small)
 
 pub overflow_add-number : goal.overflow_add-number
 overflow_add-number g c =
     let lines = map (λ line. line.value.items) c.self.inside.lines.items in
     let count = count_lines (λ line. line.value.items) c.self.inside.lines.items _ _ c.len.ensures c.self.inside.lines.ok.0 in
-    omega (arith, count, lines_fit lines c.self.inside.line.items, c.self.invariant.small)
+    omega (arith, count, lines_fit lines c.self.inside.line.items, c.self.invariant.1.small)
 
-pub returns-then-has_ended-clause-table : goal.returns-then-has_ended-clause-table
-returns-then-has_ended-clause-table g c =
-    let empty : length c.self.inside.line.items ≡ 0 = grind (arith, nat_tests, c.self.inside.line.ok.0) in
-    let ended : c.self.inside.progress.ended ≡ true = sym c.has_ended.ensures ∙ c.if-has_ended.true in
-    rw (← c.self.view_is) (as_it_stands _ _ _ _ c.self.invariant ∙ finish_ended _ _ c.self.inside.progress ended empty ∙ ap (λ table. Ok table) (sym c.into_table.ensures))
+pub returns-then-is_complete-clause-table : goal.returns-then-is_complete-clause-table
+returns-then-is_complete-clause-table g c =
+    let complete = sym c.is_complete.ensures ∙ c.if-is_complete.true in
+    rw (← c.self.view_is) (as_it_stands _ _ _ _ _ c.self.invariant.1 ∙ finish_complete _ _ c.self.inside.progress
+    (rw c.deref.ensures.value at complete) ∙ ap (λ rows. Ok rows) (sym c.into_rows.ensures))
 
 pub returns-clause-bad : goal.returns-clause-bad
 returns-clause-bad g c = λ none.
     let count = count_lines (λ line. line.value.items) c.self.inside.lines.items _ _ c.len.ensures c.self.inside.lines.ok.0 in
-    let number = ap (λ n. Err (n + 1, Syntax)) (sym count) in
-    elim c.else-is_empty.branch [
-      | else-is_empty-via-then-is_empty+else-has_ended w ↦
-          rw (← c.self.view_is) (as_it_stands _ _ _ _ c.self.invariant ∙ finish_open _ _ c.self.inside.progress (sym w.has_ended.ensures ∙ w.if-has_ended.false) ∙ number)
-      | else-is_empty-via-else-is_empty w ↦
-          (let some : 1 ≤ length c.self.inside.line.items = grind (arith, nat_tests, c.self.inside.line.ok.0, c.is_empty.ensures, w.if-is_empty.false) in
-          rw (← c.self.view_is) (as_it_stands _ _ _ _ c.self.invariant ∙ finish_more _ _ c.self.inside.progress some ∙ number))
-    ]
+    let incomplete = sym c.is_complete.ensures ∙ c.if-is_complete.false in
+    rw (← c.self.view_is) (as_it_stands _ _ _ _ _ c.self.invariant.1 ∙ finish_bad _ _ c.self.inside.progress (rw c.deref.ensures.value at incomplete)
+    ∙ ap (λ n. Err (n + 1, Syntax)) (sym count))
+
+pub invariant_of-result : goal.invariant_of-result
+invariant_of-result g c =
+    let b = g.C.Chip.base c.self.inside.chip.value in
+    let a = g.C.Chip.analysis b in
+    let texts = g.C.StateText.texts b in
+    let text = joined (map (λ line. line.value.items) c.self.inside.lines.items) c.self.inside.line.items in
+    let complete = sym c.is_complete.ensures ∙ c.if-is_complete.true in
+    let table = as_it_stands a texts _ _ _ c.self.invariant.1 ∙ finish_complete _ _ c.self.inside.progress (rw c.deref.ensures.value at complete) in
+    let is = (c.certificates_are_tables.ensures b c.self.invariant.0 text _).0 table in
+    let fit : 2 + length c.self.inside.progress.rows < 2 ^ 32 = omega (
+      arith,
+      rows_fit
+          (table_row a texts) c.self.inside.progress.rows,
+      ap length is.1,
+      c.self.invariant.1.small,
+    ) in
+    (c.self.invariant.0, subst (IsTable a texts 2) (sym c.into_rows.ensures) (record { are_rows = is.0; lines = fit }))

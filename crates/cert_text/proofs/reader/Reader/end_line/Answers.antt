@@ -1,31 +1,32 @@
 use Rattle.std.proofs.Common.{refl, map, arith}
 use Rattle.std.proofs.lemmas.List.{map-append}
-use Rattle.cert_text.proofs.TextLemmas.{count_lines, joined_feed, lines_fit, read_feed, tells_feed, none_refused}
+use Rattle.cert_text.proofs.RowLemmas.{lines_fit}
+use Rattle.cert_text.proofs.TextLemmas.{count_lines, joined_feed, read_feed, tells_feed, none_refused}
 use Rattle.cert_text.proofs.reader.Reader.end_line.Goals as goal
 
 pub overflow_cast-number : goal.overflow_cast-number
 overflow_cast-number g c =
     let lines = map (λ line. line.value.items) c.self.inside.lines.items in
     let count = count_lines (λ line. line.value.items) c.self.inside.lines.items _ _ c.len.ensures c.self.inside.lines.ok.0 in
-    omega (arith, count, lines_fit lines c.self.inside.line.items, c.self.invariant.small)
+    omega (arith, count, lines_fit lines c.self.inside.line.items, c.self.invariant.1.small)
 
 pub overflow_add-number : goal.overflow_add-number
 overflow_add-number g c =
     let lines = map (λ line. line.value.items) c.self.inside.lines.items in
     let count = count_lines (λ line. line.value.items) c.self.inside.lines.items _ _ c.len.ensures c.self.inside.lines.ok.0 in
-    omega (arith, count, lines_fit lines c.self.inside.line.items, c.self.invariant.small)
+    omega (arith, count, lines_fit lines c.self.inside.line.items, c.self.invariant.1.small)
 
 pub returns-in-Err-clause-bad : goal.returns-in-Err-clause-bad
 returns-in-Err-clause-bad g c =
     let count = count_lines (λ line. line.value.items) c.self.inside.lines.items _ _ c.len.ensures c.self.inside.lines.ok.0 in
     let tells = rw (c.deref.ensures.value, c.requires.same, ← c.self.view_is) at c.in-Err.ensures.bad in
-    rw (← c.self.view_is) (tells_feed _ _ _ _ _ _ c.self.invariant (omega (arith, count)) tells)
+    rw (← c.self.view_is) (tells_feed _ _ _ _ _ _ _ c.self.invariant.1 (omega (arith, count)) tells)
 
 pub invariant_of-self-2 : goal.invariant_of-self-2
 invariant_of-self-2 g c =
     let room = rw (← c.self.view_is) at c.requires.room in
     let step = rw (c.deref.ensures.value, c.requires.same, ← c.self.view_is) at c.in_default.ensures.ok in
-    rw (c.in_ok-push.ensures.items, c.clear.ensures.items, map-append, c.of.ensures) (read_feed _ _ _ _ _ c.self.invariant step room)
+    rw (c.in_ok-push.ensures.items, c.clear.ensures.items, map-append, c.of.ensures) (c.self.invariant.0, read_feed _ _ _ _ _ _ c.self.invariant.1 step room)
 
 pub returns-clause-text : goal.returns-clause-text
 returns-clause-text g c =
@@ -33,4 +34,4 @@ returns-clause-text g c =
     (rw (joined_feed (map (λ line. line.value.items) c.self.inside.lines.items) c.self.inside.line.items) refl)
 
 pub returns-clause-good : goal.returns-clause-good
-returns-clause-good g c = rw (← c.self.view_is) (λ number fault. none_refused _ _ _ _ number fault (invariant_of-self-2 g c))
+returns-clause-good g c = rw (← c.self.view_is) (λ number fault. none_refused _ _ _ _ _ number fault (invariant_of-self-2 g c).1)

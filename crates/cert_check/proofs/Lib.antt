@@ -1,0 +1,4 @@
+pub mod AcceptedLemmas
+pub mod ClosedLemmas
+pub mod TableLemmas
+pub mod WalkLemmas

@@ -1,0 +1,68 @@
+//! Laws of certificates that are checked, as functions that do nothing.
+
+ghost use Rattle.std.specs.Prelude.{◌≡◌, ◌↔◌, ℕ, List, None};
+ghost use Rattle.call_context.specs.declared.node.Node.{Node as ANode};
+ghost use Rattle.chip_law.specs.Table.{IsClosedTable};
+ghost use Rattle.closing_law.specs.ClosedBook.{IsClosedBook, table_in};
+ghost use Rattle.cert_text.specs.Writing.{AreNodes, IsCert};
+ghost use Rattle.cert_check.specs.Accepted.{GivesReport, IsAccepted};
+ghost use Rattle.cert_check.specs.Refusal.{refusal_of, works_in};
+ghost use Rattle.round_core.specs.Kept.{nodes_of};
+ghost use Rattle.round_core.specs.Machine.{replay, IsClosed, IsLegalJournal};
+ghost use Rattle.round_core.specs.declared.event.Event.{Event};
+
+use cert_text::certificates_are_tables;
+use closing_law::{closed_book_is_its_table, tables_have_no_order};
+use report_text::closed_reports_are_of_tables;
+use round_core::tests_tell_which_are_one;
+use state_text::LawfulText;
+
+/// There is no refusal exactly where the table is closed.
+pub fn refusals_are_exact<C: LawfulText>()
+    ensures { (b : C.Base) → C.program b → (let a = C.analysis b in
+        (rows : List (ANode × C.Abs)) (first : ℕ) → AreNodes a rows
+        → (refusal_of a (C.texts b).outside rows first ≡ None) ↔ IsClosedTable a (table_in rows)) }
+{
+    C::laws();
+    C::texts_are_exact();
+    tests_tell_which_are_one();
+}
+
+/// The works that the checker finds of a table without a refusal are those of a closed book.
+pub fn unrefused_tables_are_closed_books<C: LawfulText>()
+    ensures { (b : C.Base) → C.program b → (let a = C.analysis b in
+        (rows : List (ANode × C.Abs)) (first : ℕ) → AreNodes a rows
+        → refusal_of a (C.texts b).outside rows first ≡ None → IsClosedBook a rows (works_in a rows)) }
+{
+    C::laws();
+    C::texts_are_exact();
+    tests_tell_which_are_one();
+}
+
+/// The certificate of a closed table is accepted, in whatever order the nodes were written.
+pub fn certificates_of_closed_tables_pass<C: LawfulText>()
+    ensures { (b : C.Base) → C.program b → (let a = C.analysis b in let texts = C.texts b in
+        (nodes : List (ANode × C.Abs)) (text : List ℕ) → AreNodes a nodes
+        → IsClosedTable a (table_in nodes) → IsCert a texts nodes text
+        → IsAccepted a texts nodes text) }
+{
+    certificates_are_tables::<C>();
+    refusals_are_exact::<C>();
+    tables_have_no_order::<C>();
+    tests_tell_which_are_one();
+}
+
+/// The certificate of a finished book without opens is accepted, and gives the report of the book.
+pub fn own_certificates_give_the_report<C: LawfulText>()
+    ensures { (b : C.Base) → C.program b → (let a = C.analysis b in let texts = C.texts b in
+        (journal : List Event) (text : List ℕ) → IsLegalJournal a journal
+        → IsClosed (replay a journal) → IsCert a texts (nodes_of (replay a journal)) text
+        → GivesReport a texts journal text) }
+{
+    C::laws();
+    C::texts_are_exact();
+    certificates_of_closed_tables_pass::<C>();
+    closed_book_is_its_table::<C>();
+    closed_reports_are_of_tables::<C>();
+    tests_tell_which_are_one();
+}
