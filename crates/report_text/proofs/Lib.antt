@@ -1,5 +1,9 @@
+pub mod ClosingLemmas
 pub mod GreatestLemmas
 pub mod LeastLemmas
+pub mod OneStackLemmas
+pub mod OrderLemmas
 pub mod PromiseLemmas
 pub mod ReportLemmas
+pub mod SetLemmas
 pub mod ShownLemmas

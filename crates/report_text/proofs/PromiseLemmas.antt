@@ -1,33 +1,50 @@
 -- The report of a book without opens covers every run, and that of another one shows its open sites.
-use Rattle.std.proofs.Common.{◌≡◌, ◌++◌, ℕ, Bool, true, false, List, [], ◌∷◌, refl, sym, ap, subst, ◌∙◌, append_assoc, inl, inr}
+use Rattle.std.proofs.Common.{◌≡◌, ◌++◌, ℕ, Bool, true, false, Option, Some, List, [], ◌∷◌, refl, sym, ap, subst, ◌∙◌, append_assoc, inl, inr}
 use Rattle.std.specs.Prelude.{Contains, map, ◌&&◌}
 use Rattle.std.specs.List.{flat_map}
+use Rattle.std.specs.Map.{values_of}
 use Rattle.std.proofs.lemmas.List.Elements.{Contains-append_right}
+use Rattle.std.proofs.lemmas.Map.Made.{Contains-values_of}
+use Rattle.call_context.specs.declared.node.Node.{Node}
+use Rattle.call_context.specs.declared.node.Unit.{Unit as WorkUnit}
 use Rattle.call_context.specs.declared.shown.Cause.{Cause}
 use Rattle.chip_law.specs.Analysis.{Analysis}
 use Rattle.chip_law.specs.declared.chip.Work.{Work}
+use Rattle.chip_law.specs.Laws.{Cover}
 use Rattle.chip_law.specs.Line.{item_line_of, open_line_of}
 use Rattle.chip_law.specs.Machine.{Machine}
 use Rattle.chip_law.specs.Shown.{HasLine}
-use Rattle.closing_law.specs.Covered.{NoneIsOpen, AreCovering, IsBroken}
-use Rattle.round_core.specs.Machine.{replay, IsLegalJournal, IsFinished}
+use Rattle.chip_law.specs.Table.{IsUnitOver}
+use Rattle.closing_law.specs.ClosedBook.{IsClosedBook, table_in}
+use Rattle.closing_law.specs.Covered.{NoneIsOpen, AreCovering, CoversRuns, IsBroken}
+use Rattle.round_core.specs.Kept.{live_works}
+use Rattle.round_core.specs.Machine.{BookState, Done, done_at, replay, IsLegalJournal, IsFinished, IsUnit}
+use Rattle.round_core.specs.Table.{table_of}
 use Rattle.round_core.specs.declared.event.Event.{Event}
-use Rattle.report_text.specs.Promise.{Says, CoversEveryRun, ShowsOpenSites}
+use Rattle.report_text.specs.Promise.{Says, CoversEveryRun, ShowsOpenSites, ShowsTable}
 use Rattle.report_text.specs.Deepest.{deepest_of}
-use Rattle.report_text.specs.Report.{are_closed, is_empty, lines_of, with_lines, head_line, summary_of, report_text, report_of, last_works, report_of_journal}
+use Rattle.report_text.specs.Report.{are_closed, is_empty, lines_of, with_lines, head_line, summary_of, report_text, report_of, last_works, report_of_journal, closed_report}
 use Rattle.report_text.proofs.ShownLemmas.{in_none, in_cons, in_first, in_rest, in_flat_map, in_map, in_with_lines_new, report_has, report_has_item}
 
-both : (x y : Bool) → (x && y) ≡ true → (x ≡ true) × (y ≡ true)
+pub both : (x y : Bool) → (x && y) ≡ true → (x ≡ true) × (y ≡ true)
 both true true h = (refl, refl)
 both true false h = absurd (cc)
 both false y h = absurd (cc)
 
-none_of : (opens : List (ℕ × Cause)) → is_empty opens ≡ true → opens ≡ []
+pub none_of : (opens : List (ℕ × Cause)) → is_empty opens ≡ true → opens ≡ []
 none_of [] h = refl
 none_of (o ∷ os) h = absurd (cc)
 
+-- a value stands with some key
+with_key : {K X : Type 0} (pairs : List (K × X)) (value : X) → Contains (values_of pairs) value → (key : K) × Contains pairs (key, value)
+with_key [] value h = absurd (in_none value h)
+with_key {X = X} (pair ∷ pairs) value h = elim (in_cons pair.1 (values_of pairs) value h) [
+  | inl same ↦ (pair.0, subst (λ (v : X). Contains (pair ∷ pairs) (pair.0, v)) same (in_first pair pairs))
+  | inr rest ↦ let found = with_key pairs value rest in (found.0, in_rest pair pairs (found.0, value) found.1)
+]
+
 -- works that are closed leave none open
-none_open : {A : Type 0} (works : List (Work A)) → are_closed works ≡ true → NoneIsOpen works
+pub none_open : {A : Type 0} (works : List (Work A)) → are_closed works ≡ true → NoneIsOpen works
 none_open [] h work k = absurd (in_none work k)
 none_open (first ∷ works) h work k = let b = both (is_empty first.opens) (are_closed works) h in
     elim (in_cons first works work k) [
@@ -68,36 +85,101 @@ report_has_open text works work site w o =
     (Contains-append_right (map (item_line_of text) work.items) (map (λ o. open_line_of o.0 o.1) work.opens) (open_line_of site.0 site.1)
     (in_map (λ (o : ℕ × Cause). open_line_of o.0 o.1) work.opens site o))))
 
+-- what the laws of a finished book tell: its units' last works are listed, and are those over its table's states
+abbrev pub AreListed : {A : Type 0} → BookState A → Type 0
+AreListed {A = A} b = (unit : WorkUnit) (d : Done A) → IsUnit b unit → done_at b.done unit ≡ Some d → Contains (live_works b) d.work
+
+abbrev pub AreWorked : {A : Type 0} → Analysis A → BookState A → Type 0
+AreWorked {A = A} m b = (unit : WorkUnit) (at : A) (exit : Option A) → IsUnitOver m (table_of b.nodes) unit at exit
+    → IsUnit b unit × (d : Done A) × (done_at b.done unit ≡ Some d) × (d.work ≡ m.work unit at exit)
+
 -- a finished book without opens covers every run, and each open of a book breaks a limit
 abbrev pub ClosedCovers : {S A : Type 0} → Machine S → Analysis A → List Event → Type 0
 ClosedCovers machine m journal = IsLegalJournal m journal → IsFinished (replay m journal) → NoneIsOpen (last_works m journal)
     → AreCovering machine (last_works m journal)
 
 abbrev pub OpensBreak : {A : Type 0} → Analysis A → List Event → Type 0
-OpensBreak m journal = (work : Work _) (pc : ℕ) (cause : Cause) → IsLegalJournal m journal → Contains (last_works m journal) work
+OpensBreak m journal = (work : Work _) (pc : ℕ) (cause : Cause) → Contains (last_works m journal) work
     → Contains work.opens (pc, cause) → IsBroken m (replay m journal).nodes pc cause
+
+-- works without opens that cover every run
+abbrev Covers : {S A : Type 0} → Machine S → (ℕ → List ℕ → List ℕ) → List (Work A) → Type 0
+Covers machine text works = are_closed works ≡ true → AreCovering machine works → CoversEveryRun machine text (report_of text true works)
+
+works_cover : {S A : Type 0} (machine : Machine S) (text : ℕ → List ℕ → List ℕ) (works : List (Work A)) → Covers machine text works
+works_cover machine text works closed covering = record {
+  says = says_head text true works closed;
+  shows = λ n item met. let found = covering.shows n item met in record {
+    item = found.2.0;
+    has = found.2.2;
+    line = report_has_item text works found.0 found.2.0 found.1 found.2.1;
+  };
+  stays = covering.stays;
+}
+
+pub all_closed : {A : Type 0} (works : List (Work A)) → NoneIsOpen works → are_closed works ≡ true
+all_closed [] none = refl
+all_closed (work ∷ works) none =
+    let first : is_empty work.opens ≡ true = ap is_empty (none work (in_first work works)) in
+    ap (λ b. b && are_closed works) first ∙ all_closed works (λ other there. none other (in_rest work works other there))
+
+-- the report of a closed book says CLOSED, covers every run, and shows its table
+pub closed_covers : {S A : Type 0} (machine : Machine S) (text : ℕ → List ℕ → List ℕ) (works : List (WorkUnit × Work A)) → NoneIsOpen (values_of works)
+    → AreCovering machine (values_of works) → CoversEveryRun machine text (closed_report text works)
+closed_covers machine text works none covering = works_cover machine text (values_of works) (all_closed (values_of works) none) covering
+
+-- the works of a closed book leave none open
+book_none : {A : Type 0} (m : Analysis A) (nodes : List (Node × A)) (works : List (WorkUnit × Work A)) → IsClosedBook m nodes works
+    → NoneIsOpen (values_of works)
+book_none m nodes works closed work h =
+    let (unit, there) = with_key works work h in
+    let is = closed.units (unit, work) there in
+    ap (λ (w : Work _). w.opens) is.is_work ∙ closed.closed.no_open unit is.at is.exit is.is_unit
+
+-- they show what their table's works show
+book_covering : {S A : Type 0} (machine : Machine S) (m : Analysis A) (covers : Cover S A) (nodes : List (Node × A)) (works : List (WorkUnit × Work A))
+    → IsClosedBook m nodes works → CoversRuns machine m covers (table_in nodes) → AreCovering machine (values_of works)
+book_covering machine m covers nodes works closed runs = record {
+  shows = λ n item met. let shown = runs.shows n item met in (
+    m.work shown.unit shown.at shown.exit,
+    Contains-values_of works shown.unit _ (closed.each shown.unit shown.at shown.exit shown.is_unit),
+    shown.shows,
+  );
+  stays = runs.stays;
+}
+
+pub book_covers : {S A : Type 0} (machine : Machine S) (text : ℕ → List ℕ → List ℕ) (m : Analysis A) (covers : Cover S A) (nodes : List (Node × A))
+    (works : List (WorkUnit × Work A)) → IsClosedBook m nodes works → CoversRuns machine m covers (table_in nodes)
+    → CoversEveryRun machine text (closed_report text works)
+book_covers machine text m covers nodes works closed runs =
+    closed_covers machine text works (book_none m nodes works closed) (book_covering machine m covers nodes works closed runs)
+
+pub closed_shows : {A : Type 0} (text : ℕ → List ℕ → List ℕ) (m : Analysis A) (nodes : List (Node × A)) (works : List (WorkUnit × Work A))
+    → IsClosedBook m nodes works → ShowsTable text m (table_in nodes) (closed_report text works)
+closed_shows text m nodes works closed unit at exit item over h =
+    report_has_item text (values_of works) (m.work unit at exit) item
+    (Contains-values_of works unit (m.work unit at exit) (closed.each unit at exit over)) h
+
+-- the report of a finished book shows its table
+pub book_shows : {A : Type 0} (text : ℕ → List ℕ → List ℕ) (m : Analysis A) (journal : List Event) → AreListed (replay m journal)
+    → AreWorked m (replay m journal) → ShowsTable text m (table_of (replay m journal).nodes) (report_of_journal text m journal)
+book_shows text m journal listed worked unit at exit item over h =
+    let (is_unit, done, found, is_work) = worked unit at exit over in
+    report_has_item text (last_works m journal) (m.work unit at exit) item
+    (subst (Contains (last_works m journal)) is_work (listed unit done is_unit found)) h
 
 pub covers_every : {S A : Type 0} (machine : Machine S) (text : ℕ → List ℕ → List ℕ) (m : Analysis A) (journal : List Event) → ClosedCovers machine m journal
     → IsLegalJournal m journal → IsFinished (replay m journal) → are_closed (last_works m journal) ≡ true → CoversEveryRun machine text (report_of_journal text m journal)
 covers_every machine text m journal cover legal finished closed =
-    let covering = cover legal finished (none_open (last_works m journal) closed) in
-    record {
-      says = says_head text true (last_works m journal) closed;
-      shows = λ n item met. let found = covering.shows n item met in record {
-        item = found.2.0;
-        has = found.2.2;
-        line = report_has_item text (last_works m journal) found.0 found.2.0 found.1 found.2.1;
-      };
-      stays = covering.stays;
-    }
+    works_cover machine text (last_works m journal) closed (cover legal finished (none_open (last_works m journal) closed))
 
-pub open_sites : {A : Type 0} (text : ℕ → List ℕ → List ℕ) (m : Analysis A) (journal : List Event) → OpensBreak m journal → IsLegalJournal m journal
+pub open_sites : {A : Type 0} (text : ℕ → List ℕ → List ℕ) (m : Analysis A) (journal : List Event) → OpensBreak m journal
     → are_closed (last_works m journal) ≡ false → ShowsOpenSites m journal (report_of_journal text m journal)
-open_sites text m journal breaks legal left = record {
+open_sites text m journal breaks left = record {
   says = says_head text false (last_works m journal) left;
   some = some_open (last_works m journal) left;
   each = λ work pc cause is_work is_open. record {
     line = report_has_open text (last_works m journal) work (pc, cause) is_work is_open;
-    site = breaks work pc cause legal is_work is_open;
+    site = breaks work pc cause is_work is_open;
   };
 }

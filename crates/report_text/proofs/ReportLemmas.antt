@@ -1,5 +1,5 @@
 -- Sets of lines, put together piece by piece.
-use Rattle.std.proofs.Common.{◌≡◌, ◌++◌, ℕ, List, [], ◌∷◌, Vec, Global, refl, ap, sym, ◌∙◌, Bool, true, false, cond}
+use Rattle.std.proofs.Common.{◌≡◌, ◌++◌, ◌+◌, ◌<◌, ℕ, suc, List, [], ◌∷◌, Vec, Global, refl, ap, sym, ◌∙◌, Bool, true, false, cond, add-one, drop, drop-cons, get_or, length}
 use Rattle.std.specs.Prelude.{map, filter, ◌&&◌, if◌then◌else◌, Option}
 use Rattle.std.specs.List.{flat_map}
 use Rattle.std.specs.Ordering.{nat_cmp, match_ordering}
@@ -57,3 +57,7 @@ closed_more false work left old new all e h = ap (λ b. b && are_closed left) e 
 pub deepest_more : {A : Type 0} (live : Bool) (work : Work A) (left : List (Work A)) (old new all : Option Deepest) → new ≡ deepest_of old (if live then work.items else []) → deepest_of old (flat_map (λ w. w.items) (if live then work ∷ left else left)) ≡ all → deepest_of new (flat_map (λ w. w.items) left) ≡ all
 deepest_more true work left old new all e h = ap (λ l. deepest_of l (flat_map (λ w. w.items) left)) e ∙ sym (deepest_of-append work.items (flat_map (λ w. w.items) left) old) ∙ h
 deepest_more false work left old new all e h = ap (λ l. deepest_of l (flat_map (λ w. w.items) left)) e ∙ h
+
+-- what is left begins with the item at the index
+pub first_left : {X : Type 0} (i : ℕ) (items : List X) (item : X) → i < length items → item ≡ get_or items i item → drop i items ≡ item ∷ drop (i + 1) items
+first_left i items item h e = rw add-one (drop-cons items i item h ∙ ap (λ x. x ∷ drop (suc i) items) (sym e))

@@ -1,3 +1,4 @@
 pub mod Deepest
 pub mod Promise
 pub mod Report
+pub mod Stacks

@@ -1,13 +1,17 @@
 -- What a report says of every run of the chip.
-use Rattle.std.specs.Prelude.{◌≡◌, ℕ, List, ◌++◌, Contains, codes}
+use Rattle.std.specs.Prelude.{◌≡◌, ℕ, Option, List, ◌++◌, Contains, codes}
+use Rattle.call_context.specs.declared.node.Node.{Node}
+use Rattle.call_context.specs.declared.node.Unit.{Unit as WorkUnit}
+use Rattle.call_context.specs.declared.shown.Item.{Item}
 use Rattle.call_context.specs.declared.shown.Cause.{Cause}
 use Rattle.chip_numbers.specs.Single.{Single}
 use Rattle.chip_law.specs.Analysis.{Analysis}
 use Rattle.chip_law.specs.declared.chip.Work.{Work}
-use Rattle.chip_law.specs.Line.{open_line_of}
+use Rattle.chip_law.specs.Line.{item_line_of, open_line_of}
 use Rattle.chip_law.specs.Machine.{Machine}
 use Rattle.chip_law.specs.Runs.{Meets, GoesWild}
 use Rattle.chip_law.specs.Shown.{HasLine, IsShownIn}
+use Rattle.chip_law.specs.Table.{IsUnitOver}
 use Rattle.closing_law.specs.Covered.{IsBroken}
 use Rattle.round_core.specs.Machine.{replay}
 use Rattle.round_core.specs.declared.event.Event.{Event}
@@ -24,8 +28,8 @@ pub record CoversEveryRun {S : Type 0} (machine : Machine S) (text_of : ℕ → 
   pub shows : (n : ℕ) (item : Single) → Meets machine n item → IsShownIn text_of report item
   pub stays : (n : ℕ) → GoesWild machine n → ⊥
 
--- The report has the line of an open site, which is the address of a location of the book, and the limit that its cause
--- names is broken there.
+-- The report has the line of an open site, which is the address of a location of the book, and by the location's state the
+-- limit that its cause names is broken there.
 pub record IsOpenSite {A : Type 0} (analysis : Analysis A) (journal : List Event) (report : List ℕ) (pc : ℕ) (cause : Cause) : Type 0 where
   pub line : HasLine report (open_line_of pc cause)
   pub site : IsBroken analysis (replay analysis journal).nodes pc cause
@@ -36,3 +40,9 @@ pub record ShowsOpenSites {A : Type 0} (analysis : Analysis A) (journal : List E
   pub some : (work : Work A) × (site : ℕ × Cause) × Contains (last_works analysis journal) work × Contains work.opens site
   pub each : (work : Work A) (pc : ℕ) (cause : Cause) → Contains (last_works analysis journal) work
       → Contains work.opens (pc, cause) → IsOpenSite analysis journal report pc cause
+
+-- The report has the line of each item of each work over a table's states.
+abbrev pub ShowsTable : {A : Type 0} → (text_of : ℕ → List ℕ → List ℕ) → Analysis A → (Node → Option A) → (report : List ℕ) → Type 0
+ShowsTable {A = A} text_of analysis table report = (unit : WorkUnit) (at : A) (exit : Option A) (item : Item)
+    → IsUnitOver analysis table unit at exit → Contains (analysis.work unit at exit).items item
+    → HasLine report (item_line_of text_of item)

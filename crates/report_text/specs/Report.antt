@@ -1,13 +1,16 @@
 -- The report of an analysis, made from the works of its units.
 use Rattle.std.specs.Prelude.{ℕ, ◌&&◌, ◌||◌, if◌then◌else◌, Bool, true, false, Option, None, List, [], ◌∷◌, ◌++◌, map, count_by, codes, nat_eq, ◌≡◌, ◌↔◌, IsTrue}
 use Rattle.std.specs.List.{flat_map, starts_with, ends_with}
+use Rattle.std.specs.Map.{values_of}
 use Rattle.std.specs.Fmt.{decimal}
 use Rattle.std.specs.Ordering.{nat_cmp}
 use Rattle.std.specs.Cmp.Lexicographic.{slice_cmp}
 use Rattle.std.specs.BTreeSet.{insert_key}
 use Rattle.std.specs.declared.alloc.Global.{Global}
 use Rattle.std.specs.declared.vec.Vec.{Vec}
+use Rattle.call_context.specs.declared.node.Unit.{Unit as WorkUnit}
 use Rattle.call_context.specs.declared.shown.Cause.{Cause}
+use Rattle.call_context.specs.declared.shown.Item.{Item}
 use Rattle.chip_law.specs.Analysis.{Analysis}
 use Rattle.chip_law.specs.declared.chip.Work.{Work}
 use Rattle.chip_law.specs.Line.{item_line_of, open_line_of}
@@ -29,6 +32,10 @@ with_lines set (line ∷ lines) = with_lines (insert_key (slice_cmp nat_cmp) set
 -- the lines of a work's items and opens, where instructions have these texts
 abbrev pub lines_of : {A : Type 0} → (ℕ → List ℕ → List ℕ) → Work A → List (List ℕ)
 lines_of text work = map (item_line_of text) work.items ++ map (λ o. open_line_of o.0 o.1) work.opens
+
+-- what works show
+abbrev pub items_of : {A : Type 0} → List (Work A) → List Item
+items_of works = flat_map (λ work. work.items) works
 
 abbrev pub is_empty : List (ℕ × Cause) → Bool
 is_empty [] = true
@@ -58,7 +65,7 @@ report_text closed lines deepest = head_line closed ++ flat_map (λ line. line +
 -- the report of works, which is closed where the book that has them is finished and none leaves a site open
 abbrev pub report_of : {A : Type 0} → (ℕ → List ℕ → List ℕ) → Bool → List (Work A) → List ℕ
 report_of text finished works = report_text (finished && are_closed works) (with_lines [] (flat_map (lines_of text) works))
-    (deepest_of None (flat_map (λ work. work.items) works))
+    (deepest_of None (items_of works))
 
 -- the report of a book, and whether it says that it is closed
 pub record IsReportOf {A : Type 0} (text : ℕ → List ℕ → List ℕ) (b : BookState A) (report : List ℕ) (closed : Bool) : Type 0 where
@@ -78,3 +85,7 @@ report_of_journal text analysis journal = report_of text true (last_works analys
 -- the text is the report of a book
 abbrev pub IsReport : {A : Type 0} → (ℕ → List ℕ → List ℕ) → BookState A → List ℕ → Type 0
 IsReport text b report = (closed : Bool) × IsReportOf text b report closed
+
+-- the report of a closed book, whose works leave no site open
+abbrev pub closed_report : {A : Type 0} → (ℕ → List ℕ → List ℕ) → List (WorkUnit × Work A) → List ℕ
+closed_report text works = report_of text true (values_of works)

@@ -1,12 +1,15 @@
 //! Printing a report.
 
-ghost use Rattle.std.specs.Prelude.{◌≡◌, OnOk, IfErr, List, ℕ};
-ghost use Rattle.report_text.specs.Report.{IsReport};
+ghost use Rattle.std.specs.Prelude.{◌≡◌, OnOk, OnErr, IfErr, List, ℕ};
+ghost use Rattle.closing_law.specs.ClosedBook.{table_in};
+ghost use Rattle.report_text.specs.Promise.{CoversEveryRun, ShowsTable};
+ghost use Rattle.report_text.specs.Report.{IsReport, closed_report};
 ghost use Rattle.round_core.specs.Machine.{replay};
 ghost use Rattle.vsa_io.specs.Stream.{AppendsPrefix, HasRisen, appended};
 
-use crate::report::report_of;
-use chip_law::ChipText;
+use crate::report::{closed_report_of, report_of};
+use chip_law::{ChipText, LawfulChip};
+use closing_law::ClosedBook;
 use no_memory::Memory;
 use round_core::Book;
 use std::alloc::Global;
@@ -31,6 +34,20 @@ impl From<Memory> for PrintError {
     }
 }
 
+/// Writes a text, of which a prefix stands where the sink fails.
+fn put_text<K: Sink>(sink: &mut K, text: &[u8]) -> Result<(), PrintError>
+    ensures printed { OnOk result (K.held sink.new ≡ appended (K.held sink.old) text.now) }
+    ensures quiet { OnOk result (K.faults sink.new ≡ K.faults sink.old) }
+    ensures write { IfErr result (λ error. error ≡ PrintError.Write) }
+    ensures prefix { OnErr result (AppendsPrefix (K.held sink.old) text.now (K.held sink.new)) }
+    ensures cause { OnErr result (HasRisen (K.faults sink.old) (K.faults sink.new)) }
+{
+    match write_all(sink, text) {
+        Ok(()) => Ok(()),
+        Err(_) => Err(PrintError::Write),
+    }
+}
+
 /// Writes the report of a book.
 pub fn print_book<C: ChipText, K: Sink>(
     alloc: Global,
@@ -47,8 +64,28 @@ pub fn print_book<C: ChipText, K: Sink>(
     ensures unwritten { IfErr result (λ error. error ≡ PrintError.Memory → K.held sink.new ≡ K.held sink.old) }
 {
     let report = report_of(alloc, chip, book)?;
-    match write_all(sink, report.text.as_slice()) {
-        Ok(()) => Ok(()),
-        Err(_) => Err(PrintError::Write),
-    }
+    put_text(sink, report.text.as_slice())
+}
+
+/// Writes the report of a closed book. It says CLOSED, covers every run of the chip, and shows the book's table.
+pub fn print_closed<C: ChipText + LawfulChip, K: Sink>(
+    alloc: Global,
+    chip: &C,
+    book: &ClosedBook<C>,
+    sink: &mut K,
+) -> Result<(), PrintError>
+    ensures printed { OnOk result (K.held sink.new
+        ≡ appended (K.held sink.old) (closed_report (C.text_of chip.now) book.now.works)) }
+    ensures covers { CoversEveryRun (C.machine book.now.base) (C.text_of chip.now)
+        (closed_report (C.text_of chip.now) book.now.works) }
+    ensures shows { ShowsTable (C.text_of chip.now) (C.analysis book.now.base) (table_in book.now.nodes)
+        (closed_report (C.text_of chip.now) book.now.works) }
+    ensures quiet { OnOk result (K.faults sink.new ≡ K.faults sink.old) }
+    ensures prefix { IfErr result (λ error. error ≡ PrintError.Write
+        → AppendsPrefix (K.held sink.old) (closed_report (C.text_of chip.now) book.now.works) (K.held sink.new)) }
+    ensures cause { IfErr result (λ error. error ≡ PrintError.Write → HasRisen (K.faults sink.old) (K.faults sink.new)) }
+    ensures unwritten { IfErr result (λ error. error ≡ PrintError.Memory → K.held sink.new ≡ K.held sink.old) }
+{
+    let report = closed_report_of(alloc, chip, book)?;
+    put_text(sink, report.as_slice())
 }

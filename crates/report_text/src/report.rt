@@ -1,19 +1,23 @@
 //! The report of a book.
 
 ghost use Rattle.std.specs.Prelude.{◌≡◌, ◌++◌, ◌∷◌, ◌&&◌, if◌then◌else◌, true, [], None, map, count_by, IfOk, OnOk};
+ghost use Rattle.closing_law.specs.ClosedBook.{table_in};
+ghost use Rattle.report_text.specs.Promise.{CoversEveryRun, ShowsTable};
 ghost use Rattle.round_core.specs.Kept.{live_works};
 ghost use Rattle.round_core.specs.Machine.{replay};
 ghost use Rattle.report_text.specs.Deepest.{deepest_of as the_deepest_of, deepest_text};
-ghost use Rattle.report_text.specs.Report.{with_lines, lines_of, is_empty, are_closed, is_whole_stack as tells_whole_stack, report_text, bytes_of, summary_of, IsReportOf};
+ghost use Rattle.report_text.specs.Report.{with_lines, lines_of, is_empty, are_closed, is_whole_stack as tells_whole_stack, report_text, bytes_of, closed_report, summary_of, IsReportOf};
 ghost use Rattle.std.specs.BTreeSet.{insert_key};
 ghost use Rattle.std.specs.Cmp.Lexicographic.{slice_cmp};
 ghost use Rattle.std.specs.List.{flat_map};
+ghost use Rattle.std.specs.Map.{values_of};
 ghost use Rattle.std.specs.Ordering.{nat_cmp};
 ghost use Rattle.chip_law.specs.Line.{item_line_of, open_line_of};
 
 use crate::deepest::{Deepest, deepest_of};
-use call_context::{Cause, Item};
-use chip_law::{ChipText, Work, item_line, open_line};
+use call_context::{Cause, Item, Unit};
+use chip_law::{ChipText, LawfulChip, Work, item_line, open_line};
+use closing_law::ClosedBook;
 use hex_digits::{hex_byte, hex_word};
 use no_memory::Memory;
 use round_core::Book;
@@ -119,6 +123,27 @@ fn tell_all<C: ChipText>(alloc: Global, chip: &C, book: &Book<C>) -> Result<Told
     Ok(told)
 }
 
+/// What is told of works, each of which is the last one of a unit.
+fn tell_each<C: ChipText>(
+    alloc: Global,
+    chip: &C,
+    works: &[(Unit, Work<C::Abs>)],
+) -> Result<Told, Memory>
+    ensures lines { IfOk result (λ told. bytes_of told.lines.keys ≡ with_lines [] (flat_map (lines_of (C.text_of chip.now)) (values_of works.now))) }
+    ensures closed { IfOk result (λ told. told.is_closed ≡ are_closed (values_of works.now)) }
+    ensures deepest { IfOk result (λ told. told.deepest ≡ the_deepest_of None (flat_map (λ work. work.items) (values_of works.now))) }
+{
+    let mut told = Told {
+        lines: BTreeSet::new(alloc),
+        is_closed: true,
+        deepest: None,
+    };
+    for (_, work) in works {
+        tell(alloc, chip, work, true, &mut told)?;
+    }
+    Ok(told)
+}
+
 /// The number of lines that tell a whole set of stack pointers.
 fn count_whole(lines: &BTreeSet<Vec<u8>>) -> u64
     ensures { result ≡ count_by tells_whole_stack (bytes_of lines.now.keys) }
@@ -197,4 +222,34 @@ pub fn report_of<C: ChipText>(alloc: Global, chip: &C, book: &Book<C>) -> Result
         text,
         is_closed: told.is_closed,
     })
+}
+
+/// The report of a closed book says CLOSED, covers every run of the chip, and shows the book's table.
+fn closed_report_covers<C: ChipText + LawfulChip>(chip: &C, book: &ClosedBook<C>)
+    ensures covers { CoversEveryRun (C.machine book.now.base) (C.text_of chip.now)
+        (closed_report (C.text_of chip.now) book.now.works) }
+    ensures shows { ShowsTable (C.text_of chip.now) (C.analysis book.now.base)
+        (table_in book.now.nodes)
+        (closed_report (C.text_of chip.now) book.now.works) }
+{
+    book.covers_runs();
+}
+
+/// The report of a closed book. It says CLOSED, covers every run of the chip, and shows the book's table.
+pub fn closed_report_of<C: ChipText + LawfulChip>(
+    alloc: Global,
+    chip: &C,
+    book: &ClosedBook<C>,
+) -> Result<Vec<u8>, Memory>
+    ensures report { IfOk result (λ text. text.items
+        ≡ closed_report (C.text_of chip.now) book.now.works) }
+    ensures covers { CoversEveryRun (C.machine book.now.base) (C.text_of chip.now)
+        (closed_report (C.text_of chip.now) book.now.works) }
+    ensures shows { ShowsTable (C.text_of chip.now) (C.analysis book.now.base)
+        (table_in book.now.nodes)
+        (closed_report (C.text_of chip.now) book.now.works) }
+{
+    closed_report_covers(chip, book);
+    let told = tell_each(alloc, chip, book.works())?;
+    Ok(text_of(alloc, &told)?)
 }

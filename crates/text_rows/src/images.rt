@@ -7,8 +7,15 @@ use std::alloc::Global;
 use std::test::Fail;
 
 const MSP430: Rules = Rules::Msp430 {
+    mirror: None,
     lo: 0x0200,
     hi: 0x09FF,
+};
+
+const MIRRORED: Rules = Rules::Msp430 {
+    mirror: Some((0x0200, 0x09FF)),
+    lo: 0x1100,
+    hi: 0x38FF,
 };
 
 /// What a reader answers of a text in one piece.
@@ -129,6 +136,30 @@ fn rows(rt: HostRuntime) -> Result<(), Fail> {
         assert_eq!(rt; one, answer, "{text:?}");
         let many = by_bytes(rt.alloc(), text.as_bytes(), MSP430).err();
         assert_eq!(rt; many, answer, "{text:?} byte by byte");
+    }
+    Ok(())
+}
+
+#[test]
+fn mirror(rt: HostRuntime) -> Result<(), Fail> {
+    let misplaced = bad(1, HexFault::Misplaced);
+    for (row, answer) in [
+        (":0101FF0000FF", misplaced),
+        (":0102000000FD", misplaced),
+        (":0109FF0000F7", misplaced),
+        (":0209FF000000F6", misplaced),
+        (":010A000000F5", None),
+        (":0110FF0000F0", None),
+        (":0111000000EE", misplaced),
+        (":0138FF0000C8", misplaced),
+        (":0139000000C6", None),
+    ] {
+        let text = format!(in rt.alloc(); "{row}\n:02FFFE0000F011\n:00000001FF\n")?;
+        assert!(rt; text.len() <= MOST_BYTES);
+        let one = in_one(rt.alloc(), text.as_bytes(), MIRRORED).err();
+        assert_eq!(rt; one, answer, "{row}");
+        let many = by_bytes(rt.alloc(), text.as_bytes(), MIRRORED).err();
+        assert_eq!(rt; many, answer, "{row} byte by byte");
     }
     Ok(())
 }

@@ -1,15 +1,11 @@
-use Rattle.std.proofs.Common.{◌≡◌, [], ◌∷◌, ◌&&◌, ◌+◌, ◌<◌, suc, None, ℕ, List, drop, length, sym, ◌∙◌, ap, subst, add-one, drop-cons, get_or}
+use Rattle.std.proofs.Common.{◌≡◌, [], ◌&&◌, ◌+◌, None, drop, sym, ◌∙◌, ap, subst}
 use Rattle.std.specs.List.{flat_map}
 use Rattle.round_core.specs.Kept.{is_live, live_works}
 use Rattle.round_core.specs.Machine.{replay}
 use Rattle.report_text.specs.Deepest.{deepest_of}
 use Rattle.report_text.specs.Report.{bytes_of, with_lines, lines_of, are_closed}
-use Rattle.report_text.proofs.ReportLemmas.{passing, passing-cons, lines_more, closed_more, deepest_more}
+use Rattle.report_text.proofs.ReportLemmas.{first_left, passing, passing-cons, lines_more, closed_more, deepest_more}
 use Rattle.report_text.proofs.report.tell_all.Goals as goal
-
--- what is left begins with the item at the index
-first_left : {X : Type 0} (i : ℕ) (items : List X) (item : X) → i < length items → item ≡ get_or items i item → drop i items ≡ item ∷ drop (i + 1) items
-first_left i items item h e = rw add-one (drop-cons items i item h ∙ ap (λ x. x ∷ drop (suc i) items) (sym e))
 
 pub loop-unit-preserved : goal.loop-unit-preserved
 loop-unit-preserved g c =
