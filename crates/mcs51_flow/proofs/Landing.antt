@@ -49,7 +49,7 @@ use Rattle.mcs51_flow.specs.Going.{all_arrivals, arrivals_by, going_back, going_
 use Rattle.mcs51_flow.specs.Labels.{calls_by, effect_on_calls}
 use Rattle.mcs51_flow.specs.Machine.{mcs51_machine}
 use Rattle.mcs51_flow.proofs.Arriving.{all_followed, way_arrives}
-use Rattle.unit_ways.proofs.Members.{from_map, in_cons, in_first, in_flat_map, in_map, in_none, in_rest}
+use Rattle.unit_ways.specs.Members.{from_map, in_cons, in_first, in_flat_map, in_map, in_none, in_rest}
 use Rattle.mcs51_flow.proofs.Premises.{Laws}
 use Rattle.mcs51_flow.proofs.Returning.{is_return, return_leaves, return_way}
 

@@ -47,7 +47,7 @@ use Rattle.mcs51_flow.proofs.Arriving.{arrivals_formed, followed_all}
 use Rattle.mcs51_flow.proofs.CallStrings.{sites_by}
 use Rattle.mcs51_flow.proofs.Landing.{AtLocation, entry_lands, run_lands}
 use Rattle.mcs51_flow.proofs.MarksLemmas.{stops_below}
-use Rattle.unit_ways.proofs.Members.{from_map, in_cons, in_first, in_none}
+use Rattle.unit_ways.specs.Members.{from_map, in_cons, in_first, in_none}
 use Rattle.mcs51_flow.proofs.Premises.{Laws}
 use Rattle.mcs51_flow.proofs.Returning.{is_return}
 use Rattle.mcs51_flow.proofs.Stepping.{Comes, comes, framed_by, instr_found, open_breaks, told}
@@ -237,7 +237,7 @@ posts_formed laws setting so (Back (Exit pc frame) other) a exit to state formed
 
 opens_break : Laws → (setting : Setting) → IsSetting setting → (unit : WorkUnit) (a : Known) (exit : Option Known) (at : ℕ) (cause : Cause)
     → AreFormed (mcs51_analysis setting) unit a exit → Contains (work_of setting unit a exit).opens (at, cause)
-    → (pc_of (location_of unit) ≡ at) × BreaksLimit setting at cause
+    → (pc_of (location_of unit) ≡ at) × BreaksLimit setting (location_of unit) a cause
 unfolding mcs51_analysis
 opens_break laws setting so (One (At pc calls frame)) a None at cause formed h = open_breaks laws setting so.program pc calls frame a (at, cause) h
 opens_break laws setting so (One (At pc calls frame)) a (Some exit) at cause formed h = absurd formed

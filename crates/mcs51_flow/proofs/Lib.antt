@@ -7,4 +7,6 @@ pub mod Made
 pub mod MarksLemmas
 pub mod Premises
 pub mod Returning
+pub mod StackLemmas
 pub mod Stepping
+pub mod Texts

@@ -6,7 +6,7 @@ use Rattle.mcs51_decode.specs.declared.instr.Instr.{Instr}
 use Rattle.mcs51_decode.specs.declared.instr.Instr.TheVariants as instr
 use Rattle.mcs51_decode.specs.declared.refusal.NoInstr.{NoInstr}
 use Rattle.mcs51_decode.specs.Decoding.{decoded}
-use Rattle.mcs51_state.specs.Premises.{AreMarks}
+use Rattle.value_set.specs.Laws.{AreMarks}
 use Rattle.mcs51_flow.specs.Marks.{mark, constant_of, marks_with, marks_in, marks_found, marks_from, marks_of, stops}
 
 -- the first address's marks, and then the others'
@@ -25,22 +25,22 @@ marks_from-next image first end h =
 
 -- marks are bytes
 
-none_marks : AreMarks []
+none_marks : AreMarks 256 []
 none_marks = All-nil (λ n. n < 256)
 
-mark_below : (n : ℕ) → AreMarks (mark n)
-mark_below n = cond_both (nat_lt n 256) (n ∷ []) [] AreMarks
+mark_below : (n : ℕ) → AreMarks 256 (mark n)
+mark_below n = cond_both (nat_lt n 256) (n ∷ []) [] (AreMarks 256)
     (λ e. All-cons (λ k. k < 256) n [] (ltb-true n 256 e) none_marks)
     (λ e. none_marks)
 
-both_below : (xs ys : List ℕ) → AreMarks xs → AreMarks ys → AreMarks (xs ++ ys)
+both_below : (xs ys : List ℕ) → AreMarks 256 xs → AreMarks 256 ys → AreMarks 256 (xs ++ ys)
 both_below xs ys f g = All-append (λ n. n < 256) xs ys f g
 
-with_below : (constant : Option ℕ) → AreMarks (marks_with constant)
+with_below : (constant : Option ℕ) → AreMarks 256 (marks_with constant)
 with_below None = none_marks
 with_below (Some n) = both_below (mark n) (mark (n + 1)) (mark_below n) (mark_below (n + 1))
 
-instr_below : (instr_so : Instr) → AreMarks (marks_in instr_so)
+instr_below : (instr_so : Instr) → AreMarks 256 (marks_in instr_so)
 instr_below instr.Nop = none_marks
 instr_below (instr.AbsoluteJump one) = none_marks
 instr_below (instr.LongJump one) = none_marks
@@ -78,20 +78,20 @@ instr_below (instr.Pop one) = none_marks
 instr_below (instr.Exchange one) = none_marks
 instr_below (instr.ExchangeDigit one) = none_marks
 
-found_below : (found : Result (Instr × ℕ) NoInstr) → AreMarks (marks_found found)
+found_below : (found : Result (Instr × ℕ) NoInstr) → AreMarks 256 (marks_found found)
 found_below (Err refusal) = none_marks
 found_below (Ok found) = instr_below found.0
 
-from_below : (image : List (Option ℕ)) (count first : ℕ) → AreMarks (marks_from image first count)
-from_below image zero first = subst AreMarks (sym (marks_from-none image first)) none_marks
-from_below image (suc count) first = subst AreMarks (sym (marks_from-first image first count))
+from_below : (image : List (Option ℕ)) (count first : ℕ) → AreMarks 256 (marks_from image first count)
+from_below image zero first = subst (AreMarks 256) (sym (marks_from-none image first)) none_marks
+from_below image (suc count) first = subst (AreMarks 256) (sym (marks_from-first image first count))
     (both_below (marks_found (decoded image first)) (marks_from image (first + 1) count) (found_below (decoded image first)) (from_below image count (first + 1)))
 
-pub marks_below : (image : List (Option ℕ)) → AreMarks (marks_of image)
+pub marks_below : (image : List (Option ℕ)) → AreMarks 256 (marks_of image)
 marks_below image =
     let behind = marks_from image 0 65536 in
     All-cons (λ n. n < 256) 0 (1 ∷ behind) (omega arith) (All-cons (λ n. n < 256) 1 behind (omega arith) (from_below image 65536 0))
 
-pub stops_below : (coarse : Bool) (image : List (Option ℕ)) → AreMarks (stops coarse image)
+pub stops_below : (coarse : Bool) (image : List (Option ℕ)) → AreMarks 256 (stops coarse image)
 stops_below true image = none_marks
 stops_below false image = marks_below image

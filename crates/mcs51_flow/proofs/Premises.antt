@@ -26,7 +26,7 @@ use Rattle.mcs51_chip.specs.Step.{called, effect_of, going_to, returned, step_of
 use Rattle.mcs51_state.specs.Forms.{IsFrame, IsKnown}
 use Rattle.mcs51_state.specs.Holding.{CameAt, Covers, GoesOn, HoldsOf, HoldsOfParts, StandsIn}
 use Rattle.mcs51_state.specs.Known.{Known, first_known, is_interrupt, known_joined, known_widened, known_within, top_known}
-use Rattle.mcs51_state.specs.Premises.{AreMarks}
+use Rattle.value_set.specs.Laws.{AreMarks}
 use Rattle.mcs51_state.specs.Under.{IsUnder}
 use Rattle.mcs51_operands.specs.Showing.{AreShown}
 use Rattle.mcs51_entry.specs.declared.coming.Coming.{Coming}
@@ -57,13 +57,13 @@ pub record States : Type 0 where
   pub along : (a b c : Known) → known_within a b ≡ true → known_within b c ≡ true → known_within a c ≡ true
   pub join_held : (framed : Bool) (a b : Known) → IsKnown framed a → IsKnown framed b → known_within a (known_joined a b) ≡ true
   pub join_new : (framed : Bool) (a b : Known) → IsKnown framed a → IsKnown framed b → known_within b (known_joined a b) ≡ true
-  pub widen_held : (framed : Bool) (marks : List ℕ) → AreMarks marks → (a b : Known) → IsKnown framed a → IsKnown framed b → known_within a (known_widened marks a b) ≡ true
-  pub widen_new : (framed : Bool) (marks : List ℕ) → AreMarks marks → (a b : Known) → IsKnown framed a → IsKnown framed b → known_within b (known_widened marks a b) ≡ true
+  pub widen_held : (framed : Bool) (marks : List ℕ) → AreMarks 256 marks → (a b : Known) → IsKnown framed a → IsKnown framed b → known_within a (known_widened marks a b) ≡ true
+  pub widen_new : (framed : Bool) (marks : List ℕ) → AreMarks 256 marks → (a b : Known) → IsKnown framed a → IsKnown framed b → known_within b (known_widened marks a b) ≡ true
   pub greatest : (framed : Bool) (a : Known) → IsKnown framed a → known_within a (top_known framed) ≡ true
   pub first_form : (framed : Bool) → IsKnown framed first_known
   pub top_form : (framed : Bool) → IsKnown framed (top_known framed)
   pub join_form : (framed : Bool) (a b : Known) → IsKnown framed a → IsKnown framed b → IsKnown framed (known_joined a b)
-  pub widen_form : (framed : Bool) (marks : List ℕ) → AreMarks marks → (a b : Known) → IsKnown framed a → IsKnown framed b → IsKnown framed (known_widened marks a b)
+  pub widen_form : (framed : Bool) (marks : List ℕ) → AreMarks 256 marks → (a b : Known) → IsKnown framed a → IsKnown framed b → IsKnown framed (known_widened marks a b)
   pub parts : (a b : Known) (s : ChipState) (first : Option ChipState) → known_within a b ≡ true → HoldsOfParts a s first → HoldsOfParts b s first
   pub more : (node : Node) (a b : Known) (s : ChipState) (first : Option ChipState) → known_within a b ≡ true → Covers node a s first → Covers node b s first
   pub reset : (s : ChipState) → IsReset s → Covers (At 0 [] Base) first_known s None

@@ -14,7 +14,7 @@ use Rattle.mcs51_state.specs.Holding.{GoesOn, HoldsOf, StandsIn}
 use Rattle.mcs51_state.specs.Known.{Known, is_interrupt}
 use Rattle.mcs51_state.specs.Under.{IsUnder}
 use Rattle.mcs51_control.specs.Returning.{goes_back, interrupt_returned, return_targets}
-use Rattle.mcs51_formats.specs.Doing.{LandsSo}
+use Rattle.mcs51_operands.specs.Doing.{LandsSo}
 use Rattle.mcs51_running.specs.declared.ran.Way.{Way}
 use Rattle.mcs51_running.specs.declared.ran.Way.TheVariants.{Lands}
 use Rattle.mcs51_running.specs.Doing.{IsWaySo, RunsSo}

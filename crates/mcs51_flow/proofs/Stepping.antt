@@ -3,6 +3,7 @@ use Rattle.std.proofs.Common.{◌≡◌, ℕ, Bool, Option, None, Some, Result, 
 use Rattle.std.proofs.lemmas.Bool.{cond_both}
 use Rattle.call_context.specs.declared.node.Frame.{Frame}
 use Rattle.call_context.specs.declared.node.Frame.TheVariants.{Base, Irq}
+use Rattle.call_context.specs.declared.node.Node.TheVariants.{At}
 use Rattle.call_context.specs.declared.shown.Cause.{Cause}
 use Rattle.call_context.specs.declared.shown.Cause.TheVariants.{Fetch}
 use Rattle.chip_numbers.specs.Single.Single.{Instr as RanOne}
@@ -31,14 +32,14 @@ use Rattle.mcs51_running.specs.declared.ran.Way.TheVariants.{Lands, Goes}
 use Rattle.mcs51_running.specs.Doing.{RunsSo}
 use Rattle.mcs51_running.specs.Running.{ran_of}
 use Rattle.mcs51_flow.specs.declared.setting.Setting.{Setting}
-use Rattle.mcs51_flow.specs.Chip.{BreaksLimit, followed_work, work_at}
+use Rattle.mcs51_flow.specs.Chip.{BreaksLimit, LeadsTo, followed_work, work_at}
 use Rattle.unit_ways.specs.Ways.{Going}
 use Rattle.mcs51_flow.specs.Going.{going_back, going_on, leaves_frame, opens_by}
 use Rattle.mcs51_flow.specs.Labels.{calls_by, effect_on_calls}
 use Rattle.mcs51_flow.specs.Machine.{leaving_of}
 use Rattle.mcs51_flow.specs.Standing.{fetched, found_by}
 use Rattle.mcs51_flow.proofs.InstrForms.{standing_is_instr}
-use Rattle.unit_ways.proofs.Members.{in_cons, in_first, in_none}
+use Rattle.unit_ways.specs.Members.{in_cons, in_first, in_none}
 use Rattle.mcs51_flow.proofs.Premises.{Laws}
 
 -- WHAT STANDS AT AN ADDRESS
@@ -142,21 +143,26 @@ told setting calls frame a s first refusal (refused other found is) =
 -- OPENS BREAK THEIR LIMITS
 
 -- an open is at an address, and breaks its limit there
-abbrev Breaking : Setting → ℕ → ℕ × Cause → Type 0
-Breaking setting pc open_so = (pc ≡ open_so.0) × BreaksLimit setting open_so.0 open_so.1
+abbrev Breaking : Setting → ℕ → List ℕ → Frame → Known → ℕ × Cause → Type 0
+Breaking setting pc calls frame a open_so = (pc ≡ open_so.0) × BreaksLimit setting (At pc calls frame) a open_so.1
 
-only_open : (setting : Setting) (pc : ℕ) (why : Cause) (open_so : ℕ × Cause) → BreaksLimit setting pc why → Contains {X = ℕ × Cause} ((pc, why) ∷ []) open_so → Breaking setting pc open_so
-only_open setting pc why open_so breaks h = elim (in_cons (pc, why) [] open_so h) [
-  | inl same ↦ subst (Breaking setting pc) same (refl, breaks)
+only_open : (setting : Setting) (pc : ℕ) (calls : List ℕ) (frame : Frame) (a : Known) (why : Cause) (open_so : ℕ × Cause)
+    → BreaksLimit setting (At pc calls frame) a why
+    → Contains {X = ℕ × Cause} ((pc, why) ∷ []) open_so → Breaking setting pc calls frame a open_so
+only_open setting pc calls frame a why open_so breaks h = elim (in_cons (pc, why) [] open_so h) [
+  | inl same ↦ subst (Breaking setting pc calls frame a) same (refl, breaks)
   | inr none ↦ absurd (in_none open_so none)
 ]
 
-targets_open : Laws → (setting : Setting) (pc : ℕ) (open_so : ℕ × Cause) (instr_so : Instr) (len : ℕ) → Stands setting.image pc instr_so len → (way : Way Known)
-    → Contains (opens_by setting.limits.targets pc way) open_so → Breaking setting pc open_so
-targets_open laws setting pc open_so instr_so len standing (Lands targets b) h =
-    let (is, many) = laws.ways.many setting.limits.targets pc targets open_so h in
-    subst (Breaking setting pc) (sym is) (refl, (instr_so, len, standing, many))
-targets_open laws setting pc open_so instr_so len standing (Goes target on jumped) h = absurd (in_none open_so h)
+targets_open : Laws → (setting : Setting) (pc : ℕ) (calls : List ℕ) (frame : Frame) (a : Known) (open_so : ℕ × Cause) (instr_so : Instr) (len : ℕ)
+    → Stands setting.image pc instr_so len
+    → (way : Way Known) → (ran_of setting.image (is_interrupt frame) pc a instr_so).way ≡ way
+    → Contains (opens_by setting.limits.targets pc way) open_so → Breaking setting pc calls frame a open_so
+targets_open laws setting pc calls frame a open_so instr_so len standing (Lands targets b) is h =
+    let (same, many) = laws.ways.many setting.limits.targets pc targets open_so h in
+    let leads : LeadsTo (ran_of setting.image (is_interrupt frame) pc a instr_so).way targets = subst (λ way. LeadsTo way targets) (sym is) refl in
+    subst (Breaking setting pc calls frame a) (sym same) (refl, (record { instr = instr_so; len = len; standing = standing; next = leads; many = many }))
+targets_open laws setting pc calls frame a open_so instr_so len standing (Goes target on jumped) is h = absurd (in_none open_so h)
 
 -- a return that leaves its frame leaves nothing open
 none_back : (pc : ℕ) (frame : Frame) (way : Way Known) (open_so : ℕ × Cause) → Contains (going_back pc frame way).opens open_so → ⊥
@@ -164,27 +170,28 @@ none_back pc frame (Lands targets b) open_so h = in_none open_so h
 none_back pc frame (Goes target on jumped) open_so h = in_none open_so h
 
 followed_open : Laws → (setting : Setting) (pc : ℕ) (calls : List ℕ) (frame : Frame) (a : Known) (open_so : ℕ × Cause) (instr_so : Instr) (len : ℕ) → Stands setting.image pc instr_so len
-    → Contains (followed_work setting pc calls frame a instr_so).opens open_so → Breaking setting pc open_so
+    → Contains (followed_work setting pc calls frame a instr_so).opens open_so → Breaking setting pc calls frame a open_so
 followed_open laws setting pc calls frame a open_so instr_so len standing h =
     let way = (ran_of setting.image (is_interrupt frame) pc a instr_so).way in
     let calls_at = calls_by setting.limits.calls (effect_on_calls instr_so) setting.image pc calls in
     cond_both (leaves_frame frame a instr_so) (going_back pc frame way) (going_on setting.limits.targets calls_at pc (following pc instr_so) frame way)
-    (λ (going : Going Known). Contains going.opens open_so → Breaking setting pc open_so)
+    (λ (going : Going Known). Contains going.opens open_so → Breaking setting pc calls frame a open_so)
     (λ _ none. absurd (none_back pc frame way open_so none))
-    (λ _ there. targets_open laws setting pc open_so instr_so len standing way there) h
+    (λ _ there. targets_open laws setting pc calls frame a open_so instr_so len standing way refl there) h
 
 fetched_open : Laws → (setting : Setting) → IsProgram setting.image → (pc : ℕ) (calls : List ℕ) (frame : Frame) (a : Known) (open_so : ℕ × Cause) (found : Option Instr)
-    → Fetching setting.image pc found → Contains (work_at setting pc calls frame a found).opens open_so → Breaking setting pc open_so
+    → Fetching setting.image pc found → Contains (work_at setting pc calls frame a found).opens open_so → Breaking setting pc calls frame a open_so
 fetched_open laws setting program pc calls frame a open_so found (stands instr_so len is e) h =
     followed_open laws setting pc calls frame a open_so instr_so len
     (subst (Decodes setting.image pc) is (laws.decoding.answer setting.image pc program.size program.bytes))
     (subst (λ r. Contains (work_at setting pc calls frame a r).opens open_so) e h)
 fetched_open laws setting program pc calls frame a open_so found (none_stands refusal is e) h =
-    let none : BreaksLimit setting pc Fetch = λ instr_so len standing. absurd
+    let none : BreaksLimit setting (At pc calls frame) a Fetch = λ instr_so len standing. absurd
     (let both = laws.decoding.one setting.image pc (Ok (instr_so, len)) program.size program.bytes standing ∙ is in cc) in
-    only_open setting pc Fetch open_so none (subst (λ r. Contains (work_at setting pc calls frame a r).opens open_so) e h)
+    only_open setting pc calls frame a Fetch open_so none (subst (λ r. Contains (work_at setting pc calls frame a r).opens open_so) e h)
 
 pub open_breaks : Laws → (setting : Setting) → IsProgram setting.image → (pc : ℕ) (calls : List ℕ) (frame : Frame) (a : Known) (open_so : ℕ × Cause)
-    → Contains (work_at setting pc calls frame a (fetched setting.image pc)).opens open_so → (pc ≡ open_so.0) × BreaksLimit setting open_so.0 open_so.1
+    → Contains (work_at setting pc calls frame a (fetched setting.image pc)).opens open_so
+    → (pc ≡ open_so.0) × BreaksLimit setting (At pc calls frame) a open_so.1
 open_breaks laws setting program pc calls frame a open_so h =
     fetched_open laws setting program pc calls frame a open_so (fetched setting.image pc) (fetching_at setting.image pc) h

@@ -19,6 +19,7 @@ use Rattle.image.specs.Kept.{IsReadUnder}
 use Rattle.image.specs.declared.rule_set.Rules.TheVariants.{Mcs51}
 use Rattle.value_set.specs.Joining.{is_in}
 use Rattle.value_set.specs.Summing.{count_of}
+use Rattle.value_set.specs.declared.form.Form.{Form}
 use Rattle.mcs51_decode.specs.declared.instr.Instr.{Instr}
 use Rattle.mcs51_decode.specs.Encoding.{bytes_of}
 use Rattle.mcs51_decode.specs.Standing.{Stands}
@@ -31,6 +32,7 @@ use Rattle.mcs51_entry.specs.Coming.{comings_of, frame_of_coming}
 use Rattle.mcs51_entry.specs.Entering.{entered_known, entry_accesses, entry_edge}
 use Rattle.mcs51_resume.specs.Resume.{resumed_known}
 use Rattle.mcs51_running.specs.declared.ran.Way.{Way}
+use Rattle.mcs51_running.specs.declared.ran.Way.TheVariants.{Lands, Goes}
 use Rattle.mcs51_running.specs.Running.{Ran, ran_of}
 use Rattle.mcs51_flow.specs.declared.setting.Setting.{Setting}
 use Rattle.unit_ways.specs.Ways.{Going, wait_at}
@@ -136,13 +138,26 @@ pub record IsSetting (setting : Setting) : Type 0 where
 
 -- LIMITS
 
--- The limit that the cause of an open names is broken at an address: no instruction stands there; or one does, and the set of
--- its targets has more than are followed. A program can't be written.
-abbrev pub BreaksLimit : Setting → ℕ → Cause → Type 0
-BreaksLimit setting pc Fetch = (instr : Instr) (len : ℕ) → Stands setting.image pc instr len → ⊥
-BreaksLimit setting pc (Targets values) =
-    (instr : Instr) × (len : ℕ) × Stands setting.image pc instr len × (setting.limits.targets < count_of 65536 values)
-BreaksLimit setting pc (Store values) = ⊥
+-- the set is where a way leads that isn't a jump with two ways
+abbrev pub LeadsTo : Way Known → Form → Type 0
+LeadsTo (Lands targets a) values = targets ≡ values
+LeadsTo (Goes target on jumped) values = ⊥
+
+-- the instruction that stands at an address has these next addresses, by what is known there, and more than are followed
+pub record HasManyTargets (setting : Setting) (pc : ℕ) (frame : Frame) (a : Known) (values : Form) : Type 0 where
+  pub instr : Instr
+  pub len : ℕ
+  pub standing : Stands setting.image pc instr len
+  pub next : LeadsTo (ran_of setting.image (is_interrupt frame) pc a instr).way values
+  pub many : setting.limits.targets < count_of 65536 values
+
+-- The limit that the cause of an open names is broken at a location, by what is known there: no instruction stands there; or
+-- the set is that of the instruction's next addresses, and has more than are followed. A program can't be written.
+abbrev pub BreaksLimit : Setting → Node → Known → Cause → Type 0
+BreaksLimit setting (At pc calls frame) a Fetch = (instr : Instr) (len : ℕ) → Stands setting.image pc instr len → ⊥
+BreaksLimit setting (At pc calls frame) a (Targets values) = HasManyTargets setting pc frame a values
+BreaksLimit setting (At pc calls frame) a (Store values) = ⊥
+BreaksLimit setting (Exit pc frame) a cause = ⊥
 
 -- THE ANALYSIS
 

@@ -4,3 +4,4 @@ pub mod Going
 pub mod Chip
 pub mod Machine
 pub mod Marks
+pub mod Texts

@@ -370,8 +370,8 @@ impl Chip for Mcs51Chip {
         }
     }
 
-    fn copy(&self, alloc: Global, a: &Kept) -> Result<Kept, Memory> {
-        Kept::new(alloc, a.state().copy(alloc)?)
+    fn copy(&self, _alloc: Global, a: &Kept) -> Result<Kept, Memory> {
+        a.copy()
     }
 
     fn join(&self, alloc: Global, held: &Kept, new: &Kept) -> Result<Kept, Memory> {

@@ -7,11 +7,12 @@ use mcs51_state::State;
 use no_memory::Memory;
 use std::alloc::Global;
 use std::marker::Model;
+use std::sync::Arc;
 
-/// What is known of a state, behind a pointer: posts and tables move no more than that.
+/// What is known of a state, behind a shared pointer: posts and tables move no more than that, and a copy costs a count.
 #[derive(Drop)]
 pub struct Kept {
-    state: Box<State<CellList>>,
+    state: Arc<State<CellList>>,
 }
 
 impl Model for Kept {
@@ -19,7 +20,9 @@ impl Model for Kept {
 
     ghost Value = { Known };
 
-    ghost view = { λ kept. kept.state.value };
+    ghost use Rattle.std.specs.Arc.{arc_value};
+
+    ghost view = { λ kept. arc_value kept.state };
 }
 
 impl Kept {
@@ -27,7 +30,15 @@ impl Kept {
     pub fn new(alloc: Global, state: State<CellList>) -> Result<Kept, Memory>
         ensures { IfOk result (λ kept. kept ≡ state) }
     {
-        let state = Box::new(alloc, state)?;
+        let state = Arc::new(alloc, state)?;
+        Ok(Kept { state })
+    }
+
+    /// The same, shared. It fails only where no number counts the owners.
+    pub fn copy(&self) -> Result<Kept, Memory>
+        ensures { IfOk result (λ copy. copy ≡ self.now) }
+    {
+        let state = Arc::try_clone(&self.state)?;
         Ok(Kept { state })
     }
 

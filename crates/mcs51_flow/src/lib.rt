@@ -9,6 +9,9 @@
 //! - [`LawfulChip`](chip_law::LawfulChip): the start stands for each reset state, the work of a unit for each step of the
 //!   chip from a state that its input stands for, and the states are in order. An open is left only where a stated limit
 //!   is broken.
+//! - A stack grows by bytes: no work shows a word as a stack pointer ([`stacks_grow_by_bytes`]).
+//! - [`LawfulText`](state_text::LawfulText): each state in form is read again from its text, no other text is read, and no
+//!   field is outside exactly where a state is within another.
 #![tactic(auto)]
 
 mod chip;
@@ -18,6 +21,8 @@ mod labels;
 mod laws;
 mod marks;
 mod setting;
+mod stacks;
+mod state_fields;
 mod text;
 mod ways;
 
@@ -25,4 +30,5 @@ pub use analysis_limits::Limits;
 pub use chip::Mcs51Chip;
 pub use kept::Kept;
 pub use setting::Setting;
+pub use stacks::stacks_grow_by_bytes;
 pub use text::Mcs51Text;

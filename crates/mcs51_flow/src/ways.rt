@@ -65,8 +65,8 @@ impl<'a> unit_ways::Site for Site<'a> {
         calls_by(self.limit, self.effect, self.image, self.pc, self.calls, to)
     }
 
-    fn copy(&self, alloc: Global, known: &Kept) -> Result<Kept, Memory> {
-        Kept::new(alloc, known.state().copy(alloc)?)
+    fn copy(&self, _alloc: Global, known: &Kept) -> Result<Kept, Memory> {
+        known.copy()
     }
 
     fn join(&self, alloc: Global, on: &Kept, jumped: &Kept) -> Result<Kept, Memory> {

@@ -70,7 +70,7 @@ use Rattle.msp430_flow.proofs.RegisterViews.{OperandView, TargetView, operand_vi
 use Rattle.msp430_flow.proofs.RegisterViews.OperandView.{other_operand, status_operand}
 use Rattle.msp430_flow.proofs.RegisterViews.TargetView.{other_target, status_target}
 use Rattle.msp430_flow.proofs.Premises.{Laws}
-use Rattle.unit_ways.proofs.Members.{in_none, in_cons, in_first, in_flat_map, in_map, in_rest}
+use Rattle.unit_ways.specs.Members.{in_none, in_cons, in_first, in_flat_map, in_map, in_rest}
 use Rattle.msp430_flow.proofs.Runs.{IsRun, late_form, width_of}
 use Rattle.msp430_flow.proofs.Stepping.{device_of, done_by_hit, entered_state, entry_by, items_of, state_behind}
 
@@ -83,7 +83,7 @@ pub record IsFormed (device : Device) (framed : Bool) (made_so : Worked) : Type 
 
 -- the next addresses are even words
 next_even : Laws → (ahead : ℕ) (next : Form) → ahead % 2 ≡ 0 → IsNormal 65536 next → (ahead % 2 ≡ 0 → HasRemainder 65536 2 0 next) → (to : ℕ) → Has 65536 next to → IsEvenWord to
-next_even laws ahead next even normal rest to has = (laws.sets.below to next normal has, rest even to has)
+next_even laws ahead next even normal rest to has = (laws.known.sets.below 65536 to next normal has, rest even to has)
 
 behind_even : (pc words : ℕ) → IsEvenWord pc → IsEvenWord ((pc + (2 + 2 * words)) % 65536)
 behind_even pc words h = let even = h.1 in (omega arith, omega arith)
@@ -111,10 +111,10 @@ module _ (laws : Laws) (device : Device) (framed : Bool) (a : Known) (pc : ℕ) 
       let i = instr.Double operation width origin target in
       let len = length_of i in
       subst (IsFormed device framed) (sym (same device framed a pc len operation width origin)) (record {
-        after = laws.formats.double_form device framed a pc len operation width origin target is form fits.0 fits.1;
+        after = laws.doubles.form device framed a pc len operation width origin target is form fits.0 fits.1;
         next = next_even laws ((pc + len) % 65536) (double_worked device framed a pc len operation width origin target).next (behind_even pc (length (extension_words i)) even).1
-            (laws.formats.double_next device framed a pc len operation width origin target is form fits.0 fits.1)
-            (laws.formats.double_even device framed a pc len operation width origin target is form fits.0 fits.1);
+            (laws.doubles.next device framed a pc len operation width origin target is form fits.0 fits.1)
+            (laws.doubles.even device framed a pc len operation width origin target is form fits.0 fits.1);
       })
   double_form operation width origin target fits (status_target status) = status_form operation width origin target fits.0 status
 
@@ -135,10 +135,10 @@ module _ (laws : Laws) (device : Device) (framed : Bool) (a : Known) (pc : ℕ) 
       let len = length_of i in
       let wide = width_of operation width operand fits in
       subst (IsFormed device framed) (sym (same device framed a pc len operation width)) (record {
-        after = laws.formats.single_form device framed a pc len operation width operand is form fits.0 wide;
+        after = laws.singles.form device framed a pc len operation width operand is form fits.0 wide;
         next = next_even laws ((pc + len) % 65536) (single_worked device framed a pc len operation width operand).next (behind_even pc (length (extension_words i)) even).1
-            (laws.formats.single_next device framed a pc len operation width operand is form fits.0 wide)
-            (laws.formats.single_even device framed a pc len operation width operand is form fits.0 wide);
+            (laws.singles.next device framed a pc len operation width operand is form fits.0 wide)
+            (laws.singles.even device framed a pc len operation width operand is form fits.0 wide);
       })
   single_form operation width operand fits (status_operand status) =
       subst (λ o. IsFormed device framed (single_or_status device framed a pc (length_of (instr.Single operation width o)) operation width o)) (sym status)
@@ -150,10 +150,10 @@ module _ (laws : Laws) (device : Device) (framed : Bool) (a : Known) (pc : ℕ) 
       let i = instr.Single operation width operand in
       let len = length_of i in
       record {
-        after = laws.formats.push_form device framed a pc len operation width operand is form fits.0;
+        after = laws.pushes.form device framed a pc len operation width operand is form fits.0;
         next = next_even laws ((pc + len) % 65536) (push_worked device framed a pc len operation width operand).next (behind_even pc (length (extension_words i)) even).1
-            (laws.formats.push_next device framed a pc len operation width operand is form fits.0)
-            (laws.formats.push_even device framed a pc len operation width operand is form fits.0);
+            (laws.pushes.next device framed a pc len operation width operand is form fits.0)
+            (laws.pushes.even device framed a pc len operation width operand is form fits.0);
       }
 
   return_form : IsFormed device framed (return_worked device a pc)
@@ -217,10 +217,10 @@ cut_ahead : Laws → (device : Device) (framed : Bool) (condition : Condition) (
     → known_cut condition taken a ≡ found → IsAhead device framed a.late found
 cut_ahead laws device framed condition taken a None known e = tt
 cut_ahead laws device framed condition taken a (Some b) known e =
-    (laws.branches.form device.lo device.hi framed a b condition taken known e, (laws.branches.interrupts a b condition taken e).1)
+    (laws.cuts.form device.lo device.hi framed a b condition taken known e, (laws.cuts.interrupts a b condition taken e).1)
 
 fact_form : Laws → (instr_so : Instr) (a : Known) → IsFact a.fact → IsFact (fact_of instr_so a)
-fact_form laws (instr.Double operation width origin target) a h = laws.branches.fact_form operation width origin target a h
+fact_form laws (instr.Double operation width origin target) a h = laws.facts.form operation width origin target a h
 fact_form laws (instr.Single operation width operand) a h = h
 fact_form laws (instr.Jump condition offset) a h = h
 fact_form laws instr.ReturnFromInterrupt a h = h

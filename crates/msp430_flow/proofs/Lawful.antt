@@ -48,7 +48,7 @@ use Rattle.msp430_flow.proofs.CallStrings.{sites_by}
 use Rattle.msp430_flow.proofs.Landing.{AtLocation, entry_lands, exit_known, run_lands, way_of_all, ways_formed}
 use Rattle.msp430_flow.proofs.Premises.{Laws}
 use Rattle.msp430_flow.proofs.MarksLemmas.{stops_below}
-use Rattle.unit_ways.proofs.Members.{from_map, in_cons, in_first, in_none}
+use Rattle.unit_ways.specs.Members.{from_map, in_cons, in_first, in_none}
 use Rattle.msp430_flow.proofs.Stepping.{Comes, comes, device_of, in_base, instr_found, open_breaks, told}
 use Rattle.msp430_flow.proofs.Stepping.Comes.{entered, ran, refused}
 
@@ -272,7 +272,7 @@ posts_formed laws setting so (Back (Exit pc frame) other) a exit to state formed
 
 opens_break : Laws → (setting : Setting) → IsSetting setting → (unit : WorkUnit) (a : Known) (exit : Option Known) (at : ℕ) (cause : Cause)
     → AreFormed (msp430_analysis setting) unit a exit → Contains (work_of setting unit a exit).opens (at, cause)
-    → (pc_of (location_of unit) ≡ at) × BreaksLimit setting at cause
+    → (pc_of (location_of unit) ≡ at) × BreaksLimit setting (location_of unit) a cause
 unfolding msp430_analysis
 opens_break laws setting so (One (At pc calls frame)) a None at cause formed h = open_breaks laws setting so.program pc calls frame a (at, cause) formed.0.0.1 formed.1 h
 opens_break laws setting so (One (At pc calls frame)) a (Some exit) at cause formed h = absurd formed

@@ -7,4 +7,6 @@ pub mod Premises
 pub mod RegisterViews
 pub mod Runs
 pub mod Stepping
+pub mod StackLemmas
 pub mod Stores
+pub mod Texts

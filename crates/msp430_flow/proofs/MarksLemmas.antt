@@ -8,7 +8,7 @@ use Rattle.msp430_decode.specs.declared.instr.Width.{Width}
 use Rattle.msp430_decode.specs.declared.refusal.NoInstr.{NoInstr}
 use Rattle.msp430_decode.specs.Decoding.{decoded}
 use Rattle.msp430_chip.specs.declared.device.Device.{Device}
-use Rattle.msp430_flow.specs.Marks.{mark, marks_by, constant_of, in_width, is_comparison, marks_with, marks_in, marks_found, marks_from, marks_of, stops}
+use Rattle.msp430_flow.specs.Marks.{mark, marks_by, constant_of, in_width, is_comparison, marks_with, marks_in, marks_found, marks_from, marks_of, stops, mirror_marks, range_marks}
 
 -- the first word's marks, and then the others'
 pub marks_from-first : (image : List (Option ℕ)) (first count : ℕ) → marks_from image first (suc count) ≡ marks_found (decoded image (2 * first)) ++ marks_from image (first + 1) count
@@ -62,12 +62,21 @@ from_below image zero first = subst AreMarks (sym (marks_from-none image first))
 from_below image (suc count) first = subst AreMarks (sym (marks_from-first image first count))
     (both_below (marks_found (decoded image (2 * first))) (marks_from image (first + 1) count) (found_below (decoded image (2 * first))) (from_below image count (first + 1)))
 
+range_below : (lo hi : ℕ) → AreMarks (range_marks lo hi)
+range_below lo hi = both_below (mark lo) (mark (hi + 1)) (mark_below lo) (mark_below (hi + 1))
+
+mirror_below : (mirror : Option (ℕ × ℕ)) → AreMarks (mirror_marks mirror)
+mirror_below None = none_marks
+mirror_below (Some (first, last)) = range_below first last
+
 pub marks_below : (device : Device) → AreMarks (marks_of device)
 marks_below device =
     let image = marks_from device.image 0 32768 in
-    let ends = mark device.lo ++ mark (device.hi + 1) ++ image in
-    let ram = both_below (mark device.lo) (mark (device.hi + 1)) (mark_below device.lo) (mark_below (device.hi + 1)) in
-    let behind : AreMarks ends = both_below (mark device.lo ++ mark (device.hi + 1)) image ram (from_below device.image 32768 0) in
+    let ram = range_marks device.lo device.hi in
+    let mirror = mirror_marks device.mirror in
+    let ends = ram ++ mirror ++ image in
+    let both = both_below ram mirror (range_below device.lo device.hi) (mirror_below device.mirror) in
+    let behind : AreMarks ends = both_below (ram ++ mirror) image both (from_below device.image 32768 0) in
     All-cons (λ n. n < 65536) 0 (1 ∷ ends) (omega arith) (All-cons (λ n. n < 65536) 1 ends (omega arith) behind)
 
 pub stops_below : (coarse : Bool) (device : Device) → AreMarks (stops coarse device)

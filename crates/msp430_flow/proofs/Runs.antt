@@ -48,7 +48,7 @@ use Rattle.msp430_flow.proofs.RegisterViews.{OperandView, TargetView, operand_vi
 use Rattle.msp430_flow.proofs.RegisterViews.OperandView.{other_operand, status_operand}
 use Rattle.msp430_flow.proofs.RegisterViews.TargetView.{other_target, status_target}
 use Rattle.msp430_flow.proofs.Premises.{Laws}
-use Rattle.unit_ways.proofs.Members.{in_none}
+use Rattle.unit_ways.specs.Members.{in_none}
 
 -- one of some ways goes to an address, and the registers and RAM stand under what is known there
 abbrev pub HasWay : Device → Option ChipState → List (Way Known) → (to : ℕ) → (registers ram : List ℕ) → Type 0
@@ -129,15 +129,15 @@ double_comes : Laws → (device : Device) (framed : Bool) (a : Known) (s : ChipS
 double_comes laws device framed a s first operation width origin target outcome under fits leaves may =
     let len = length_of (instr.Double operation width origin target) in
     let pc = register_of s 0 in
-    let left_so = laws.formats.double_left device framed a s first len operation width origin target outcome under fits.0 fits.1 leaves may in
+    let left_so = laws.doubles.left device framed a s first len operation width origin target outcome under fits.0 fits.1 leaves may in
     record {
       left = may.left;
-      accesses = double_accesses pc operation width (origin_of s may.counted origin) (place_of s len may.counted width origin target);
+      accesses = double_accesses device pc operation width (origin_of s may.counted origin) (place_of s len may.counted width origin target);
       outcome_is = may.outcome_is;
       left_so = left_so;
-      fact = laws.branches.fact device (double_worked device framed a pc len operation width origin target).after s first len operation width origin target outcome under.holds.state may left_so.parts;
-      shown = laws.formats.double_shown device framed a s first len operation width origin target outcome under fits.0 fits.1 may;
-      hit = λ at hits. laws.formats.double_hit device framed a s first len operation width origin target outcome at under fits.0 fits.1 may hits;
+      fact = laws.facts.holds device (double_worked device framed a pc len operation width origin target).after s first len operation width origin target outcome under.holds.state may left_so.parts;
+      shown = laws.doubles.shown device framed a s first len operation width origin target outcome under fits.0 fits.1 may;
+      hit = λ at hits. laws.doubles.hit device framed a s first len operation width origin target outcome at under fits.0 fits.1 may hits;
     }
 
 -- SR as the destination
@@ -153,10 +153,10 @@ status_comes laws device framed a s first operation width origin outcome under f
     let left_so = laws.statuses.left device framed a s first len operation width origin outcome under fits may in
     record {
       left = may.left;
-      accesses = double_accesses pc operation width (origin_of s may.counted origin) (place_of s len may.counted width origin target);
+      accesses = double_accesses device pc operation width (origin_of s may.counted origin) (place_of s len may.counted width origin target);
       outcome_is = may.outcome_is;
       left_so = left_so;
-      fact = laws.branches.fact device (status_worked device framed a pc len operation width origin).after s first len operation width origin target outcome under.holds.state may left_so.parts;
+      fact = laws.facts.holds device (status_worked device framed a pc len operation width origin).after s first len operation width origin target outcome under.holds.state may left_so.parts;
       shown = laws.statuses.shown device framed a s first len operation width origin outcome under fits may;
       hit = λ at hits. let none = laws.statuses.hit device s len operation width origin outcome may in absurd (cc);
     }
@@ -210,15 +210,15 @@ single_comes : Laws → (device : Device) (framed : Bool) (a : Known) (s : ChipS
 single_comes laws device framed a s first operation width operand outcome under fits leaves may =
     let len = length_of (instr.Single operation width operand) in
     let place = origin_of s (behind s len) operand in
-    let left_so = laws.formats.single_left device framed a s first len operation width operand outcome under fits.0 leaves (width_of operation width operand fits) may in
+    let left_so = laws.singles.left device framed a s first len operation width operand outcome under fits.0 leaves (width_of operation width operand fits) may in
     record {
       left = may.left;
-      accesses = access_to (register_of s 0) false width place ++ access_to (register_of s 0) true width place;
+      accesses = access_to device (register_of s 0) false width place ++ access_to device (register_of s 0) true width place;
       outcome_is = may.outcome_is;
       left_so = left_so;
       fact = left_so.parts.fact;
-      shown = laws.formats.single_shown device framed a s first len operation width operand under fits.0;
-      hit = λ at hits. laws.formats.single_hit device framed a s first len operation width operand outcome at under fits.0 may hits;
+      shown = laws.singles.shown device framed a s first len operation width operand under fits.0;
+      hit = λ at hits. laws.singles.hit device framed a s first len operation width operand outcome at under fits.0 may hits;
     }
 
 push_comes : Laws → (device : Device) (framed : Bool) (a : Known) (s : ChipState) (first : Option ChipState) (operation : SingleOperation) (width : Width) (operand : Source) (outcome : Outcome ChipState)
@@ -227,16 +227,16 @@ push_comes : Laws → (device : Device) (framed : Bool) (a : Known) (s : ChipSta
     → ComesTo device s first (instr.Single operation width operand) (push_worked device framed a (register_of s 0) (length_of (instr.Single operation width operand)) operation width operand) Word outcome
 push_comes laws device framed a s first operation width operand outcome under fits may =
     let len = length_of (instr.Single operation width operand) in
-    let left_so = laws.formats.push_left device framed a s first len operation width operand outcome under fits.0 may in
+    let left_so = laws.pushes.left device framed a s first len operation width operand outcome under fits.0 may in
     record {
       left = may.left;
-      accesses = access_to (register_of s 0) false width (pushed_place s len may.option operand)
-          ++ access_to (register_of s 0) true Word (InMemory (lowered (slice_index (behind_source s (behind s len) width operand) 1)));
+      accesses = access_to device (register_of s 0) false width (pushed_place s len may.option operand)
+          ++ access_to device (register_of s 0) true Word (InMemory (lowered (slice_index (behind_source s (behind s len) width operand) 1)));
       outcome_is = may.outcome_is;
       left_so = left_so;
       fact = left_so.parts.fact;
-      shown = laws.formats.push_shown device framed a s first len operation width operand outcome under fits.0 may;
-      hit = λ at hits. laws.formats.push_hit device framed a s first len operation width operand outcome at under fits.0 may hits;
+      shown = laws.pushes.shown device framed a s first len operation width operand outcome under fits.0 may;
+      hit = λ at hits. laws.pushes.hit device framed a s first len operation width operand outcome at under fits.0 may hits;
     }
 
 -- SR as the operand
@@ -252,7 +252,7 @@ single_status_comes laws device framed a s first operation width outcome under f
     let left_so = laws.single_statuses.left device framed a s first len operation width outcome under (width_of operation width operand fits) may in
     record {
       left = may.left;
-      accesses = access_to (register_of s 0) false width place ++ access_to (register_of s 0) true width place;
+      accesses = access_to device (register_of s 0) false width place ++ access_to device (register_of s 0) true width place;
       outcome_is = may.outcome_is;
       left_so = left_so;
       fact = left_so.parts.fact;
@@ -373,7 +373,7 @@ module _ (laws : Laws) (device : Device) (framed : Bool) (first : Option ChipSta
 
   cut_known : (condition : Condition) (taken : Bool) (a : Known) (found : Option Known) → IsKnown device.lo device.hi framed a → known_cut condition taken a ≡ found → AreKnown found
   cut_known condition taken a None f e = tt
-  cut_known condition taken a (Some b) f e = laws.branches.form device.lo device.hi framed a b condition taken f e
+  cut_known condition taken a (Some b) f e = laws.cuts.form device.lo device.hi framed a b condition taken f e
 
   -- the way that a jump takes
   way_of_jump : (pc offset : ℕ) (condition : Condition) (taken : Bool) (a b : Known) → IsKnown device.lo device.hi framed a → known_cut condition taken a ≡ Some b → HoldsOfParts device b first registers ram
@@ -381,11 +381,11 @@ module _ (laws : Laws) (device : Device) (framed : Bool) (first : Option ChipSta
   way_of_jump pc offset condition true a b f e h =
       let on = known_cut condition false a in
       subst (λ found. HasWay device first (ways_of known_joined ((pc + 2) % 65536) (target_of pc offset) on found) (target_of pc offset) registers ram) (sym e)
-      (way_jumped ((pc + 2) % 65536) (target_of pc offset) on b (cut_known condition false a on f refl) (laws.branches.form device.lo device.hi framed a b condition true f e) h)
+      (way_jumped ((pc + 2) % 65536) (target_of pc offset) on b (cut_known condition false a on f refl) (laws.cuts.form device.lo device.hi framed a b condition true f e) h)
   way_of_jump pc offset condition false a b f e h =
       let jumped = known_cut condition true a in
       subst (λ found. HasWay device first (ways_of known_joined ((pc + 2) % 65536) (target_of pc offset) found jumped) ((pc + 2) % 65536) registers ram) (sym e)
-      (way_on ((pc + 2) % 65536) (target_of pc offset) b jumped (laws.branches.form device.lo device.hi framed a b condition false f e) (cut_known condition true a jumped f refl) h)
+      (way_on ((pc + 2) % 65536) (target_of pc offset) b jumped (laws.cuts.form device.lo device.hi framed a b condition false f e) (cut_known condition true a jumped f refl) h)
 
 pub late_form : (lo hi : ℕ) (framed : Bool) (late : Tri) (fact : Option FlagFact) (b : Known) → IsFact fact → IsKnown lo hi framed b → IsKnown lo hi framed (followed late fact b)
 late_form lo hi framed late fact b told form = record {
@@ -413,9 +413,9 @@ jump_run laws device framed a s first condition offset outcome under is =
     let registers = slice_set s.registers 0 next in
     let ahead = followed (gie_of a) a.fact a in
     let form = late_form device.lo device.hi framed (gie_of a) a.fact a under.form.fact under.form in
-    let (b, cut_so, parts) = laws.branches.parts device device.lo device.hi framed ahead first s.registers s.ram condition form
+    let (b, cut_so, parts) = laws.cuts.parts device device.lo device.hi framed ahead first s.registers s.ram condition form
     (parts_followed device (gie_of a) a.fact a first s.registers s.ram under.holds.parts under.holds.parts.fact) in
-    let fact : IsFact b.fact = (laws.branches.form device.lo device.hi framed ahead b condition taken form cut_so).fact in
+    let fact : IsFact b.fact = (laws.cuts.form device.lo device.hi framed ahead b condition taken form cut_so).fact in
     let long : 0 < length s.registers = omega (arith, under.holds.state.registers) in
     let way = way_of_jump laws device framed first registers s.ram pc offset condition taken ahead b form cut_so (jumped_parts device b s first next fact parts) in
     record {
@@ -438,7 +438,7 @@ return_run laws device framed a s first outcome under may =
     let made_so = return_worked device a (register_of s 0) in
     let comes : ComesTo device s first instr.ReturnFromInterrupt made_so Word outcome = record {
       left = left;
-      accesses = return_accesses s;
+      accesses = return_accesses device s;
       outcome_is = laws.returns.done device s outcome may;
       left_so = left_so;
       fact = left_so.parts.fact;

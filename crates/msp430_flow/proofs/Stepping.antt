@@ -5,6 +5,7 @@ use Rattle.std.proofs.lemmas.Bool.{cond_both, cond-true}
 use Rattle.std.proofs.lemmas.List.Elements.{Contains-append_cases, Contains-append_left, Contains-append_right}
 use Rattle.call_context.specs.declared.node.Frame.{Frame}
 use Rattle.call_context.specs.declared.node.Frame.TheVariants.{Base, Irq}
+use Rattle.call_context.specs.declared.node.Node.TheVariants.{At}
 use Rattle.call_context.specs.declared.shown.Cause.{Cause}
 use Rattle.call_context.specs.declared.shown.Cause.TheVariants.{Fetch, Store}
 use Rattle.chip_numbers.specs.Single.{Single}
@@ -26,7 +27,7 @@ use Rattle.msp430_chip.specs.declared.state.Wild.TheVariants as wild_cause
 use Rattle.msp430_decode.specs.declared.instr.Width.{Width}
 use Rattle.msp430_decode.specs.declared.instr.Width.TheVariants.{Word}
 use Rattle.msp430_chip.specs.Interrupts.{entered as chip_entered, entry, first_hit}
-use Rattle.msp430_chip.specs.Memory.{program_hit, with_stored}
+use Rattle.msp430_chip.specs.Memory.{program_hit, with_stored, HasRam}
 use Rattle.msp430_state.specs.Forms.{IsKnown}
 use Rattle.msp430_chip.specs.Leading.{MayLead, MayRun}
 use Rattle.msp430_chip.specs.Leading.MayLead.{Enters, Runs, NoneStands}
@@ -46,7 +47,7 @@ use Rattle.msp430_flow.specs.Machine.{leaving_of}
 use Rattle.unit_ways.specs.Ways.{Going, target_opens}
 use Rattle.msp430_flow.specs.Running.{leaves_frame, may_hit, stored_width, worked}
 use Rattle.msp430_flow.proofs.Premises.{Decoding, Laws}
-use Rattle.unit_ways.proofs.Members.{from_flat_map, in_cons, in_first, in_flat_map, in_none}
+use Rattle.unit_ways.specs.Members.{from_flat_map, in_cons, in_first, in_flat_map, in_none}
 use Rattle.msp430_flow.proofs.Runs.{IsRun, instr_run}
 use Rattle.msp430_flow.proofs.Stores.{hit_told, may_hit_can}
 
@@ -94,15 +95,15 @@ instr_found laws device program pc instr_so found even = instr_of laws device pr
 
 -- PROGRAMS
 
+pub has_ram : (device : Device) → IsProgram device → HasRam device
+has_ram device program = record { low = program.ram.0; high = program.ram.1; some = program.ram.3; top = program.top; mirror = program.ram.4 }
+
 pub device_of : (device : Device) → IsProgram device → IsDevice device
 device_of device program = record {
   size = program.read.size;
   bytes = program.read.bytes;
   apart = program.read.suits.ram;
-  low = program.ram.0;
-  high = program.ram.1;
-  some = program.ram.3;
-  top = program.top;
+  ram = has_ram device program;
 }
 
 pub in_base : (device : Device) (frame : Frame) (s : ChipState) (first : Option ChipState) → StandsIn frame first → is_interrupt frame ≡ false → first ≡ None
@@ -220,12 +221,12 @@ pushed_in setting pc calls frame a (Some instr_so) open_so coming_so listed ther
     Contains-append_left (pushes ++ going) (store_opens device pc (stored_width instr_so) made_so.store) open_so
     (Contains-append_left pushes going open_so (in_flat_map (push_opens device pc) (comings_of device a) coming_so open_so listed there))
 
-push_in : (device : Device) (pc at : ℕ) (coming_so : Coming) → IsHit device Word (Some (counter_slot coming_so.sp)) at ⊎ IsHit device Word (Some (status_slot coming_so.sp)) at
+push_in : (device : Device) (pc at : ℕ) (coming_so : Coming) → IsHit device Word (Some (counter_slot device coming_so.sp)) at ⊎ IsHit device Word (Some (status_slot device coming_so.sp)) at
     → (set : Form) × Contains (push_opens device pc coming_so) (pc, Store set)
-push_in device pc at coming_so (inl counter) = let set = counter_slot coming_so.sp in
-    (set, Contains-append_left (store_open device pc Word set) (store_open device pc Word (status_slot coming_so.sp)) (pc, Store set) (open_in device pc Word set at counter))
-push_in device pc at coming_so (inr status) = let set = status_slot coming_so.sp in
-    (set, Contains-append_right (store_open device pc Word (counter_slot coming_so.sp)) (store_open device pc Word set) (pc, Store set) (open_in device pc Word set at status))
+push_in device pc at coming_so (inl counter) = let set = counter_slot device coming_so.sp in
+    (set, Contains-append_left (store_open device pc Word set) (store_open device pc Word (status_slot device coming_so.sp)) (pc, Store set) (open_in device pc Word set at counter))
+push_in device pc at coming_so (inr status) = let set = status_slot device coming_so.sp in
+    (set, Contains-append_right (store_open device pc Word (counter_slot device coming_so.sp)) (store_open device pc Word set) (pc, Store set) (open_in device pc Word set at status))
 
 -- an entry that leaves the model does so by a store
 entry_hit : (device : Device) (s : ChipState) (vector bits : ℕ) (wild : WildCause) (hit : Option ℕ)
@@ -266,59 +267,76 @@ stands_by : Decoding → (device : Device) → IsProgram device → (pc len : �
 stands_by laws device program pc len instr_so is = subst (Decodes device.image pc) is (laws.answer device.image pc program.read.size program.read.bytes)
 
 -- an open is at an address, and breaks its limit there
-abbrev Breaking : Setting → ℕ → ℕ × Cause → Type 0
-Breaking setting pc open_so = (pc ≡ open_so.0) × BreaksLimit setting open_so.0 open_so.1
+abbrev Breaking : Setting → ℕ → List ℕ → Frame → Known → ℕ × Cause → Type 0
+Breaking setting pc calls frame a open_so = (pc ≡ open_so.0) × BreaksLimit setting (At pc calls frame) a open_so.1
 
-only_open : (setting : Setting) (pc : ℕ) (why : Cause) (open_so : ℕ × Cause) → BreaksLimit setting pc why → Contains {X = ℕ × Cause} ((pc, why) ∷ []) open_so → Breaking setting pc open_so
-only_open setting pc why open_so breaks h = elim (in_cons (pc, why) [] open_so h) [
-  | inl same ↦ subst (Breaking setting pc) same (refl, breaks)
+only_open : (setting : Setting) (pc : ℕ) (calls : List ℕ) (frame : Frame) (a : Known) (why : Cause) (open_so : ℕ × Cause)
+    → BreaksLimit setting (At pc calls frame) a why
+    → Contains {X = ℕ × Cause} ((pc, why) ∷ []) open_so → Breaking setting pc calls frame a open_so
+only_open setting pc calls frame a why open_so breaks h = elim (in_cons (pc, why) [] open_so h) [
+  | inl same ↦ subst (Breaking setting pc calls frame a) same (refl, breaks)
   | inr none ↦ absurd (in_none open_so none)
 ]
 
 -- a store that is left open can hit the program
-store_breaks : (setting : Setting) (pc : ℕ) (width : Width) (set : Form) (open_so : ℕ × Cause) → (CanHit setting.device width set → BreaksLimit setting pc (Store set))
-    → (may : Bool) → may_hit setting.device width set ≡ may → Contains {X = ℕ × Cause} (cond may ((pc, Store set) ∷ []) []) open_so → Breaking setting pc open_so
-store_breaks setting pc width set open_so breaks true is h = only_open setting pc (Store set) open_so (breaks (may_hit_can setting.device width set is)) h
-store_breaks setting pc width set open_so breaks false is h = absurd (in_none open_so h)
+store_breaks : (setting : Setting) (pc : ℕ) (calls : List ℕ) (frame : Frame) (a : Known) (width : Width) (set : Form) (open_so : ℕ × Cause)
+    → (CanHit setting.device width set → BreaksLimit setting (At pc calls frame) a (Store set))
+    → (may : Bool) → may_hit setting.device width set ≡ may → Contains {X = ℕ × Cause} (cond may ((pc, Store set) ∷ []) []) open_so
+    → Breaking setting pc calls frame a open_so
+store_breaks setting pc calls frame a width set open_so breaks true is h =
+    only_open setting pc calls frame a (Store set) open_so (breaks (may_hit_can setting.device width set is)) h
+store_breaks setting pc calls frame a width set open_so breaks false is h = absurd (in_none open_so h)
 
-worked_open : (setting : Setting) (pc : ℕ) (open_so : ℕ × Cause) (instr_so : Instr) (len : ℕ) → Stands setting.device.image pc instr_so len → (store : Option Form)
-    → Contains (store_opens setting.device pc (stored_width instr_so) store) open_so → Breaking setting pc open_so
-worked_open setting pc open_so instr_so len standing None h = absurd (in_none open_so h)
-worked_open setting pc open_so instr_so len standing (Some set) h =
-    store_breaks setting pc (stored_width instr_so) set open_so (λ can. inl (record { instr = instr_so; len = len; standing = standing; can = can }))
+worked_open : (setting : Setting) (pc : ℕ) (calls : List ℕ) (frame : Frame) (a : Known) (open_so : ℕ × Cause) (instr_so : Instr) (len : ℕ)
+    → Stands setting.device.image pc instr_so len
+    → (store : Option Form) → (worked setting.device (is_interrupt frame) a pc instr_so).store ≡ store
+    → Contains (store_opens setting.device pc (stored_width instr_so) store) open_so → Breaking setting pc calls frame a open_so
+worked_open setting pc calls frame a open_so instr_so len standing None is h = absurd (in_none open_so h)
+worked_open setting pc calls frame a open_so instr_so len standing (Some set) is h =
+    store_breaks setting pc calls frame a (stored_width instr_so) set open_so
+    (λ can. inl (record { instr = instr_so; len = len; standing = standing; stores = is; can = can }))
     (may_hit setting.device (stored_width instr_so) set) refl h
 
 -- one of an entry
-push_open : Laws → (setting : Setting) (framed : Bool) (pc : ℕ) (a : Known) (open_so : ℕ × Cause) → IsKnown setting.device.lo setting.device.hi framed a
-    → Contains (flat_map (push_opens setting.device pc) (comings_of setting.device a)) open_so → Breaking setting pc open_so
-push_open laws setting framed pc a open_so form h =
+push_open : Laws → (setting : Setting) (pc : ℕ) (calls : List ℕ) (frame : Frame) (a : Known) (open_so : ℕ × Cause)
+    → IsKnown setting.device.lo setting.device.hi (is_interrupt frame) a
+    → Contains (flat_map (push_opens setting.device pc) (comings_of setting.device a)) open_so → Breaking setting pc calls frame a open_so
+push_open laws setting pc calls frame a open_so form h =
     let device = setting.device in
     let (coming_so, listed, there) = from_flat_map (push_opens device pc) (comings_of device a) open_so h in
-    let has = (laws.entries.frame device framed a coming_so form listed).1 in
-    let counter = counter_slot coming_so.sp in
-    let status = status_slot coming_so.sp in
+    let has = (laws.entries.frame device (is_interrupt frame) a coming_so form listed).1 in
+    let counter = counter_slot device coming_so.sp in
+    let status = status_slot device coming_so.sp in
+    let breaks : (set : Form) → (set ≡ counter) ⊎ (set ≡ status) → CanHit device Word set → BreaksLimit setting (At pc calls frame) a (Store set) =
+    λ set pushed can. inr (record { coming = coming_so; comes = listed; has_handler = has; pushed = pushed; can = can }) in
     elim (Contains-append_cases (store_open device pc Word counter) (store_open device pc Word status) open_so there) [
-      | inl one ↦ store_breaks setting pc Word counter open_so (λ can. inr (record { vector = coming_so.vector; has_handler = has; can = can })) (may_hit device Word counter) refl one
-      | inr other ↦ store_breaks setting pc Word status open_so (λ can. inr (record { vector = coming_so.vector; has_handler = has; can = can })) (may_hit device Word status) refl other
+      | inl one ↦ store_breaks setting pc calls frame a Word counter open_so (breaks counter (inl refl)) (may_hit device Word counter) refl one
+      | inr other ↦ store_breaks setting pc calls frame a Word status open_so (breaks status (inr refl)) (may_hit device Word status) refl other
     ]
 
-targets_open : Laws → (setting : Setting) (pc : ℕ) (open_so : ℕ × Cause) (instr_so : Instr) (len : ℕ) → Stands setting.device.image pc instr_so len → (next : Form)
-    → Contains (target_opens setting.limits.targets pc next) open_so → Breaking setting pc open_so
-targets_open laws setting pc open_so instr_so len standing next h =
-    let (is, many) = laws.ways.many setting.limits.targets pc next open_so h in
-    subst (Breaking setting pc) (sym is) (refl, (instr_so, len, standing, many))
+targets_open : Laws → (setting : Setting) (pc : ℕ) (calls : List ℕ) (frame : Frame) (a : Known) (open_so : ℕ × Cause) (instr_so : Instr) (len : ℕ)
+    → Stands setting.device.image pc instr_so len
+    → Contains (target_opens setting.limits.targets pc (worked setting.device (is_interrupt frame) a pc instr_so).next) open_so
+    → Breaking setting pc calls frame a open_so
+targets_open laws setting pc calls frame a open_so instr_so len standing h =
+    let (is, many) = laws.ways.many setting.limits.targets pc (worked setting.device (is_interrupt frame) a pc instr_so).next open_so h in
+    subst (Breaking setting pc calls frame a) (sym is) (refl, (record { instr = instr_so; len = len; standing = standing; next = refl; many = many }))
 
 -- a return that leaves its frame leaves nothing open
-going_open : Laws → (setting : Setting) (pc : ℕ) (calls : List ℕ) (frame : Frame) (a : Known) (open_so : ℕ × Cause) (instr_so : Instr) (made_so : Worked) (len : ℕ) → Stands setting.device.image pc instr_so len
-    → Contains (going_of setting pc calls frame a instr_so made_so).opens open_so → Breaking setting pc open_so
-going_open laws setting pc calls frame a open_so instr_so made_so len standing h =
+going_open : Laws → (setting : Setting) (pc : ℕ) (calls : List ℕ) (frame : Frame) (a : Known) (open_so : ℕ × Cause) (instr_so : Instr) (len : ℕ)
+    → Stands setting.device.image pc instr_so len
+    → Contains (going_of setting pc calls frame a instr_so (worked setting.device (is_interrupt frame) a pc instr_so)).opens open_so
+    → Breaking setting pc calls frame a open_so
+going_open laws setting pc calls frame a open_so instr_so len standing h =
+    let made_so = worked setting.device (is_interrupt frame) a pc instr_so in
     cond_both (leaves_frame setting.device frame a instr_so) (going_back pc frame a made_so) (going_on setting pc calls frame a instr_so made_so)
-    (λ (going : Going Known). Contains going.opens open_so → Breaking setting pc open_so)
+    (λ (going : Going Known). Contains going.opens open_so → Breaking setting pc calls frame a open_so)
     (λ _ none. absurd (in_none open_so none))
-    (λ _ there. targets_open laws setting pc open_so instr_so len standing made_so.next there) h
+    (λ _ there. targets_open laws setting pc calls frame a open_so instr_so len standing there) h
 
 followed_open : Laws → (setting : Setting) (pc : ℕ) (calls : List ℕ) (frame : Frame) (a : Known) (open_so : ℕ × Cause) (instr_so : Instr) (len : ℕ) → Stands setting.device.image pc instr_so len
-    → IsKnown setting.device.lo setting.device.hi (is_interrupt frame) a → Contains (followed_work setting pc calls frame a instr_so).opens open_so → Breaking setting pc open_so
+    → IsKnown setting.device.lo setting.device.hi (is_interrupt frame) a → Contains (followed_work setting pc calls frame a instr_so).opens open_so
+    → Breaking setting pc calls frame a open_so
 followed_open laws setting pc calls frame a open_so instr_so len standing form h =
     let device = setting.device in
     let made_so = worked device (is_interrupt frame) a pc instr_so in
@@ -327,29 +345,29 @@ followed_open laws setting pc calls frame a open_so instr_so len standing form h
     let going = (going_of setting pc calls frame a instr_so made_so).opens in
     elim (Contains-append_cases (pushes ++ going) stores open_so h) [
       | inl front ↦ elim (Contains-append_cases pushes going open_so front) [
-        | inl push ↦ push_open laws setting (is_interrupt frame) pc a open_so form push
-        | inr goes ↦ going_open laws setting pc calls frame a open_so instr_so made_so len standing goes
+        | inl push ↦ push_open laws setting pc calls frame a open_so form push
+        | inr goes ↦ going_open laws setting pc calls frame a open_so instr_so len standing goes
       ]
-      | inr store ↦ worked_open setting pc open_so instr_so len standing made_so.store store
+      | inr store ↦ worked_open setting pc calls frame a open_so instr_so len standing made_so.store refl store
     ]
 
 fetched_open : Laws → (setting : Setting) → IsProgram setting.device → (pc : ℕ) (calls : List ℕ) (frame : Frame) (a : Known) (open_so : ℕ × Cause) (found : Option Instr)
     → IsKnown setting.device.lo setting.device.hi (is_interrupt frame) a → Fetching setting.device.image pc found
-    → Contains (work_at setting pc calls frame a found).opens open_so → Breaking setting pc open_so
+    → Contains (work_at setting pc calls frame a found).opens open_so → Breaking setting pc calls frame a open_so
 fetched_open laws setting program pc calls frame a open_so found form (stands instr_so len is e) h =
     followed_open laws setting pc calls frame a open_so instr_so len (stands_by laws.decoding setting.device program pc len instr_so is) form
     (subst (λ r. Contains (work_at setting pc calls frame a r).opens open_so) e h)
 fetched_open laws setting program pc calls frame a open_so found form (none_stands refusal is e) h =
     let pushes = flat_map (push_opens setting.device pc) (comings_of setting.device a) in
-    let none : BreaksLimit setting pc Fetch = λ instr_so len standing. absurd
+    let none : BreaksLimit setting (At pc calls frame) a Fetch = λ instr_so len standing. absurd
     (let both = laws.decoding.one setting.device.image pc (Ok (instr_so, len)) program.read.size program.read.bytes standing ∙ is in cc) in
     elim (Contains-append_cases pushes ((pc, Fetch) ∷ []) open_so (subst (λ r. Contains (work_at setting pc calls frame a r).opens open_so) e h)) [
-      | inl push ↦ push_open laws setting (is_interrupt frame) pc a open_so form push
-      | inr last ↦ only_open setting pc Fetch open_so none last
+      | inl push ↦ push_open laws setting pc calls frame a open_so form push
+      | inr last ↦ only_open setting pc calls frame a Fetch open_so none last
     ]
 
 pub open_breaks : Laws → (setting : Setting) → IsProgram setting.device → (pc : ℕ) (calls : List ℕ) (frame : Frame) (a : Known) (open_so : ℕ × Cause) → pc % 2 ≡ 0
     → IsKnown setting.device.lo setting.device.hi (is_interrupt frame) a → Contains (work_at setting pc calls frame a (fetched setting.device.image pc)).opens open_so
-    → (pc ≡ open_so.0) × BreaksLimit setting open_so.0 open_so.1
+    → (pc ≡ open_so.0) × BreaksLimit setting (At pc calls frame) a open_so.1
 open_breaks laws setting program pc calls frame a open_so even form h =
     fetched_open laws setting program pc calls frame a open_so (fetched setting.device.image pc) form (fetching_at setting.device.image pc even) h

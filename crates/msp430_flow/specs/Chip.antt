@@ -1,5 +1,5 @@
 -- What an analysis makes of a program of the MSP430, in sets.
-use Rattle.std.specs.Prelude.{◌≡◌, ◌<◌, ◌≤◌, ◌⊎◌, ℕ, if◌then◌else◌, true, Option, None, Some, List, [], ◌∷◌, ◌++◌, map}
+use Rattle.std.specs.Prelude.{◌≡◌, ◌<◌, ◌≤◌, ◌⊎◌, ℕ, if◌then◌else◌, true, Option, None, Some, List, [], ◌∷◌, ◌++◌, map, Contains}
 use Rattle.std.specs.List.{flat_map}
 use Rattle.call_context.specs.declared.node.Frame.{Frame}
 use Rattle.call_context.specs.declared.node.Frame.TheVariants.{Base, Irq}
@@ -28,7 +28,7 @@ use Rattle.msp430_decode.specs.Standing.{Stands}
 use Rattle.msp430_decode.specs.Table.{bytes_of}
 use Rattle.msp430_chip.specs.declared.device.Device.{Device}
 use Rattle.msp430_chip.specs.Interrupts.{handler_of, may_come}
-use Rattle.msp430_chip.specs.Memory.{program_hit}
+use Rattle.msp430_chip.specs.Memory.{hit_at}
 use Rattle.msp430_chip.specs.State.{reset_address}
 use Rattle.msp430_state.specs.Forms.{HasChipForm}
 use Rattle.msp430_state.specs.Known.{Known, first_known, is_interrupt, known_joined, known_widened, known_within, top_known}
@@ -65,7 +65,9 @@ wait_of coming = wait_at (frame_of_coming coming) coming.known_sp
 
 -- PC and SR are stored as words
 abbrev pub push_opens : Device → (pc : ℕ) → Coming → List (ℕ × Cause)
-push_opens device pc coming = store_open device pc Word (counter_slot coming.sp) ++ store_open device pc Word (status_slot coming.sp)
+push_opens device pc coming =
+    store_open device pc Word (counter_slot device coming.sp)
+    ++ store_open device pc Word (status_slot device coming.sp)
 
 -- WHERE AN INSTRUCTION GOES ON
 
@@ -153,8 +155,8 @@ work_of setting (Back (Exit pc frame) other) a exit = nothing
 
 -- a device whose image was read under the rules of the chip with this RAM
 pub record IsProgram (device : Device) : Type 0 where
-  pub read : IsReadUnder (Msp430 device.lo device.hi) device.image
-  pub ram : IsRamRange (Msp430 device.lo device.hi)
+  pub read : IsReadUnder (Msp430 device.lo device.hi device.mirror) device.image
+  pub ram : IsRamRange (Msp430 device.lo device.hi device.mirror)
   pub top : device.hi < 65536
 
 -- with call strings of at most eight sites
@@ -169,29 +171,41 @@ pub record CanHit (device : Device) (width : Width) (values : Form) : Type 0 whe
   pub address : ℕ
   pub at : ℕ
   pub is_address : Has 65536 values address
-  pub hits : program_hit device width address ≡ Some at
+  pub hits : hit_at device width address ≡ Some at
 
--- the store of an instruction that stands at an address
-pub record InstructionHits (device : Device) (pc : ℕ) (values : Form) : Type 0 where
+-- the instruction that stands at an address stores at these addresses, by what is known there
+pub record InstructionHits (device : Device) (pc : ℕ) (frame : Frame) (a : Known) (values : Form) : Type 0 where
   pub instr : Instr
   pub len : ℕ
   pub standing : Stands device.image pc instr len
+  pub stores : (worked device (is_interrupt frame) a pc instr).store ≡ Some values
   pub can : CanHit device (stored_width instr) values
 
--- or that of PC or SR, where an interrupt comes that has a handler
-pub record InterruptHits (device : Device) (values : Form) : Type 0 where
-  pub vector : ℕ
-  pub has_handler : may_come device vector ≡ true
+-- or an interrupt that has a handler may come there, by what is known, and PC or SR is pushed at these addresses
+pub record InterruptHits (device : Device) (a : Known) (values : Form) : Type 0 where
+  pub coming : Coming
+  pub comes : Contains (comings_of device a) coming
+  pub has_handler : may_come device coming.vector ≡ true
+  pub pushed : (values ≡ counter_slot device coming.sp) ⊎ (values ≡ status_slot device coming.sp)
   pub can : CanHit device Word values
 
--- The limit that the cause of an open names is broken at an address: no instruction stands there; or a store there, that of
--- its instruction or of an interrupt's entry, would write a byte of the program at one of the set's addresses; or an
--- instruction stands there, and the set of its targets has more than are followed.
-abbrev pub BreaksLimit : Setting → ℕ → Cause → Type 0
-BreaksLimit setting pc Fetch = (instr : Instr) (len : ℕ) → Stands setting.device.image pc instr len → ⊥
-BreaksLimit setting pc (Store values) = InstructionHits setting.device pc values ⊎ InterruptHits setting.device values
-BreaksLimit setting pc (Targets values) =
-    (instr : Instr) × (len : ℕ) × Stands setting.device.image pc instr len × (setting.limits.targets < count_of 65536 values)
+-- the instruction that stands at an address has these next addresses, by what is known there, and more than are followed
+pub record HasManyTargets (setting : Setting) (pc : ℕ) (frame : Frame) (a : Known) (values : Form) : Type 0 where
+  pub instr : Instr
+  pub len : ℕ
+  pub standing : Stands setting.device.image pc instr len
+  pub next : (worked setting.device (is_interrupt frame) a pc instr).next ≡ values
+  pub many : setting.limits.targets < count_of 65536 values
+
+-- The limit that the cause of an open names is broken at a location, by what is known there: no instruction stands there; or
+-- the set is where the instruction stores, or where an interrupt's entry does, and such a store would write a byte of the
+-- program; or the set is that of the instruction's next addresses, and has more than are followed.
+abbrev pub BreaksLimit : Setting → Node → Known → Cause → Type 0
+BreaksLimit setting (At pc calls frame) a Fetch = (instr : Instr) (len : ℕ) → Stands setting.device.image pc instr len → ⊥
+BreaksLimit setting (At pc calls frame) a (Store values) =
+    InstructionHits setting.device pc frame a values ⊎ InterruptHits setting.device a values
+BreaksLimit setting (At pc calls frame) a (Targets values) = HasManyTargets setting pc frame a values
+BreaksLimit setting (Exit pc frame) a cause = ⊥
 
 -- THE ANALYSIS
 
@@ -212,4 +226,5 @@ msp430_analysis setting = record {
 pub record AreAlike (a b : Setting) : Type 0 where
   pub lo : a.device.lo ≡ b.device.lo
   pub hi : a.device.hi ≡ b.device.hi
+  pub mirror : a.device.mirror ≡ b.device.mirror
   pub limits : a.limits ≡ b.limits

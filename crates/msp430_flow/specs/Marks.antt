@@ -1,4 +1,4 @@
--- The numbers that widening stops at: the ends of RAM, and the constants that a program compares with.
+-- The numbers that widening stops at: the ends of RAM and of its mirror, and the constants that a program compares with.
 use Rattle.std.specs.Prelude.{ℕ, ◌+◌, ◌*◌, ◌%◌, nat_lt, if◌then◌else◌, Bool, true, false, Option, None, Some, Result, Ok, Err, List, [], ◌∷◌, ◌++◌}
 use Rattle.std.specs.List.{flat_map, range_with_len}
 use Rattle.msp430_decode.specs.declared.instr.Instr.{Instr}
@@ -57,9 +57,18 @@ marks_found (Ok found) = marks_in found.0
 unfoldable pub marks_from : List (Option ℕ) → (first count : ℕ) → List ℕ
 marks_from image first count = flat_map (λ word. marks_found (decoded image (2 * word))) (range_with_len first count)
 
--- the marks of a device: those of RAM, and those of each even address at which an instruction stands
+-- where a range begins, and where what is behind it does
+abbrev pub range_marks : (lo hi : ℕ) → List ℕ
+range_marks lo hi = mark lo ++ mark (hi + 1)
+
+abbrev pub mirror_marks : (mirror : Option (ℕ × ℕ)) → List ℕ
+mirror_marks None = []
+mirror_marks (Some (first, last)) = range_marks first last
+
+-- the marks of a device: those of RAM, of its mirror, and of each even address at which an instruction stands
 abbrev pub marks_of : Device → List ℕ
-marks_of device = 0 ∷ 1 ∷ mark device.lo ++ mark (device.hi + 1) ++ marks_from device.image 0 32768
+marks_of device =
+    0 ∷ 1 ∷ range_marks device.lo device.hi ++ mirror_marks device.mirror ++ marks_from device.image 0 32768
 
 -- where widening is coarse it has none
 abbrev pub stops : Bool → Device → List ℕ

@@ -16,7 +16,7 @@ use Rattle.msp430_decode.specs.declared.instr.Width.{Width}
 use Rattle.msp430_decode.specs.declared.instr.Width.TheVariants.{Word}
 use Rattle.msp430_decode.specs.Table.{length_of, target_of}
 use Rattle.msp430_chip.specs.declared.device.Device.{Device}
-use Rattle.msp430_chip.specs.Memory.{program_hit}
+use Rattle.msp430_chip.specs.Memory.{hit_at}
 use Rattle.msp430_state.specs.declared.fact.FlagFact.{FlagFact}
 use Rattle.msp430_state.specs.Known.{Known, known_joined}
 use Rattle.msp430_decode.specs.declared.instr.Destination.{Destination}
@@ -125,6 +125,6 @@ stored_width (OneOperand operation width operand) = pushed_width operation width
 stored_width (Jump condition offset) = Word
 stored_width ReturnFromInterrupt = Word
 
--- a store at one of some addresses may write a byte of the program
+-- a store that is made at one of some addresses may write a byte of the program
 abbrev pub may_hit : Device → Width → Form → Bool
-may_hit device width set = list_any (λ at. is_some (program_hit device width at)) (members 65536 set)
+may_hit device width set = list_any (λ at. is_some (hit_at device width at)) (members 65536 set)

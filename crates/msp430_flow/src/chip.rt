@@ -5,6 +5,7 @@ ghost use Rattle.std.specs.Option.{option_copied};
 ghost use Rattle.call_context.specs.Nodes.{frame_of as the_frame};
 ghost use Rattle.image.specs.Kept.{IsRamRange, IsReadUnder};
 ghost use Rattle.image.specs.declared.rule_set.Rules.{Rules};
+ghost use Rattle.msp430_chip.specs.Memory.{HasRam};
 ghost use Rattle.msp430_chip.specs.State.{reset_address};
 ghost use Rattle.value_set.specs.Joining.{is_in};
 ghost use Rattle.msp430_decode.specs.Table.{IsInstr, bytes_of};
@@ -66,21 +67,27 @@ impl Model for Msp430Chip {
 }
 
 impl Msp430Chip {
-    /// The chip with this program, which was read under its rules, with RAM between these addresses, call strings of so
-    /// many sites, and so many targets of an instruction that are followed.
+    /// The chip with this program, which was read under its rules, with RAM between these addresses, its mirror, call
+    /// strings of so many sites, and so many targets of an instruction that are followed.
     pub fn new(
         alloc: Global,
         image: Image,
         lo: u16,
         hi: u16,
+        mirror: Option<(u16, u16)>,
         limits: Limits,
     ) -> Result<Msp430Chip, Memory>
-        requires read { IsReadUnder (Rules.Msp430 lo hi) image }
-        requires ram { IsRamRange (Rules.Msp430 lo hi) }
+        requires read { IsReadUnder (Rules.Msp430 lo hi mirror) image }
+        requires ram { IsRamRange (Rules.Msp430 lo hi mirror) }
         requires calls { limits.calls ≤ 8 }
-        ensures { IfOk result (λ chip. chip ≡ record { device = record { image = image; lo = lo; hi = hi }; limits = limits }) }
+        ensures { IfOk result (λ chip. chip ≡ record { device = record { image = image; lo = lo; hi = hi; mirror = mirror }; limits = limits }) }
     {
-        let device = Device { image, lo, hi };
+        let device = Device {
+            image,
+            lo,
+            hi,
+            mirror,
+        };
         let marks = marks_of(alloc, &device)?;
         let setting = Setting { device, limits };
         Ok(Msp430Chip { setting, marks })
@@ -88,9 +95,19 @@ impl Msp430Chip {
 
     /// The program was read under the chip's rules, and call strings have at most eight sites.
     pub fn keeps_rules(&self)
-        ensures { IsSetting self.now }
+        ensures setting { IsSetting self.now }
+        ensures ram { HasRam self.now.device }
     {
         let _marks = self.marks.as_slice();
+    }
+
+    /// The first and the last address of RAM.
+    pub(crate) fn ram(&self) -> (u16, u16)
+        ensures bounds { result ≡ (self.now.device.lo, self.now.device.hi) }
+        ensures some { result.0 ≤ result.1 }
+    {
+        self.keeps_rules();
+        (self.setting.device.lo, self.setting.device.hi)
     }
 
     /// Where the program starts: the word at FFFEh without bit 0.
@@ -271,7 +288,7 @@ impl Msp430Chip {
 
 /// The work of a location at which no instruction stands.
 fn stopped(alloc: Global, device: &Device, pc: u16, at: &Abs) -> Result<Work<Kept>, Memory>
-    requires { device.now.lo ≤ device.now.hi }
+    requires { HasRam device.now }
     ensures { IfOk result (λ work. work ≡ the_stopped device.now pc at.now) }
 {
     let mut work = entering(alloc, device, pc, at, Sequence::new(alloc))?;
@@ -433,8 +450,8 @@ impl Chip for Msp430Chip {
         }
     }
 
-    fn copy(&self, alloc: Global, a: &Kept) -> Result<Kept, Memory> {
-        Kept::new(alloc, a.state().copy(alloc)?)
+    fn copy(&self, _alloc: Global, a: &Kept) -> Result<Kept, Memory> {
+        a.copy()
     }
 
     fn join(&self, alloc: Global, held: &Kept, new: &Kept) -> Result<Kept, Memory> {

@@ -6,6 +6,7 @@ ghost use Rattle.call_context.specs.declared.shown.Item.TheVariants as items;
 ghost use Rattle.call_context.specs.declared.shown.Set.TheVariants as sets;
 ghost use Rattle.msp430_entry.specs.declared.coming.Coming.{Coming as AComing};
 ghost use Rattle.msp430_entry.specs.Entry.{comings_of, entry_items};
+ghost use Rattle.msp430_chip.specs.Memory.{HasRam};
 ghost use Rattle.msp430_flow.specs.Chip as chip;
 
 use crate::kept::Kept;
@@ -65,7 +66,7 @@ fn entry_post(
     at: &State<CellList>,
     coming: &Coming,
 ) -> Result<(Node, Kept), Memory>
-    requires ram { device.now.lo ≤ device.now.hi }
+    requires ram { HasRam device.now }
     requires below { coming.now.vector < 14 }
     ensures { IfOk result (λ post. post ≡ chip.entry_post device.now pc at.now coming.now) }
 {
@@ -82,10 +83,13 @@ fn add_push_opens(
     pc: u16,
     coming: &Coming,
 ) -> Result<(), Memory>
+    requires { HasRam device.now }
     ensures { OnOk result (opens.new ≡ opens.old ++ chip.push_opens device.now pc coming.now) }
 {
-    add_store_open(opens, device, pc, Width::Word, &counter_slot(&coming.sp))?;
-    add_store_open(opens, device, pc, Width::Word, &status_slot(&coming.sp))
+    let counter = counter_slot(device, &coming.sp);
+    add_store_open(opens, device, pc, Width::Word, &counter)?;
+    let status = status_slot(device, &coming.sp);
+    add_store_open(opens, device, pc, Width::Word, &status)
 }
 
 /// Adds what an interrupt that comes at a location shows, posts, waits for and leaves open.
@@ -97,7 +101,7 @@ fn add_entry(
     at: &State<CellList>,
     coming: &Coming,
 ) -> Result<(), Memory>
-    requires ram { device.now.lo ≤ device.now.hi }
+    requires ram { HasRam device.now }
     requires below { coming.now.vector < 14 }
     ensures items { OnOk result (work.new.items ≡ work.old.items ++ entry_items device.now pc coming.now) }
     ensures posts { OnOk result (work.new.posts ≡ work.old.posts ++ chip.entry_post device.now pc at.now coming.now ∷ []) }
@@ -119,7 +123,7 @@ fn add_entries(
     at: &State<CellList>,
     all: &[Coming],
 ) -> Result<(), Memory>
-    requires ram { device.now.lo ≤ device.now.hi }
+    requires ram { HasRam device.now }
     requires below { (coming : AComing) → Contains all.now coming → coming.vector < 14 }
     ensures items { OnOk result (work.new.items ≡ work.old.items ++ flat_map (entry_items device.now pc) all.now) }
     ensures posts { OnOk result (work.new.posts ≡ work.old.posts ++ map (chip.entry_post device.now pc at.now) all.now) }
@@ -140,7 +144,7 @@ pub fn entering(
     at: &State<CellList>,
     accesses: Sequence<Item>,
 ) -> Result<Work<Kept>, Memory>
-    requires { device.now.lo ≤ device.now.hi }
+    requires { HasRam device.now }
     ensures { IfOk result (λ work. work ≡ chip.entering device.now pc at.now accesses) }
 {
     let mut work = Work {

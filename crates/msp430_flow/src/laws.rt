@@ -7,6 +7,7 @@ ghost use Rattle.msp430_state.specs.Holding.{Covers};
 use crate::chip::Msp430Chip;
 use crate::kept::Kept;
 use chip_law::LawfulChip;
+use irq_frames::known_laws;
 use msp430_alu::{doubles_hold, pushes_hold, singles_hold};
 use msp430_branch::{cuts_hold, facts_hold};
 use msp430_chip::{ChipState, one_front, steps_keep_form, steps_lead};
@@ -17,7 +18,6 @@ use msp430_return::returns_hold;
 use msp430_state::{states_are_ordered, states_cover, states_keep_form};
 use msp430_status::{single_statuses_hold, statuses_hold};
 use unit_ways::ways_hold;
-use value_set::members_are_below;
 
 impl LawfulChip for Msp430Chip {
     type State = ChipState;
@@ -37,7 +37,7 @@ impl LawfulChip for Msp430Chip {
     }
 
     fn laws() {
-        members_are_below();
+        known_laws();
         ways_hold::<Kept>();
         doubles_hold();
         singles_hold();

@@ -9,6 +9,9 @@
 //! - [`LawfulChip`](chip_law::LawfulChip): the start stands for each reset state, the work of a unit for each step of the
 //!   chip from a state that its input stands for, and the states are in order. An open is left only where a stated limit
 //!   is broken.
+//! - A stack grows by words: no work shows a byte as a stack pointer ([`stacks_grow_by_words`]).
+//! - [`LawfulText`](state_text::LawfulText): each state in form is read again from its text, no other text is read, and no
+//!   field is outside exactly where a state is within another.
 #![tactic(auto)]
 
 mod chip;
@@ -20,13 +23,13 @@ mod marks;
 mod meeting;
 mod running;
 mod setting;
+mod stacks;
+mod state_fields;
 mod text;
 mod ways;
 
 pub use chip::Msp430Chip;
 pub use kept::Kept;
 pub use setting::Setting;
+pub use stacks::stacks_grow_by_words;
 pub use text::Msp430Text;
-
-#[cfg(test)]
-mod tests;

@@ -2,7 +2,7 @@
 
 ghost use Rattle.std.specs.Prelude.{◌≡◌, ◌++◌, ◌+◌, ◌<◌, ◌*◌, IfOk, OnOk};
 ghost use Rattle.msp430_decode.specs.Decoding.{decoded};
-ghost use Rattle.msp430_flow.specs.Marks.{mark, marks_by, constant_of as the_constant, in_width, is_comparison, marks_with, marks_in, marks_found, marks_from, marks_of as the_marks};
+ghost use Rattle.msp430_flow.specs.Marks.{mark, marks_by, constant_of as the_constant, in_width, is_comparison, marks_with, marks_in, marks_found, marks_from, marks_of as the_marks, mirror_marks, range_marks};
 
 use image::Image;
 use msp430_chip::Device;
@@ -107,6 +107,24 @@ fn push_image(marks: &mut Vec<u16>, image: &Image) -> Result<(), AllocError>
     Ok(())
 }
 
+/// Adds where a range begins, and where what is behind it does.
+fn push_range(marks: &mut Vec<u16>, lo: u16, hi: u16) -> Result<(), AllocError>
+    ensures { OnOk result (marks.new.items ≡ marks.old.items ++ range_marks lo hi) }
+{
+    push_mark(marks, lo as u32)?;
+    push_mark(marks, hi as u32 + 1)
+}
+
+/// Adds the ends of the mirror of RAM, if there is one.
+fn push_mirror(marks: &mut Vec<u16>, mirror: Option<(u16, u16)>) -> Result<(), AllocError>
+    ensures { OnOk result (marks.new.items ≡ marks.old.items ++ mirror_marks mirror) }
+{
+    match mirror {
+        Some((first, last)) => push_range(marks, first, last),
+        None => Ok(()),
+    }
+}
+
 /// The marks of a device.
 pub fn marks_of(alloc: Global, device: &Device) -> Result<Vec<u16>, AllocError>
     ensures { IfOk result (λ marks. marks.items ≡ the_marks device.now) }
@@ -114,8 +132,8 @@ pub fn marks_of(alloc: Global, device: &Device) -> Result<Vec<u16>, AllocError>
     let mut marks = Vec::new(alloc);
     marks.push(0)?;
     marks.push(1)?;
-    push_mark(&mut marks, device.lo as u32)?;
-    push_mark(&mut marks, device.hi as u32 + 1)?;
+    push_range(&mut marks, device.lo, device.hi)?;
+    push_mirror(&mut marks, device.mirror)?;
     push_image(&mut marks, &device.image)?;
     Ok(marks)
 }

@@ -8,15 +8,14 @@ use msp430_chip::Device;
 use msp430_decode::Width;
 use value_set::Vs16;
 
-/// Whether a store at an address writes a byte of the program; bit 0 of a word's address doesn't count.
-#[tactic(auto, unfolding(msp430_chip::specs::Memory::program_hit))]
+/// Whether a store that is made at an address writes a byte of the program.
+#[tactic(auto, unfolding(msp430_chip::specs::Memory::hit_at))]
 fn hits(device: &Device, width: Width, at: u16) -> bool
-    ensures { result ≡ is_some (memory.program_hit device.now width at) }
+    ensures { result ≡ is_some (memory.hit_at device.now width at) }
 {
     match width {
         Width::Word => {
-            let low = at - at % 2;
-            device.image.byte(low).is_some() || device.image.byte(low + 1).is_some()
+            device.image.byte(at).is_some() || device.image.byte(at.wrapping_add(1)).is_some()
         }
         Width::Byte => device.image.byte(at).is_some(),
     }

@@ -2,6 +2,7 @@
 
 ghost use Rattle.std.specs.Prelude.{◌≡◌, ◌≤◌, [], IfOk};
 ghost use Rattle.msp430_decode.specs.Table.{IsInstr};
+ghost use Rattle.msp430_chip.specs.Memory.{HasRam};
 ghost use Rattle.msp430_flow.specs.Running as running;
 ghost use Rattle.msp430_results.specs.Results.{HasWidth};
 
@@ -57,7 +58,7 @@ fn plain_operand(
     width: Width,
     operand: Source,
 ) -> Result<Worked<CellList>, Memory>
-    requires ram { device.now.lo ≤ device.now.hi }
+    requires ram { HasRam device.now }
     requires width { HasWidth operation width }
     ensures { IfOk result (λ worked. worked ≡ running.single_or_status device.now framed at.now pc len operation width operand) }
 {
@@ -83,7 +84,7 @@ fn one_operand(
     width: Width,
     operand: Source,
 ) -> Result<Worked<CellList>, Memory>
-    requires ram { device.now.lo ≤ device.now.hi }
+    requires ram { HasRam device.now }
     requires row { IsInstr (Instr.Single operation width operand) }
     ensures { IfOk result (λ worked. worked ≡ running.one_operand device.now framed at.now pc len operation width operand) }
 {
@@ -112,7 +113,7 @@ fn two_operands(
     source: Source,
     destination: Destination,
 ) -> Result<Worked<CellList>, Memory>
-    requires ram { device.now.lo ≤ device.now.hi }
+    requires ram { HasRam device.now }
     requires long { 2 ≤ len }
     ensures { IfOk result (λ worked. worked ≡ running.double_or_status device.now framed at.now pc len operation width source destination) }
 {
@@ -144,7 +145,7 @@ pub fn run(
     pc: u16,
     instr: &Instr,
 ) -> Result<Worked<CellList>, Memory>
-    requires ram { device.now.lo ≤ device.now.hi }
+    requires ram { HasRam device.now }
     requires row { IsInstr instr.now }
     ensures { IfOk result (λ worked. worked ≡ running.worked device.now framed at.now pc instr.now) }
 {
@@ -181,6 +182,7 @@ pub fn run(
 
 /// Whether RETI goes back to where the interrupt of its frame came.
 pub fn leaves_frame(device: &Device, frame: &Frame, at: &State<CellList>, instr: &Instr) -> bool
+    requires { HasRam device.now }
     ensures { result ≡ running.leaves_frame device.now frame.now at.now instr.now }
 {
     match instr {

@@ -2,7 +2,7 @@ use Rattle.std.proofs.Common.{ap, ◌∙◌}
 use Rattle.value_set.specs.Form.{members}
 use Rattle.value_set.specs.Joining.{is_in}
 use Rattle.mcs51_state.specs.Known.{Known}
-use Rattle.unit_ways.proofs.SetTests.{any_is, none_far}
+use Rattle.unit_ways.specs.SetTests.{any_is, none_far}
 use Rattle.mcs51_flow.proofs.chip.may_stand_at.Goals as goal
 
 pub returns-then-sp-ge256-clause-exact : goal.returns-then-sp-ge256-clause-exact
