@@ -1,12 +1,15 @@
 //! What an answer means for a person who runs the program, on standard error. Standard output has the answer itself.
 
 use crate::inputs::other_input;
+use crate::mcs51_warnings::Mcs51Seen;
+use crate::msp430_warnings::{Msp430Seen, RamPlaces};
+use crate::need::print_question;
 use crate::noted::Noted;
-use crate::options::range_of;
+use crate::options::{USUAL_RAM, range_of};
 use crate::slips::{Slip, slip_of};
 use crate::source::NotedSource;
 use crate::usage::USAGE;
-use crate::warnings::Watch;
+use crate::warnings::{Seen, Watch};
 use hex_digits::word;
 use std::alloc::Global;
 use std::{io, str};
@@ -32,7 +35,7 @@ fn sentence_of(status: Status) -> Option<&'static str> {
         Status::BadImage => Some(
             "the input is no image text; docs/REPORT.md says what each fault means.",
         ),
-        Status::BadCert => Some("a line of the script is no number of 1 to 4 hexadecimal digits."),
+        Status::BadCert => Some("a line of the text behind the image text is refused."),
         Status::ReadFault => Some(
             "standard input can't be read, so nothing is printed. Is it a folder, or closed?",
         ),
@@ -41,10 +44,13 @@ fn sentence_of(status: Status) -> Option<&'static str> {
         ),
         Status::Memory => Some("memory ran out before there was an answer, so nothing is printed."),
         Status::TooLong => Some(
-            "the input is too long: an image text has at most 4,194,304 bytes, and a script at most 268,435,456.",
+            "the input is too long: an image text has at most 4,194,304 bytes, and a script, assertions or a certificate at most 268,435,456.",
         ),
         Status::Wild => Some(
             "the run leaves the model in the step of the last line: no instruction stands at that address, or the step writes into the image.",
+        ),
+        Status::Broken => Some(
+            "the report breaks each assertion that has a FAILS line, by the line of the report that stands there. docs/ASSERTIONS.md says what to do.",
         ),
         Status::NeedChoice => Some(
             "the script ends before a choice that the step of the last line asks. docs/REPORT.md lists the questions.",
@@ -80,13 +86,13 @@ fn fault_of(name: &str) -> Option<&'static str> {
             "of the image text gives an address another byte than an earlier line. Were two programs joined?",
         ),
         "Misplaced" => Some(
-            "of the image text has a byte below 0200h, where the peripherals are, or in RAM. Say by --ram LO-HI where the chip has its RAM.",
+            "of the image text has a byte below 0200h, where the peripherals are, in RAM, or where --mirror says that RAM answers too. Say by --ram LO-HI where the chip has its RAM.",
         ),
         "NoEnd" => Some(
             "of the image text isn't there: the text ends without an end record, :00000001FF. Was it cut off?",
         ),
         "Trailing" => Some(
-            "of the image text stands after the end record, where only blank lines may. A script is read by the mode run alone.",
+            "of the image text stands after the end record, where only blank lines may. A script is read by the mode run alone, assertions by assert, and a certificate by check.",
         ),
         "NoReset" => Some(
             "of the image text ends an image without a reset vector. Both bytes at FFFEh and FFFFh must be in it. Is it an image of the 8051 (mcs51), or did the linker script forget the vectors?",
@@ -100,7 +106,7 @@ fn misplaced_at(address: u16) -> &'static str {
     if address < 0x0200 {
         "of the image text has a byte below 0200h, where the MSP430 has its peripherals. Is it an image of the 8051? Then the chip is mcs51."
     } else {
-        "of the image text has a byte in RAM. Say by --ram LO-HI where the chip has its RAM; if the byte is a variable's first value, let the program copy it from the code at its start."
+        "of the image text has a byte in RAM or in its mirror. Say by --ram LO-HI where the chip has its RAM; if the byte is a variable's first value, let the program copy it from the code at its start."
     }
 }
 
@@ -115,6 +121,7 @@ fn line_sentence_of<S: Source + Drop>(
     status: Status,
     line: &str,
     fault: &str,
+    words: &[String],
     source: &NotedSource<S>,
 ) -> Option<&'static str> {
     match status {
@@ -126,10 +133,46 @@ fn line_sentence_of<S: Source + Drop>(
             }
         }
         Status::BadImage => fault_of(fault),
-        Status::BadCert => Some(
-            "of the script, counted after the end record, is no number of 1 to 4 hexadecimal digits.",
+        Status::BadCert if has_word(words, "check") => refused_certificate(line, fault),
+        Status::BadCert => Some(refused_line(words)),
+        _ => None,
+    }
+}
+
+/// What the refusal of a certificate says. Line 0 is no line of it, but the reset.
+fn refused_certificate(line: &str, fault: &str) -> Option<&'static str> {
+    match fault {
+        "Syntax" => Some(
+            "of the certificate, counted after the end record, is none that may stand there. The first line is CERT 1 and the last one END, each line ends with one line feed and no carriage return, and docs/CERTIFICATE.md has the fields.",
+        ),
+        "Order" => Some(
+            "of the certificate, counted after the end record, doesn't stand above the one before it: N lines come before X lines, each kind in the order of its bytes.",
+        ),
+        "Unknown" => Some(
+            "of the certificate leads to the named node, which has no line. Is it the certificate of this image, made with the same options?",
+        ),
+        "NoStart" => Some(
+            "the certificate has no line for the node that each run begins in. Is it the certificate of this image?",
+        ),
+        "NotIn" if line == "0" => Some(
+            "a reset leaves what the named node's line doesn't have: the field, what a reset leaves there, and what the line has.",
+        ),
+        "NotIn" => Some(
+            "of the certificate leads to what the named node's line doesn't have: the field, what comes there, and what that line has. Is it the certificate of this image, made with the same options?",
+        ),
+        "HasOpen" => Some(
+            "of the certificate leaves the named site open, by the named cause: from there on the program may do more than a table says. docs/TUTORIAL.md says what each cause means and what to do.",
         ),
         _ => None,
+    }
+}
+
+/// What a refused line of the text behind an image text says.
+fn refused_line(words: &[String]) -> &'static str {
+    if has_word(words, "assert") {
+        "of the assertions, counted after the end record, is none: noexec LO-HI, noread SPACE LO-HI, nowrite SPACE LO-HI or stack FROM-TO LO-HI, by single blanks and four hexadecimal digits each, with the spaces mem of the msp430, and ram, sfr, xram and code of the mcs51."
+    } else {
+        "of the script, counted after the end record, is no number of 1 to 4 hexadecimal digits."
     }
 }
 
@@ -141,18 +184,30 @@ fn lacking_step(last: &[u8]) -> Option<(Option<&str>, &str)> {
     Some((place.filter(|place| word(place.as_bytes()).is_some()), step))
 }
 
-/// Says which step lacks a choice, and what it may ask.
-fn print_need(rt: &impl Eprint, words: &[String], last: &[u8]) -> io::Result<()> {
+/// Says which number of the script is missing, for which step, and what that may ask.
+fn print_need<S: Source + Drop>(
+    rt: &impl Eprint,
+    alloc: Global,
+    words: &[String],
+    last: &[u8],
+    source: &NotedSource<S>,
+) -> io::Result<()> {
+    let number = source.numbers().saturating_add(1);
+    if let Some(text) = source.text()
+        && print_question(rt, alloc, words, text, number)?
+    {
+        return Ok(());
+    }
     let Some((place, step)) = lacking_step(last) else {
         return Ok(());
     };
     match place {
-        Some(place) => {
-            eprintln!(rt;
-                "vsa: the script has no number left for a choice of step {step}, at {place}h."
-            )?
-        }
-        None => eprintln!(rt; "vsa: the script has no number left for a choice of step {step}.")?,
+        Some(place) => eprintln!(rt;
+            "vsa: number {number} of the script is missing: step {step}, at {place}h, asks for a choice."
+        )?,
+        None => eprintln!(rt;
+            "vsa: number {number} of the script is missing: step {step} asks for a choice."
+        )?,
     }
     let questions = if has_word(words, "mcs51") {
         MCS51_QUESTIONS
@@ -166,7 +221,7 @@ fn print_need(rt: &impl Eprint, words: &[String], last: &[u8]) -> io::Result<()>
 }
 
 /// Whether a word stands among the words.
-fn has_word(words: &[String], word: &str) -> bool {
+pub fn has_word(words: &[String], word: &str) -> bool {
     words.iter().any(|own| own.as_str() == word)
 }
 
@@ -184,14 +239,14 @@ fn print_slip(rt: &impl Eprint, alloc: Global, words: &[String]) -> io::Result<(
     }
 }
 
-/// Warns of what a report shows that is rarely meant.
-fn print_warnings(rt: &impl Eprint, watch: &Watch) -> io::Result<()> {
-    if let Some(pc) = watch.allowed_in_vain() {
+/// Warns of what a report of the MSP430 shows that is rarely meant.
+fn warn_of_msp430(rt: &impl Eprint, seen: &Msp430Seen) -> io::Result<()> {
+    if let Some(pc) = seen.allowed_in_vain() {
         eprintln!(rt;
             "vsa: warning: the instruction at {pc:04X}h allows interrupts, and no handler is in the report, since the image has no vector of one. Did the linker script leave out the vectors, FFE0h to FFFDh?"
         )?;
     }
-    if let Some((variable, low)) = watch.overwritten() {
+    if let Some((variable, low)) = seen.overwritten() {
         let (at, pc) = (variable.at, variable.pc);
         eprintln!(rt;
             "vsa: warning: the stack pointer falls to {low:04X}h, and the stack then has {at:04X}h, which the instruction at {pc:04X}h names: is a variable overwritten?"
@@ -200,31 +255,76 @@ fn print_warnings(rt: &impl Eprint, watch: &Watch) -> io::Result<()> {
     Ok(())
 }
 
-/// The RAM that the words say, and else the usual one.
-pub fn ram_of(words: &[String]) -> (u16, u16) {
-    for word in words {
-        let text = word.as_str();
-        let text = text.strip_prefix("--ram=").unwrap_or(text);
-        if let Some(range) = range_of(text.as_bytes()) {
-            return range;
-        }
+/// Warns of what a report of the MCS-51 shows that is rarely meant.
+fn warn_of_mcs51(rt: &impl Eprint, seen: &Mcs51Seen) -> io::Result<()> {
+    if let Some(variable) = seen.overwritten() {
+        let (at, pc) = (variable.at, variable.pc);
+        eprintln!(rt;
+            "vsa: warning: the stack has the byte {at:02X}h of RAM, which the instruction at {pc:04X}h uses: is a variable or a register overwritten? Behind a reset the stack begins at 08h."
+        )?;
     }
-    (0x0200, 0x09FF)
+    Ok(())
 }
 
-/// What looks at the lines of an answer to these words: at those of a report of the MSP430.
-pub fn watch_of(alloc: Global, words: &[String]) -> Option<Watch> {
-    if has_word(words, "analyse") && has_word(words, "msp430") {
-        Some(Watch::new(alloc, ram_of(words)))
+/// Warns of what a report shows that is rarely meant.
+fn print_warnings(rt: &impl Eprint, watch: &Watch) -> io::Result<()> {
+    match watch.seen() {
+        Seen::Msp430(seen) => warn_of_msp430(rt, seen),
+        Seen::Mcs51(seen) => warn_of_mcs51(rt, seen),
+    }
+}
+
+/// The range that an option says.
+fn range_said(words: &[String], name: &str) -> Option<(u16, u16)> {
+    let mut is_next = false;
+    for word in words {
+        let text = word.as_str();
+        if is_next {
+            return range_of(text.as_bytes());
+        }
+        if let Some(text) = text.strip_prefix(name) {
+            match text.strip_prefix("=") {
+                Some(range) => return range_of(range.as_bytes()),
+                None => is_next = text.is_empty(),
+            }
+        }
+    }
+    None
+}
+
+/// The RAM that the words say, and else the usual one, with its mirror.
+pub fn ram_of(words: &[String]) -> RamPlaces {
+    RamPlaces {
+        ram: range_said(words, "--ram").unwrap_or(USUAL_RAM),
+        mirror: range_said(words, "--mirror"),
+    }
+}
+
+/// A list for the text of a run, whose question is looked up where its script ends too early.
+pub fn kept_text(alloc: Global, words: &[String]) -> Option<Vec<u8>> {
+    if has_word(words, "run") {
+        Some(Vec::new(alloc))
     } else {
         None
     }
+}
+
+/// What looks at the lines of an answer to these words: at those of a report.
+pub fn watch_of(alloc: Global, words: &[String]) -> Option<Watch> {
+    if !has_word(words, "analyse") && !has_word(words, "check") {
+        return None;
+    }
+    if has_word(words, "mcs51") {
+        return Some(Watch::new(Seen::Mcs51(Mcs51Seen::new(alloc))));
+    }
+    Some(Watch::new(Seen::Msp430(Msp430Seen::new(alloc, ram_of(words)))))
 }
 
 /// Says what an input is that is no image text, or what is wrong with one of its lines.
 fn print_refusal<S: Source + Drop>(
     rt: &impl Eprint,
     status: Status,
+    words: &[String],
     first: &[u8],
     source: &NotedSource<S>,
 ) -> io::Result<()> {
@@ -234,9 +334,12 @@ fn print_refusal<S: Source + Drop>(
         return eprintln!(rt; "vsa: {sentence}");
     }
     if let Some((line, fault)) = named_line(first)
-        && let Some(sentence) = line_sentence_of(status, line, fault, source)
+        && let Some(sentence) = line_sentence_of(status, line, fault, words, source)
     {
-        return eprintln!(rt; "vsa: line {line} {sentence}");
+        return match line {
+            "0" => eprintln!(rt; "vsa: {sentence}"),
+            _ => eprintln!(rt; "vsa: line {line} {sentence}"),
+        };
     }
     print_sentence(rt, status)
 }
@@ -260,9 +363,11 @@ pub fn print_advice<R: Eprint, S: Source + Drop, K: Sink + Drop>(
 ) -> io::Result<()> {
     match status {
         Status::Usage => return print_slip(rt, alloc, words),
-        Status::NeedChoice => return print_need(rt, words, sink.last()),
+        Status::NeedChoice => {
+            return print_need(rt, alloc, words, sink.last(), source);
+        }
         Status::BadImage | Status::BadCert => {
-            return print_refusal(rt, status, sink.first(), source);
+            return print_refusal(rt, status, words, sink.first(), source);
         }
         _ => {}
     }

@@ -3,6 +3,9 @@
 
 mod advice;
 mod inputs;
+mod mcs51_warnings;
+mod msp430_warnings;
+mod need;
 mod noted;
 mod options;
 mod output;
@@ -13,7 +16,7 @@ mod tests;
 mod usage;
 mod warnings;
 
-use crate::advice::{print_advice, watch_of};
+use crate::advice::{kept_text, print_advice, watch_of};
 use crate::noted::Noted;
 use crate::output::Output;
 use crate::source::NotedSource;
@@ -39,7 +42,7 @@ fn main(rt: HostRuntime) -> ExitCode {
         return ExitCode::from(Status::Memory as u8);
     };
     let words = words.as_slice();
-    let mut source = NotedSource::new(StdinSource::new(&rt));
+    let mut source = NotedSource::new(StdinSource::new(&rt), kept_text(rt.alloc(), words));
     let mut sink = Noted::new(Output::new(&rt), watch_of(rt.alloc(), words));
     let outcome = vsa(&rt, rt.alloc(), words, &mut source, &mut sink, &NoGate);
     // Nobody is there to read what a closed pipe means. Where standard error fails, only the words are lost.

@@ -44,6 +44,19 @@ pub const NUMBERS: [Number; 5] = [
     },
 ];
 
+/// RAM, if the words don't say.
+pub const USUAL_RAM: (u16, u16) = (0x0200, 0x09FF);
+
+/// Whether a mode takes an option of another one: `assert` analyses too, and `check` asks what the analysis would do, by
+/// itself.
+pub fn takes_option(mode: &str, number: &Number) -> bool {
+    match mode {
+        "assert" => number.mode == "analyse",
+        "check" => number.mode == "analyse" && number.name != "workers",
+        _ => number.mode == mode,
+    }
+}
+
 /// The value of a hexadecimal digit in either case.
 fn digit_of(byte: u8) -> Option<u16> {
     match byte {
@@ -66,7 +79,7 @@ pub fn word_of(digits: &[u8]) -> Option<u16> {
     Some(number)
 }
 
-/// The first and the last address of a range of RAM, as `0200-09FF`.
+/// The first and the last address of a range where RAM or its mirror may stand, as `0200-09FF`.
 pub fn range_of(text: &[u8]) -> Option<(u16, u16)> {
     if text.len() != 9 || text[4] != b'-' {
         return None;
@@ -79,7 +92,7 @@ pub fn range_of(text: &[u8]) -> Option<(u16, u16)> {
     }
 }
 
-/// Whether a text is a range of RAM.
+/// Whether a text is a range where RAM may stand.
 pub fn is_range(text: &[u8]) -> bool {
     range_of(text).is_some()
 }

@@ -1,12 +1,12 @@
 //! What is wrong with the words of a command line that asks nothing.
 
-use crate::options::{NUMBERS, is_number_in, is_range};
+use crate::options::{NUMBERS, USUAL_RAM, is_number_in, is_range, range_of, takes_option};
 use clap::error::ErrorKind;
-use clap::{Arg, ArgMatches, Command, Error};
+use clap::{Arg, ArgAction, ArgMatches, Command, Error};
 use std::alloc::{AllocError, Global};
 
 /// The words of modes.
-const MODES: [&str; 4] = ["analyse", "disasm", "run", "gen"];
+const MODES: [&str; 6] = ["analyse", "assert", "check", "disasm", "run", "gen"];
 
 /// The words of chips.
 const CHIPS: [&str; 2] = ["msp430", "mcs51"];
@@ -37,11 +37,17 @@ fn with_places<'a>(alloc: Global) -> Result<Command<'a>, AllocError> {
 fn command<'a>(alloc: Global) -> Result<Command<'a>, AllocError> {
     with_places(alloc)?
         .arg(option(alloc, "ram", "LO-HI"))?
+        .arg(option(alloc, "mirror", "LO-HI"))?
         .arg(option(alloc, "calls", "N"))?
         .arg(option(alloc, "targets", "N"))?
         .arg(option(alloc, "workers", "N"))?
         .arg(option(alloc, "steps", "N"))?
-        .arg(option(alloc, "number", "N"))
+        .arg(option(alloc, "number", "N"))?
+        .arg(
+            Arg::new(alloc, "cert")
+                .long("cert")
+                .action(ArgAction::SetTrue),
+        )
 }
 
 /// What clap says of an error, without the lines that name the usage.
@@ -69,7 +75,6 @@ fn hint_of(word: &str) -> Option<&'static str> {
         "msp430x" | "msp430X" | "MSP430X" => {
             Some("the MSP430X isn't covered; a compiler makes code of the MSP430 by -mcpu=msp430.")
         }
-        "check" | "--cert" => Some("certificates aren't built yet (docs/ROADMAP.md)."),
         "--version" | "-V" => Some("./vsa --version tells the version."),
         _ => None,
     }
@@ -104,7 +109,7 @@ fn wrong_place(alloc: Global, matches: &ArgMatches<'_>) -> Result<Option<String>
     let mode = matches.get_str("mode").unwrap_or("");
     if !MODES.iter().any(|own| *own == mode) {
         return Ok(Some(format!(in alloc;
-            "there is no mode '{mode}': it is analyse, disasm, run or gen"
+            "there is no mode '{mode}': it is analyse, assert, check, disasm, run or gen"
         )?));
     }
     let chip = matches.get_str("chip").unwrap_or("");
@@ -114,14 +119,26 @@ fn wrong_place(alloc: Global, matches: &ArgMatches<'_>) -> Result<Option<String>
     Ok(None)
 }
 
+/// What is wrong with the text of an option with a range.
+fn wrong_range(
+    alloc: Global,
+    matches: &ArgMatches<'_>,
+    name: &str,
+) -> Result<Option<String>, AllocError> {
+    match matches.get_str(name) {
+        Some(text) if !is_range(text.as_bytes()) => Ok(Some(format!(in alloc;
+            "'{text}' is no range for --{name}: two addresses of four hexadecimal digits, as 0200-03FF, of which the first is even and at least 0200, and the second odd and greater"
+        )?)),
+        _ => Ok(None),
+    }
+}
+
 /// What is wrong with an option's text.
 fn wrong_text(alloc: Global, matches: &ArgMatches<'_>) -> Result<Option<String>, AllocError> {
-    if let Some(text) = matches.get_str("ram")
-        && !is_range(text.as_bytes())
-    {
-        return Ok(Some(format!(in alloc;
-            "'{text}' is no range for --ram: two addresses of four hexadecimal digits, as 0200-03FF, of which the first is even and at least 0200, and the second odd and greater"
-        )?));
+    for name in ["ram", "mirror"] {
+        if let Some(text) = wrong_range(alloc, matches, name)? {
+            return Ok(Some(text));
+        }
     }
     for number in NUMBERS.iter() {
         if let Some(text) = matches.get_str(number.name)
@@ -144,7 +161,7 @@ fn foreign_number(
 ) -> Result<Option<String>, AllocError> {
     for number in NUMBERS.iter() {
         let (name, own) = (number.name, number.mode);
-        if matches.get_str(name).is_some() && own != mode {
+        if matches.get_str(name).is_some() && !takes_option(mode, number) {
             return Ok(Some(format!(in alloc;
                 "--{name} is an option of {own}, and {mode} doesn't take it"
             )?));
@@ -159,14 +176,42 @@ fn wrong_option(alloc: Global, matches: &ArgMatches<'_>) -> Result<String, Alloc
     if let Some(text) = foreign_number(alloc, matches, mode)? {
         return Ok(text);
     }
-    let sentence = if matches.get_str("ram").is_none() {
-        "gen needs --number N, the number of functions, 1 to 2000"
-    } else if mode == "gen" {
-        "gen doesn't take --ram: a made program has the usual RAM"
-    } else {
+    if matches.get_flag("cert") && mode != "analyse" {
+        return format!(in alloc; "--cert is an option of analyse, and {mode} doesn't take it");
+    }
+    String::from_str(alloc, wrong_memory(matches, mode))
+}
+
+/// What is wrong with RAM and its mirror, or else that gen lacks its number.
+fn wrong_memory(matches: &ArgMatches<'_>, mode: &str) -> &'static str {
+    let (ram, mirror) = (matches.get_str("ram"), matches.get_str("mirror"));
+    if mode == "gen" {
+        return match (ram, mirror) {
+            (None, None) => "gen needs --number N, the number of functions, 1 to 2000",
+            (Some(_), _) => "gen doesn't take --ram: a made program has the usual RAM",
+            (None, Some(_)) => "gen doesn't take --mirror: a made program has the usual RAM",
+        };
+    }
+    if matches.get_str("chip").unwrap_or("") == "msp430" {
+        return wrong_mirror(ram, mirror);
+    }
+    if ram.is_some() {
         "--ram is an option of msp430, and mcs51 doesn't take it"
-    };
-    String::from_str(alloc, sentence)
+    } else {
+        "--mirror is an option of msp430, and mcs51 doesn't take it"
+    }
+}
+
+/// Why RAM may not have a mirror.
+fn wrong_mirror(ram: Option<&str>, mirror: Option<&str>) -> &'static str {
+    let ram = ram.and_then(|text| range_of(text.as_bytes()));
+    let mirror = mirror.and_then(|text| range_of(text.as_bytes()));
+    match (ram.unwrap_or(USUAL_RAM), mirror) {
+        ((lo, hi), Some((first, last))) if first <= hi && lo <= last => {
+            "--mirror names an address of RAM. Without --ram LO-HI RAM is 0200-09FF"
+        }
+        _ => "--mirror is longer than RAM. Without --ram LO-HI RAM is 0200-09FF",
+    }
 }
 
 /// What the words ask, or what is wrong with them, where they are no valid command line.

@@ -10,6 +10,9 @@ const ROOM: usize = 64;
 /// How many bytes of the last piece are remembered.
 const PIECE: usize = 4096;
 
+/// How many bytes of a whole text are kept at most, and one piece.
+const KEPT: usize = 16_777_216;
+
 /// How many bytes of a line tell its address and its type: a colon, and four bytes by two digits each.
 const HEAD: usize = 9;
 
@@ -23,6 +26,10 @@ struct Place {
     len: usize,
     /// Whether an earlier line moves the addresses of those behind it.
     is_moved: bool,
+    /// Whether the line is behind the end record, in a script.
+    is_script: bool,
+    /// How many lines of the script in front of it have a number.
+    numbers: usize,
 }
 
 impl Place {
@@ -33,6 +40,8 @@ impl Place {
             head: [0; HEAD],
             len: 0,
             is_moved: false,
+            is_script: false,
+            numbers: 0,
         }
     }
 
@@ -41,10 +50,19 @@ impl Place {
         &self.head[..self.len.min(HEAD)]
     }
 
+    /// Whether the line is one of a script, and not blank as far as it is known.
+    fn has_number(&self) -> bool {
+        self.is_script && self.head().iter().any(|byte| !byte.is_ascii_whitespace())
+    }
+
     /// Goes behind a byte.
     fn pass(&mut self, byte: u8) {
         if byte == b'\n' {
+            if self.has_number() {
+                self.numbers = self.numbers.saturating_add(1);
+            }
             self.is_moved = self.is_moved || moves(self.head());
+            self.is_script = self.is_script || ends(self.head());
             self.line = self.line.saturating_add(1);
             self.len = 0;
         } else if self.len < HEAD {
@@ -59,6 +77,11 @@ fn moves(head: &[u8]) -> bool {
     head.ends_with(b"02") || head.ends_with(b"04")
 }
 
+/// Whether a line of this beginning ends an image text, by its record type.
+fn ends(head: &[u8]) -> bool {
+    matches!(head, [b':', .., b'0', b'1']) && head.len() == HEAD
+}
+
 /// A source that passes its bytes on, and remembers the first of them and the last piece.
 #[derive(Drop)]
 pub struct NotedSource<S: Source + Drop> {
@@ -67,22 +90,39 @@ pub struct NotedSource<S: Source + Drop> {
     /// Where the last piece begins.
     place: Place,
     piece: ArrayVec<u8, PIECE>,
+    /// The whole text, where it is kept.
+    text: Option<Vec<u8>>,
 }
 
 impl<S: Source + Drop> NotedSource<S> {
-    /// A source over another one.
-    pub fn new(source: S) -> NotedSource<S> {
+    /// A source over another one. Its text is kept where there is a list for it.
+    pub fn new(source: S, text: Option<Vec<u8>>) -> NotedSource<S> {
         NotedSource {
             source,
             first: ArrayVec::new(),
             place: Place::start(),
             piece: ArrayVec::new(),
+            text,
+        }
+    }
+
+    /// The whole text that was read, where it was kept and isn't too long.
+    pub fn text(&self) -> Option<&[u8]> {
+        match &self.text {
+            Some(text) => Some(text.as_slice()),
+            None => None,
         }
     }
 
     /// The first bytes of the text.
     pub fn first(&self) -> &[u8] {
         self.first.as_slice()
+    }
+
+    /// How many numbers the script has of which a line was read.
+    pub fn numbers(&self) -> usize {
+        let end = behind(self.place, self.piece.as_slice());
+        end.numbers.saturating_add(usize::from(end.has_number()))
     }
 
     /// The address of the record in a line, where the last piece has the line's end, and no line in front of it moves the
@@ -136,6 +176,17 @@ fn note(place: &mut Place, kept: &mut ArrayVec<u8, PIECE>, piece: &[u8]) {
     fill(kept, piece);
 }
 
+/// Keeps a piece of a text, or none of the text any more.
+fn keep(kept: &mut Option<Vec<u8>>, piece: &[u8]) {
+    let is_lost = match kept {
+        Some(text) => text.len() > KEPT || text.extend_from_slice(piece).is_err(),
+        None => false,
+    };
+    if is_lost {
+        *kept = None;
+    }
+}
+
 impl<S: Source + Drop> Source for NotedSource<S> {
     ghost left = { λ s. S.left s.source };
 
@@ -145,6 +196,7 @@ impl<S: Source + Drop> Source for NotedSource<S> {
         let count = self.source.read(buffer)?;
         fill(&mut self.first, &buffer[..count]);
         note(&mut self.place, &mut self.piece, &buffer[..count]);
+        keep(&mut self.text, &buffer[..count]);
         Ok(count)
     }
 }

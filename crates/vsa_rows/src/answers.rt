@@ -12,7 +12,7 @@ use vsa_io::{CleanSink, CleanSource, MemSource};
 use vsa_top::{NoGate, Status, vsa};
 
 /// The words of a command line.
-fn words_of(alloc: Global, line: &str) -> Result<Vec<String>, AllocError> {
+pub(crate) fn words_of(alloc: Global, line: &str) -> Result<Vec<String>, AllocError> {
     let mut words = Vec::new(alloc);
     for word in line.split_whitespace() {
         words.push(String::from_str(alloc, word)?)?;
@@ -74,7 +74,7 @@ pub(crate) fn begins<R: Abort + Threads + Wait + AllocGlobal + Sync>(
 
 pub(crate) const EIGHT_BYTES: &str = ":06F0000031408002FF3FD9\n:02FFFE0000F011\n:00000001FF\n";
 
-const REPORT: &str =
+pub(crate) const REPORT: &str =
     "CLOSED\nE F000 F004\nE F004 F004\nI F000 31408002 MOV #0280h,SP\nI F004 FF3F JMP F004h\nS F000 0000/2/8000\nS F004 0280\nT 0280 1\n";
 
 #[test]
@@ -347,7 +347,8 @@ fn rows_of_other_words(rt: HostRuntime) -> Result<(), Fail> {
         "disasm mcs51 --ram 0200-09FF",
         "analyse z80",
         "msp430 analyse",
-        "analyse msp430 --cert",
+        "analyse msp430 --cert=",
+        "analyse msp430 --cert --cert",
         "analyse msp430 --ram",
         "analyse msp430 --ram 0201-09FF",
         "analyse msp430 --ram 0200-09FE",

@@ -1,6 +1,6 @@
 -- An answer that tells a closed report covers every run, and one that tells an open one shows its open sites. An image
 -- gets what is asked of it.
-use Rattle.std.proofs.Common.{arith, ◌≡◌, ◌++◌, ◌-◌, ◌≤◌, ℕ, take, Bool, true, false, Option, None, Some, List, [], refl, sym, ap, subst, ◌∙◌, inl, inr}
+use Rattle.std.proofs.Common.{arith, ◌≡◌, ◌++◌, ◌-◌, ◌≤◌, ℕ, take, Bool, true, false, Option, None, Some, List, [], ◌∷◌, refl, sym, ap, subst, ◌∙◌, inl, inr}
 use Rattle.std.specs.Prelude.{◌⊎◌, IfSome, length}
 use Rattle.std.proofs.lemmas.List.{append-nil, take_all}
 use Rattle.std.proofs.lemmas.Option.{same_Some}
@@ -35,33 +35,46 @@ use Rattle.report_text.specs.Promise.{CoversEveryRun, ShowsOpenSites}
 use Rattle.report_text.specs.Report.{are_closed, last_works, report_of_journal}
 use Rattle.vsa_top.specs.declared.outcome.Status.{Status}
 use Rattle.vsa_top.specs.declared.outcome.Status.TheVariants.{Done, Open, ReadFault, WriteFault, Memory}
-use Rattle.vsa_top.specs.Answer.{Analyses, Answers, Ends, IsAnalysed, IsAnalysedBy, IsAnalysedOn, IsImageReply, IsReply, IsRun, TellsNoFault, run_under, status_of_analysis, status_of_end}
-use Rattle.vsa_top.specs.Answer.Analyses.{of_input, of_made}
+use Rattle.vsa_top.specs.Answer.{Analyses, Answers, Ends, IsAnalysed, IsAnalysedOn, IsAsserted, IsFollowed, IsReportedOn, IsChecked, IsCheckedOn, IsDecided, IsDecidedOn, IsImageReply, IsReply, IsRun, IsJudged, TellsNoFault, run_under, status_of_analysis, status_of_end, status_of_verdict}
+use Rattle.vsa_top.specs.Answer.Analyses.{of_input, of_asserted, of_made}
 use Rattle.vsa_top.specs.Answer.Answers.{replied, unreplied}
 use Rattle.vsa_top.specs.Answer.Ends.{closed, left_open, disassembled, ran_on, went_wild, lacked_a_choice, refused_script, script_too_long, summed, summed_open}
+use Rattle.vsa_top.specs.Answer.Ends.{kept_all, broke, open_under_assertions, refused_assertions, assertions_too_long}
+use Rattle.vsa_top.specs.Answer.Ends.{certified, refused_certificate, certificate_too_long}
+use Rattle.vsa_top.specs.Answer.IsChecked.{judged, lengthy}
+use Rattle.vsa_top.specs.Answer.IsAsserted.{asserted, unread, overlong}
+use Rattle.vsa_top.specs.Answer.IsDecided.{reported, decided}
 use Rattle.vsa_top.specs.Answer.IsReply.{of_image, of_bad, of_long}
 use Rattle.vsa_top.specs.Answer.IsRun.{ran, refused, longer}
 use Rattle.vsa_top.specs.Answer.IsWritten.{whole, cut}
-use Rattle.vsa_top.specs.Headline.{CoversRunsOf, ReportsOn, ShowsSitesOf}
+use Rattle.cert_verdict.specs.Verdict.{IsVerdict}
+use Rattle.mcs51_flow.specs.Texts.{mcs51_texts}
+use Rattle.msp430_flow.specs.Texts.{msp430_texts}
+use Rattle.state_text.specs.Texts.{StateTexts}
+use Rattle.assert_check.specs.Holding.{Holds}
+use Rattle.assert_check.specs.declared.assertion.Assertion.{Assertion}
+use Rattle.assert_check.specs.declared.deciding.Broken.{Broken}
+use Rattle.vsa_top.specs.Asserted.{AreAsserted, HoldOn, broken_in, spaces_of, status_of_broken}
+use Rattle.vsa_top.specs.Headline.{CertifiesOn, CoversRunsOf, HoldsOf, ReportsOn, ShowsSitesOf}
 use Rattle.vsa_top.specs.Input.{text_limit, front_of, input_of, tail_of, AreTexts, Gives, InputGives, IsBad, IsTooLong, IsImageOf}
 use Rattle.image.specs.declared.chip_name.ChipName.{ChipName}
 use Rattle.image.specs.declared.chip_name.ChipName.TheVariants as chip
 use Rattle.vsa_top.specs.declared.words.Ram.{Ram}
 use Rattle.vsa_top.specs.declared.words.Reading.{Reading}
-use Rattle.vsa_top.specs.declared.words.Reading.TheVariants.{Analyse, Disasm, Run, Gen}
+use Rattle.vsa_top.specs.declared.words.Reading.TheVariants.{Analyse, Assert, Check, Disasm, Run, Gen}
 use Rattle.vsa_top.specs.declared.words.Target.{Target}
 use Rattle.vsa_top.specs.declared.words.Target.TheVariants.{Msp430, Mcs51}
 use Rattle.vsa_top.specs.declared.words.Task.{Task}
-use Rattle.vsa_top.specs.Words.{EndsInMemory, IsBounded, mcs51_setting, msp430_setting, rules_of, target_rules, usual_task}
+use Rattle.vsa_top.specs.Words.{EndsInMemory, IsBounded, device_of, mcs51_setting, msp430_setting, rules_of, target_rules, usual_task}
 use Rattle.vsa_top.proofs.InputLemmas.{front_goes_on}
 
 -- the reply that an answer gives whole
-record GivesReply (reading : Reading) (answered : Status) (input before after : Option (List ℕ)) (journal : List Event) : Type 0 where
+pub record GivesReply (reading : Reading) (answered : Status) (input before after : Option (List ℕ)) (journal : List Event) : Type 0 where
   pub text : List ℕ
   pub reply : IsReply reading (input_of reading input) answered text journal
   pub held : after ≡ appended before text
 
-gives_reply : (reading : Reading) (answered : Status) (input before after : Option (List ℕ)) (journal : List Event)
+pub gives_reply : (reading : Reading) (answered : Status) (input before after : Option (List ℕ)) (journal : List Event)
     → Answers reading answered input before after journal → TellsNoFault answered → (answered ≡ Memory → ⊥) → GivesReply reading answered input before after journal
 gives_reply reading answered input before after journal (replied reply text is (whole same held)) quiet room = record {
   text = text;
@@ -91,7 +104,8 @@ CoverRuns {B} program machine analysis = (base : B) (text_of : ℕ → List ℕ 
 -- the open reports of a chip's programs show their open sites
 abbrev ShowSites : {B A : Type 0} → (B → Type 0) → (B → Analysis A) → Type 0
 ShowSites {B} program analysis = (base : B) (text_of : ℕ → List ℕ → List ℕ) (journal : List Event) → program base
-    → IsLegalJournal (analysis base) journal → are_closed (last_works (analysis base) journal) ≡ false
+    → IsLegalJournal (analysis base) journal → IsFinished (replay (analysis base) journal)
+    → are_closed (last_works (analysis base) journal) ≡ false
     → ShowsOpenSites (analysis base) journal (report_of_journal text_of (analysis base) journal)
 
 covers_of : {B S A : Type 0} (program : B → Type 0) (machine : B → Machine S) (analysis : B → Analysis A) → CoverRuns program machine analysis
@@ -107,7 +121,8 @@ shows_of : {B A : Type 0} (program : B → Type 0) (analysis : B → Analysis A)
     → IsAnalysed text_of (analysis base) workers Open report journal → ShowsOpenSites (analysis base) journal report
 shows_of program analysis shows base text_of workers report journal is_program is =
     let left = open_is (are_closed (last_works (analysis base) journal)) is.status_is in
-    subst (ShowsOpenSites (analysis base) journal) (sym is.text_is) (shows base text_of journal is_program is.is_analysis.legal left)
+    subst (ShowsOpenSites (analysis base) journal) (sym is.text_is)
+    (shows base text_of journal is_program is.is_analysis.legal is.is_analysis.finished left)
 
 -- what is known of the reports of both chips
 abbrev CoverMsp430 : Type 0
@@ -126,7 +141,7 @@ ShowMcs51 = ShowSites IsMcs51Program mcs51_analysis
 abbrev HaveRules : Type 0
 HaveRules = (rules : Rules) (tail : Tail) (lines : List (List ℕ)) (image : List (Option ℕ)) → Denotes rules tail lines image → IsReadUnder rules image
 
-abbrev HaveOneImage : Type 0
+abbrev pub HaveOneImage : Type 0
 HaveOneImage = (rules : Rules) (tail : Tail) (lines : List (List ℕ)) (image other : List (Option ℕ))
     → Denotes rules tail lines image → Denotes rules tail lines other → image ≡ other
 
@@ -173,15 +188,42 @@ shows_image msp430 mcs51 (Msp430 ram) limits workers image report journal given 
 shows_image msp430 mcs51 Mcs51 limits workers image report journal given is =
     shows_of IsMcs51Program mcs51_analysis mcs51 (mcs51_setting limits image) mcs51_text workers report journal (is_mcs51 limits image given) is
 
+-- THE REPORT IN FRONT
+
+-- what was written of an analysis begins with its report
+record HasReport (target : Target) (limits : Limits) (workers : ℕ) (cert : Bool) (image : List (Option ℕ)) (answered : Status) (text : List ℕ)
+    (journal : List Event) : Type 0 where
+  pub report : List ℕ
+  pub analysed : IsAnalysedOn target limits workers image answered report journal
+  pub behind : List ℕ
+  pub alone : cert ≡ false → behind ≡ []
+  pub joined : text ≡ report ++ behind
+
+behind_of : {A : Type 0} (analysis : Analysis A) (texts : StateTexts A) (cert : Bool) (journal : List Event) (report text : List ℕ)
+    → IsFollowed analysis texts cert journal report text → (behind : List ℕ) × (cert ≡ false → behind ≡ []) × (text ≡ report ++ behind)
+behind_of analysis texts false journal report text is = ([], (λ e. refl), is ∙ sym (append-nil report))
+behind_of analysis texts true journal report text is = (is.0, (λ e. absurd (cc e)), is.2)
+
+has_report : (target : Target) (limits : Limits) (workers : ℕ) (cert : Bool) (image : List (Option ℕ)) (answered : Status) (text : List ℕ)
+    (journal : List Event) → IsReportedOn target limits workers cert image answered text journal → HasReport target limits workers cert image answered text journal
+has_report (Msp430 ram) limits workers cert image answered text journal is =
+    let b = behind_of (msp430_analysis (msp430_setting ram limits image)) (msp430_texts (device_of ram image)) cert journal is.report text is.followed in
+    record { report = is.report; analysed = is.analysed; behind = b.0; alone = b.1; joined = b.2 }
+has_report Mcs51 limits workers cert image answered text journal is =
+    let b = behind_of (mcs51_analysis (mcs51_setting limits image)) mcs51_texts cert journal is.report text is.followed in
+    record { report = is.report; analysed = is.analysed; behind = b.0; alone = b.1; joined = b.2 }
+
 -- the analysis of the image that the text denotes
-analysed : HaveOneImage → (task : Task) (input second : Option (List ℕ)) (answered : Status) (report : List ℕ) (journal : List Event) (text : List ℕ)
+analysed : HaveOneImage → (task : Task) (input second : Option (List ℕ)) (answered : Status) (written : List ℕ) (journal : List Event) (text : List ℕ)
     (image other : List (Option ℕ)) → InputGives (target_rules task.target) Blank input second other
-    → IsAnalysedBy task other answered report journal
-    → input ≡ Some text → Denotes (target_rules task.target) Blank (texts.lines_of text) image → IsAnalysedBy task image answered report journal
-analysed one task input second answered report journal text image other gives reply e denoted =
+    → IsReportedOn task.target task.limits task.workers task.cert other answered written journal
+    → input ≡ Some text → Denotes (target_rules task.target) Blank (texts.lines_of text) image
+    → HasReport task.target task.limits task.workers task.cert image answered written journal
+analysed one task input second answered written journal text image other gives reply e denoted =
     let rules = target_rules task.target in
-    subst (λ i. IsAnalysedBy task i answered report journal)
-    (same_image one rules input text image other e denoted (gives_image rules input second other gives)) reply
+    has_report task.target task.limits task.workers task.cert image answered written journal
+    (subst (λ i. IsReportedOn task.target task.limits task.workers task.cert i answered written journal)
+    (same_image one rules input text image other e denoted (gives_image rules input second other gives)) reply)
 
 -- an image that was read is given
 given_image : HaveRules → (task : Task) (text : List ℕ) (image : List (Option ℕ)) → IsRamRange (target_rules task.target)
@@ -191,23 +233,25 @@ given_image rules task text image range end few denoted =
     record { read = rules (target_rules task.target) Blank (texts.lines_of text) image denoted; ram = range; top = end; calls = few.0 }
 
 closed_reply : CoverMsp430 → CoverMcs51 → HaveRules → HaveOneImage → (task : Task) → IsRamRange (target_rules task.target)
-    → EndsInMemory (target_rules task.target) → IsBounded (Analyse task) → (input : Option (List ℕ)) (report : List ℕ) (journal : List Event)
-    → IsReply (Analyse task) input Done report journal → (text : List ℕ) (image : List (Option ℕ)) → input ≡ Some text
-    → Denotes (target_rules task.target) Blank (texts.lines_of text) image → CoversRunsOf task.target image report
-closed_reply msp430 mcs51 rules one task range end few input report journal (of_image other second gives reply) text image e denoted =
-    covers_image msp430 mcs51 task.target task.limits task.workers image report journal (given_image rules task text image range end few denoted)
-    (analysed one task input second Done report journal text image other gives reply e denoted)
-closed_reply msp430 mcs51 rules one task range end few input report journal (of_bad line fault bad is line_is none) text image e denoted = absurd (cc)
-closed_reply msp430 mcs51 rules one task range end few input report journal (of_long long is line_is none) text image e denoted = absurd (cc)
+    → EndsInMemory (target_rules task.target) → IsBounded (Analyse task) → (input : Option (List ℕ)) (written : List ℕ) (journal : List Event)
+    → IsReply (Analyse task) input Done written journal → (text : List ℕ) (image : List (Option ℕ)) → input ≡ Some text
+    → Denotes (target_rules task.target) Blank (texts.lines_of text) image
+    → (is : HasReport task.target task.limits task.workers task.cert image Done written journal) × CoversRunsOf task.target image is.report
+closed_reply msp430 mcs51 rules one task range end few input written journal (of_image other second gives reply) text image e denoted =
+    let is = analysed one task input second Done written journal text image other gives reply e denoted in
+    (is, covers_image msp430 mcs51 task.target task.limits task.workers image is.report journal (given_image rules task text image range end few denoted) is.analysed)
+closed_reply msp430 mcs51 rules one task range end few input written journal (of_bad line fault bad is line_is none) text image e denoted = absurd (cc)
+closed_reply msp430 mcs51 rules one task range end few input written journal (of_long long is line_is none) text image e denoted = absurd (cc)
 
 pub closed_lem : CoverMsp430 → CoverMcs51 → HaveRules → HaveOneImage → (task : Task) (input before after : Option (List ℕ)) (journal : List Event)
     → IsRamRange (target_rules task.target) → EndsInMemory (target_rules task.target) → IsBounded (Analyse task)
-    → Answers (Analyse task) Done input before after journal → ReportsOn task.target input before after (CoversRunsOf task.target)
+    → Answers (Analyse task) Done input before after journal → ReportsOn task input before after (CoversRunsOf task.target)
 closed_lem msp430 mcs51 rules one task input before after journal range end few answers text image e denoted =
-    let given = gives_reply (Analyse task) Done input before after journal answers ((λ f. cc f), (λ f. cc f)) (λ f. cc f) in (
-      given.text,
-      given.held,
-      closed_reply msp430 mcs51 rules one task range end few input given.text journal given.reply text image e denoted,
+    let given = gives_reply (Analyse task) Done input before after journal answers ((λ f. cc f), (λ f. cc f)) (λ f. cc f) in
+    let told = closed_reply msp430 mcs51 rules one task range end few input given.text journal given.reply text image e denoted in (
+      told.0.report,
+      record { behind = told.0.behind; alone = told.0.alone; held = given.held ∙ ap (appended before) told.0.joined },
+      told.1,
     )
 
 end_ends : (target : Target) (steps : ℕ) (end : End) → Ends (Run target steps) (status_of_end end)
@@ -231,6 +275,48 @@ analysed_status (Msp430 ram) limits workers image answered report journal is =
 analysed_status Mcs51 limits workers image answered report journal is =
     (are_closed (last_works (mcs51_analysis (mcs51_setting limits image)) journal), sym is.status_is)
 
+-- the statuses of what is answered to assertions
+decision_ends : (task : Task) (broken : List Broken) → Ends (Assert task) (status_of_broken broken)
+decision_ends task [] = kept_all task
+decision_ends task (b ∷ broken) = broke task
+
+decided_ends : {A : Type 0} (text_of : ℕ → List ℕ → List ℕ) (analysis : Analysis A) (task : Task) (workers : ℕ) (list : List (ℕ × Assertion)) (answered : Status)
+    (text : List ℕ) (journal : List Event) → IsDecided text_of analysis workers list answered text journal → Ends (Assert task) answered
+decided_ends text_of analysis task workers list answered text journal (reported is left told text_is) =
+    subst (Ends (Assert task)) (sym told) (open_under_assertions task)
+decided_ends text_of analysis task workers list answered text journal (decided is none told text_is) =
+    subst (Ends (Assert task)) (sym told) (decision_ends task (broken_in text_of analysis list journal))
+
+decided_on_ends : (task : Task) (target : Target) (image : List (Option ℕ)) (list : List (ℕ × Assertion)) (answered : Status) (text : List ℕ)
+    (journal : List Event) → IsDecidedOn target task.limits task.workers image list answered text journal → Ends (Assert task) answered
+decided_on_ends task (Msp430 ram) image list answered text journal is =
+    decided_ends msp430_text (msp430_analysis (msp430_setting ram task.limits image)) task task.workers list answered text journal is
+decided_on_ends task Mcs51 image list answered text journal is =
+    decided_ends mcs51_text (mcs51_analysis (mcs51_setting task.limits image)) task task.workers list answered text journal is
+
+asserted_ends : (task : Task) (image : List (Option ℕ)) (second : Option (List ℕ)) (answered : Status) (text : List ℕ) (journal : List Event)
+    → IsAsserted task image second answered text journal → Ends (Assert task) answered
+asserted_ends task image second answered text journal (asserted list read is) = decided_on_ends task task.target image list answered text journal is
+asserted_ends task image second answered text journal (unread line is told line_is none) = subst (Ends (Assert task)) (sym told) (refused_assertions task)
+asserted_ends task image second answered text journal (overlong is told line_is none) = subst (Ends (Assert task)) (sym told) (assertions_too_long task)
+
+verdict_ends : (task : Task) (is_closed : Bool) → Ends (Check task) (status_of_verdict is_closed)
+verdict_ends task true = certified task
+verdict_ends task false = refused_certificate task
+
+checked_ends : {A : Type 0} (text_of : ℕ → List ℕ → List ℕ) (analysis : Analysis A) (texts : StateTexts A) (task : Task) (second : Option (List ℕ))
+    (answered : Status) (text : List ℕ) → IsChecked text_of analysis texts second answered text → Ends (Check task) answered
+checked_ends text_of analysis texts task second answered text (judged is_closed is told) = subst (Ends (Check task)) (sym told) (verdict_ends task is_closed)
+checked_ends text_of analysis texts task second answered text (lengthy is told line_is) =
+    subst (Ends (Check task)) (sym told) (certificate_too_long task)
+
+checked_on_ends : (task : Task) (target : Target) (image : List (Option ℕ)) (second : Option (List ℕ)) (answered : Status) (text : List ℕ)
+    → IsCheckedOn target task.limits image second answered text → Ends (Check task) answered
+checked_on_ends task (Msp430 ram) image second answered text is =
+    checked_ends msp430_text (msp430_analysis (msp430_setting ram task.limits image)) (msp430_texts (device_of ram image)) task second answered text is
+checked_on_ends task Mcs51 image second answered text is =
+    checked_ends mcs51_text (mcs51_analysis (mcs51_setting task.limits image)) mcs51_texts task second answered text is
+
 run_reply_ends : (target : Target) (steps : ℕ) (run : List ℕ → Ended) (second : Option (List ℕ)) (answered : Status) (text : List ℕ)
     → IsRun run second answered text → Ends (Run target steps) answered
 run_reply_ends target steps run second answered text (ran script is told text_is) =
@@ -241,8 +327,11 @@ run_reply_ends target steps run second answered text (longer is told line_is) = 
 image_reply_ends : (reading : Reading) (image : List (Option ℕ)) (second : Option (List ℕ)) (answered : Status) (text : List ℕ) (journal : List Event)
     → IsImageReply reading image second answered text journal → Ends reading answered
 image_reply_ends (Analyse task) image second answered text journal is =
-    let status = analysed_status task.target task.limits task.workers image answered text journal is in
+    let told = has_report task.target task.limits task.workers task.cert image answered text journal is in
+    let status = analysed_status task.target task.limits task.workers image answered told.report journal told.analysed in
     subst (Ends (Analyse task)) status.1 (analysis_ends task status.0)
+image_reply_ends (Assert task) image second answered text journal is = asserted_ends task image second answered text journal is
+image_reply_ends (Check task) image second answered text journal is = checked_on_ends task task.target image second answered text is.0
 image_reply_ends (Disasm target) image second answered text journal is = subst (Ends (Disasm target)) (sym is.0) (disassembled target)
 image_reply_ends (Run target steps) image second answered text journal is =
     run_reply_ends target steps (run_under target steps image) second answered text is.0
@@ -261,6 +350,14 @@ analyses_open reading answered (went_wild target steps) e = absurd (cc)
 analyses_open reading answered (lacked_a_choice target steps) e = absurd (cc)
 analyses_open reading answered (refused_script target steps) e = absurd (cc)
 analyses_open reading answered (script_too_long target steps) e = absurd (cc)
+analyses_open reading answered (kept_all task) e = absurd (cc)
+analyses_open reading answered (open_under_assertions task) e = of_asserted task
+analyses_open reading answered (broke task) e = absurd (cc)
+analyses_open reading answered (refused_assertions task) e = absurd (cc)
+analyses_open reading answered (assertions_too_long task) e = absurd (cc)
+analyses_open reading answered (certified task) e = absurd (cc)
+analyses_open reading answered (refused_certificate task) e = absurd (cc)
+analyses_open reading answered (certificate_too_long task) e = absurd (cc)
 analyses_open reading answered (summed chip number) e = of_made chip number
 analyses_open reading answered (summed_open chip number) e = of_made chip number
 
@@ -277,35 +374,190 @@ open_alone_lem reading input before after journal answers =
     open_reply_analyses reading (input_of reading input) given.text journal given.reply
 
 open_reply : ShowMsp430 → ShowMcs51 → HaveRules → HaveOneImage → (task : Task) → IsRamRange (target_rules task.target)
-    → EndsInMemory (target_rules task.target) → IsBounded (Analyse task) → (input : Option (List ℕ)) (report : List ℕ) (journal : List Event)
-    → IsReply (Analyse task) input Open report journal → (text : List ℕ) (image : List (Option ℕ)) → input ≡ Some text
-    → Denotes (target_rules task.target) Blank (texts.lines_of text) image → ShowsSitesOf task.target task.limits image journal report
-open_reply msp430 mcs51 rules one task range end few input report journal (of_image other second gives reply) text image e denoted =
-    shows_image msp430 mcs51 task.target task.limits task.workers image report journal (given_image rules task text image range end few denoted)
-    (analysed one task input second Open report journal text image other gives reply e denoted)
-open_reply msp430 mcs51 rules one task range end few input report journal (of_bad line fault bad is line_is none) text image e denoted = absurd (cc)
-open_reply msp430 mcs51 rules one task range end few input report journal (of_long long is line_is none) text image e denoted = absurd (cc)
+    → EndsInMemory (target_rules task.target) → IsBounded (Analyse task) → (input : Option (List ℕ)) (written : List ℕ) (journal : List Event)
+    → IsReply (Analyse task) input Open written journal → (text : List ℕ) (image : List (Option ℕ)) → input ≡ Some text
+    → Denotes (target_rules task.target) Blank (texts.lines_of text) image
+    → (is : HasReport task.target task.limits task.workers task.cert image Open written journal) × ShowsSitesOf task.target task.limits image journal is.report
+open_reply msp430 mcs51 rules one task range end few input written journal (of_image other second gives reply) text image e denoted =
+    let is = analysed one task input second Open written journal text image other gives reply e denoted in
+    (is, shows_image msp430 mcs51 task.target task.limits task.workers image is.report journal (given_image rules task text image range end few denoted) is.analysed)
+open_reply msp430 mcs51 rules one task range end few input written journal (of_bad line fault bad is line_is none) text image e denoted = absurd (cc)
+open_reply msp430 mcs51 rules one task range end few input written journal (of_long long is line_is none) text image e denoted = absurd (cc)
 
 pub open_lem : ShowMsp430 → ShowMcs51 → HaveRules → HaveOneImage → (task : Task) (input before after : Option (List ℕ)) (journal : List Event)
     → IsRamRange (target_rules task.target) → EndsInMemory (target_rules task.target) → IsBounded (Analyse task)
-    → Answers (Analyse task) Open input before after journal
-    → ReportsOn task.target input before after (λ image report. ShowsSitesOf task.target task.limits image journal report)
+    → Answers (Analyse task) Open input before after journal → ReportsOn task input before after (λ image report. ShowsSitesOf task.target task.limits image journal report)
 open_lem msp430 mcs51 rules one task input before after journal range end few answers text image e denoted =
-    let given = gives_reply (Analyse task) Open input before after journal answers ((λ f. cc f), (λ f. cc f)) (λ f. cc f) in (
-      given.text,
-      given.held,
-      open_reply msp430 mcs51 rules one task range end few input given.text journal given.reply text image e denoted,
+    let given = gives_reply (Analyse task) Open input before after journal answers ((λ f. cc f), (λ f. cc f)) (λ f. cc f) in
+    let told = open_reply msp430 mcs51 rules one task range end few input given.text journal given.reply text image e denoted in (
+      told.0.report,
+      record { behind = told.0.behind; alone = told.0.alone; held = given.held ∙ ap (appended before) told.0.joined },
+      told.1,
     )
 
-abbrev HaveNotBoth : Type 0
+-- ASSERTIONS
+
+-- a list of which a closed book breaks nothing holds of every run of a chip's programs
+abbrev HoldRuns : {B S A : Type 0} → (B → Type 0) → (B → Machine S) → (B → Analysis A) → Type 0
+HoldRuns {B} program machine analysis = (base : B) (text_of : ℕ → List ℕ → List ℕ) (list : List (ℕ × Assertion)) (journal : List Event) → program base
+    → IsLegalJournal (analysis base) journal → IsFinished (replay (analysis base) journal) → are_closed (last_works (analysis base) journal) ≡ true
+    → broken_in text_of (analysis base) list journal ≡ [] → Holds (machine base) list
+
+abbrev HoldMsp430 : Type 0
+HoldMsp430 = HoldRuns IsMsp430Program (λ (setting : Msp430Setting). msp430_machine setting.device) msp430_analysis
+
+abbrev HoldMcs51 : Type 0
+HoldMcs51 = HoldRuns IsMcs51Program (λ (setting : Mcs51Setting). mcs51_machine setting.image) mcs51_analysis
+
+none_broken : (list : List Broken) → Done ≡ status_of_broken list → list ≡ []
+none_broken [] e = refl
+none_broken (b ∷ list) e = absurd (cc)
+
+holds_of : {B S A : Type 0} (program : B → Type 0) (machine : B → Machine S) (analysis : B → Analysis A) → HoldRuns program machine analysis
+    → (base : B) (text_of : ℕ → List ℕ → List ℕ) (workers : ℕ) (list : List (ℕ × Assertion)) (text : List ℕ) (journal : List Event) → program base
+    → IsDecided text_of (analysis base) workers list Done text journal → Holds (machine base) list
+holds_of program machine analysis hold base text_of workers list text journal is_program (reported is left told text_is) = absurd (cc)
+holds_of program machine analysis hold base text_of workers list text journal is_program (decided is none told text_is) =
+    hold base text_of list journal is_program is.legal is.finished none (none_broken (broken_in text_of (analysis base) list journal) told)
+
+holds_image : HoldMsp430 → HoldMcs51 → (target : Target) (limits : Limits) (workers : ℕ) (image : List (Option ℕ)) (list : List (ℕ × Assertion)) (text : List ℕ)
+    (journal : List Event) → IsGiven target limits image → IsDecidedOn target limits workers image list Done text journal → HoldOn target image list
+holds_image msp430 mcs51 (Msp430 ram) limits workers image list text journal given is =
+    holds_of IsMsp430Program (λ (setting : Msp430Setting). msp430_machine setting.device) msp430_analysis msp430 (msp430_setting ram limits image) msp430_text
+    workers list text journal (is_msp430 ram limits image given) is
+holds_image msp430 mcs51 Mcs51 limits workers image list text journal given is =
+    holds_of IsMcs51Program (λ (setting : Mcs51Setting). mcs51_machine setting.image) mcs51_analysis mcs51 (mcs51_setting limits image) mcs51_text
+    workers list text journal (is_mcs51 limits image given) is
+
+-- what is told of a second text that the input gives
+told_second : {P : List ℕ → Type 0} (rules : Rules) (input second : Option (List ℕ)) (image : List (Option ℕ)) (text : List ℕ) → input ≡ Some text
+    → InputGives rules Second input second image → IfSome second P → (behind : List ℕ) × Gives rules Second text image behind × P behind
+told_second rules None second image text e gives told = absurd (cc)
+told_second {P} rules (Some read) second image text e gives told =
+    let same : read ≡ text = same_Some read text e in
+    (gives.0, subst (λ t. Gives rules Second t image gives.0) same gives.2, subst (λ s. IfSome s P) gives.1 told)
+
+asserted_image : HoldMsp430 → HoldMcs51 → HaveRules → (task : Task) → IsRamRange (target_rules task.target) → EndsInMemory (target_rules task.target)
+    → IsBounded (Assert task) → (input second : Option (List ℕ)) (image : List (Option ℕ)) (report : List ℕ) (journal : List Event)
+    → InputGives (target_rules task.target) Second input second image → IsAsserted task image second Done report journal → HoldsOf task.target input
+asserted_image msp430 mcs51 rules task range end few input second image report journal gives (asserted list read is) text e =
+    let behind = told_second {P = λ t. AreAsserted (spaces_of task.target) t list} (target_rules task.target) input second image text e gives read in
+    let given : IsGiven task.target task.limits image = record {
+      read = rules (target_rules task.target) Second (texts.lines_of behind.1.front) image behind.1.denoted;
+      ram = range;
+      top = end;
+      calls = few.0;
+    } in
+    (image, behind.0, list, behind.1, behind.2.read, holds_image msp430 mcs51 task.target task.limits task.workers image list report journal given is)
+asserted_image msp430 mcs51 rules task range end few input second image report journal gives (unread line is told line_is none) text e = absurd (cc)
+asserted_image msp430 mcs51 rules task range end few input second image report journal gives (overlong is told line_is none) text e = absurd (cc)
+
+asserted_reply : HoldMsp430 → HoldMcs51 → HaveRules → (task : Task) → IsRamRange (target_rules task.target) → EndsInMemory (target_rules task.target)
+    → IsBounded (Assert task) → (input : Option (List ℕ)) (report : List ℕ) (journal : List Event) → IsReply (Assert task) input Done report journal
+    → HoldsOf task.target input
+asserted_reply msp430 mcs51 rules task range end few input report journal (of_image image second gives reply) text e =
+    asserted_image msp430 mcs51 rules task range end few input second image report journal gives reply text e
+asserted_reply msp430 mcs51 rules task range end few input report journal (of_bad line fault bad is line_is none) text e = absurd (cc)
+asserted_reply msp430 mcs51 rules task range end few input report journal (of_long long is line_is none) text e = absurd (cc)
+
+pub asserted_lem : HoldMsp430 → HoldMcs51 → HaveRules → (task : Task) (input before after : Option (List ℕ)) (journal : List Event)
+    → IsRamRange (target_rules task.target) → EndsInMemory (target_rules task.target) → IsBounded (Assert task)
+    → Answers (Assert task) Done input before after journal → HoldsOf task.target input
+asserted_lem msp430 mcs51 rules task input before after journal range end few answers =
+    let given = gives_reply (Assert task) Done input before after journal answers ((λ f. cc f), (λ f. cc f)) (λ f. cc f) in
+    asserted_reply msp430 mcs51 rules task range end few input given.text journal given.reply
+
+-- CERTIFICATES
+
+-- the report that is told of a closed table covers every run of a chip's programs
+abbrev VerdictsCover : {B S A : Type 0} → (B → Type 0) → (B → Machine S) → (B → Analysis A) → (B → StateTexts A) → Type 0
+VerdictsCover {B} program machine analysis texts = (base : B) (text_of : ℕ → List ℕ → List ℕ) (text told : List ℕ) → program base
+    → IsVerdict text_of (analysis base) (texts base) text true told → CoversEveryRun (machine base) text_of told
+
+abbrev VerdictsMsp430 : Type 0
+VerdictsMsp430 = VerdictsCover IsMsp430Program (λ (setting : Msp430Setting). msp430_machine setting.device) msp430_analysis
+    (λ (setting : Msp430Setting). msp430_texts setting.device)
+
+abbrev VerdictsMcs51 : Type 0
+VerdictsMcs51 = VerdictsCover IsMcs51Program (λ (setting : Mcs51Setting). mcs51_machine setting.image) mcs51_analysis (λ (setting : Mcs51Setting). mcs51_texts)
+
+done_closed : (is_closed : Bool) → Done ≡ status_of_verdict is_closed → is_closed ≡ true
+done_closed true e = refl
+done_closed false e = absurd (cc)
+
+-- the verdict that Done tells
+abbrev IsClosedVerdict : {A : Type 0} → (text_of : ℕ → List ℕ → List ℕ) → Analysis A → StateTexts A → (second : Option (List ℕ)) → (report : List ℕ) → Type 0
+IsClosedVerdict text_of analysis texts second report = IfSome second (λ t. IsVerdict text_of analysis texts t true report)
+
+verdict_of : {A : Type 0} (text_of : ℕ → List ℕ → List ℕ) (analysis : Analysis A) (texts : StateTexts A) (second : Option (List ℕ)) (is_closed : Bool)
+    (report : List ℕ) → is_closed ≡ true → IfSome second (λ t. IsJudged text_of analysis texts t is_closed report)
+    → IsClosedVerdict text_of analysis texts second report
+verdict_of text_of analysis texts None is_closed report same is = tt
+verdict_of text_of analysis texts (Some t) is_closed report same is = subst (λ c. IsVerdict text_of analysis texts t c report) same is.verdict
+
+closed_verdict : {A : Type 0} (text_of : ℕ → List ℕ → List ℕ) (analysis : Analysis A) (texts : StateTexts A) (second : Option (List ℕ)) (report : List ℕ)
+    → IsChecked text_of analysis texts second Done report → IsClosedVerdict text_of analysis texts second report
+closed_verdict text_of analysis texts second report (judged is_closed is told) =
+    verdict_of text_of analysis texts second is_closed report (done_closed is_closed told) is
+closed_verdict text_of analysis texts second report (lengthy is told line_is) = absurd (cc)
+
+certified_image : VerdictsMsp430 → VerdictsMcs51 → (target : Target) (limits : Limits) (image : List (Option ℕ)) (input second : Option (List ℕ))
+    (report text : List ℕ) → input ≡ Some text → InputGives (target_rules target) Second input second image
+    → ((behind : List ℕ) → Gives (target_rules target) Second text image behind → IsGiven target limits image)
+    → IsCheckedOn target limits image second Done report
+    → (behind : List ℕ) × Gives (target_rules target) Second text image behind × CoversRunsOf target image report
+certified_image msp430 mcs51 (Msp430 ram) limits image input second report text e gives given is =
+    let base = msp430_setting ram limits image in
+    let texts = msp430_texts (device_of ram image) in
+    let told = told_second {P = λ t. IsVerdict msp430_text (msp430_analysis base) texts t true report} (target_rules (Msp430 ram)) input second image text e
+    gives (closed_verdict msp430_text (msp430_analysis base) texts second report is) in
+    (told.0, told.1, msp430 base msp430_text told.0 report (is_msp430 ram limits image (given told.0 told.1)) told.2)
+certified_image msp430 mcs51 Mcs51 limits image input second report text e gives given is =
+    let base = mcs51_setting limits image in
+    let told = told_second {P = λ t. IsVerdict mcs51_text (mcs51_analysis base) mcs51_texts t true report} (target_rules Mcs51) input second image text e
+    gives (closed_verdict mcs51_text (mcs51_analysis base) mcs51_texts second report is) in
+    (told.0, told.1, mcs51 base mcs51_text told.0 report (is_mcs51 limits image (given told.0 told.1)) told.2)
+
+-- the image of a certificate whose table is closed, with what stands behind it
+pub record IsCertified (target : Target) (text report : List ℕ) : Type 0 where
+  pub image : List (Option ℕ)
+  pub second : List ℕ
+  pub gives : Gives (target_rules target) Second text image second
+  pub covers : CoversRunsOf target image report
+
+certified_reply : VerdictsMsp430 → VerdictsMcs51 → HaveRules → (task : Task) → IsRamRange (target_rules task.target)
+    → EndsInMemory (target_rules task.target) → IsBounded (Check task) → (input : Option (List ℕ)) (report : List ℕ) (journal : List Event) (text : List ℕ)
+    → input ≡ Some text → IsReply (Check task) input Done report journal → IsCertified task.target text report
+certified_reply msp430 mcs51 rules task range end few input report journal text e (of_image image second gives reply) =
+    let read : (behind : List ℕ) → Gives (target_rules task.target) Second text image behind → IsGiven task.target task.limits image
+    = λ behind is. record {
+      read = rules (target_rules task.target) Second (texts.lines_of is.front) image is.denoted;
+      ram = range;
+      top = end;
+      calls = few.0;
+    } in
+    let is = certified_image msp430 mcs51 task.target task.limits image input second report text e gives read reply.0 in
+    record { image = image; second = is.0; gives = is.1; covers = is.2 }
+certified_reply msp430 mcs51 rules task range end few input report journal text e (of_bad line fault bad is line_is none) = absurd (cc)
+certified_reply msp430 mcs51 rules task range end few input report journal text e (of_long long is line_is none) = absurd (cc)
+
+pub certified_lem : VerdictsMsp430 → VerdictsMcs51 → HaveRules → (task : Task) (input before after : Option (List ℕ)) (journal : List Event)
+    → IsRamRange (target_rules task.target) → EndsInMemory (target_rules task.target) → IsBounded (Check task)
+    → Answers (Check task) Done input before after journal → CertifiesOn task.target input before after
+certified_lem msp430 mcs51 rules task input before after journal range end few answers text e =
+    let given = gives_reply (Check task) Done input before after journal answers ((λ f. cc f), (λ f. cc f)) (λ f. cc f) in
+    let is = certified_reply msp430 mcs51 rules task range end few input given.text journal text e given.reply in
+    (is.image, is.second, given.text, is.gives, given.held, is.covers)
+
+abbrev pub HaveNotBoth : Type 0
 HaveNotBoth = (rules : Rules) (tail : Tail) (lines : List (List ℕ)) (image : List (Option ℕ)) (line : ℕ) (fault : HexFault)
     → Denotes rules tail lines image → FirstFault rules tail lines line fault → ⊥
 
 -- what stands behind a text that has ended
-abbrev EndedStay : Type 0
+abbrev pub EndedStay : Type 0
 EndedStay = (rules : Rules) (text more : List ℕ) → HasEnded rules text → HasEnded rules (text ++ more)
 
-abbrev EndedAreFaultless : Type 0
+abbrev pub EndedAreFaultless : Type 0
 EndedAreFaultless = (rules : Rules) (text : List ℕ) (line : ℕ) (fault : HexFault) → HasEnded rules text
     → FirstFault rules Second (texts.lines_of text) line fault → ⊥
 
@@ -328,7 +580,7 @@ front_faultless both stay faultless rules text image second line fault is (inr e
     faultless rules (front_of text) line fault (subst (HasEnded rules) (sym same) (stay rules is.front more ended)) first
 
 -- a text of an image isn't refused
-not_bad : HaveNotBoth → EndedStay → EndedAreFaultless → (rules : Rules) (tail : Tail) (text : List ℕ) (image : List (Option ℕ)) (second : List ℕ) (line : ℕ)
+pub not_bad : HaveNotBoth → EndedStay → EndedAreFaultless → (rules : Rules) (tail : Tail) (text : List ℕ) (image : List (Option ℕ)) (second : List ℕ) (line : ℕ)
     (fault : HexFault) → Gives rules tail text image second → IsBad rules tail text line fault → ⊥
 not_bad both stay faultless rules Blank text image second line fault gives bad =
     both rules Blank (texts.lines_of text) image line fault gives.0.denoted
@@ -345,7 +597,7 @@ not_long_behind stay rules text image second is (inr ended) long =
     let same : front_of text ≡ is.front ++ more = ap front_of is.whole ∙ front_goes_on is.front second is.fits in
     long.unended refl (subst (HasEnded rules) (sym same) (stay rules is.front more ended))
 
-not_long : EndedStay → (rules : Rules) (tail : Tail) (text : List ℕ) (image : List (Option ℕ)) (second : List ℕ) → Gives rules tail text image second
+pub not_long : EndedStay → (rules : Rules) (tail : Tail) (text : List ℕ) (image : List (Option ℕ)) (second : List ℕ) → Gives rules tail text image second
     → IsTooLong rules tail text → ⊥
 not_long stay rules Blank text image second gives long = omega (arith, gives.0.fits, long.longer)
 not_long stay rules Second text image second gives long = not_long_behind stay rules text image second gives gives.ends long

@@ -74,7 +74,7 @@ fed_more second left reader new room buffer count after fed taken size fits next
 }
 
 -- the whole of a text that is told, where its source is at its end
-at_end : (left : Option (List ℕ)) (text : List ℕ) (P : List ℕ → Type 0) → IsAtEnd left → P text → IfSome (begun_with text left) P
+pub at_end : (left : Option (List ℕ)) (text : List ℕ) (P : List ℕ → Type 0) → IsAtEnd left → P text → IfSome (begun_with text left) P
 at_end None text P end holds = tt
 at_end (Some left) text P end holds = subst P (sym (append-nil text) ∙ ap (λ bytes. text ++ bytes) (sym end)) holds
 

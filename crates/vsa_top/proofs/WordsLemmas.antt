@@ -1,15 +1,15 @@
 -- What the words ask: numbers of steps, options, and readings, of which there is at most one.
 use Rattle.std.proofs.lemmas.Bool.Decides.{nat_tests}
-use Rattle.std.proofs.lemmas.Bool.{cond_both}
-use Rattle.std.proofs.Common.{◌≡◌, ◌&&◌, cond, nat_le, drop, slice_index, ℕ, ◌+◌, ◌-◌, ◌*◌, ◌<◌, ◌≤◌, List, [], ◌∷◌, Option, None, Some, refl, sym, ◌∙◌, ap, ap₂, subst, arith, All}
+use Rattle.std.proofs.lemmas.Bool.{and_parts, cond_both, leb-true}
+use Rattle.std.proofs.Common.{◌≡◌, ◌&&◌, Bool, true, false, cond, nat_le, drop, slice_index, ℕ, ◌+◌, ◌-◌, ◌*◌, ◌<◌, ◌≤◌, List, [], ◌∷◌, Option, None, Some, refl, sym, ◌∙◌, ap, ap₂, subst, arith, All}
 use Rattle.std.proofs.lemmas.List.Elements.{All-cons, All-tail}
-use Rattle.std.specs.Prelude.{IfNone, IfSome, MatchOption, map, option_map, codes, string_bytes}
+use Rattle.std.specs.Prelude.{◌||◌, nat_lt, IfNone, IfSome, MatchOption, map, option_map, codes, string_bytes}
 use Rattle.std.specs.List.{IsFirstAndRest}
 use Rattle.std.specs.declared.string.String.{String}
 use Rattle.std.specs.declared.alloc.Global.{Global}
 use Rattle.image.specs.declared.rule_set.Rules.TheVariants as rules
 use Rattle.hex.specs.Hex.{hex_digit_value}
-use Rattle.image.specs.Kept.{IsRamRange}
+use Rattle.image.specs.Kept.{IsMirror, IsRamRange}
 use Rattle.image.specs.declared.rule_set.Rules.{Rules}
 use Rattle.image.specs.declared.chip_name.ChipName.{ChipName}
 use Rattle.image.specs.declared.chip_name.ChipName.TheVariants as chip
@@ -17,13 +17,15 @@ use Rattle.vsa_top.specs.declared.words.Mode.{Mode}
 use Rattle.vsa_top.specs.declared.words.Mode.TheVariants as mode
 use Rattle.vsa_top.specs.declared.words.Options.{Options}
 use Rattle.vsa_top.specs.declared.words.Ram.{Ram}
+use Rattle.vsa_top.specs.declared.words.Span.{Span}
 use Rattle.vsa_top.specs.declared.words.Reading.{Reading}
 use Rattle.vsa_top.specs.declared.words.Target.{Target}
+use Rattle.vsa_top.specs.declared.words.Target.TheVariants.{Msp430}
 use Rattle.clap.specs.Words.{first_value, matches_of, rows_of}
 use Rattle.clap.specs.declared.parser.matches.Found.{Found}
 use Rattle.vsa_top.specs.Command.{AreTaken, command, given}
 use Rattle.vsa_top.proofs.CommandLemmas.{given_is}
-use Rattle.vsa_top.specs.Words.{EndsInMemory, IsDigit, IsNumberBehind, IsRange, IsNumber, IsNumberIn, IsSaid, Reads, Say, asked, analysis_by, chip_word, disassembly_of, making_of, number_behind, number_from, number_of, mode_word, reading_with, run_by, untasked, unsaid, IsBounded, target_by, target_rules, or_else, rules_of, usual, usual_target}
+use Rattle.vsa_top.specs.Words.{may_mirror, usual_span, with_mirror, EndsInMemory, IsDigit, IsNumberBehind, IsRange, IsNumber, IsNumberIn, IsSaid, Reads, Say, asked, analysis_by, assertion_by, checking_by, chip_word, disassembly_of, making_of, number_behind, number_from, number_of, mode_word, reading_with, run_by, untasked, unflagged, unsaid, is_given, IsBounded, target_by, target_rules, or_else, rules_of, usual_target}
 
 -- NUMBERS
 
@@ -59,12 +61,12 @@ digit_and_rest n digit rest digits (Some number) first low high is = record {
 one_some : {A : Type 0} (a b : A) → Some a ≡ Some b → a ≡ b
 one_some a b h = cc h
 
-same_ram : (ram other : Ram) → ram.lo ≡ other.lo → ram.hi ≡ other.hi → ram ≡ other
-same_ram ram other lo hi = ap₂ (λ (l h : ℕ). let back : Ram = record { lo = l; hi = h } in back) lo hi
+same_span : (ram other : Span) → ram.lo ≡ other.lo → ram.hi ≡ other.hi → ram ≡ other
+same_span ram other lo hi = ap₂ (λ (l h : ℕ). let back : Span = record { lo = l; hi = h } in back) lo hi
 
-one_range : (text : List ℕ) (ram other : Ram) → IsRange text ram → IsRange text other → ram ≡ other
+one_range : (text : List ℕ) (ram other : Span) → IsRange text ram → IsRange text other → ram ≡ other
 one_range text ram other is also =
-    same_ram ram other (one_some ram.lo other.lo (sym is.first ∙ also.first)) (one_some ram.hi other.hi (sym is.last ∙ also.last))
+    same_span ram other (one_some ram.lo other.lo (sym is.first ∙ also.first)) (one_some ram.hi other.hi (sym is.last ∙ also.last))
 
 one_number : (text : List ℕ) (number other : ℕ) → IsNumber text number → IsNumber text other → number ≡ other
 one_number text number other is also = is.is.value ∙ sym also.is.value
@@ -99,21 +101,26 @@ say_one text_of a b said also =
     let workers : a.workers ≡ b.workers = number 1 16 (codes "workers") a.workers b.workers said.shared also.shared in
     let steps : a.steps ≡ b.steps = number 0 1000000 (codes "steps") a.steps b.steps said.stepped also.stepped in
     let numbers : a.number ≡ b.number = number 1 2000 (codes "number") a.number b.number said.counted also.counted in
-    let options : (r : Option Ram) (c t w s n : Option ℕ) → Options
-    = λ r c t w s n. record { ram = r; calls = c; targets = t; workers = w; steps = s; number = n } in
-    ap₂ (λ (r : Option Ram) (c : Option ℕ). options r c a.targets a.workers a.steps a.number) rams calls
-    ∙ ap₂ (λ (t w : Option ℕ). options b.ram b.calls t w a.steps a.number) targets workers
-    ∙ ap₂ (λ (s n : Option ℕ). options b.ram b.calls b.targets b.workers s n) steps numbers
+    let mirrors : a.mirror ≡ b.mirror = one_said IsRange one_range (text_of (codes "mirror")) a.mirror b.mirror said.mirrored also.mirrored in
+    let certs : a.cert ≡ b.cert = said.flagged ∙ sym also.flagged in
+    let options : (r m : Option Span) (c t w s n : Option ℕ) (f : Bool) → Options
+    = λ r m c t w s n f. record { ram = r; mirror = m; calls = c; targets = t; workers = w; steps = s; number = n; cert = f } in
+    ap₂ (λ (r m : Option Span). options r m a.calls a.targets a.workers a.steps a.number a.cert) rams mirrors
+    ∙ ap₂ (λ (c t : Option ℕ). options b.ram b.mirror c t a.workers a.steps a.number a.cert) calls targets
+    ∙ ap₂ (λ (w s : Option ℕ). options b.ram b.mirror b.calls b.targets w s a.number a.cert) workers steps
+    ∙ ap₂ (λ (n : Option ℕ) (f : Bool). options b.ram b.mirror b.calls b.targets b.workers b.steps n f) numbers certs
 
 -- the same texts say the same
 pub say_like : (f g : List ℕ → Option (List ℕ)) → ((id : List ℕ) → f id ≡ g id) → (o : Options) → Say f o → Say g o
 say_like f g like o said = record {
   ranged = subst (λ t. IsSaid IsRange t o.ram) (like (codes "ram")) said.ranged;
+  mirrored = subst (λ t. IsSaid IsRange t o.mirror) (like (codes "mirror")) said.mirrored;
   called = subst (λ t. IsSaid (IsNumberIn 0 8) t o.calls) (like (codes "calls")) said.called;
   aimed = subst (λ t. IsSaid (IsNumberIn 1 256) t o.targets) (like (codes "targets")) said.aimed;
   shared = subst (λ t. IsSaid (IsNumberIn 1 16) t o.workers) (like (codes "workers")) said.shared;
   stepped = subst (λ t. IsSaid (IsNumberIn 0 1000000) t o.steps) (like (codes "steps")) said.stepped;
   counted = subst (λ t. IsSaid (IsNumberIn 1 2000) t o.number) (like (codes "number")) said.counted;
+  flagged = said.flagged ∙ ap is_given (like (codes "cert"));
 }
 
 -- what an option says by what its text says
@@ -142,24 +149,53 @@ first_letter a b h = ap (λ (t : List ℕ). slice_index t 0) h
 apart : (a b : ℕ) → a ≡ b → a ≡ 114 → b ≡ 103 → ⊥
 apart a b same r g = omega arith
 
+apart_first : (a b : ℕ) → a ≡ b → a ≡ 97 → b ≡ 100 → ⊥
+apart_first a b same x y = omega arith
+
 run_or_gen : mode_word mode.Run ≡ mode_word mode.Gen → ⊥
 run_or_gen h =
     apart (slice_index (mode_word mode.Run) 0) (slice_index (mode_word mode.Gen) 0) (first_letter (mode_word mode.Run) (mode_word mode.Gen) h) refl refl
+
+-- the words of one length differ in their first letter
+assert_or_disasm : mode_word mode.Assert ≡ mode_word mode.Disasm → ⊥
+assert_or_disasm h =
+    let letters = first_letter (mode_word mode.Assert) (mode_word mode.Disasm) h in
+    apart_first (slice_index (mode_word mode.Assert) 0) (slice_index (mode_word mode.Disasm) 0) letters refl refl
 
 one_mode : (a b : Mode) → mode_word a ≡ mode_word b → a ≡ b
 one_mode mode.Analyse mode.Analyse h = refl
 one_mode mode.Analyse mode.Disasm h = absurd (cc h)
 one_mode mode.Analyse mode.Run h = absurd (cc h)
 one_mode mode.Analyse mode.Gen h = absurd (cc h)
+one_mode mode.Analyse mode.Assert h = absurd (cc h)
+one_mode mode.Assert mode.Analyse h = absurd (cc h)
+one_mode mode.Assert mode.Assert h = refl
+one_mode mode.Assert mode.Disasm h = absurd (assert_or_disasm h)
+one_mode mode.Assert mode.Run h = absurd (cc h)
+one_mode mode.Assert mode.Gen h = absurd (cc h)
+one_mode mode.Analyse mode.Check h = absurd (cc h)
+one_mode mode.Assert mode.Check h = absurd (cc h)
+one_mode mode.Check mode.Analyse h = absurd (cc h)
+one_mode mode.Check mode.Assert h = absurd (cc h)
+one_mode mode.Check mode.Check h = refl
+one_mode mode.Check mode.Disasm h = absurd (cc h)
+one_mode mode.Check mode.Run h = absurd (cc h)
+one_mode mode.Check mode.Gen h = absurd (cc h)
+one_mode mode.Disasm mode.Check h = absurd (cc h)
+one_mode mode.Run mode.Check h = absurd (cc h)
+one_mode mode.Gen mode.Check h = absurd (cc h)
 one_mode mode.Disasm mode.Analyse h = absurd (cc h)
+one_mode mode.Disasm mode.Assert h = absurd (assert_or_disasm (sym h))
 one_mode mode.Disasm mode.Disasm h = refl
 one_mode mode.Disasm mode.Run h = absurd (cc h)
 one_mode mode.Disasm mode.Gen h = absurd (cc h)
 one_mode mode.Run mode.Analyse h = absurd (cc h)
+one_mode mode.Run mode.Assert h = absurd (cc h)
 one_mode mode.Run mode.Disasm h = absurd (cc h)
 one_mode mode.Run mode.Run h = refl
 one_mode mode.Run mode.Gen h = absurd (run_or_gen h)
 one_mode mode.Gen mode.Analyse h = absurd (cc h)
+one_mode mode.Gen mode.Assert h = absurd (cc h)
 one_mode mode.Gen mode.Disasm h = absurd (cc h)
 one_mode mode.Gen mode.Run h = absurd (run_or_gen (sym h))
 one_mode mode.Gen mode.Gen h = refl
@@ -253,9 +289,9 @@ reads_alone words (Some mode) (Some chip) (Some options) reading found same =
 abbrev IsRam : Rules → Type 0
 IsRam rules_so = IsRamRange rules_so × EndsInMemory rules_so
 
-abbrev RangeOf : Option Ram → Type 0
+abbrev RangeOf : Option Span → Type 0
 RangeOf None = Unit {0}
-RangeOf (Some ram) = IsRam (rules.Msp430 ram.lo ram.hi)
+RangeOf (Some ram) = IsRam (rules.Msp430 ram.lo ram.hi None)
 
 digit_below : (c : ℕ) → IfSome (hex_digit_value c) (λ v. v < 16)
 digit_below c =
@@ -281,23 +317,47 @@ number_below (a ∷ b ∷ c ∷ []) = tt
 number_below (a ∷ b ∷ c ∷ d ∷ []) = four_below (hex_digit_value a) (hex_digit_value b) (hex_digit_value c) (hex_digit_value d) (digit_below a) (digit_below b) (digit_below c) (digit_below d)
 number_below (a ∷ b ∷ c ∷ d ∷ e ∷ digits) = tt
 
-range_said : (text : Option (List ℕ)) (ram : Option Ram) → IsSaid IsRange text ram → RangeOf ram
+range_said : (text : Option (List ℕ)) (ram : Option Span) → IsSaid IsRange text ram → RangeOf ram
 range_said text None said = tt
 range_said None (Some ram) said = absurd said
 range_said (Some text) (Some ram) said = (said.allowed, subst (λ o. IfSome o (λ n. n < 65536)) said.last (number_below (drop 5 text)))
 
-range_or_usual : (held : Option Ram) → RangeOf held → IsRam (rules.Msp430 (or_else held usual).lo (or_else held usual).hi)
-range_or_usual None held = ((refl, refl, omega arith, omega arith), omega arith)
+range_or_usual : (held : Option Span) → RangeOf held → IsRam (rules.Msp430 (or_else held usual_span).lo (or_else held usual_span).hi None)
+range_or_usual None held = ((refl, refl, omega arith, omega arith, tt), omega arith)
 range_or_usual (Some ram) held = held
+
+-- a mirror of whole words behind the peripherals, that RAM may have
+mirror_is : (ram mirror : Span) → RangeOf (Some ram) → RangeOf (Some mirror) → may_mirror ram mirror ≡ true → IsMirror ram.lo ram.hi mirror.lo mirror.hi
+mirror_is ram mirror held range may =
+    let parts = and_parts (nat_le (mirror.hi + ram.lo) (ram.hi + mirror.lo)) (nat_lt mirror.hi ram.lo || nat_lt ram.hi mirror.lo) may in
+    let short : mirror.hi + ram.lo ≤ ram.hi + mirror.lo = leb-true (mirror.hi + ram.lo) (ram.hi + mirror.lo) parts.0 in
+    let up : ram.lo < ram.hi = held.0.3 in
+    record {
+      low = range.0.0;
+      high = range.0.1;
+      behind = range.0.2;
+      some = range.0.3;
+      top = range.1;
+      short = omega (arith, short, up);
+      apart = parts.1;
+    }
 
 abbrev RangeIn : Option Target → Type 0
 RangeIn None = Unit {0}
 RangeIn (Some target) = IsRam (target_rules target)
 
-target_range : (chip : ChipName) (ram : Option Ram) → RangeOf ram → RangeIn (target_by chip ram)
-target_range chip.Msp430 ram held = range_or_usual ram held
-target_range chip.Mcs51 None held = (tt, tt)
-target_range chip.Mcs51 (Some ram) held = tt
+mirrored_range : (ram : Span) (mirror : Option Span) → RangeOf (Some ram) → RangeOf mirror → RangeIn (option_map Msp430 (with_mirror ram mirror))
+mirrored_range ram None held range = held
+mirrored_range ram (Some mirror) held range =
+    let all : Ram = record { lo = ram.lo; hi = ram.hi; mirror = Some (mirror.lo, mirror.hi) } in
+    cond_both (may_mirror ram mirror) (Some all) None (λ made. RangeIn (option_map Msp430 made))
+    (λ e. ((held.0.0, held.0.1, held.0.2, held.0.3, mirror_is ram mirror held range e), held.1)) (λ e. tt)
+
+target_range : (chip : ChipName) (ram mirror : Option Span) → RangeOf ram → RangeOf mirror → RangeIn (target_by chip ram mirror)
+target_range chip.Msp430 ram mirror held range = mirrored_range (or_else ram usual_span) mirror (range_or_usual ram held) range
+target_range chip.Mcs51 None None held range = (tt, tt)
+target_range chip.Mcs51 None (Some mirror) held range = tt
+target_range chip.Mcs51 (Some ram) mirror held range = tt
 
 abbrev RangeOfReading : Option Reading → Type 0
 RangeOfReading found = IfSome found (λ reading. IsRam (rules_of reading) × IsBounded reading)
@@ -306,8 +366,12 @@ unsaid_range : {A : Type 0} (said : Option A) (found : Option Reading) → Range
 unsaid_range None found held = held
 unsaid_range (Some said) found held = tt
 
+unflagged_range : (flag : Bool) (found : Option Reading) → RangeOfReading found → RangeOfReading (unflagged flag found)
+unflagged_range true found held = tt
+unflagged_range false found held = held
+
 untasked_range : (o : Options) (found : Option Reading) → RangeOfReading found → RangeOfReading (untasked o found)
-untasked_range o found held = unsaid_range o.calls _ (unsaid_range o.targets _ (unsaid_range o.workers found held))
+untasked_range o found held = unsaid_range o.calls _ (unsaid_range o.targets _ (unsaid_range o.workers _ (unflagged_range o.cert found held)))
 
 abbrev CallsOf : Option ℕ → Type 0
 CallsOf calls = IfSome calls (λ n. n ≤ 8)
@@ -326,6 +390,14 @@ some_or_one (Some workers) some = some
 analysis_range : (target : Option Target) (o : Options) → RangeIn target → CallsOf o.calls → WorkersOf o.workers → RangeOfReading (analysis_by target o)
 analysis_range None o held few some = tt
 analysis_range (Some target) o held few some = (held, (few_or_usual o.calls few, (some_or_one o.workers some).0, (some_or_one o.workers some).1))
+
+assertion_range : (target : Option Target) (o : Options) → RangeIn target → CallsOf o.calls → WorkersOf o.workers → RangeOfReading (assertion_by target o)
+assertion_range None o held few some = tt
+assertion_range (Some target) o held few some = (held, (few_or_usual o.calls few, (some_or_one o.workers some).0, (some_or_one o.workers some).1))
+
+checking_range : (target : Option Target) (o : Options) → RangeIn target → CallsOf o.calls → WorkersOf o.workers → RangeOfReading (checking_by target o)
+checking_range None o held few some = tt
+checking_range (Some target) o held few some = (held, (few_or_usual o.calls few, (some_or_one o.workers some).0, (some_or_one o.workers some).1))
 
 disassembly_range : (target : Option Target) → RangeIn target → RangeOfReading (disassembly_of target)
 disassembly_range None held = tt
@@ -346,13 +418,19 @@ making_range : (chip : ChipName) (number : Option ℕ) → CountOf number → Ra
 making_range chip None held = tt
 making_range chip (Some number) held = (usual_range chip, held)
 
-asked_range : (mode : Mode) (chip : ChipName) (o : Options) → RangeOf o.ram → CallsOf o.calls → WorkersOf o.workers → CountOf o.number → RangeOfReading (asked mode chip o)
-asked_range mode.Analyse chip o range few some count = unsaid_range o.steps _ (unsaid_range o.number _ (analysis_range (target_by chip o.ram) o (target_range chip o.ram range) few some))
-asked_range mode.Disasm chip o range few some count =
-    untasked_range o _ (unsaid_range o.steps _ (unsaid_range o.number _ (disassembly_range (target_by chip o.ram) (target_range chip o.ram range))))
-asked_range mode.Run chip o range few some count =
-    untasked_range o _ (unsaid_range o.number _ (run_range (target_by chip o.ram) o.steps (target_range chip o.ram range)))
-asked_range mode.Gen chip o range few some count = untasked_range o _ (unsaid_range o.ram _ (unsaid_range o.steps _ (making_range chip o.number count)))
+asked_range : (mode : Mode) (chip : ChipName) (o : Options) → RangeOf o.ram → RangeOf o.mirror → CallsOf o.calls → WorkersOf o.workers → CountOf o.number → RangeOfReading (asked mode chip o)
+asked_range mode.Analyse chip o range mirror few some count = unsaid_range o.steps _ (unsaid_range o.number _ (analysis_range (target_by chip o.ram o.mirror) o (target_range chip o.ram o.mirror range mirror) few some))
+asked_range mode.Assert chip o range mirror few some count =
+    unflagged_range o.cert _ (unsaid_range o.steps _ (unsaid_range o.number _ (assertion_range (target_by chip o.ram o.mirror) o
+    (target_range chip o.ram o.mirror range mirror) few some)))
+asked_range mode.Check chip o range mirror few some count =
+    unflagged_range o.cert _ (unsaid_range o.workers _ (unsaid_range o.steps _ (unsaid_range o.number _ (checking_range (target_by chip o.ram o.mirror) o
+    (target_range chip o.ram o.mirror range mirror) few some))))
+asked_range mode.Disasm chip o range mirror few some count =
+    untasked_range o _ (unsaid_range o.steps _ (unsaid_range o.number _ (disassembly_range (target_by chip o.ram o.mirror) (target_range chip o.ram o.mirror range mirror))))
+asked_range mode.Run chip o range mirror few some count =
+    untasked_range o _ (unsaid_range o.number _ (run_range (target_by chip o.ram o.mirror) o.steps (target_range chip o.ram o.mirror range mirror)))
+asked_range mode.Gen chip o range mirror few some count = untasked_range o _ (unsaid_range o.ram _ (unsaid_range o.mirror _ (unsaid_range o.steps _ (making_range chip o.number count))))
 
 calls_said : (text : Option (List ℕ)) (calls : Option ℕ) → IsSaid (IsNumberIn 0 8) text calls → CallsOf calls
 calls_said text None said = tt
@@ -374,6 +452,7 @@ reads_range words reading reads =
     subst RangeOfReading reads.is
     (asked_range reads.mode reads.chip reads.options
     (range_said (given (Texts words) (codes "ram")) reads.options.ram reads.say.ranged)
+    (range_said (given (Texts words) (codes "mirror")) reads.options.mirror reads.say.mirrored)
     (calls_said (given (Texts words) (codes "calls")) reads.options.calls reads.say.called)
     (workers_said (given (Texts words) (codes "workers")) reads.options.workers reads.say.shared)
     (count_said (given (Texts words) (codes "number")) reads.options.number reads.say.counted))

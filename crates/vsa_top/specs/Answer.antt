@@ -1,11 +1,12 @@
 -- What the program answers to an input.
-use Rattle.std.specs.Prelude.{◌≡◌, ◌≢◌, ◌⊎◌, All, Bool, if◌then◌else◌, ℕ, ◌<◌, Option, IfSome, List, [], ◌++◌, length, codes}
+use Rattle.std.specs.Prelude.{◌≡◌, ◌≢◌, ◌⊎◌, All, Bool, true, false, if◌then◌else◌, ℕ, ◌<◌, ◌≤◌, Option, Some, IfSome, List, [], ◌++◌, length, codes}
 use Rattle.std.specs.Fmt.{decimal}
 use Rattle.ihex_read.specs.declared.fault.HexFault.{HexFault}
 use Rattle.ihex_read.specs.Names.{fault_name}
 use Rattle.vsa_io.specs.Stream.{appended, AppendsPrefix}
 use Rattle.analysis_limits.specs.declared.limits.Limits.{Limits}
 use Rattle.chip_law.specs.Analysis.{Analysis}
+use Rattle.closing_law.specs.Bounded.{AreBounded}
 use Rattle.round_core.specs.declared.event.Event.{Event}
 use Rattle.round_core.specs.Counts.{seat_of}
 use Rattle.round_core.specs.Machine.{replay, IsLegalJournal, IsFinished}
@@ -19,6 +20,15 @@ use Rattle.mcs51_flow.specs.Chip.{mcs51_analysis}
 use Rattle.msp430_flow.specs.Standing.{instr_text as msp430_text}
 use Rattle.msp430_flow.specs.Chip.{msp430_analysis}
 use Rattle.disassembly.specs.Listing.{IsDisassembly}
+use Rattle.cert_text.specs.Writing.{IsCert}
+use Rattle.cert_verdict.specs.Verdict.{IsVerdict}
+use Rattle.round_core.specs.Kept.{nodes_of}
+use Rattle.state_text.specs.Texts.{StateTexts}
+use Rattle.mcs51_flow.specs.Texts.{mcs51_texts}
+use Rattle.msp430_flow.specs.Texts.{msp430_texts}
+use Rattle.assert_check.specs.declared.assertion.Assertion.{Assertion}
+use Rattle.chip_law.specs.Line.{item_line_of}
+use Rattle.vsa_top.specs.Asserted.{AreAsserted, IsUnread, broken_in, broken_text, spaces_of, status_of_broken}
 use Rattle.vsa_top.specs.Input.{InputGives, IsBad, IsTooLong, input_of, tail_of}
 use Rattle.vsa_top.specs.Scripts.{IsRefused, IsScript, second_limit}
 use Rattle.vsa_top.specs.Summary.{summary}
@@ -29,7 +39,7 @@ use Rattle.image.specs.declared.chip_name.ChipName.{ChipName}
 use Rattle.vsa_top.specs.declared.outcome.Status.{Status}
 use Rattle.vsa_top.specs.declared.outcome.Status.TheVariants as status
 use Rattle.vsa_top.specs.declared.words.Reading.{Reading}
-use Rattle.vsa_top.specs.declared.words.Reading.TheVariants.{Analyse, Disasm, Run, Gen}
+use Rattle.vsa_top.specs.declared.words.Reading.TheVariants.{Analyse, Assert, Check, Disasm, Run, Gen}
 use Rattle.vsa_top.specs.declared.words.Target.{Target}
 use Rattle.vsa_top.specs.declared.words.Task.{Task}
 use Rattle.vsa_top.specs.declared.words.Target.TheVariants.{Msp430, Mcs51}
@@ -58,9 +68,10 @@ abbrev pub status_of_analysis : Bool → Status
 status_of_analysis closed = if closed then status.Done else status.Open
 
 -- the reply to a program that is analysed: the report of the book that the journal leads to, and Open exactly where it
--- has an open
+-- has an open; and nodes rose and units were claimed within bounds on the way there
 pub record IsAnalysed {A : Type 0} (text_of : ℕ → List ℕ → List ℕ) (analysis : Analysis A) (workers : ℕ) (replied : Status) (text : List ℕ) (journal : List Event) : Type 0 where
   pub is_analysis : IsAnalysis analysis workers journal
+  pub bounded : AreBounded analysis journal
   pub status_is : replied ≡ status_of_analysis (are_closed (last_works analysis journal))
   pub text_is : text ≡ report_of_journal text_of analysis journal
 
@@ -99,6 +110,79 @@ IsAnalysedOn Mcs51 limits workers image replied text journal =
 abbrev pub IsAnalysedBy : Task → List (Option ℕ) → Status → List ℕ → List Event → Type 0
 IsAnalysedBy task image replied text journal = IsAnalysedOn task.target task.limits task.workers image replied text journal
 
+-- the text is the report, or the report with the certificate of the book behind it that the journal leads to
+abbrev pub IsFollowed : {A : Type 0} → Analysis A → StateTexts A → (cert : Bool) → List Event → (report text : List ℕ) → Type 0
+IsFollowed analysis texts false journal report text = text ≡ report
+IsFollowed analysis texts true journal report text = (certificate : List ℕ)
+    × IsCert analysis texts (nodes_of (replay analysis journal)) certificate × (text ≡ report ++ certificate)
+
+-- the reply to a program whose report is asked for, perhaps with a certificate
+pub record IsReported {A : Type 0} (text_of : ℕ → List ℕ → List ℕ) (analysis : Analysis A) (texts : StateTexts A) (workers : ℕ) (cert : Bool)
+    (replied : Status) (text : List ℕ) (journal : List Event) : Type 0 where
+  pub report : List ℕ
+  pub analysed : IsAnalysed text_of analysis workers replied report journal
+  pub followed : IsFollowed analysis texts cert journal report text
+
+-- that of the chip with this image, by so many workers under these limits
+abbrev pub IsReportedOn : Target → Limits → (workers : ℕ) → (cert : Bool) → List (Option ℕ) → Status → List ℕ → List Event → Type 0
+IsReportedOn (Msp430 ram) limits workers cert image replied text journal =
+    IsReported msp430_text (msp430_analysis (msp430_setting ram limits image)) (msp430_texts (device_of ram image)) workers cert replied text journal
+IsReportedOn Mcs51 limits workers cert image replied text journal =
+    IsReported mcs51_text (mcs51_analysis (mcs51_setting limits image)) mcs51_texts workers cert replied text journal
+
+-- The reply to a program that is analysed under assertions: its report where it leaves a site open, else what it breaks.
+pub data IsDecided {A : Type 0} (text_of : ℕ → List ℕ → List ℕ) (analysis : Analysis A) (workers : ℕ) (list : List (ℕ × Assertion))
+    (replied : Status) (text : List ℕ) (journal : List Event) : Type 0 where
+  reported : IsAnalysis analysis workers journal → are_closed (last_works analysis journal) ≡ false → replied ≡ status.Open
+      → text ≡ report_of_journal text_of analysis journal → IsDecided text_of analysis workers list replied text journal
+  decided : IsAnalysis analysis workers journal → are_closed (last_works analysis journal) ≡ true
+      → replied ≡ status_of_broken (broken_in text_of analysis list journal)
+      → text ≡ broken_text (item_line_of text_of) (broken_in text_of analysis list journal)
+      → IsDecided text_of analysis workers list replied text journal
+
+-- that of the chip with this image, by so many workers under these limits
+abbrev pub IsDecidedOn : Target → Limits → (workers : ℕ) → List (Option ℕ) → List (ℕ × Assertion) → Status → List ℕ → List Event → Type 0
+IsDecidedOn (Msp430 ram) limits workers image list replied text journal =
+    IsDecided msp430_text (msp430_analysis (msp430_setting ram limits image)) workers list replied text journal
+IsDecidedOn Mcs51 limits workers image list replied text journal =
+    IsDecided mcs51_text (mcs51_analysis (mcs51_setting limits image)) workers list replied text journal
+
+-- The reply to an image with a second text: that to the assertions which stand there, or the first line that is of no
+-- form, or that there is too much.
+pub data IsAsserted (task : Task) (image : List (Option ℕ)) (second : Option (List ℕ)) (replied : Status) (text : List ℕ) (journal : List Event) : Type 0 where
+  asserted : (list : List (ℕ × Assertion)) → IfSome second (λ t. AreAsserted (spaces_of task.target) t list)
+      → IsDecidedOn task.target task.limits task.workers image list replied text journal
+      → IsAsserted task image second replied text journal
+  unread : (line : ℕ) → IfSome second (λ t. IsUnread (spaces_of task.target) t line) → replied ≡ status.BadCert → text ≡ no_line line
+      → journal ≡ [] → IsAsserted task image second replied text journal
+  overlong : IfSome second (λ t. second_limit < length t) → replied ≡ status.TooLong → text ≡ long_line → journal ≡ []
+      → IsAsserted task image second replied text journal
+
+-- the text is within the limit, and this is its verdict as a certificate
+pub record IsJudged {A : Type 0} (text_of : ℕ → List ℕ → List ℕ) (analysis : Analysis A) (texts : StateTexts A) (certificate : List ℕ)
+    (closed : Bool) (told : List ℕ) : Type 0 where
+  pub fits : length certificate ≤ second_limit
+  pub verdict : IsVerdict text_of analysis texts certificate closed told
+
+-- Done of a closed table, and BadCert of all else
+abbrev pub status_of_verdict : Bool → Status
+status_of_verdict closed = if closed then status.Done else status.BadCert
+
+-- The reply to a program with a second text: the verdict on that as a certificate, or that there is too much.
+pub data IsChecked {A : Type 0} (text_of : ℕ → List ℕ → List ℕ) (analysis : Analysis A) (texts : StateTexts A)
+    (second : Option (List ℕ)) (replied : Status) (text : List ℕ) : Type 0 where
+  judged : (closed : Bool) → IfSome second (λ t. IsJudged text_of analysis texts t closed text)
+      → replied ≡ status_of_verdict closed → IsChecked text_of analysis texts second replied text
+  lengthy : IfSome second (λ t. second_limit < length t) → replied ≡ status.TooLong → text ≡ long_line
+      → IsChecked text_of analysis texts second replied text
+
+-- that of the chip with this image, under these limits
+abbrev pub IsCheckedOn : Target → Limits → List (Option ℕ) → (second : Option (List ℕ)) → Status → List ℕ → Type 0
+IsCheckedOn (Msp430 ram) limits image second replied text =
+    IsChecked msp430_text (msp430_analysis (msp430_setting ram limits image)) (msp430_texts (device_of ram image)) second replied text
+IsCheckedOn Mcs51 limits image second replied text =
+    IsChecked mcs51_text (mcs51_analysis (mcs51_setting limits image)) mcs51_texts second replied text
+
 -- the reply to the image of a made program: the summary of its report
 abbrev pub IsSummed : ChipName → (number : ℕ) → List (Option ℕ) → Status → List ℕ → List Event → Type 0
 IsSummed chip number image replied text journal =
@@ -106,9 +190,13 @@ IsSummed chip number image replied text journal =
 
 -- the reply to an image
 abbrev pub IsImageReply : Reading → List (Option ℕ) → (second : Option (List ℕ)) → Status → List ℕ → List Event → Type 0
-IsImageReply (Analyse task) image second replied text journal = IsAnalysedBy task image replied text journal
+IsImageReply (Analyse task) image second replied text journal =
+    IsReportedOn task.target task.limits task.workers task.cert image replied text journal
 IsImageReply (Disasm target) image second replied text journal = (replied ≡ status.Done) × IsListing target image text × (journal ≡ [])
 IsImageReply (Run target steps) image second replied text journal = IsRun (run_under target steps image) second replied text × (journal ≡ [])
+IsImageReply (Assert task) image second replied text journal = IsAsserted task image second replied text journal
+IsImageReply (Check task) image second replied text journal =
+    IsCheckedOn task.target task.limits image second replied text × (journal ≡ [])
 IsImageReply (Gen chip number) image second replied text journal = IsSummed chip number image replied text journal
 
 -- The reply to words that are a reading, over the text that the input is, where it is told: that to the image which it
@@ -148,6 +236,12 @@ IsCutShort answered = (answered ≡ status.ReadFault) ⊎ (answered ≡ status.W
 abbrev pub TellsNoFault : Status → Type 0
 TellsNoFault answered = (answered ≢ status.ReadFault) × (answered ≢ status.WriteFault)
 
+-- the answer to an image with this certificate behind it, as a whole
+pub record IsVerdictOn (task : Task) (image : List (Option ℕ)) (certificate : List ℕ) (answered : Status) (before after : Option (List ℕ)) : Type 0 where
+  pub told : List ℕ
+  pub checked : IsCheckedOn task.target task.limits image (Some certificate) answered told
+  pub written : after ≡ appended before told
+
 -- the statuses of the replies to an image
 pub data Ends : Reading → Status → Type 0 where
   closed : (task : Task) → Ends (Analyse task) status.Done
@@ -160,8 +254,17 @@ pub data Ends : Reading → Status → Type 0 where
   summed : (chip : ChipName) (number : ℕ) → Ends (Gen chip number) status.Done
   summed_open : (chip : ChipName) (number : ℕ) → Ends (Gen chip number) status.Open
   script_too_long : (target : Target) (steps : ℕ) → Ends (Run target steps) status.TooLong
+  kept_all : (task : Task) → Ends (Assert task) status.Done
+  open_under_assertions : (task : Task) → Ends (Assert task) status.Open
+  broke : (task : Task) → Ends (Assert task) status.Broken
+  refused_assertions : (task : Task) → Ends (Assert task) status.BadCert
+  assertions_too_long : (task : Task) → Ends (Assert task) status.TooLong
+  certified : (task : Task) → Ends (Check task) status.Done
+  refused_certificate : (task : Task) → Ends (Check task) status.BadCert
+  certificate_too_long : (task : Task) → Ends (Check task) status.TooLong
 
 -- what is analysed: the image of the input, or a made program
 pub data Analyses : Reading → Type 0 where
   of_input : (task : Task) → Analyses (Analyse task)
+  of_asserted : (task : Task) → Analyses (Assert task)
   of_made : (chip : ChipName) (number : ℕ) → Analyses (Gen chip number)

@@ -1,7 +1,7 @@
 -- What a report says of every run of the chip whose image the input denotes.
-use Rattle.std.specs.Prelude.{◌≡◌, ℕ, Option, Some, List}
+use Rattle.std.specs.Prelude.{◌≡◌, Bool, false, [], ◌++◌, ℕ, Option, Some, Ok, List}
 use Rattle.analysis_limits.specs.declared.limits.Limits.{Limits}
-use Rattle.ihex_read.specs.declared.tail.Tail.TheVariants.{Blank}
+use Rattle.ihex_read.specs.declared.tail.Tail.TheVariants.{Blank, Second}
 use Rattle.ihex_read.specs.ImageText.{Denotes}
 use Rattle.ihex_read.specs.Lines as texts
 use Rattle.vsa_io.specs.Stream.{appended}
@@ -13,8 +13,13 @@ use Rattle.mcs51_flow.specs.Standing.{instr_text as mcs51_text}
 use Rattle.msp430_flow.specs.Chip.{msp430_analysis}
 use Rattle.msp430_flow.specs.Machine.{msp430_machine}
 use Rattle.msp430_flow.specs.Standing.{instr_text as msp430_text}
+use Rattle.assert_check.specs.Lines.{assertions_of}
+use Rattle.assert_check.specs.declared.assertion.Assertion.{Assertion}
+use Rattle.vsa_top.specs.Asserted.{HoldOn, spaces_of}
+use Rattle.vsa_top.specs.Input.{Gives}
 use Rattle.vsa_top.specs.declared.words.Target.{Target}
 use Rattle.vsa_top.specs.declared.words.Target.TheVariants.{Msp430, Mcs51}
+use Rattle.vsa_top.specs.declared.words.Task.{Task}
 use Rattle.vsa_top.specs.Words.{device_of, mcs51_setting, msp430_setting, target_rules}
 
 -- the report covers every run of the chip with this image
@@ -27,9 +32,29 @@ abbrev pub ShowsSitesOf : Target → Limits → (image : List (Option ℕ)) → 
 ShowsSitesOf (Msp430 ram) limits image journal report = ShowsOpenSites (msp430_analysis (msp430_setting ram limits image)) journal report
 ShowsSitesOf Mcs51 limits image journal report = ShowsOpenSites (mcs51_analysis (mcs51_setting limits image)) journal report
 
+-- The sink got the report, and nothing behind it but the certificate that was asked for.
+pub record IsFirst (cert : Bool) (before after : Option (List ℕ)) (report : List ℕ) : Type 0 where
+  pub behind : List ℕ
+  pub alone : cert ≡ false → behind ≡ []
+  pub held : after ≡ appended before (report ++ behind)
+
 -- Where the input is told and denotes an image of the chip with its RAM, the sink got a report of which P holds, with this
--- image.
-abbrev pub ReportsOn : Target → (input before after : Option (List ℕ)) → (List (Option ℕ) → List ℕ → Type 0) → Type 0
-ReportsOn target input before after P = (text : List ℕ) (image : List (Option ℕ)) → input ≡ Some text
-    → Denotes (target_rules target) Blank (texts.lines_of text) image
-    → (report : List ℕ) × (after ≡ appended before report) × P image report
+-- image, and perhaps a certificate behind it.
+abbrev pub ReportsOn : Task → (input before after : Option (List ℕ)) → (List (Option ℕ) → List ℕ → Type 0) → Type 0
+ReportsOn task input before after P = (text : List ℕ) (image : List (Option ℕ)) → input ≡ Some text
+    → Denotes (target_rules task.target) Blank (texts.lines_of text) image
+    → (report : List ℕ) × IsFirst task.cert before after report × P image report
+
+-- Where the input is told, it gives an image of the chip with assertions behind it, and they hold of every run.
+abbrev pub HoldsOf : Target → (input : Option (List ℕ)) → Type 0
+HoldsOf target input = (text : List ℕ) → input ≡ Some text
+    → (image : List (Option ℕ)) × (second : List ℕ) × (list : List (ℕ × Assertion))
+    × Gives (target_rules target) Second text image second × (assertions_of (spaces_of target) second ≡ Ok list)
+    × HoldOn target image list
+
+-- Where the input is told, it gives an image of the chip with a certificate behind it, and the sink got a report that covers
+-- every run of the chip with this image.
+abbrev pub CertifiesOn : Target → (input before after : Option (List ℕ)) → Type 0
+CertifiesOn target input before after = (text : List ℕ) → input ≡ Some text
+    → (image : List (Option ℕ)) × (second : List ℕ) × (report : List ℕ) × Gives (target_rules target) Second text image second
+    × (after ≡ appended before report) × CoversRunsOf target image report

@@ -12,14 +12,14 @@ use Rattle.ihex_read.specs.Lines.{lines_of}
 use Rattle.ihex_read.specs.Reading.{feeds_of, FaultsWithin, HasEnded}
 use Rattle.vsa_top.specs.declared.input.InputError.{InputError}
 use Rattle.vsa_top.specs.declared.input.InputError.TheVariants.{Failed, Memory, Bad, TooLong}
-use Rattle.image.specs.declared.chip_name.ChipName.{ChipName}
-use Rattle.image.specs.declared.chip_name.ChipName.TheVariants as chip
 use Rattle.vsa_top.specs.declared.words.Reading.{Reading}
-use Rattle.vsa_top.specs.declared.words.Reading.TheVariants.{Analyse, Disasm, Run, Gen}
+use Rattle.vsa_top.specs.declared.words.Reading.TheVariants.{Analyse, Assert, Check, Disasm, Run, Gen}
 
--- a run takes its script behind the image text
+-- a run takes its script behind the image text, and assertions and a certificate stand there too
 abbrev pub tail_of : Reading → Tail
 tail_of (Analyse task) = Blank
+tail_of (Assert task) = Second
+tail_of (Check task) = Second
 tail_of (Disasm target) = Blank
 tail_of (Run target steps) = Second
 tail_of (Gen chip number) = Blank
@@ -28,6 +28,8 @@ tail_of (Gen chip number) = Blank
 abbrev pub input_of : Reading → Option (List ℕ) → Option (List ℕ)
 input_of (Gen chip number) input = Some (made_image chip number)
 input_of (Analyse task) input = input
+input_of (Assert task) input = input
+input_of (Check task) input = input
 input_of (Disasm target) input = input
 input_of (Run target steps) input = input
 

@@ -1,4 +1,6 @@
+pub mod Alone
 pub mod Answer
+pub mod Asserted
 pub mod Command
 pub mod Headline
 pub mod Input

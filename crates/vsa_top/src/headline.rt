@@ -4,16 +4,19 @@ ghost use Rattle.std.specs.Prelude.{◌≡◌, ◌≤◌, ℕ, Option, Some, Lis
 ghost use Rattle.round_core.specs.declared.event.Event.{Event as AnEvent};
 ghost use Rattle.vsa_top.specs.declared.outcome.Status.TheVariants.{Done, Memory, Open, ReadFault, WriteFault};
 ghost use Rattle.vsa_top.specs.declared.outcome.Status.{Status as AStatus};
-ghost use Rattle.vsa_top.specs.Answer.{Analyses, Answers, Ends};
+ghost use Rattle.vsa_top.specs.Answer.{Analyses, Answers, Ends, IsVerdictOn};
 ghost use Rattle.vsa_top.specs.Input.{Gives, input_of, tail_of};
 ghost use Rattle.vsa_top.specs.Words.{EndsInMemory, IsBounded, rules_of};
+ghost use Rattle.ihex_read.specs.declared.tail.Tail.TheVariants.{Second};
 ghost use Rattle.image.specs.Kept.{IsRamRange};
 ghost use Rattle.image.specs.declared.chip_name.ChipName.{ChipName as AChip};
-ghost use Rattle.vsa_top.specs.declared.words.Reading.TheVariants.{Analyse, Gen};
+ghost use Rattle.vsa_top.specs.declared.words.Reading.TheVariants.{Analyse, Assert, Check, Gen};
 ghost use Rattle.vsa_top.specs.declared.words.Reading.{Reading as AReading};
 ghost use Rattle.vsa_top.specs.declared.words.Task.{Task as ATask};
-ghost use Rattle.vsa_top.specs.Headline.{CoversRunsOf, ReportsOn, ShowsSitesOf};
+ghost use Rattle.vsa_top.specs.Headline.{CertifiesOn, CoversRunsOf, HoldsOf, ReportsOn, ShowsSitesOf};
 
+use crate::asserting::assertions_hold;
+use cert_verdict::closed_verdicts_cover_runs;
 use ihex_read::{ended_texts_stay, image_or_fault, images_keep_rules};
 use made_programs::made_texts_denote;
 use mcs51_flow::Mcs51Chip;
@@ -21,17 +24,27 @@ use msp430_flow::Msp430Chip;
 use report_text::{closed_reports_cover_runs, open_reports_show_sites};
 
 /// A report that is told as closed covers every run, and one that is told as open shows its open sites. Analyses alone are
-/// told as open. An image within the limit gets what is asked of it where nothing fails and memory is there, and so does each
-/// made program.
+/// told as open, with or without assertions. Assertions that are told to hold do so on every run, and the report of a
+/// certificate that is told as closed covers every run. An image within the limit gets what is asked of it where nothing
+/// fails and memory is there, and so does each made program.
 pub(crate) fn reports_hold()
     ensures closed { (task : ATask) (input before after : Option (List ℕ)) (journal : List AnEvent)
         → IsRamRange (rules_of (Analyse task)) → EndsInMemory (rules_of (Analyse task)) → IsBounded (Analyse task) → Answers (Analyse task) Done input before after journal →
-        ReportsOn task.target input before after (CoversRunsOf task.target) }
+        ReportsOn task input before after (CoversRunsOf task.target) }
     ensures open { (task : ATask) (input before after : Option (List ℕ)) (journal : List AnEvent)
         → IsRamRange (rules_of (Analyse task)) → EndsInMemory (rules_of (Analyse task)) → IsBounded (Analyse task) → Answers (Analyse task) Open input before after journal →
-        ReportsOn task.target input before after (λ image report. ShowsSitesOf task.target task.limits image journal report) }
+        ReportsOn task input before after (λ image report. ShowsSitesOf task.target task.limits image journal report) }
     ensures open_alone { (reading : AReading) (input before after : Option (List ℕ)) (journal : List AnEvent)
         → Answers reading Open input before after journal → Analyses reading }
+    ensures asserted { (task : ATask) (input before after : Option (List ℕ)) (journal : List AnEvent)
+        → IsRamRange (rules_of (Assert task)) → EndsInMemory (rules_of (Assert task)) → IsBounded (Assert task)
+        → Answers (Assert task) Done input before after journal → HoldsOf task.target input }
+    ensures certified { (task : ATask) (input before after : Option (List ℕ)) (journal : List AnEvent)
+        → IsRamRange (rules_of (Check task)) → EndsInMemory (rules_of (Check task)) → IsBounded (Check task)
+        → Answers (Check task) Done input before after journal → CertifiesOn task.target input before after }
+    ensures verdict { (task : ATask) (answered : AStatus) (input before after : Option (List ℕ)) (journal : List AnEvent) (text certificate : List ℕ) (image : List (Option ℕ))
+        → Answers (Check task) answered input before after journal → input ≡ Some text → Gives (rules_of (Check task)) Second text image certificate
+        → ¬ (answered ≡ ReadFault) → ¬ (answered ≡ WriteFault) → IsVerdictOn task image certificate answered before after ⊎ (answered ≡ Memory) }
     ensures complete { (reading : AReading) (answered : AStatus) (input before after : Option (List ℕ)) (journal : List AnEvent) (text : List ℕ) (image : List (Option ℕ)) (second : List ℕ)
         → Answers reading answered input before after journal → input_of reading input ≡ Some text → Gives (rules_of reading) (tail_of reading) text image second
         → ¬ (answered ≡ ReadFault) → ¬ (answered ≡ WriteFault) → Ends reading answered ⊎ (answered ≡ Memory) }
@@ -47,4 +60,8 @@ pub(crate) fn reports_hold()
     closed_reports_cover_runs::<Mcs51Chip>();
     open_reports_show_sites::<Msp430Chip>();
     open_reports_show_sites::<Mcs51Chip>();
+    assertions_hold::<Msp430Chip>();
+    assertions_hold::<Mcs51Chip>();
+    closed_verdicts_cover_runs::<Msp430Chip>();
+    closed_verdicts_cover_runs::<Mcs51Chip>();
 }

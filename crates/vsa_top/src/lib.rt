@@ -1,6 +1,10 @@
-//! The top call: from words and an input to a report, a disassembly or a trace.
+//! The top call: from words and an input to a report, what it breaks of assertions, the verdict on a certificate, a disassembly
+//! or a trace.
 #![tactic(auto)]
 
+mod alone;
+mod asserting;
+mod checking;
 mod command;
 mod headline;
 mod input;
@@ -10,10 +14,12 @@ mod msp430;
 mod outcome;
 mod reply;
 mod script;
+mod second;
 mod summary;
 mod top;
 mod words;
 
 pub use outcome::{Outcome, Status};
+pub use round_core::Event;
 pub use top::vsa;
 pub use worker_rounds::{Gate, NoGate};

@@ -1,7 +1,8 @@
 //! The reply to what words ask, of an input or of a made program.
 
-ghost use Rattle.std.specs.Prelude.{◌≡◌, ◌≢◌, ◌≤◌, IfOk, IfErr, OnOk, Some};
+ghost use Rattle.std.specs.Prelude.{◌≡◌, ◌≢◌, ◌≤◌, ℕ, IfOk, IfErr, OnOk, Some};
 ghost use Rattle.image.specs.Kept.{IsRamRange};
+ghost use Rattle.image.specs.declared.chip_name.ChipName.{ChipName as AChip};
 ghost use Rattle.image_gen.specs.Made.{made_image};
 ghost use Rattle.vsa_io.specs.Stream.{HasRisen};
 ghost use Rattle.vsa_top.specs.Answer.{IsReply, TellsNoFault};
@@ -53,11 +54,14 @@ pub fn reply_to<R: Threads + Wait + Sync, S: Source, G: Gate + Sync>(
     ensures cause { IfErr result (λ error. error ≡ NoReply.ReadFault → HasRisen (S.faults source.old) (S.faults source.new)) }
     ensures quiet { OnOk result (S.faults source.new ≡ S.faults source.old) }
     ensures quiet_refusal { IfErr result (λ error. error ≢ NoReply.ReadFault → S.faults source.new ≡ S.faults source.old) }
+    ensures unread { (chip : AChip) (number : ℕ) → reading ≡ Gen chip number → source.new ≡ source.old }
 {
     match reading {
         Reading::Gen { chip, number } => made_reply(rt, alloc, chip, number, gate),
-        Reading::Analyse { .. } | Reading::Disasm { .. } | Reading::Run { .. } => {
-            input_reply(rt, alloc, reading, source, gate)
-        }
+        Reading::Analyse { .. }
+        | Reading::Assert { .. }
+        | Reading::Check { .. }
+        | Reading::Disasm { .. }
+        | Reading::Run { .. } => input_reply(rt, alloc, reading, source, gate),
     }
 }

@@ -1,6 +1,7 @@
 //! The MSP430 as it is disassembled and run.
 
-ghost use Rattle.std.specs.Prelude.{◌≡◌, ◌≤◌, ◌%◌, IfOk};
+ghost use Rattle.std.specs.Prelude.{◌≡◌, ◌%◌, IfOk};
+ghost use Rattle.msp430_chip.specs.Memory.{HasRam};
 ghost use Rattle.msp430_chip.specs.State.{first_state};
 ghost use Rattle.vsa_top.specs.Msp430.{msp430_reads, msp430_runner};
 
@@ -59,18 +60,19 @@ impl<'a> Model for Msp430Run<'a> {
 
     ghost view = { λ run. (run.device.now, run.machine.state) };
 
-    ghost invariant = { λ run. (run.machine.lo ≡ run.device.now.lo) × (run.machine.hi ≡ run.device.now.hi) };
+    ghost invariant = { λ run. (run.machine.lo ≡ run.device.now.lo) × (run.machine.hi ≡ run.device.now.hi) × (run.machine.mirror ≡ run.device.now.mirror) };
 }
 
 impl<'a> Msp430Run<'a> {
     /// The device after a reset that leaves 0 in all that is any.
     pub fn reset(alloc: Global, device: &'a Device) -> Result<Msp430Run<'a>, Memory>
-        requires { device.now.lo ≤ device.now.hi }
+        requires { HasRam device.now }
         ensures { IfOk result (λ run. run ≡ (device.now, first_state device.now)) }
     {
         let rules = Rules::Msp430 {
             lo: device.lo,
             hi: device.hi,
+            mirror: device.mirror,
         };
         let machine = Machine::reset(alloc, &device.image, rules)?;
         Ok(Msp430Run { device, machine })

@@ -5,7 +5,7 @@ use round_core::Event;
 /// How a call ended, with the program's exit status as its number.
 #[derive(Clone, Copy, Debug, PartialEq, Eq)]
 pub enum Status {
-    /// The report is closed, or the image is disassembled.
+    /// The report is closed, its assertions hold, the certificate's table is closed, or the image is disassembled.
     Done = 0,
     /// The report is open.
     Open = 1,
@@ -13,7 +13,7 @@ pub enum Status {
     Usage = 2,
     /// The input gives no image.
     BadImage = 3,
-    /// The certificate is refused.
+    /// The text behind the image text is refused.
     BadCert = 4,
     /// The source failed.
     ReadFault = 5,
@@ -27,6 +27,8 @@ pub enum Status {
     Wild = 9,
     /// The script ended before a choice of the run.
     NeedChoice = 10,
+    /// The report is closed, and breaks an assertion.
+    Broken = 11,
 }
 
 /// What a call answers.

@@ -4,11 +4,13 @@ ghost use Rattle.std.specs.Prelude.{◌≡◌, ◌≢◌, ◌≤◌, ℕ, [], If
 ghost use Rattle.image.specs.Kept.{IsRamRange, IsReadUnder};
 ghost use Rattle.vsa_io.specs.Stream.{HasRisen};
 ghost use Rattle.run_trace.specs.Trace.{run_of};
-ghost use Rattle.vsa_top.specs.Answer.{IsAnalysed, IsAnalysedBy, IsAnalysis, IsImageReply, IsListing, IsReply, IsRun, IsSummed, TellsNoFault, bad_line as the_bad_line, no_line as the_no_line, run_under, status_of_analysis, status_of_end};
+ghost use Rattle.vsa_top.specs.Answer.{IsAnalysis, IsFollowed, IsImageReply, IsListing, IsReply, IsReported, IsReportedOn, IsRun, IsSummed, TellsNoFault, bad_line as the_bad_line, no_line as the_no_line, run_under, status_of_analysis, status_of_end};
 ghost use Rattle.vsa_top.specs.Input.{begun_with};
 ghost use Rattle.vsa_top.specs.Words.{IsBounded, rules_of, target_rules};
 ghost use Rattle.vsa_top.specs.declared.words.Reading.TheVariants.{Analyse, Gen};
 
+use crate::asserting::assertion_reply;
+use crate::checking::check_reply;
 use crate::input::{InputError, image_in};
 use crate::mcs51::{Mcs51Code, Mcs51Run};
 use crate::msp430::{Msp430Code, Msp430Run};
@@ -16,7 +18,9 @@ use crate::outcome::Status;
 use crate::script::{ScriptRefusal, script_in};
 use crate::summary::summary_of;
 use crate::words::{Reading, Target, Task};
+use cert_text::book_certificate;
 use chip_law::{Chip, ChipText, InstrText};
+use closing_law::books_are_bounded;
 use disassembly::disassembly_of;
 use ihex_read::HexFault;
 use image::{ChipName, Image};
@@ -27,6 +31,7 @@ use no_memory::Memory;
 use report_text::report_of;
 use round_core::{Book, Event};
 use run_trace::{Emulator, End, trace_of};
+use state_text::LawfulText;
 use std::alloc::{AllocError, Global};
 use std::sync::Wait;
 use std::thread::Threads;
@@ -72,7 +77,7 @@ impl From<AllocError> for NoReply {
 }
 
 /// A reply without events.
-fn text_reply(alloc: Global, status: Status, text: Vec<u8>) -> Reply
+pub fn text_reply(alloc: Global, status: Status, text: Vec<u8>) -> Reply
     ensures status { result.status ≡ status }
     ensures text { result.text.items ≡ text.items }
     ensures journal { result.journal.items ≡ [] }
@@ -117,7 +122,7 @@ fn book_alone<C: Chip>(alloc: Global, chip: &C) -> Result<Book<C>, Memory>
 }
 
 /// The book of a program that so many workers analyse.
-fn book_of<R: Threads + Wait + Sync, C: Chip<Base: Send> + Send + Sync, G: Gate + Sync>(
+pub fn book_of<R: Threads + Wait + Sync, C: Chip<Base: Send> + Send + Sync, G: Gate + Sync>(
     rt: &R,
     alloc: Global,
     chip: &C,
@@ -135,18 +140,46 @@ fn book_of<R: Threads + Wait + Sync, C: Chip<Base: Send> + Send + Sync, G: Gate 
     fixpoint(rt, alloc, chip, workers, gate)
 }
 
-/// The report of a book of so many workers.
-fn analysed<C: ChipText>(alloc: Global, chip: &C, book: Book<C>) -> Result<Reply, Memory>
+/// Adds the certificate of a book behind its report, where one is asked for.
+fn push_certificate<C: LawfulText>(
+    alloc: Global,
+    chip: &C,
+    book: &Book<C>,
+    cert: bool,
+    text: &mut Vec<u8>,
+) -> Result<(), Memory>
+    requires { C.base chip.now ≡ book.now.base }
+    ensures { (let b = C.base chip.now in
+        OnOk result (IsFollowed (C.analysis b) (C.texts b) cert book.now.journal text.old.items text.new.items)) }
+{
+    if cert {
+        let certificate = book_certificate(alloc, chip, book)?;
+        text.extend_from_slice(certificate.as_slice())?;
+    }
+    Ok(())
+}
+
+/// The report of a book of so many workers, and its certificate where one is asked for.
+fn analysed<C: ChipText + LawfulText>(
+    alloc: Global,
+    chip: &C,
+    book: Book<C>,
+    cert: bool,
+) -> Result<Reply, Memory>
     requires base { book.base ≡ C.base chip.now }
     ensures no_fault { IfOk result (λ reply. TellsNoFault reply.status) }
-    ensures reply { IfOk result (λ reply. (workers : ℕ) → IsAnalysis (C.analysis book.base) workers book.journal
-        → IsAnalysed (C.text_of chip.now) (C.analysis (C.base chip.now)) workers reply.status reply.text.items reply.journal.items) }
+    ensures reply { (let b = C.base chip.now in IfOk result (λ reply. (workers : ℕ) → IsAnalysis (C.analysis b) workers book.journal
+        → IsReported (C.text_of chip.now) (C.analysis b) (C.texts b) workers cert reply.status reply.text.items reply.journal.items)) }
 {
+    books_are_bounded::<C>();
+    chip.is_program();
     let report = report_of(alloc, chip, &book)?;
+    let mut text = report.text;
+    push_certificate(alloc, chip, &book, cert, &mut text)?;
     let (_, _, journal) = book.into_parts();
     Ok(Reply {
         status: status_of(report.is_closed),
-        text: report.text,
+        text,
         journal,
     })
 }
@@ -166,9 +199,9 @@ fn bad_line(alloc: Global, line: u32, fault: HexFault) -> Result<Vec<u8>, AllocE
     Ok(text)
 }
 
-/// The line that tells a refused line of a script.
+/// The line that tells a refused line of a second text.
 #[tactic(auto, unfolding(crate::specs::Answer::no_line))]
-fn no_line(alloc: Global, line: u32) -> Result<Vec<u8>, AllocError>
+pub fn no_line(alloc: Global, line: u32) -> Result<Vec<u8>, AllocError>
     ensures { IfOk result (λ text. text.items ≡ the_no_line line) }
 {
     let number = line.to_string(alloc)?;
@@ -247,6 +280,7 @@ fn chip_run_reply<S: Source>(
                 image,
                 lo: ram.lo,
                 hi: ram.hi,
+                mirror: ram.mirror,
             };
             let mut run = Msp430Run::reset(alloc, &device)?;
             run_reply(alloc, &mut run, &Msp430Text, steps, begun, source)
@@ -258,25 +292,23 @@ fn chip_run_reply<S: Source>(
     }
 }
 
-/// The report of a program that so many workers analyse.
-fn chip_reply<R: Threads + Wait + Sync, C: ChipText<Base: Send> + Send + Sync, G: Gate + Sync>(
-    rt: &R,
-    alloc: Global,
-    chip: &C,
-    workers: u32,
-    gate: &G,
-) -> Result<Reply, Memory>
+/// The report of a program that so many workers analyse, and its certificate where one is asked for.
+fn chip_reply<
+    R: Threads + Wait + Sync,
+    C: ChipText<Base: Send> + LawfulText + Send + Sync,
+    G: Gate + Sync,
+>(rt: &R, alloc: Global, chip: &C, workers: u32, cert: bool, gate: &G) -> Result<Reply, Memory>
     requires some { 1 ≤ workers }
     requires few { workers ≤ 16 }
     ensures no_fault { IfOk result (λ reply. TellsNoFault reply.status) }
-    ensures reply { IfOk result (λ reply.
-        IsAnalysed (C.text_of chip.now) (C.analysis (C.base chip.now)) workers reply.status reply.text.items reply.journal.items) }
+    ensures reply { (let b = C.base chip.now in IfOk result (λ reply.
+        IsReported (C.text_of chip.now) (C.analysis b) (C.texts b) workers cert reply.status reply.text.items reply.journal.items)) }
 {
     let book = book_of(rt, alloc, chip, workers, gate)?;
-    analysed(alloc, chip, book)
+    analysed(alloc, chip, book, cert)
 }
 
-/// The report of an image.
+/// The report of an image, and its certificate where one is asked for.
 fn analysis_reply<R: Threads + Wait + Sync, G: Gate + Sync>(
     rt: &R,
     alloc: Global,
@@ -288,16 +320,17 @@ fn analysis_reply<R: Threads + Wait + Sync, G: Gate + Sync>(
     requires bounded { IsBounded (Analyse task) }
     requires kept { IsReadUnder (rules_of (Analyse task)) image }
     ensures no_fault { IfOk result (λ reply. TellsNoFault reply.status) }
-    ensures reply { IfOk result (λ reply. IsAnalysedBy task image reply.status reply.text.items reply.journal.items) }
+    ensures reply { IfOk result (λ reply.
+        IsReportedOn task.target task.limits task.workers task.cert image reply.status reply.text.items reply.journal.items) }
 {
     match task.target {
         Target::Msp430 { ram } => {
-            let chip = Msp430Chip::new(alloc, image, ram.lo, ram.hi, task.limits)?;
-            chip_reply(rt, alloc, &chip, task.workers, gate)
+            let chip = Msp430Chip::new(alloc, image, ram.lo, ram.hi, ram.mirror, task.limits)?;
+            chip_reply(rt, alloc, &chip, task.workers, task.cert, gate)
         }
         Target::Mcs51 => {
             let chip = Mcs51Chip::new(alloc, image, task.limits)?;
-            chip_reply(rt, alloc, &chip, task.workers, gate)
+            chip_reply(rt, alloc, &chip, task.workers, task.cert, gate)
         }
     }
 }
@@ -346,6 +379,8 @@ fn image_reply<R: Threads + Wait + Sync, S: Source, G: Gate + Sync>(
 {
     match reading {
         Reading::Analyse { task } => Ok(analysis_reply(rt, alloc, task, image, gate)?),
+        Reading::Assert { task } => { assertion_reply(rt, alloc, task, image, begun, source, gate) }
+        Reading::Check { task } => check_reply(alloc, task, image, begun, source),
         Reading::Disasm { target } => {
             let lines = listing_of(alloc, target, &image)?;
             Ok(text_reply(alloc, Status::Done, lines))

@@ -2,16 +2,19 @@
 
 ghost use Rattle.std.specs.Prelude.{◌≡◌, ◌≢◌, [], ◌≤◌, ℕ, List, Option, Some, ◌⊎◌};
 ghost use Rattle.vsa_io.specs.Stream.{HasRisen, AppendsPrefix, appended};
+ghost use Rattle.ihex_read.specs.declared.tail.Tail.TheVariants.{Second};
 ghost use Rattle.image.specs.Kept.{IsRamRange};
-ghost use Rattle.vsa_top.specs.Headline.{CoversRunsOf, ReportsOn, ShowsSitesOf};
+ghost use Rattle.vsa_top.specs.Headline.{CertifiesOn, CoversRunsOf, HoldsOf, ReportsOn, ShowsSitesOf};
 ghost use Rattle.image.specs.declared.chip_name.ChipName.{ChipName as AChip};
-ghost use Rattle.vsa_top.specs.declared.words.Reading.TheVariants.{Analyse, Gen};
+ghost use Rattle.vsa_top.specs.declared.words.Reading.TheVariants.{Analyse, Assert, Check, Gen};
 ghost use Rattle.vsa_top.specs.declared.words.Reading.{Reading as AReading};
 ghost use Rattle.vsa_top.specs.declared.words.Task.{Task as ATask};
-ghost use Rattle.vsa_top.specs.Answer.{Analyses, Answers, AreRefused, Ends, IsCutShort, IsWritten};
+ghost use Rattle.vsa_top.specs.Alone.{IsOneReply, TellsAnalysis, WorksAlone};
+ghost use Rattle.vsa_top.specs.Answer.{Analyses, Answers, AreRefused, Ends, IsCutShort, IsVerdictOn, IsWritten};
 ghost use Rattle.vsa_top.specs.Input.{Gives, input_of, tail_of};
 ghost use Rattle.vsa_top.specs.Words.{IsBounded, Reads, rules_of};
 
+use crate::alone::replies_are_one;
 use crate::headline::reports_hold;
 use crate::made::reply_to;
 use crate::outcome::{Outcome, Status};
@@ -56,6 +59,7 @@ fn answer<R: Threads + Wait + Sync, S: Source, K: Sink, G: Gate + Sync>(
     ensures write_fault { result.status ≡ Status.WriteFault → HasRisen (K.faults sink.old) (K.faults sink.new) }
     ensures quiet_source { ¬ IsCutShort result.status → S.faults source.new ≡ S.faults source.old }
     ensures quiet_sink { ¬ IsCutShort result.status → K.faults sink.new ≡ K.faults sink.old }
+    ensures unread { (chip : AChip) (number : ℕ) → reading ≡ Gen chip number → source.new ≡ source.old }
 {
     let status = match reply_to(rt, alloc, reading, source, gate) {
         Ok(
@@ -85,39 +89,66 @@ pub fn vsa<R: Threads + Wait + Sync, S: Source, K: Sink, G: Gate + Sync>(
 ) -> Outcome
     // THE HEADLINE. Where the words ask an analysis, the input denotes an image under their rules and the status is Done,
     // which tells a report that says CLOSED, whatever the chip meets on any run has its line in the report, and no run
-    // leaves the model.
+    // leaves the model. Behind the report stands nothing, or the certificate that was asked for.
     ensures headline { (task : ATask) → Reads words.now (Analyse task) → result.status ≡ Status.Done
-        → ReportsOn task.target (S.left source.old) (K.held sink.old) (K.held sink.new) (CoversRunsOf task.target) }
+        → ReportsOn task (S.left source.old) (K.held sink.old) (K.held sink.new) (CoversRunsOf task.target) }
     // Where the words ask an analysis and the status is Open, the report says OPEN and shows each open site, of which there
-    // is one: the address of a location of the book at which the limit that its cause names is broken.
+    // is one: the address of a location of the book at which, by its state, the limit that its cause names is broken.
     ensures open_sites { (task : ATask) → Reads words.now (Analyse task) → result.status ≡ Status.Open
-        → ReportsOn task.target (S.left source.old) (K.held sink.old) (K.held sink.new)
+        → ReportsOn task (S.left source.old) (K.held sink.old) (K.held sink.new)
         (λ image report. ShowsSitesOf task.target task.limits image result.journal.items report) }
-    // Open is the status of an analysis alone: that of the input's image, or that of a made program.
+    // Where the words ask an analysis under assertions and the status is Done, which tells HOLDS, the assertions that stand
+    // behind the input's image text hold: nothing that the chip meets on any run breaks one, and no run leaves the model.
+    ensures assertions { (task : ATask) → Reads words.now (Assert task) → result.status ≡ Status.Done
+        → HoldsOf task.target (S.left source.old) }
+    // Where the words ask the check of a certificate and the status is Done, the report that was written covers every run of
+    // the chip with the input's image, whoever made the certificate.
+    ensures certified { (task : ATask) → Reads words.now (Check task) → result.status ≡ Status.Done
+        → CertifiesOn task.target (S.left source.old) (K.held sink.old) (K.held sink.new) }
+    // Open is the status of an analysis alone: that of the input's image, with or without assertions, or that of a made
+    // program.
     ensures open_alone { (reading : AReading) → Reads words.now reading → result.status ≡ Status.Open → Analyses reading }
 
     // Words that aren't a reading are refused, or memory isn't there to tell; no others are.
     ensures usage { ((reading : AReading) → ¬ Reads words.now reading)
         → AreRefused result.status (K.held sink.old) (K.held sink.new) }
     ensures usage_journal { ((reading : AReading) → ¬ Reads words.now reading) → result.journal.items ≡ [] }
-    // The bytes are exactly the report of the book that the journal leads to, or exactly the disassembly of the image, or
-    // exactly the trace of the run along the script, or tell the first faulty line of the input, the first refused line of
-    // the script, or that one of them is too long. For a made program they are exactly the summary of the report of the book
-    // that the journal leads to.
+    // The bytes are exactly the report of the book that the journal leads to, with the certificate of its table behind it
+    // where the words ask for that, or exactly what it breaks of the assertions, or
+    // exactly the report of the certificate's table where that is closed, or exactly the disassembly of the image, or exactly
+    // the trace of the run along the script, or tell the first faulty line of the input, the first refused line of the second
+    // text or the first refusal of the certificate's table, or that one of them is too long. For a made program they are
+    // exactly the summary of the report of the book that the journal leads to.
     ensures answer { (reading : AReading) → Reads words.now reading
         → Answers reading result.status (S.left source.old) (K.held sink.old) (K.held sink.new) result.journal.items }
 
-    // An input that gives an image within the limit gets its report, its disassembly, or its run or what is refused of its
-    // script, and a made program's text that does gets its summary, where no count of faults rose, or Memory.
+    // An input that gives an image within the limit gets its report, what it breaks, its disassembly, its run, the report of
+    // its certificate's table, or what is refused of its second text, and a made program's text that does gets its summary, where no count of faults rose, or Memory.
     ensures complete { (reading : AReading) (text : List ℕ) (image : List (Option ℕ)) (second : List ℕ) → Reads words.now reading
         → input_of reading (S.left source.old) ≡ Some text → Gives (rules_of reading) (tail_of reading) text image second
         → ¬ HasRisen (S.faults source.old) (S.faults source.new) → ¬ HasRisen (K.faults sink.old) (K.faults sink.new)
         → Ends reading result.status ⊎ (result.status ≡ Status.Memory) }
 
+    // Where an input gives an image and a certificate behind it, the answer is the verdict on this certificate, where no count
+    // of faults rose, or Memory: Done with the report exactly where its table is closed, else why it is refused.
+    ensures verdict { (task : ATask) (text certificate : List ℕ) (image : List (Option ℕ)) → Reads words.now (Check task)
+        → S.left source.old ≡ Some text → Gives (rules_of (Check task)) Second text image certificate
+        → ¬ HasRisen (S.faults source.old) (S.faults source.new) → ¬ HasRisen (K.faults sink.old) (K.faults sink.new)
+        → IsVerdictOn task image certificate result.status (K.held sink.old) (K.held sink.new) ⊎ (result.status ≡ Status.Memory) }
+
     // Each made program's text gives an image, so its summary is told, or Memory.
     ensures made { (chip : AChip) (number : ℕ) → Reads words.now (Gen chip number)
         → ¬ HasRisen (S.faults source.old) (S.faults source.new) → ¬ HasRisen (K.faults sink.old) (K.faults sink.new)
         → Ends (Gen chip number) result.status ⊎ (result.status ≡ Status.Memory) }
+
+    // For a made program nothing is read: the source is as it was.
+    ensures unread { (chip : AChip) (number : ℕ) → Reads words.now (Gen chip number) → source.new ≡ source.old }
+
+    // What one worker tells of an analysis, and what is told of a made program, is a function of the words and the input: the
+    // reply that is given is the only one of an analysis.
+    ensures one_reply { (reading : AReading) (text : List ℕ) → Reads words.now reading → WorksAlone reading
+        → TellsAnalysis result.status → input_of reading (S.left source.old) ≡ Some text
+        → IsOneReply reading (Some text) result.status (K.held sink.old) (K.held sink.new) result.journal.items }
 
     // A fault is told only where its count rose, and a status that tells none is given only where none did.
     ensures read_fault { result.status ≡ Status.ReadFault → HasRisen (S.faults source.old) (S.faults source.new) }
@@ -128,6 +159,7 @@ pub fn vsa<R: Threads + Wait + Sync, S: Source, K: Sink, G: Gate + Sync>(
     match reading_of(alloc, words) {
         Ok(Some(reading)) => {
             reports_hold();
+            replies_are_one();
             answer(rt, alloc, reading, source, sink, gate)
         }
         Ok(None) => written(sink, b"USAGE\n", Status::Usage, Vec::new(alloc)),

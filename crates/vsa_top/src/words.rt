@@ -1,6 +1,6 @@
 //! The words of the command line.
 
-ghost use Rattle.std.specs.Prelude.{◌≡◌, ◌<◌, ◌≤◌, ◌↔◌, ℕ, Option, IfNone, IfOk, IfSome, IsTrue, MatchOption, Some};
+ghost use Rattle.std.specs.Prelude.{◌≡◌, ◌<◌, ◌≤◌, ◌↔◌, ℕ, Option, IfNone, IfOk, IfSome, IsTrue, MatchOption, None, Some};
 ghost use Rattle.hex.specs.Hex.{hex_digit_value};
 ghost use Rattle.image.specs.Kept.{IsRamRange};
 ghost use Rattle.image.specs.declared.rule_set.Rules.TheVariants.{Msp430};
@@ -8,10 +8,10 @@ ghost use Rattle.vsa_top.specs.Input.{tail_of};
 ghost use Rattle.image.specs.declared.chip_name.ChipName.{ChipName as AChip};
 ghost use Rattle.vsa_top.specs.declared.words.Mode.{Mode as AMode};
 ghost use Rattle.vsa_top.specs.declared.words.Options.{Options as AOptions};
-ghost use Rattle.vsa_top.specs.declared.words.Ram.{Ram as ARam};
+ghost use Rattle.vsa_top.specs.declared.words.Span.{Span as ASpan};
 ghost use Rattle.vsa_top.specs.declared.words.Reading.{Reading as AReading};
 ghost use Rattle.clap.specs.Words.{first_value, found_of};
-ghost use Rattle.vsa_top.specs.Words.{EndsInMemory, IsBounded, IsNumber, IsNumberBehind, IsNumberIn, IsRange, IsSaid, Reads, Say, asked, chip_word, limits_by, mode_word, number_of as the_number, reading_with as all_three, rules_of, task_of as the_task, target_by as the_target_by, target_of, target_rules, text_of, usual_target, usual_task};
+ghost use Rattle.vsa_top.specs.Words.{is_given, EndsInMemory, IsBounded, IsNumber, IsNumberBehind, IsNumberIn, IsRange, IsSaid, Reads, Say, asked, chip_word, limits_by, may_mirror as the_may_mirror, mode_word, number_of as the_number, reading_with as all_three, rules_of, task_of as the_task, target_by as the_target_by, target_of, target_rules, text_of, usual_target, usual_task, with_mirror as the_with_mirror};
 ghost use Rattle.vsa_top.specs.declared.words.Mode.TheVariants as the_mode;
 
 use crate::command::matches_of;
@@ -27,6 +27,10 @@ use std::alloc::{AllocError, Global};
 pub enum Mode {
     /// It is analysed, and the report is written.
     Analyse,
+    /// It is analysed, and assertions over the report are decided.
+    Assert,
+    /// A certificate behind it is checked, and the report of its table is written.
+    Check,
     /// Its disassembly is written.
     Disasm,
     /// It runs along a script, and the trace is written.
@@ -45,25 +49,43 @@ pub fn word_of(chip: ChipName) -> &'static str
     }
 }
 
-/// The first and the last address of the MSP430's RAM. They begin and end whole words, behind the peripherals.
+/// The first and the last address of a range. They begin and end whole words, behind the peripherals.
 #[derive(Clone, Copy, Debug, PartialEq, Eq)]
-pub struct Ram {
+pub struct Span {
     pub lo: u16,
     pub hi: u16,
 }
 
+impl Span {
+    /// From 0200h to 09FFh.
+    const USUAL: Span = Span {
+        lo: 0x0200,
+        hi: 0x09FF,
+    };
+}
+
+/// The first and the last address of the MSP430's RAM, and those of its mirror, where RAM answers a second time.
+#[derive(Clone, Copy, Debug, PartialEq, Eq)]
+pub struct Ram {
+    pub lo: u16,
+    pub hi: u16,
+    pub mirror: Option<(u16, u16)>,
+}
+
 impl Ram {
-    /// RAM from 0200h to 09FFh.
+    /// RAM from 0200h to 09FFh, without a mirror.
     pub const USUAL: Ram = Ram {
         lo: 0x0200,
         hi: 0x09FF,
+        mirror: None,
     };
 }
 
 /// What the options of the words say.
 #[derive(Clone, Copy, Debug, PartialEq, Eq)]
 pub struct Options {
-    pub ram: Option<Ram>,
+    pub ram: Option<Span>,
+    pub mirror: Option<Span>,
     /// How many call sites a location keeps, at most 8.
     pub calls: Option<u8>,
     /// How many targets of one instruction are followed, 1 to 256.
@@ -72,6 +94,8 @@ pub struct Options {
     pub workers: Option<u32>,
     pub steps: Option<u32>,
     pub number: Option<u32>,
+    /// Whether a certificate is asked for.
+    pub cert: bool,
 }
 
 /// How many steps a run has, if the words don't say.
@@ -109,6 +133,7 @@ impl Target {
             Target::Msp430 { ram } => Rules::Msp430 {
                 lo: ram.lo,
                 hi: ram.hi,
+                mirror: ram.mirror,
             },
             Target::Mcs51 => Rules::Mcs51,
         }
@@ -123,6 +148,8 @@ pub struct Task {
     pub limits: Limits,
     /// How many workers there are, 1 to 16.
     pub workers: u32,
+    /// Whether the certificate of the table is written behind the report.
+    pub cert: bool,
 }
 
 impl Task {
@@ -134,6 +161,7 @@ impl Task {
             target: Target::usual(chip),
             limits: Limits::USUAL,
             workers: 1,
+            cert: false,
         }
     }
 }
@@ -142,6 +170,10 @@ impl Task {
 #[derive(Clone, Copy, Debug, PartialEq, Eq)]
 pub enum Reading {
     Analyse { task: Task },
+    /// The assertions stand behind the image text.
+    Assert { task: Task },
+    /// The certificate stands behind the image text.
+    Check { task: Task },
     Disasm { target: Target },
     /// At most so many steps, which are at most 1,000,000.
     Run { target: Target, steps: u32 },
@@ -156,6 +188,8 @@ impl Reading {
     {
         match self {
             Reading::Analyse { task } => task.target,
+            Reading::Assert { task } => task.target,
+            Reading::Check { task } => task.target,
             Reading::Disasm { target } => target,
             Reading::Run { target, .. } => target,
             Reading::Gen { chip, .. } => Target::usual(chip),
@@ -175,6 +209,8 @@ impl Reading {
     {
         match self {
             Reading::Analyse { .. } => Tail::Blank,
+            Reading::Assert { .. } => Tail::Second,
+            Reading::Check { .. } => Tail::Second,
             Reading::Disasm { .. } => Tail::Blank,
             Reading::Run { .. } => Tail::Second,
             Reading::Gen { .. } => Tail::Blank,
@@ -210,23 +246,23 @@ fn number_of(digits: &[u8]) -> Option<u16>
 }
 
 /// Whether RAM may stand there.
-fn is_ram_range(ram: Ram) -> bool
-    ensures { IsTrue result ↔ IsRamRange (Msp430 ram.lo ram.hi) }
+fn is_ram_range(span: Span) -> bool
+    ensures { IsTrue result ↔ IsRamRange (Msp430 span.lo span.hi None) }
 {
-    ram.lo % 2 == 0 && ram.hi % 2 == 1 && ram.lo >= 0x0200 && ram.lo < ram.hi
+    span.lo % 2 == 0 && span.hi % 2 == 1 && span.lo >= 0x0200 && span.lo < span.hi
 }
 
 /// The range `LO-HI`, by four hexadecimal digits each.
-fn range_of(text: &[u8]) -> Option<Ram>
-    ensures { MatchOption result ((ram : ARam) → ¬ IsRange text.now ram) (IsRange text.now) }
+fn range_of(text: &[u8]) -> Option<Span>
+    ensures { MatchOption result ((span : ASpan) → ¬ IsRange text.now span) (IsRange text.now) }
 {
     if text.len() != 9 || text[4] != b'-' {
         return None;
     }
     let lo = number_of(&text[..4])?;
     let hi = number_of(&text[5..])?;
-    let ram = Ram { lo, hi };
-    if is_ram_range(ram) { Some(ram) } else { None }
+    let span = Span { lo, hi };
+    if is_ram_range(span) { Some(span) } else { None }
 }
 
 /// The number of decimal digits behind those of another one, where it is at most a million.
@@ -275,6 +311,10 @@ fn mode_of(text: Option<&str>) -> Option<Mode>
     let text = text?;
     if text == "analyse" {
         Some(Mode::Analyse)
+    } else if text == "assert" {
+        Some(Mode::Assert)
+    } else if text == "check" {
+        Some(Mode::Check)
     } else if text == "disasm" {
         Some(Mode::Disasm)
     } else if text == "run" {
@@ -300,9 +340,9 @@ fn chip_of(text: Option<&str>) -> Option<ChipName>
     }
 }
 
-/// What `--ram` says, where it is there: none, if its text is no range of RAM.
-fn ram_of(text: Option<&str>) -> Option<Option<Ram>>
-    ensures { MatchOption result ((said : Option ARam) → ¬ IsSaid IsRange (text_of text.entry) said) (IsSaid IsRange (text_of text.entry)) }
+/// What `--ram` or `--mirror` says, where it is there: none, if RAM may not stand where its text says.
+fn range_said(text: Option<&str>) -> Option<Option<Span>>
+    ensures { MatchOption result ((said : Option ASpan) → ¬ IsSaid IsRange (text_of text.entry) said) (IsSaid IsRange (text_of text.entry)) }
 {
     match text {
         None => Some(None),
@@ -330,36 +370,78 @@ fn calls_said(text: Option<&str>) -> Option<Option<u8>>
     }
 }
 
+/// Whether a flag is given, by its text.
+fn flag_said(text: Option<&str>) -> bool
+    ensures { result ≡ is_given (text_of text.entry) }
+{
+    match text {
+        None => false,
+        Some(text) => text == "true",
+    }
+}
+
 /// What the options say: none, if one of them doesn't take its text.
 fn options_of(matches: &ArgMatches<'_>) -> Option<Options>
     ensures { MatchOption result ((options : AOptions) → ¬ Say (first_value (found_of matches.now)) options) (Say (first_value (found_of matches.now))) }
 {
-    let ram = ram_of(matches.get_str("ram"))?;
+    let ram = range_said(matches.get_str("ram"))?;
+    let mirror = range_said(matches.get_str("mirror"))?;
     let calls = calls_said(matches.get_str("calls"))?;
     let targets = number_said(matches.get_str("targets"), 1, 256)?;
     let workers = number_said(matches.get_str("workers"), 1, MOST_WORKERS)?;
     let steps = number_said(matches.get_str("steps"), 0, MOST_STEPS)?;
     let number = number_said(matches.get_str("number"), 1, MOST)?;
+    let cert = flag_said(matches.get_str("cert"));
     Some(Options {
         ram,
+        mirror,
         calls,
         targets,
         workers,
         steps,
         number,
+        cert,
     })
 }
 
-/// The chip with its RAM, where the words say nothing of another chip's.
-fn target_by(chip: ChipName, ram: Option<Ram>) -> Option<Target>
-    ensures { result ≡ the_target_by chip ram }
+/// Whether RAM may have this mirror: it is no longer than RAM, and no address is in both.
+fn may_mirror(ram: Span, mirror: Span) -> bool
+    ensures { result ≡ the_may_mirror ram mirror }
 {
-    match (chip, ram) {
-        (ChipName::Msp430, said) => Some(Target::Msp430 {
-            ram: said.unwrap_or(Ram::USUAL),
+    mirror.hi as u32 + ram.lo as u32 <= ram.hi as u32 + mirror.lo as u32
+        && (mirror.hi < ram.lo || ram.hi < mirror.lo)
+}
+
+/// RAM with its mirror, if it may have that.
+fn with_mirror(ram: Span, mirror: Option<Span>) -> Option<Ram>
+    ensures { result ≡ the_with_mirror ram mirror }
+{
+    let Span { lo, hi } = ram;
+    match mirror {
+        None => Some(Ram {
+            lo,
+            hi,
+            mirror: None,
         }),
-        (ChipName::Mcs51, None) => Some(Target::Mcs51),
-        (ChipName::Mcs51, Some(_)) => None,
+        Some(mirror) if may_mirror(ram, mirror) => Some(Ram {
+            lo,
+            hi,
+            mirror: Some((mirror.lo, mirror.hi)),
+        }),
+        Some(_) => None,
+    }
+}
+
+/// The chip with its RAM, where the words say nothing of another chip's.
+fn target_by(chip: ChipName, ram: Option<Span>, mirror: Option<Span>) -> Option<Target>
+    ensures { result ≡ the_target_by chip ram mirror }
+{
+    match (chip, ram, mirror) {
+        (ChipName::Msp430, ram, mirror) => Some(Target::Msp430 {
+            ram: with_mirror(ram.unwrap_or(Span::USUAL), mirror)?,
+        }),
+        (ChipName::Mcs51, None, None) => Some(Target::Mcs51),
+        (ChipName::Mcs51, _, _) => None,
     }
 }
 
@@ -381,6 +463,7 @@ fn task_of(target: Target, options: Options) -> Task
         target,
         limits: limits_of(options),
         workers: options.workers.unwrap_or(1),
+        cert: options.cert,
     }
 }
 
@@ -390,7 +473,31 @@ fn analysis_by(chip: ChipName, options: Options) -> Option<Reading>
 {
     match (options.steps, options.number) {
         (None, None) => Some(Reading::Analyse {
-            task: task_of(target_by(chip, options.ram)?, options),
+            task: task_of(target_by(chip, options.ram, options.mirror)?, options),
+        }),
+        _ => None,
+    }
+}
+
+/// The analysis of a chip under assertions.
+fn assertion_by(chip: ChipName, options: Options) -> Option<Reading>
+    ensures { result ≡ asked the_mode.Assert chip options }
+{
+    match (options.steps, options.number, options.cert) {
+        (None, None, false) => Some(Reading::Assert {
+            task: task_of(target_by(chip, options.ram, options.mirror)?, options),
+        }),
+        _ => None,
+    }
+}
+
+/// The check of a certificate of a chip.
+fn checking_by(chip: ChipName, options: Options) -> Option<Reading>
+    ensures { result ≡ asked the_mode.Check chip options }
+{
+    match (options.workers, options.steps, options.number, options.cert) {
+        (None, None, None, false) => Some(Reading::Check {
+            task: task_of(target_by(chip, options.ram, options.mirror)?, options),
         }),
         _ => None,
     }
@@ -406,9 +513,10 @@ fn disassembly_by(chip: ChipName, options: Options) -> Option<Reading>
         options.workers,
         options.steps,
         options.number,
+        options.cert,
     ) {
-        (None, None, None, None, None) => Some(Reading::Disasm {
-            target: target_by(chip, options.ram)?,
+        (None, None, None, None, None, false) => Some(Reading::Disasm {
+            target: target_by(chip, options.ram, options.mirror)?,
         }),
         _ => None,
     }
@@ -423,9 +531,10 @@ fn run_by(chip: ChipName, options: Options) -> Option<Reading>
         options.targets,
         options.workers,
         options.number,
+        options.cert,
     ) {
-        (None, None, None, None) => Some(Reading::Run {
-            target: target_by(chip, options.ram)?,
+        (None, None, None, None, false) => Some(Reading::Run {
+            target: target_by(chip, options.ram, options.mirror)?,
             steps: options.steps.unwrap_or(USUAL_STEPS),
         }),
         _ => None,
@@ -441,9 +550,11 @@ fn making_by(chip: ChipName, options: Options) -> Option<Reading>
         options.targets,
         options.workers,
         options.ram,
+        options.mirror,
         options.steps,
+        options.cert,
     ) {
-        (None, None, None, None, None) => Some(Reading::Gen {
+        (None, None, None, None, None, None, false) => Some(Reading::Gen {
             chip,
             number: options.number?,
         }),
@@ -457,6 +568,8 @@ fn reading_by(mode: Mode, chip: ChipName, options: Options) -> Option<Reading>
 {
     match mode {
         Mode::Analyse => analysis_by(chip, options),
+        Mode::Assert => assertion_by(chip, options),
+        Mode::Check => checking_by(chip, options),
         Mode::Disasm => disassembly_by(chip, options),
         Mode::Run => run_by(chip, options),
         Mode::Gen => making_by(chip, options),
@@ -475,9 +588,9 @@ fn reading_with(
     reading_by(mode, chip, options)
 }
 
-/// What the words ask, where the command takes them and the mode takes the chip and the options: `--ram LO-HI` of the
-/// MSP430, `--calls N`, `--targets N` and `--workers N` of an analysis, `--steps N` of a run, and `--number N` of a made program, which needs
-/// it and has no other.
+/// What the words ask, where the command takes them and the mode takes the chip and the options: `--ram LO-HI` and
+/// `--mirror LO-HI` of the MSP430, `--calls N`, `--targets N` and `--workers N` of an analysis, with or without assertions,
+/// the first two of a check too, `--cert` of an analysis without assertions, `--steps N` of a run, and `--number N` of a made program, which needs it and has no other.
 pub fn reading_of(alloc: Global, words: &[String]) -> Result<Option<Reading>, AllocError>
     ensures reads { IfOk result (λ found. IfSome found (Reads words.now)) }
     ensures range { IfOk result (λ found. IfSome found (λ reading. IsRamRange (rules_of reading))) }

@@ -1,4 +1,5 @@
-use Rattle.vsa_top.proofs.HeadlineLemmas.{closed_lem, open_lem, open_alone_lem, complete_lem, made_lem}
+use Rattle.vsa_top.proofs.CheckedLemmas.{verdict_lem}
+use Rattle.vsa_top.proofs.HeadlineLemmas.{asserted_lem, certified_lem, closed_lem, open_lem, open_alone_lem, complete_lem, made_lem}
 use Rattle.vsa_top.proofs.headline.reports_hold.Goals as goal
 
 pub returns-clause-closed : goal.returns-clause-closed
@@ -17,3 +18,13 @@ returns-clause-complete c = complete_lem c.image_or_fault.ensures.not_both c.end
 pub returns-clause-made : goal.returns-clause-made
 returns-clause-made c =
     made_lem c.image_or_fault.ensures.not_both c.ended_texts_stay.ensures.ended c.ended_texts_stay.ensures.faultless c.made_texts_denote.ensures.image c.made_texts_denote.ensures.size
+
+pub returns-clause-asserted : goal.returns-clause-asserted
+returns-clause-asserted c = asserted_lem c.assertions_hold.ensures c.assertions_hold-2.ensures c.images_keep_rules.ensures
+
+pub returns-clause-certified : goal.returns-clause-certified
+returns-clause-certified c = certified_lem c.closed_verdicts_cover_runs.ensures c.closed_verdicts_cover_runs-2.ensures c.images_keep_rules.ensures
+
+pub returns-clause-verdict : goal.returns-clause-verdict
+returns-clause-verdict c =
+    verdict_lem c.image_or_fault.ensures.not_both c.ended_texts_stay.ensures.ended c.ended_texts_stay.ensures.faultless c.image_or_fault.ensures.one_image

@@ -2,11 +2,13 @@ use Rattle.std.proofs.Common.{sym, subst}
 use Rattle.std.specs.Prelude.{IfOk}
 use Rattle.mcs51_flow.specs.Chip.{mcs51_analysis}
 use Rattle.mcs51_flow.specs.Standing.{instr_text as mcs51_text}
+use Rattle.mcs51_flow.specs.Texts.{mcs51_texts}
 use Rattle.mcs51_flow.specs.declared.setting.Setting.{Setting as Mcs51Setting}
 use Rattle.msp430_flow.specs.Chip.{msp430_analysis}
 use Rattle.msp430_flow.specs.Standing.{instr_text as msp430_text}
+use Rattle.msp430_flow.specs.Texts.{msp430_texts}
 use Rattle.msp430_flow.specs.declared.setting.Setting.{Setting as Msp430Setting}
-use Rattle.vsa_top.specs.Answer.{IsAnalysed, IsAnalysedOn}
+use Rattle.vsa_top.specs.Answer.{IsReported, IsReportedOn}
 use Rattle.vsa_top.specs.declared.reply.Reply.{Reply}
 use Rattle.vsa_top.proofs.reply.analysis_reply.Goals as goal
 
@@ -14,14 +16,16 @@ pub returns-in_ok-chip-in-Msp430-clause-reply : goal.returns-in_ok-chip-in-Msp43
 returns-in_ok-chip-in-Msp430-clause-reply g c =
     let limits = c.args.task.limits in
     let workers = c.args.task.workers in
-    subst (λ target. IfOk c.chip_reply.result (λ (r : Reply). IsAnalysedOn target limits workers c.args.image r.status r.text.items r.journal.items)) (sym c.in-Msp430.is)
+    let cert = c.args.task.cert in
+    subst (λ target. IfOk c.chip_reply.result (λ (r : Reply). IsReportedOn target limits workers cert c.args.image r.status r.text.items r.journal.items)) (sym c.in-Msp430.is)
     (subst (λ (setting : Msp430Setting). IfOk c.chip_reply.result
-    (λ (r : Reply). IsAnalysed msp430_text (msp430_analysis setting) workers r.status r.text.items r.journal.items)) c.in_ok-chip-in-Msp430.ensures c.chip_reply.ensures.reply)
+    (λ (r : Reply). IsReported msp430_text (msp430_analysis setting) (msp430_texts setting.device) workers cert r.status r.text.items r.journal.items)) c.in_ok-chip-in-Msp430.ensures c.chip_reply.ensures.reply)
 
 pub returns-in_ok-chip-in-Mcs51-clause-reply : goal.returns-in_ok-chip-in-Mcs51-clause-reply
 returns-in_ok-chip-in-Mcs51-clause-reply g c =
     let limits = c.args.task.limits in
     let workers = c.args.task.workers in
-    subst (λ target. IfOk c.chip_reply-in-Mcs51.result (λ (r : Reply). IsAnalysedOn target limits workers c.args.image r.status r.text.items r.journal.items)) (sym c.in-Mcs51.is)
+    let cert = c.args.task.cert in
+    subst (λ target. IfOk c.chip_reply-in-Mcs51.result (λ (r : Reply). IsReportedOn target limits workers cert c.args.image r.status r.text.items r.journal.items)) (sym c.in-Mcs51.is)
     (subst (λ (setting : Mcs51Setting). IfOk c.chip_reply-in-Mcs51.result
-    (λ (r : Reply). IsAnalysed mcs51_text (mcs51_analysis setting) workers r.status r.text.items r.journal.items)) c.in_ok-chip-in-Mcs51.ensures c.chip_reply-in-Mcs51.ensures.reply)
+    (λ (r : Reply). IsReported mcs51_text (mcs51_analysis setting) mcs51_texts workers cert r.status r.text.items r.journal.items)) c.in_ok-chip-in-Mcs51.ensures c.chip_reply-in-Mcs51.ensures.reply)

@@ -1,5 +1,4 @@
 use Rattle.round_core.specs.Machine.{replay, IsFinished, IsLegalJournal}
-use Rattle.round_core.specs.declared.book.Book.{Book}
 use Rattle.worker_rounds.specs.Turns.{AreTurns}
 use Rattle.vsa_top.specs.Answer.{IsAnalysis}
 use Rattle.vsa_top.proofs.ReplyLemmas.{alone_is, if_all}

@@ -1,0 +1,170 @@
+//! What a run asks whose script ends too early, and how it is answered.
+
+ghost use Rattle.image.specs.Kept.{IsRamRange};
+
+use crate::advice::{has_word, ram_of};
+use arrayvec::ArrayVec;
+use chip_numbers::Space;
+use ihex_read::{Image, MOST_BYTES, Reader, Rules, Tail};
+use run_question::{Asked, Question, mcs51_asks, msp430_asks, msp430_rules};
+use script_text::Reader as ScriptReader;
+use std::alloc::{AllocError, Global};
+use std::io;
+
+/// What the run asks that the words and a text say, if it can be told.
+pub fn asked_of(alloc: Global, words: &[String], text: &[u8]) -> Option<Asked> {
+    if has_word(words, "mcs51") {
+        let (image, script) = parts_of(alloc, Rules::Mcs51, text)?;
+        return mcs51_asks(alloc, &image, script.as_slice()).ok()?;
+    }
+    let places = ram_of(words);
+    let rules = msp430_rules(places.ram.0, places.ram.1, places.mirror)?;
+    let (image, script) = parts_of(alloc, rules, text)?;
+    msp430_asks(alloc, &image, rules, script.as_slice()).ok()?
+}
+
+/// The image and the script of a text.
+fn parts_of(alloc: Global, rules: Rules, text: &[u8]) -> Option<(Image, Vec<u16>)>
+    requires { IsRamRange rules }
+{
+    let front = &text[..text.len().min(MOST_BYTES)];
+    let mut reader = Reader::new(alloc, rules, Tail::Second).ok()?;
+    let Ok(used) = reader.feed(front) else {
+        return None;
+    };
+    let image = reader.end().ok()?;
+    Some((image, script_of(alloc, &text[used..])?))
+}
+
+/// The numbers of a script.
+fn script_of(alloc: Global, text: &[u8]) -> Option<Vec<u16>> {
+    if text.len() > script_text::MOST_BYTES {
+        return None;
+    }
+    let mut reader = ScriptReader::new(alloc);
+    reader.feed(text).ok()?;
+    reader.end().ok()
+}
+
+/// The options of the question which interrupt comes.
+fn interrupts_text(
+    alloc: Global,
+    sources: &ArrayVec<u16, 14>,
+    place: &str,
+) -> Result<String, AllocError> {
+    let mut text = String::from_str(alloc, "which interrupt comes? 0 is none")?;
+    for (number, at) in sources.as_slice().iter().enumerate() {
+        let option = number + 1;
+        write!(text, ", {option:X} the one with its {place} at {at:04X}h")?;
+    }
+    text.push('.')?;
+    Ok(text)
+}
+
+/// The options of the question what a byte reads as.
+fn byte_text(alloc: Global, space: Space, at: u16) -> Result<String, AllocError> {
+    match space {
+        Space::Mem => format!(in alloc;
+            "what does the byte at {at:04X}h read as, which neither RAM nor the image has? 0 to FF: the byte that the port or peripheral gives."
+        ),
+        Space::Xram => format!(in alloc;
+            "what does the byte at {at:04X}h of external RAM read as? 0 to FF."
+        ),
+        Space::Code => format!(in alloc;
+            "what does the byte at {at:04X}h of the program read as, which the image doesn't have? 0 to FF."
+        ),
+        _ => format!(in alloc;
+            "what does the register at {at:02X}h read as? 0 to FF: the byte that the port or peripheral gives."
+        ),
+    }
+}
+
+/// What the bits of a register read as that it doesn't hold.
+fn bits_text(at: u16) -> &'static str {
+    match at {
+        0xD0 => "what does bit 1 of PSW read as? 0 or 1.",
+        0xA8 => "what does bit 6 of IE read as? 0 or 1.",
+        _ => "what do the bits 6 and 7 of IP read as? 0 to 3.",
+    }
+}
+
+/// A question whose words are always the same.
+fn fixed_text(question: &Question) -> &'static str {
+    match question {
+        Question::Counter => {
+            "what is PC as the source? 0 for the address of the instruction plus 2, 1 for plus 4."
+        }
+        Question::PushedOperand => {
+            "when is the operand formed? 0 for before SP is lowered, 1 for behind that."
+        }
+        Question::StatusBits => "what do the bits 9 to 15 of SR read as? 0 to 7F.",
+        Question::Status => "what is SR behind it? 0 to 1FF, the bits 0 to 8 of SR.",
+        Question::HighByte => "what is the high byte of the word that it pushes? 0 to FF.",
+        Question::Decimal { values: 256 } => {
+            "what is the result, since a digit is above 9? 0 to FF."
+        }
+        Question::Decimal { .. } => "what is the result, since a digit is above 9? 0 to FFFF.",
+        Question::Flags => {
+            "what are the flags, since a digit is above 9? 0 to F: C, Z, N and V, from the lowest bit up."
+        }
+        Question::Overflow => "what is V behind it? 0 or 1.",
+        Question::HighAddress => "what is the high byte of the address? 0 to FF.",
+        Question::PushedPointer => {
+            "which SP is stored? 0 for SP as it was, 1 for SP as it is raised."
+        }
+        Question::PoppedPointer => {
+            "what is SP behind it? 0 for the byte that is read, 1 for one less."
+        }
+        Question::Quotient => "what is A behind the division by 0? 0 to FF.",
+        Question::Remainder => "what is B behind the division by 0? 0 to FF.",
+        Question::OpenBits { at, .. } => bits_text(*at),
+        Question::Interrupt(_) | Question::Byte { .. } => "",
+    }
+}
+
+/// A question and its options.
+pub fn question_text(
+    alloc: Global,
+    question: &Question,
+    is_mcs51: bool,
+) -> Result<String, AllocError> {
+    match question {
+        Question::Interrupt(sources) => {
+            interrupts_text(alloc, sources, if is_mcs51 { "handler" } else { "vector" })
+        }
+        Question::Byte { space, at } => byte_text(alloc, *space, *at),
+        other => String::from_str(alloc, fixed_text(other)),
+    }
+}
+
+/// Says which number of the script is missing, what it answers, and which options there are. False says that it can't be told.
+pub fn print_question(
+    rt: &impl Eprint,
+    alloc: Global,
+    words: &[String],
+    text: &[u8],
+    number: usize,
+) -> io::Result<bool> {
+    let Some(asked) = asked_of(alloc, words, text) else {
+        return Ok(false);
+    };
+    let Some(question) = &asked.question else {
+        return Ok(false);
+    };
+    let (step, pc, options) = (asked.step, asked.pc, question.options());
+    let Ok(sentence) = question_text(alloc, question, has_word(words, "mcs51")) else {
+        return Ok(false);
+    };
+    let place = match asked.instr.as_str() {
+        "" => "where no instruction stands",
+        instr => instr,
+    };
+    eprintln!(rt;
+        "vsa: number {number} of the script is missing: step {step}, {place} at {pc:04X}h, asks a question."
+    )?;
+    eprintln!(rt; "vsa: {sentence}")?;
+    eprintln!(rt;
+        "vsa: add a line with one of these {options} numbers, in hexadecimal, to the script. docs/REPORT.md says all of each question."
+    )?;
+    Ok(true)
+}

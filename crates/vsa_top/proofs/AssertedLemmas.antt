@@ -1,0 +1,141 @@
+-- What is answered to assertions, put together from the book, and from the text behind the image text.
+use Rattle.std.proofs.Common.{◌≡◌, ◌++◌, ◌<◌, ◌≤◌, ℕ, Bool, true, false, Option, None, Some, List, [], ◌∷◌, refl, sym, ap, subst, ◌∙◌, inl, inr, arith, length, length-append}
+use Rattle.std.specs.Prelude.{◌⊎◌, Contains, IfSome, flat_map}
+use Rattle.std.specs.Map.{values_of}
+use Rattle.std.proofs.lemmas.Bool.{and_parts, cases_Bool}
+use Rattle.std.proofs.lemmas.List.{append-nil}
+use Rattle.std.proofs.lemmas.List.Elements.{Contains-append_cases, Contains-push_cases}
+use Rattle.assert_check.specs.Assertions.{broken_of}
+use Rattle.assert_check.specs.Lines.{Tells}
+use Rattle.assert_check.specs.declared.assertion.Assertion.{Assertion}
+use Rattle.assert_check.specs.declared.lines.AssertError.{AssertError}
+use Rattle.assert_check.specs.declared.lines.AssertError.TheVariants as assert_error
+use Rattle.call_context.specs.declared.node.Unit.{Unit as WorkUnit}
+use Rattle.call_context.specs.declared.shown.Cause.{Cause}
+use Rattle.chip_law.specs.Analysis.{Analysis}
+use Rattle.chip_law.specs.Line.{item_line_of}
+use Rattle.chip_law.specs.declared.chip.Work.{Work}
+use Rattle.chip_numbers.specs.declared.space.Space.{Space}
+use Rattle.closing_law.specs.Covered.{NoneIsOpen}
+use Rattle.report_text.specs.Report.{IsReportOf, are_closed, is_empty, last_works, report_of}
+use Rattle.round_core.specs.Kept.{live_pairs}
+use Rattle.round_core.specs.Machine.{replay, IsClosed}
+use Rattle.round_core.specs.declared.event.Event.{Event}
+use Rattle.vsa_io.specs.Stream.{IsAtEnd}
+use Rattle.vsa_top.specs.Answer.{IsAnalysis, IsDecided, IsDecidedOn, TellsNoFault}
+use Rattle.vsa_top.specs.Answer.IsDecided.{decided, reported}
+use Rattle.vsa_top.specs.Asserted.{LacksAssertions, broken_in, broken_text, refusal_of, status_of_broken, unread_of}
+use Rattle.vsa_top.specs.Input.{begun_with}
+use Rattle.vsa_top.specs.Scripts.{second_limit}
+use Rattle.vsa_top.specs.declared.outcome.Status.{Status}
+use Rattle.vsa_top.specs.declared.outcome.Status.TheVariants as status
+use Rattle.vsa_top.specs.declared.words.Target.TheVariants.{Msp430, Mcs51}
+use Rattle.vsa_top.specs.declared.words.Target.{Target}
+use Rattle.vsa_top.specs.declared.second.SecondError.{SecondError}
+use Rattle.vsa_top.specs.declared.second.SecondError.TheVariants as second_error
+use Rattle.analysis_limits.specs.declared.limits.Limits.{Limits}
+
+-- BOOKS
+
+in_none : {X : Type 0} (x : X) → Contains [] x → ⊥
+in_none x h = absurd (omega (arith, h.1))
+
+in_cons : {X : Type 0} (first : X) (xs : List X) (x : X) → Contains (first ∷ xs) x → (first ≡ x) ⊎ Contains xs x
+in_cons first xs x h = elim (Contains-append_cases (first ∷ []) xs x h) [
+  | inl one ↦ elim (Contains-push_cases [] first x one) [ inl none ↦ absurd (in_none x none) | inr same ↦ inl same ]
+  | inr rest ↦ inr rest
+]
+
+none_of : (opens : List (ℕ × Cause)) → is_empty opens ≡ true → opens ≡ []
+none_of [] h = refl
+none_of (o ∷ os) h = absurd (cc)
+
+-- works that are closed leave no site open
+pub none_open : {A : Type 0} (works : List (Work A)) → are_closed works ≡ true → NoneIsOpen works
+none_open [] h work k = absurd (in_none work k)
+none_open (first ∷ works) h work k = let b = and_parts (is_empty first.opens) (are_closed works) h in
+    elim (in_cons first works work k) [
+      | inl same ↦ subst (λ (w : Work _). w.opens ≡ []) same (none_of first.opens b.0)
+      | inr rest ↦ none_open works b.1 work rest
+    ]
+
+-- what a closed book of these works breaks is what its journal's book breaks
+pub decided_by : {A : Type 0} (text_of : ℕ → List ℕ → List ℕ) (m : Analysis A) (workers : ℕ) (list : List (ℕ × Assertion)) (journal told : List Event)
+    (works : List (WorkUnit × Work A)) (replied : Status) (text : List ℕ) → IsAnalysis m workers journal → are_closed (last_works m journal) ≡ true
+    → works ≡ live_pairs (replay m journal)
+    → replied ≡ status_of_broken (broken_of (item_line_of text_of) list (flat_map (λ (w : Work A). w.items) (values_of works)))
+    → text ≡ broken_text (item_line_of text_of) (broken_of (item_line_of text_of) list (flat_map (λ (w : Work A). w.items) (values_of works)))
+    → told ≡ journal → IsDecided text_of m workers list replied text told
+decided_by {A = A} text_of m workers list journal told works replied text is closed same status_is text_is journal_is =
+    let line_of = item_line_of text_of in
+    let broken = λ (ws : List (WorkUnit × Work A)). broken_of line_of list (flat_map (λ (w : Work A). w.items) (values_of ws)) in
+    subst (IsDecided text_of m workers list replied text) (sym journal_is)
+    (decided is closed (status_is ∙ ap (λ ws. status_of_broken (broken ws)) same) (text_is ∙ ap (λ ws. broken_text line_of (broken ws)) same))
+
+-- the report of a book that isn't closed
+pub reported_by : {A : Type 0} (text_of : ℕ → List ℕ → List ℕ) (m : Analysis A) (workers : ℕ) (list : List (ℕ × Assertion)) (journal told : List Event)
+    (report : List ℕ) (is_closed : Bool) → IsAnalysis m workers journal → (IsClosed (replay m journal) → ⊥)
+    → (are_closed (last_works m journal) ≡ true → IsClosed (replay m journal)) → IsReportOf text_of (replay m journal) report is_closed
+    → told ≡ journal → IsDecided text_of m workers list status.Open report told
+reported_by text_of m workers list journal told report is_closed is open_book closes reported_is journal_is =
+    let finished : reported_is.finished ≡ true = reported_is.is_finished.1 is.finished in
+    let left : are_closed (last_works m journal) ≡ false = elim (cases_Bool (are_closed (last_works m journal))) [
+      | inl closed ↦ absurd (open_book (closes closed))
+      | inr left ↦ left
+    ] in
+    subst (IsDecided text_of m workers list status.Open report) (sym journal_is)
+    (reported is left refl (reported_is.bytes ∙ ap (λ f. report_of text_of f (last_works m journal)) finished))
+
+-- the statuses of decisions tell no fault
+quiet_status : (broken : List _) → TellsNoFault (status_of_broken broken)
+quiet_status [] = ((λ e. cc e), (λ e. cc e))
+quiet_status (b ∷ broken) = ((λ e. cc e), (λ e. cc e))
+
+quiet_decision : {A : Type 0} (text_of : ℕ → List ℕ → List ℕ) (m : Analysis A) (workers : ℕ) (list : List (ℕ × Assertion)) (replied : Status)
+    (text : List ℕ) (journal : List Event) → IsDecided text_of m workers list replied text journal → TellsNoFault replied
+quiet_decision text_of m workers list replied text journal (reported is left told text_is) =
+    subst TellsNoFault (sym told) ((λ e. cc e), (λ e. cc e))
+quiet_decision text_of m workers list replied text journal (decided is closed told text_is) =
+    subst TellsNoFault (sym told) (quiet_status (broken_in text_of m list journal))
+
+pub quiet_on : (target : Target) (limits : Limits) (workers : ℕ) (image : List (Option ℕ)) (list : List (ℕ × Assertion)) (replied : Status)
+    (text : List ℕ) (journal : List Event) → IsDecidedOn target limits workers image list replied text journal → TellsNoFault replied
+quiet_on (Msp430 ram) limits workers image list replied text journal is = quiet_decision _ _ workers list replied text journal is
+quiet_on Mcs51 limits workers image list replied text journal is = quiet_decision _ _ workers list replied text journal is
+
+-- THE TEXT BEHIND
+
+-- what holds of the text that was read, where it is the whole one
+pub if_whole : (second : Option (List ℕ)) (text : List ℕ) (P : List ℕ → Type 0) → IfSome second (λ whole. whole ≡ text) → P text → IfSome second P
+if_whole None text P same holds = tt
+if_whole (Some whole) text P same holds = subst P (sym same) holds
+
+-- a longer front makes a longer text
+pub longer_whole : (text : List ℕ) (left : Option (List ℕ)) → second_limit < length text → IfSome (begun_with text left) (λ whole. second_limit < length whole)
+longer_whole text None longer = tt
+longer_whole text (Some left) longer = omega (arith, longer, length-append text left)
+
+pub whole_at_end : (left : Option (List ℕ)) (text : List ℕ) → IsAtEnd left → IfSome (begun_with text left) (λ whole. whole ≡ text)
+whole_at_end None text end = tt
+whole_at_end (Some left) text end = ap (λ more. text ++ more) end ∙ append-nil text
+
+lacks : (spaces : List Space) (text : List ℕ) (error : AssertError) → length text ≤ second_limit → Tells spaces text error
+    → LacksAssertions spaces text (refusal_of error)
+lacks spaces text (assert_error.Syntax line) fits tells = record { fits = fits; refused = tells }
+lacks spaces text assert_error.Memory fits tells = tt
+
+pub lacks_whole : (spaces : List Space) (second : Option (List ℕ)) (text : List ℕ) (error : AssertError) → IfSome second (λ whole. whole ≡ text)
+    → length text ≤ second_limit → Tells spaces text error → IfSome second (λ t. LacksAssertions spaces t (refusal_of error))
+lacks_whole spaces second text error same fits tells = if_whole second text (λ t. LacksAssertions spaces t (refusal_of error)) same (lacks spaces text error fits tells)
+
+nothing_told : (second : Option (List ℕ)) → IfSome second (λ text. Unit {0})
+nothing_told None = tt
+nothing_told (Some text) = tt
+
+-- what is told of a text that isn't read
+pub lacks_unread : (spaces : List Space) (second : Option (List ℕ)) (error : SecondError)
+    → (error ≡ second_error.TooLong → IfSome second (λ whole. second_limit < length whole))
+    → IfSome second (λ t. LacksAssertions spaces t (unread_of error))
+lacks_unread spaces second second_error.Failed long = nothing_told second
+lacks_unread spaces second second_error.Memory long = nothing_told second
+lacks_unread spaces second second_error.TooLong long = long refl

@@ -1,0 +1,29 @@
+//! That one worker's answers are functions of the words and the input.
+
+ghost use Rattle.std.specs.Prelude.{◌≡◌, ℕ, Option, Some, List};
+ghost use Rattle.round_core.specs.declared.event.Event.{Event as AnEvent};
+ghost use Rattle.vsa_top.specs.Alone.{IsOneReply, TellsAnalysis, WorksAlone};
+ghost use Rattle.vsa_top.specs.Answer.{Answers};
+ghost use Rattle.vsa_top.specs.Input.{input_of};
+ghost use Rattle.vsa_top.specs.declared.outcome.Status.{Status as AStatus};
+ghost use Rattle.vsa_top.specs.declared.words.Reading.{Reading as AReading};
+
+use cert_text::certificates_are_one;
+use ihex_read::image_or_fault;
+use mcs51_flow::Mcs51Chip;
+use msp430_flow::Msp430Chip;
+use worker_rounds::turns_are_one;
+
+/// An input that is told denotes one image, and one worker's journal over it is one alone. So where that tells an analysis
+/// there is one reply.
+pub(crate) fn replies_are_one()
+    ensures { (reading : AReading) (answered : AStatus) (input before after : Option (List ℕ)) (journal : List AnEvent) (text : List ℕ)
+        → WorksAlone reading → Answers reading answered input before after journal → TellsAnalysis answered
+        → input_of reading input ≡ Some text → IsOneReply reading (Some text) answered before after journal }
+{
+    image_or_fault();
+    turns_are_one::<Msp430Chip>();
+    turns_are_one::<Mcs51Chip>();
+    certificates_are_one::<Msp430Chip>();
+    certificates_are_one::<Mcs51Chip>();
+}

@@ -1,0 +1,252 @@
+//! What is answered to assertions over a closed report.
+
+ghost use Rattle.std.specs.Prelude.{◌≡◌, ◌≢◌, ◌≤◌, ◌++◌, ℕ, true, List, [], flat_map, IfOk, IfErr, IfSome, OnOk};
+ghost use Rattle.std.specs.Map.{values_of};
+ghost use Rattle.assert_check.specs.Assertions.{broken_of};
+ghost use Rattle.assert_check.specs.Holding.{Holds};
+ghost use Rattle.assert_check.specs.declared.assertion.Assertion.{Assertion as AnAssertion};
+ghost use Rattle.chip_law.specs.Line.{item_line_of};
+ghost use Rattle.image.specs.Kept.{IsRamRange, IsReadUnder};
+ghost use Rattle.report_text.specs.Report.{are_closed, last_works};
+ghost use Rattle.round_core.specs.Machine.{replay, IsFinished, IsLegalJournal};
+ghost use Rattle.round_core.specs.declared.event.Event.{Event as AnEvent};
+ghost use Rattle.vsa_io.specs.Stream.{HasRisen};
+ghost use Rattle.vsa_top.specs.Answer.{IsAnalysis, IsAsserted, IsDecided, IsDecidedOn, TellsNoFault};
+ghost use Rattle.vsa_top.specs.Asserted.{AreAsserted, LacksAssertions, broken_in, broken_text, fails_line, spaces_of, status_of_broken};
+ghost use Rattle.vsa_top.specs.Input.{begun_with};
+ghost use Rattle.vsa_top.specs.Words.{IsBounded, rules_of};
+ghost use Rattle.vsa_top.specs.declared.words.Reading.TheVariants.{Assert};
+
+use crate::outcome::Status;
+use crate::reply::{NoReply, Reply, book_of, no_line, text_reply};
+use crate::script::ScriptRefusal;
+use crate::second::assertions_in;
+use crate::words::{Target, Task};
+use assert_check::{Assertion, Broken, decide, unbroken_lists_hold};
+use chip_law::{ChipText, InstrText, LawfulChip, put_item};
+use chip_numbers::Space;
+use closing_law::{ClosedBook, closed_books_cover_runs, read_closed_with_journal};
+use image::Image;
+use mcs51_flow::Mcs51Chip;
+use msp430_flow::Msp430Chip;
+use no_memory::Memory;
+use report_text::{closed_books_are_told, report_of};
+use round_core::{Book, Event};
+use std::alloc::Global;
+use std::sync::Wait;
+use std::thread::Threads;
+use vsa_io::Source;
+use worker_rounds::Gate;
+
+/// Adds the line of an assertion that is broken.
+fn push_broken<C: InstrText>(chip: &C, text: &mut Vec<u8>, broken: &Broken) -> Result<(), Memory>
+    ensures { OnOk result (text.new.items ≡ text.old.items ++ fails_line (item_line_of (C.text_of chip.now)) broken.now) }
+{
+    let number = broken.line.to_string(*text.allocator())?;
+    text.extend_from_slice(b"FAILS ")?;
+    text.extend_from_slice(number.as_str().as_bytes())?;
+    text.push(b' ')?;
+    put_item(chip, &broken.item, text)?;
+    text.push(b'\n')?;
+    Ok(())
+}
+
+/// The lines of assertions that are broken.
+fn push_all<C: InstrText>(chip: &C, text: &mut Vec<u8>, broken: &[Broken]) -> Result<(), Memory>
+    ensures { OnOk result (text.new.items ≡ text.old.items ++ flat_map (fails_line (item_line_of (C.text_of chip.now))) broken.now) }
+{
+    for one in broken {
+        push_broken(chip, text, one)?;
+    }
+    Ok(())
+}
+
+/// A status and a text that tell what is broken.
+fn told<C: InstrText>(
+    alloc: Global,
+    chip: &C,
+    broken: &[Broken],
+) -> Result<(Status, Vec<u8>), Memory>
+    ensures status { IfOk result (λ told. told.0 ≡ status_of_broken broken.now) }
+    ensures text { IfOk result (λ told. told.1.items ≡ broken_text (item_line_of (C.text_of chip.now)) broken.now) }
+{
+    let mut text = Vec::new(alloc);
+    if broken.is_empty() {
+        text.extend_from_slice(b"HOLDS\n")?;
+        return Ok((Status::Done, text));
+    }
+    push_all(chip, &mut text, broken)?;
+    Ok((Status::Broken, text))
+}
+
+/// What a closed book breaks, with its journal.
+fn decision<C: LawfulChip + InstrText>(
+    alloc: Global,
+    chip: &C,
+    book: &ClosedBook<C>,
+    journal: Vec<Event>,
+    list: &[(u32, Assertion)],
+) -> Result<Reply, Memory>
+    ensures status { IfOk result (λ reply. reply.status ≡ status_of_broken (broken_of (item_line_of (C.text_of chip.now)) list.now
+        (flat_map (λ work. work.items) (values_of book.now.works)))) }
+    ensures text { IfOk result (λ reply. reply.text.items ≡ broken_text (item_line_of (C.text_of chip.now))
+        (broken_of (item_line_of (C.text_of chip.now)) list.now (flat_map (λ work. work.items) (values_of book.now.works)))) }
+    ensures journal { IfOk result (λ reply. reply.journal.items ≡ journal.items) }
+{
+    let broken = decide(alloc, chip, book, list)?;
+    let (status, text) = told(alloc, chip, broken.as_slice())?;
+    Ok(Reply {
+        status,
+        text,
+        journal,
+    })
+}
+
+/// What a book breaks, where it is closed, or its report.
+fn decided<C: ChipText + LawfulChip>(
+    alloc: Global,
+    chip: &C,
+    book: Book<C>,
+    list: &[(u32, Assertion)],
+) -> Result<Reply, Memory>
+    requires base { book.base ≡ C.base chip.now }
+    requires program { C.program book.base }
+    ensures { IfOk result (λ reply. (workers : ℕ) → IsAnalysis (C.analysis (C.base chip.now)) workers book.journal
+        → IsDecided (C.text_of chip.now) (C.analysis (C.base chip.now)) workers list.now reply.status reply.text.items reply.journal.items) }
+{
+    closed_books_are_told::<C>();
+    match read_closed_with_journal(book) {
+        Ok((closed, journal)) => decision(alloc, chip, &closed, journal, list),
+        Err(book) => {
+            let report = report_of(alloc, chip, &book)?;
+            let (_, _, journal) = book.into_parts();
+            Ok(Reply {
+                status: Status::Open,
+                text: report.text,
+                journal,
+            })
+        }
+    }
+}
+
+/// What a program breaks that so many workers analyse, or its report.
+fn chip_decision<
+    R: Threads + Wait + Sync,
+    C: ChipText<Base: Send> + LawfulChip + Send + Sync,
+    G: Gate + Sync,
+>(
+    rt: &R,
+    alloc: Global,
+    chip: &C,
+    workers: u32,
+    list: &[(u32, Assertion)],
+    gate: &G,
+) -> Result<Reply, Memory>
+    requires some { 1 ≤ workers }
+    requires few { workers ≤ 16 }
+    ensures { IfOk result (λ reply.
+        IsDecided (C.text_of chip.now) (C.analysis (C.base chip.now)) workers list.now reply.status reply.text.items reply.journal.items) }
+{
+    chip.is_program();
+    let book = book_of(rt, alloc, chip, workers, gate)?;
+    decided(alloc, chip, book, list)
+}
+
+/// What an image breaks, or its report.
+fn image_decision<R: Threads + Wait + Sync, G: Gate + Sync>(
+    rt: &R,
+    alloc: Global,
+    task: Task,
+    image: Image,
+    list: &[(u32, Assertion)],
+    gate: &G,
+) -> Result<Reply, Memory>
+    requires range { IsRamRange (rules_of (Assert task)) }
+    requires bounded { IsBounded (Assert task) }
+    requires kept { IsReadUnder (rules_of (Assert task)) image }
+    ensures { IfOk result (λ reply.
+        IsDecidedOn task.target task.limits task.workers image list.now reply.status reply.text.items reply.journal.items) }
+{
+    match task.target {
+        Target::Msp430 { ram } => {
+            let chip = Msp430Chip::new(alloc, image, ram.lo, ram.hi, ram.mirror, task.limits)?;
+            chip_decision(rt, alloc, &chip, task.workers, list, gate)
+        }
+        Target::Mcs51 => {
+            let chip = Mcs51Chip::new(alloc, image, task.limits)?;
+            chip_decision(rt, alloc, &chip, task.workers, list, gate)
+        }
+    }
+}
+
+/// The assertions on a chip that stand in a source's text behind the bytes that were read of it.
+fn assertions_on<S: Source>(
+    alloc: Global,
+    target: Target,
+    source: &mut S,
+    begun: &[u8],
+) -> Result<Vec<(u32, Assertion)>, ScriptRefusal>
+    ensures list { IfOk result (λ list. IfSome (begun_with begun.now (S.left source.old))
+        (λ text. AreAsserted (spaces_of target) text list.items)) }
+    ensures refused { IfErr result (λ error. IfSome (begun_with begun.now (S.left source.old))
+        (λ text. LacksAssertions (spaces_of target) text error)) }
+    ensures cause { IfErr result (λ error. error ≡ ScriptRefusal.Failed → HasRisen (S.faults source.old) (S.faults source.new)) }
+    ensures quiet { OnOk result (S.faults source.new ≡ S.faults source.old) }
+    ensures quiet_refusal { IfErr result (λ error. error ≢ ScriptRefusal.Failed → S.faults source.new ≡ S.faults source.old) }
+{
+    match target {
+        Target::Msp430 { .. } => assertions_in(alloc, source, begun, &[Space::Mem]),
+        Target::Mcs51 => assertions_in(
+            alloc,
+            source,
+            begun,
+            &[Space::Ram, Space::Sfr, Space::Xram, Space::Code],
+        ),
+    }
+}
+
+/// What is answered to the assertions that stand behind an image text, of which so much was read.
+pub fn assertion_reply<R: Threads + Wait + Sync, S: Source, G: Gate + Sync>(
+    rt: &R,
+    alloc: Global,
+    task: Task,
+    image: Image,
+    begun: &[u8],
+    source: &mut S,
+    gate: &G,
+) -> Result<Reply, NoReply>
+    requires range { IsRamRange (rules_of (Assert task)) }
+    requires bounded { IsBounded (Assert task) }
+    requires kept { IsReadUnder (rules_of (Assert task)) image }
+    ensures no_fault { IfOk result (λ reply. TellsNoFault reply.status) }
+    ensures reply { IfOk result (λ reply.
+        IsAsserted task image (begun_with begun.now (S.left source.old)) reply.status reply.text.items reply.journal.items) }
+    ensures cause { IfErr result (λ error. error ≡ NoReply.ReadFault → HasRisen (S.faults source.old) (S.faults source.new)) }
+    ensures quiet { OnOk result (S.faults source.new ≡ S.faults source.old) }
+    ensures quiet_refusal { IfErr result (λ error. error ≢ NoReply.ReadFault → S.faults source.new ≡ S.faults source.old) }
+{
+    match assertions_on(alloc, task.target, source, begun) {
+        Ok(list) => Ok(image_decision(rt, alloc, task, image, list.as_slice(), gate)?),
+        Err(ScriptRefusal::Syntax { line }) => {
+            let text = no_line(alloc, line)?;
+            Ok(text_reply(alloc, Status::BadCert, text))
+        }
+        Err(ScriptRefusal::TooLong) => {
+            let text = Vec::from_slice(alloc, b"LONG\n")?;
+            Ok(text_reply(alloc, Status::TooLong, text))
+        }
+        Err(ScriptRefusal::Failed) => Err(NoReply::ReadFault),
+        Err(ScriptRefusal::Memory) => Err(NoReply::Memory),
+    }
+}
+
+/// Where a finished book without opens breaks no assertion of a list, the list holds of every run.
+pub fn assertions_hold<C: LawfulChip>()
+    ensures { (base : C.Base) (text_of : ℕ → List ℕ → List ℕ) (list : List (ℕ × AnAssertion)) (journal : List AnEvent)
+        → C.program base → IsLegalJournal (C.analysis base) journal → IsFinished (replay (C.analysis base) journal)
+        → are_closed (last_works (C.analysis base) journal) ≡ true
+        → broken_in text_of (C.analysis base) list journal ≡ [] → Holds (C.machine base) list }
+{
+    closed_books_cover_runs::<C>();
+    unbroken_lists_hold::<C>();
+}
