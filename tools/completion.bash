@@ -6,6 +6,7 @@ _guessfir_vsa() {
     usage=$("$here/tools/usage" 2>/dev/null) || return
     case $before in
         --ram) COMPREPLY=($(compgen -W "0200-03FF 0200-05FF 0200-09FF" -- "$word")) ;;
+        --mirror) COMPREPLY=($(compgen -W "0200-05FF 0200-09FF" -- "$word")) ;;
         --calls | --targets | --workers | --steps | --number) COMPREPLY=() ;;
         *)
             if [ "$COMP_CWORD" = 1 ] && [[ $word != -* ]]; then
