@@ -3,8 +3,10 @@
 
 mod address_map;
 mod chip_name;
+mod ram_range;
 mod rule_set;
 
 pub use address_map::Image;
 pub use chip_name::ChipName;
+pub use ram_range::RamRange;
 pub use rule_set::Rules;
