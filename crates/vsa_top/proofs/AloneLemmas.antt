@@ -21,16 +21,17 @@ use Rattle.msp430_flow.specs.Chip.{msp430_analysis}
 use Rattle.report_text.specs.Report.{are_closed, last_works, report_of_journal}
 use Rattle.vsa_top.specs.declared.outcome.Status.{Status}
 use Rattle.vsa_top.specs.declared.outcome.Status.TheVariants as status
-use Rattle.vsa_top.specs.declared.words.Reading.{Reading}
-use Rattle.vsa_top.specs.declared.words.Target.{Target}
-use Rattle.vsa_top.specs.declared.words.Target.TheVariants.{Msp430, Mcs51}
+use Rattle.vsa_words.specs.declared.reading.Reading.{Reading}
+use Rattle.vsa_words.specs.declared.reading.Target.{Target}
+use Rattle.vsa_words.specs.declared.reading.Target.TheVariants.{Msp430, Mcs51}
 use Rattle.vsa_top.specs.Alone.{IsOneReply, TellsAnalysis, WorksAlone}
 use Rattle.vsa_top.specs.Alone.WorksAlone.{of_input, of_made}
 use Rattle.vsa_top.specs.Answer.{Answers, IsAnalysed, IsAnalysedOn, IsFollowed, IsImageReply, IsReply, IsReported, IsReportedOn, TellsNoFault, status_of_analysis}
 use Rattle.vsa_top.specs.Answer.IsReply.{of_image, of_bad, of_long}
-use Rattle.vsa_top.specs.Input.{InputGives, input_of, tail_of}
+use Rattle.vsa_top.specs.Input.{InputGives, input_of}
 use Rattle.vsa_top.specs.Summary.{summary}
-use Rattle.vsa_top.specs.Words.{device_of, mcs51_setting, msp430_setting, rules_of, usual_task}
+use Rattle.vsa_top.specs.Settings.{device_of, mcs51_setting, msp430_setting}
+use Rattle.vsa_words.specs.Words.{rules_of, usual_task, tail_of}
 use Rattle.vsa_top.proofs.HeadlineLemmas.{HaveOneImage, gives_reply}
 
 -- one worker's journals of an analysis are one

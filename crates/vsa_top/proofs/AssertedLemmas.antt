@@ -29,8 +29,8 @@ use Rattle.vsa_top.specs.Input.{begun_with}
 use Rattle.vsa_top.specs.Scripts.{second_limit}
 use Rattle.vsa_top.specs.declared.outcome.Status.{Status}
 use Rattle.vsa_top.specs.declared.outcome.Status.TheVariants as status
-use Rattle.vsa_top.specs.declared.words.Target.TheVariants.{Msp430, Mcs51}
-use Rattle.vsa_top.specs.declared.words.Target.{Target}
+use Rattle.vsa_words.specs.declared.reading.Target.TheVariants.{Msp430, Mcs51}
+use Rattle.vsa_words.specs.declared.reading.Target.{Target}
 use Rattle.vsa_top.specs.declared.second.SecondError.{SecondError}
 use Rattle.vsa_top.specs.declared.second.SecondError.TheVariants as second_error
 use Rattle.analysis_limits.specs.declared.limits.Limits.{Limits}

@@ -16,11 +16,11 @@ use Rattle.vsa_top.specs.Answer.Answers.{replied, unreplied}
 use Rattle.vsa_top.specs.Answer.IsReply.{of_image, of_bad, of_long}
 use Rattle.vsa_top.specs.Answer.IsWritten.{whole, cut}
 use Rattle.vsa_top.specs.Input.{AreTexts, Gives, InputGives, IsBad, IsTooLong}
-use Rattle.vsa_top.specs.Words.{target_rules}
+use Rattle.vsa_words.specs.Words.{target_rules}
 use Rattle.vsa_top.specs.declared.outcome.Status.{Status}
 use Rattle.vsa_top.specs.declared.outcome.Status.TheVariants.{ReadFault, WriteFault, Memory}
-use Rattle.vsa_top.specs.declared.words.Reading.TheVariants.{Check}
-use Rattle.vsa_top.specs.declared.words.Task.{Task}
+use Rattle.vsa_words.specs.declared.reading.Reading.TheVariants.{Check}
+use Rattle.vsa_words.specs.declared.reading.Task.{Task}
 use Rattle.vsa_top.proofs.HeadlineLemmas.{EndedAreFaultless, EndedStay, HaveNotBoth, HaveOneImage, not_bad, not_long}
 
 -- ONE WAY TO CUT A TEXT

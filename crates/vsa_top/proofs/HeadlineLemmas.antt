@@ -56,16 +56,17 @@ use Rattle.assert_check.specs.declared.assertion.Assertion.{Assertion}
 use Rattle.assert_check.specs.declared.deciding.Broken.{Broken}
 use Rattle.vsa_top.specs.Asserted.{AreAsserted, HoldOn, broken_in, spaces_of, status_of_broken}
 use Rattle.vsa_top.specs.Headline.{CertifiesOn, CoversRunsOf, HoldsOf, ReportsOn, ShowsSitesOf}
-use Rattle.vsa_top.specs.Input.{text_limit, front_of, input_of, tail_of, AreTexts, Gives, InputGives, IsBad, IsTooLong, IsImageOf}
+use Rattle.vsa_top.specs.Input.{text_limit, front_of, input_of, AreTexts, Gives, InputGives, IsBad, IsTooLong, IsImageOf}
 use Rattle.image.specs.declared.chip_name.ChipName.{ChipName}
 use Rattle.image.specs.declared.chip_name.ChipName.TheVariants as chip
-use Rattle.vsa_top.specs.declared.words.Ram.{Ram}
-use Rattle.vsa_top.specs.declared.words.Reading.{Reading}
-use Rattle.vsa_top.specs.declared.words.Reading.TheVariants.{Analyse, Assert, Check, Disasm, Run, Gen}
-use Rattle.vsa_top.specs.declared.words.Target.{Target}
-use Rattle.vsa_top.specs.declared.words.Target.TheVariants.{Msp430, Mcs51}
-use Rattle.vsa_top.specs.declared.words.Task.{Task}
-use Rattle.vsa_top.specs.Words.{EndsInMemory, IsBounded, device_of, mcs51_setting, msp430_setting, rules_of, target_rules, usual_task}
+use Rattle.vsa_words.specs.declared.reading.Ram.{Ram}
+use Rattle.vsa_words.specs.declared.reading.Reading.{Reading}
+use Rattle.vsa_words.specs.declared.reading.Reading.TheVariants.{Analyse, Assert, Check, Disasm, Run, Gen}
+use Rattle.vsa_words.specs.declared.reading.Target.{Target}
+use Rattle.vsa_words.specs.declared.reading.Target.TheVariants.{Msp430, Mcs51}
+use Rattle.vsa_words.specs.declared.reading.Task.{Task}
+use Rattle.vsa_top.specs.Settings.{device_of, mcs51_setting, msp430_setting}
+use Rattle.vsa_words.specs.Words.{EndsInMemory, IsBounded, rules_of, target_rules, usual_task, tail_of}
 use Rattle.vsa_top.proofs.InputLemmas.{front_goes_on}
 
 -- the reply that an answer gives whole

@@ -1,7 +1,6 @@
 pub mod AloneLemmas
 pub mod AssertedLemmas
 pub mod CheckedLemmas
-pub mod CommandLemmas
 pub mod HeadlineLemmas
 pub mod InputLemmas
 pub mod ReplyLemmas

@@ -20,9 +20,9 @@ use Rattle.msp430_flow.specs.Standing.{instr_text as msp430_text}
 use Rattle.msp430_flow.specs.Texts.{msp430_texts}
 use Rattle.state_text.specs.Texts.{StateTexts}
 use Rattle.vsa_top.specs.Answer.{IsAnalysed, IsAnalysedOn, IsAnalysis, IsFollowed, IsReported, IsReportedOn, status_of_analysis}
-use Rattle.vsa_top.specs.Words.{device_of, mcs51_setting, msp430_setting}
-use Rattle.vsa_top.specs.declared.words.Target.{Target}
-use Rattle.vsa_top.specs.declared.words.Target.TheVariants.{Msp430, Mcs51}
+use Rattle.vsa_top.specs.Settings.{device_of, mcs51_setting, msp430_setting}
+use Rattle.vsa_words.specs.declared.reading.Target.{Target}
+use Rattle.vsa_words.specs.declared.reading.Target.TheVariants.{Msp430, Mcs51}
 
 -- the events of one worker alone are of seat 0
 turns_below : (journal : List Event) → AreTurns journal → All (λ event. seat_of event < 1) journal

@@ -5,9 +5,9 @@ use Rattle.round_core.specs.declared.event.Event.{Event}
 use Rattle.image.specs.declared.chip_name.ChipName.{ChipName}
 use Rattle.vsa_top.specs.declared.outcome.Status.{Status}
 use Rattle.vsa_top.specs.declared.outcome.Status.TheVariants as status
-use Rattle.vsa_top.specs.declared.words.Reading.{Reading}
-use Rattle.vsa_top.specs.declared.words.Reading.TheVariants.{Analyse, Gen}
-use Rattle.vsa_top.specs.declared.words.Task.{Task}
+use Rattle.vsa_words.specs.declared.reading.Reading.{Reading}
+use Rattle.vsa_words.specs.declared.reading.Reading.TheVariants.{Analyse, Gen}
+use Rattle.vsa_words.specs.declared.reading.Task.{Task}
 use Rattle.vsa_top.specs.Answer.{IsReply}
 
 -- one worker analyses the image of the input, or a made program

@@ -29,20 +29,21 @@ use Rattle.msp430_flow.specs.Texts.{msp430_texts}
 use Rattle.assert_check.specs.declared.assertion.Assertion.{Assertion}
 use Rattle.chip_law.specs.Line.{item_line_of}
 use Rattle.vsa_top.specs.Asserted.{AreAsserted, IsUnread, broken_in, broken_text, spaces_of, status_of_broken}
-use Rattle.vsa_top.specs.Input.{InputGives, IsBad, IsTooLong, input_of, tail_of}
+use Rattle.vsa_top.specs.Input.{InputGives, IsBad, IsTooLong, input_of}
 use Rattle.vsa_top.specs.Scripts.{IsRefused, IsScript, second_limit}
 use Rattle.vsa_top.specs.Summary.{summary}
 use Rattle.vsa_top.specs.Mcs51.{mcs51_reads, mcs51_run}
 use Rattle.vsa_top.specs.Msp430.{msp430_reads, msp430_run}
-use Rattle.vsa_top.specs.Words.{rules_of, device_of, mcs51_setting, msp430_setting, usual_task}
+use Rattle.vsa_top.specs.Settings.{device_of, mcs51_setting, msp430_setting}
+use Rattle.vsa_words.specs.Words.{rules_of, usual_task, tail_of}
 use Rattle.image.specs.declared.chip_name.ChipName.{ChipName}
 use Rattle.vsa_top.specs.declared.outcome.Status.{Status}
 use Rattle.vsa_top.specs.declared.outcome.Status.TheVariants as status
-use Rattle.vsa_top.specs.declared.words.Reading.{Reading}
-use Rattle.vsa_top.specs.declared.words.Reading.TheVariants.{Analyse, Assert, Check, Disasm, Run, Gen}
-use Rattle.vsa_top.specs.declared.words.Target.{Target}
-use Rattle.vsa_top.specs.declared.words.Task.{Task}
-use Rattle.vsa_top.specs.declared.words.Target.TheVariants.{Msp430, Mcs51}
+use Rattle.vsa_words.specs.declared.reading.Reading.{Reading}
+use Rattle.vsa_words.specs.declared.reading.Reading.TheVariants.{Analyse, Assert, Check, Disasm, Run, Gen}
+use Rattle.vsa_words.specs.declared.reading.Target.{Target}
+use Rattle.vsa_words.specs.declared.reading.Task.{Task}
+use Rattle.vsa_words.specs.declared.reading.Target.TheVariants.{Msp430, Mcs51}
 
 abbrev pub usage_line : List ℕ
 usage_line = codes "USAGE\n"

@@ -18,15 +18,15 @@ use Rattle.msp430_flow.specs.Machine.{msp430_machine}
 use Rattle.report_text.specs.Report.{last_works}
 use Rattle.round_core.specs.declared.event.Event.{Event}
 use Rattle.vsa_top.specs.Scripts.{second_limit}
-use Rattle.vsa_top.specs.Words.{device_of}
+use Rattle.vsa_top.specs.Settings.{device_of}
 use Rattle.vsa_top.specs.declared.outcome.Status.{Status}
 use Rattle.vsa_top.specs.declared.outcome.Status.TheVariants as status
 use Rattle.vsa_top.specs.declared.script.ScriptRefusal.{ScriptRefusal}
 use Rattle.vsa_top.specs.declared.script.ScriptRefusal.TheVariants as refusal
 use Rattle.vsa_top.specs.declared.second.SecondError.{SecondError}
 use Rattle.vsa_top.specs.declared.second.SecondError.TheVariants as second_error
-use Rattle.vsa_top.specs.declared.words.Target.{Target}
-use Rattle.vsa_top.specs.declared.words.Target.TheVariants.{Msp430, Mcs51}
+use Rattle.vsa_words.specs.declared.reading.Target.{Target}
+use Rattle.vsa_words.specs.declared.reading.Target.TheVariants.{Msp430, Mcs51}
 
 -- the spaces of a chip's addresses
 abbrev pub spaces_of : Target → List Space

@@ -17,10 +17,11 @@ use Rattle.assert_check.specs.Lines.{assertions_of}
 use Rattle.assert_check.specs.declared.assertion.Assertion.{Assertion}
 use Rattle.vsa_top.specs.Asserted.{HoldOn, spaces_of}
 use Rattle.vsa_top.specs.Input.{Gives}
-use Rattle.vsa_top.specs.declared.words.Target.{Target}
-use Rattle.vsa_top.specs.declared.words.Target.TheVariants.{Msp430, Mcs51}
-use Rattle.vsa_top.specs.declared.words.Task.{Task}
-use Rattle.vsa_top.specs.Words.{device_of, mcs51_setting, msp430_setting, target_rules}
+use Rattle.vsa_words.specs.declared.reading.Target.{Target}
+use Rattle.vsa_words.specs.declared.reading.Target.TheVariants.{Msp430, Mcs51}
+use Rattle.vsa_words.specs.declared.reading.Task.{Task}
+use Rattle.vsa_top.specs.Settings.{device_of, mcs51_setting, msp430_setting}
+use Rattle.vsa_words.specs.Words.{target_rules}
 
 -- the report covers every run of the chip with this image
 abbrev pub CoversRunsOf : Target → (image : List (Option ℕ)) → (report : List ℕ) → Type 0

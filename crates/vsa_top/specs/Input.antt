@@ -12,17 +12,8 @@ use Rattle.ihex_read.specs.Lines.{lines_of}
 use Rattle.ihex_read.specs.Reading.{feeds_of, FaultsWithin, HasEnded}
 use Rattle.vsa_top.specs.declared.input.InputError.{InputError}
 use Rattle.vsa_top.specs.declared.input.InputError.TheVariants.{Failed, Memory, Bad, TooLong}
-use Rattle.vsa_top.specs.declared.words.Reading.{Reading}
-use Rattle.vsa_top.specs.declared.words.Reading.TheVariants.{Analyse, Assert, Check, Disasm, Run, Gen}
-
--- a run takes its script behind the image text, and assertions and a certificate stand there too
-abbrev pub tail_of : Reading → Tail
-tail_of (Analyse task) = Blank
-tail_of (Assert task) = Second
-tail_of (Check task) = Second
-tail_of (Disasm target) = Blank
-tail_of (Run target steps) = Second
-tail_of (Gen chip number) = Blank
+use Rattle.vsa_words.specs.declared.reading.Reading.{Reading}
+use Rattle.vsa_words.specs.declared.reading.Reading.TheVariants.{Analyse, Assert, Check, Disasm, Run, Gen}
 
 -- the text whose image is asked for: the input, or the text of a made program
 abbrev pub input_of : Reading → Option (List ℕ) → Option (List ℕ)

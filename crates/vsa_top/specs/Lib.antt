@@ -1,11 +1,10 @@
 pub mod Alone
 pub mod Answer
 pub mod Asserted
-pub mod Command
 pub mod Headline
 pub mod Input
 pub mod Mcs51
 pub mod Msp430
 pub mod Scripts
+pub mod Settings
 pub mod Summary
-pub mod Words

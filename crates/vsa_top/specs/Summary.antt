@@ -2,7 +2,7 @@
 use Rattle.std.specs.Prelude.{ℕ, ◌==◌, ◌&&◌, Bool, false, if◌then◌else◌, List, [], ◌∷◌, ◌++◌, count_by, flat_map, codes}
 use Rattle.std.specs.Fmt.{decimal}
 use Rattle.image.specs.declared.chip_name.ChipName.{ChipName}
-use Rattle.vsa_top.specs.Words.{chip_word}
+use Rattle.vsa_words.specs.Words.{chip_word}
 
 -- the first line of a text, with its line feed
 abbrev pub first_line : List ℕ → List ℕ

@@ -6,7 +6,7 @@ ghost use Rattle.vsa_top.specs.Alone.{IsOneReply, TellsAnalysis, WorksAlone};
 ghost use Rattle.vsa_top.specs.Answer.{Answers};
 ghost use Rattle.vsa_top.specs.Input.{input_of};
 ghost use Rattle.vsa_top.specs.declared.outcome.Status.{Status as AStatus};
-ghost use Rattle.vsa_top.specs.declared.words.Reading.{Reading as AReading};
+ghost use Rattle.vsa_words.specs.declared.reading.Reading.{Reading as AReading};
 
 use cert_text::certificates_are_one;
 use ihex_read::image_or_fault;

@@ -14,14 +14,13 @@ ghost use Rattle.vsa_io.specs.Stream.{HasRisen};
 ghost use Rattle.vsa_top.specs.Answer.{IsAnalysis, IsAsserted, IsDecided, IsDecidedOn, TellsNoFault};
 ghost use Rattle.vsa_top.specs.Asserted.{AreAsserted, LacksAssertions, broken_in, broken_text, fails_line, spaces_of, status_of_broken};
 ghost use Rattle.vsa_top.specs.Input.{begun_with};
-ghost use Rattle.vsa_top.specs.Words.{IsBounded, rules_of};
-ghost use Rattle.vsa_top.specs.declared.words.Reading.TheVariants.{Assert};
+ghost use Rattle.vsa_words.specs.Words.{IsBounded, rules_of};
+ghost use Rattle.vsa_words.specs.declared.reading.Reading.TheVariants.{Assert};
 
 use crate::outcome::Status;
 use crate::reply::{NoReply, Reply, book_of, no_line, text_reply};
 use crate::script::ScriptRefusal;
 use crate::second::assertions_in;
-use crate::words::{Target, Task};
 use assert_check::{Assertion, Broken, decide, unbroken_lists_hold};
 use chip_law::{ChipText, InstrText, LawfulChip, put_item};
 use chip_numbers::Space;
@@ -36,6 +35,7 @@ use std::alloc::Global;
 use std::sync::Wait;
 use std::thread::Threads;
 use vsa_io::Source;
+use vsa_words::{Target, Task};
 use worker_rounds::Gate;
 
 /// Adds the line of an assertion that is broken.

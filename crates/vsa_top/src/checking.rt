@@ -6,13 +6,12 @@ ghost use Rattle.vsa_io.specs.Stream.{HasRisen};
 ghost use Rattle.vsa_top.specs.Answer as answers;
 ghost use Rattle.vsa_top.specs.Answer.{IsChecked, IsCheckedOn, TellsNoFault};
 ghost use Rattle.vsa_top.specs.Input.{begun_with};
-ghost use Rattle.vsa_top.specs.Words.{IsBounded, rules_of};
-ghost use Rattle.vsa_top.specs.declared.words.Reading.TheVariants.{Check};
+ghost use Rattle.vsa_words.specs.Words.{IsBounded, rules_of};
+ghost use Rattle.vsa_words.specs.declared.reading.Reading.TheVariants.{Check};
 
 use crate::outcome::Status;
 use crate::reply::{NoReply, Reply, text_reply};
 use crate::second::{SecondError, second_in};
-use crate::words::{Target, Task};
 use cert_verdict::verdict_on;
 use chip_law::ChipText;
 use image::Image;
@@ -21,6 +20,7 @@ use msp430_flow::Msp430Chip;
 use state_text::LawfulText;
 use std::alloc::Global;
 use vsa_io::Source;
+use vsa_words::{Target, Task};
 
 /// The status of a verdict.
 fn status_of_verdict(is_closed: bool) -> Status

@@ -5,7 +5,6 @@
 mod alone;
 mod asserting;
 mod checking;
-mod command;
 mod headline;
 mod input;
 mod made;
@@ -17,7 +16,6 @@ mod script;
 mod second;
 mod summary;
 mod top;
-mod words;
 
 pub use outcome::{Outcome, Status};
 pub use round_core::Event;

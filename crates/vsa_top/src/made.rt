@@ -7,17 +7,17 @@ ghost use Rattle.image_gen.specs.Made.{made_image};
 ghost use Rattle.vsa_io.specs.Stream.{HasRisen};
 ghost use Rattle.vsa_top.specs.Answer.{IsReply, TellsNoFault};
 ghost use Rattle.vsa_top.specs.Input.{input_of};
-ghost use Rattle.vsa_top.specs.Words.{IsBounded, rules_of};
-ghost use Rattle.vsa_top.specs.declared.words.Reading.TheVariants.{Gen};
+ghost use Rattle.vsa_words.specs.Words.{IsBounded, rules_of};
+ghost use Rattle.vsa_words.specs.declared.reading.Reading.TheVariants.{Gen};
 
 use crate::reply::{NoReply, Reply, input_reply};
-use crate::words::Reading;
 use image::ChipName;
 use image_gen::{MOST, make};
 use std::alloc::Global;
 use std::sync::Wait;
 use std::thread::Threads;
 use vsa_io::{CleanSource, Source};
+use vsa_words::Reading;
 use worker_rounds::Gate;
 
 /// The reply to a made program of so many functions.

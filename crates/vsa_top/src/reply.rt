@@ -6,8 +6,8 @@ ghost use Rattle.vsa_io.specs.Stream.{HasRisen};
 ghost use Rattle.run_trace.specs.Trace.{run_of};
 ghost use Rattle.vsa_top.specs.Answer.{IsAnalysis, IsFollowed, IsImageReply, IsListing, IsReply, IsReported, IsReportedOn, IsRun, IsSummed, TellsNoFault, bad_line as the_bad_line, no_line as the_no_line, run_under, status_of_analysis, status_of_end};
 ghost use Rattle.vsa_top.specs.Input.{begun_with};
-ghost use Rattle.vsa_top.specs.Words.{IsBounded, rules_of, target_rules};
-ghost use Rattle.vsa_top.specs.declared.words.Reading.TheVariants.{Analyse, Gen};
+ghost use Rattle.vsa_words.specs.Words.{IsBounded, rules_of, target_rules};
+ghost use Rattle.vsa_words.specs.declared.reading.Reading.TheVariants.{Analyse, Gen};
 
 use crate::asserting::assertion_reply;
 use crate::checking::check_reply;
@@ -17,7 +17,6 @@ use crate::msp430::{Msp430Code, Msp430Run};
 use crate::outcome::Status;
 use crate::script::{ScriptRefusal, script_in};
 use crate::summary::summary_of;
-use crate::words::{Reading, Target, Task};
 use cert_text::book_certificate;
 use chip_law::{Chip, ChipText, InstrText};
 use closing_law::books_are_bounded;
@@ -36,6 +35,7 @@ use std::alloc::{AllocError, Global};
 use std::sync::Wait;
 use std::thread::Threads;
 use vsa_io::Source;
+use vsa_words::{Reading, Target, Task};
 use worker_crew::fixpoint;
 use worker_rounds::{Gate, fixpoint_alone};
 

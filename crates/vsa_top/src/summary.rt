@@ -3,9 +3,9 @@
 ghost use Rattle.std.specs.Prelude.{◌≡◌, ◌==◌, ◌++◌, false, IfOk, OnOk, count_by};
 ghost use Rattle.vsa_top.specs.Summary.{count_line, first_line as the_first_line, from_line as the_text_from, initials as the_initials, summary};
 
-use crate::words::word_of;
 use image::ChipName;
 use std::alloc::{AllocError, Global};
+use vsa_words::word_of;
 
 /// The first line of a text, with its line feed.
 fn first_line(text: &[u8]) -> &[u8]

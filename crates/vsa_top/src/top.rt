@@ -6,25 +6,25 @@ ghost use Rattle.ihex_read.specs.declared.tail.Tail.TheVariants.{Second};
 ghost use Rattle.image.specs.Kept.{IsRamRange};
 ghost use Rattle.vsa_top.specs.Headline.{CertifiesOn, CoversRunsOf, HoldsOf, ReportsOn, ShowsSitesOf};
 ghost use Rattle.image.specs.declared.chip_name.ChipName.{ChipName as AChip};
-ghost use Rattle.vsa_top.specs.declared.words.Reading.TheVariants.{Analyse, Assert, Check, Gen};
-ghost use Rattle.vsa_top.specs.declared.words.Reading.{Reading as AReading};
-ghost use Rattle.vsa_top.specs.declared.words.Task.{Task as ATask};
+ghost use Rattle.vsa_words.specs.declared.reading.Reading.TheVariants.{Analyse, Assert, Check, Gen};
+ghost use Rattle.vsa_words.specs.declared.reading.Reading.{Reading as AReading};
+ghost use Rattle.vsa_words.specs.declared.reading.Task.{Task as ATask};
 ghost use Rattle.vsa_top.specs.Alone.{IsOneReply, TellsAnalysis, WorksAlone};
 ghost use Rattle.vsa_top.specs.Answer.{Analyses, Answers, AreRefused, Ends, IsCutShort, IsVerdictOn, IsWritten};
-ghost use Rattle.vsa_top.specs.Input.{Gives, input_of, tail_of};
-ghost use Rattle.vsa_top.specs.Words.{IsBounded, Reads, rules_of};
+ghost use Rattle.vsa_top.specs.Input.{Gives, input_of};
+ghost use Rattle.vsa_words.specs.Words.{IsBounded, Reads, rules_of, tail_of};
 
 use crate::alone::replies_are_one;
 use crate::headline::reports_hold;
 use crate::made::reply_to;
 use crate::outcome::{Outcome, Status};
 use crate::reply::{NoReply, Reply};
-use crate::words::{Reading, reading_of};
 use round_core::Event;
 use std::alloc::Global;
 use std::sync::Wait;
 use std::thread::Threads;
 use vsa_io::{Sink, Source, write_all};
+use vsa_words::{Reading, reading_of};
 use worker_rounds::Gate;
 
 /// Writes a text, and answers the status that goes with it, or the fault of the sink.

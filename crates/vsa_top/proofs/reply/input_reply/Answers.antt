@@ -4,8 +4,8 @@ use Rattle.image.specs.declared.rule_set.Rules.{Rules}
 use Rattle.ihex_read.specs.declared.tail.Tail.{Tail}
 use Rattle.vsa_top.specs.Answer.{IsImageReply, IsReply}
 use Rattle.vsa_top.specs.Answer.IsReply.{of_image, of_bad}
-use Rattle.vsa_top.specs.Input.{InputGives, LacksImage, begun_with, tail_of}
-use Rattle.vsa_top.specs.Words.{rules_of}
+use Rattle.vsa_top.specs.Input.{InputGives, LacksImage, begun_with}
+use Rattle.vsa_words.specs.Words.{rules_of, tail_of}
 use Rattle.vsa_top.specs.declared.reply.Reply.{Reply}
 use Rattle.vsa_top.proofs.ReplyLemmas.{if_ok}
 use Rattle.vsa_top.proofs.reply.input_reply.Goals as goal

@@ -1,7 +1,7 @@
 use Rattle.std.proofs.Common.{◌∙◌, ap, subst}
 use Rattle.vsa_top.specs.Answer.{IsReportedOn}
 use Rattle.vsa_top.specs.Summary.{summary}
-use Rattle.vsa_top.specs.Words.{usual_target, usual_limits}
+use Rattle.vsa_words.specs.Words.{usual_target, usual_limits}
 use Rattle.vsa_top.proofs.ReplyLemmas.{report_alone}
 use Rattle.vsa_top.proofs.reply.made_image_reply.Goals as goal
 

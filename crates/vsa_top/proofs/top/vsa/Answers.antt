@@ -1,9 +1,9 @@
 use Rattle.std.proofs.Common.{◌≡◌, sym, subst}
 use Rattle.image.specs.Kept.{IsRamRange}
 use Rattle.vsa_top.specs.Answer.{Answers}
-use Rattle.vsa_top.specs.Words.{EndsInMemory, IsBounded, Reads, rules_of}
-use Rattle.vsa_top.specs.declared.words.Reading.{Reading}
-use Rattle.vsa_top.specs.declared.words.Reading.TheVariants.{Analyse, Assert, Check, Gen}
+use Rattle.vsa_words.specs.Words.{EndsInMemory, IsBounded, Reads, rules_of}
+use Rattle.vsa_words.specs.declared.reading.Reading.{Reading}
+use Rattle.vsa_words.specs.declared.reading.Reading.TheVariants.{Analyse, Assert, Check, Gen}
 use Rattle.vsa_top.proofs.WordsLemmas.{none_of, some_of}
 use Rattle.vsa_top.proofs.top.vsa.Goals as goal
 

@@ -1,5 +1,5 @@
 use Rattle.std.proofs.Common.{length}
-use Rattle.vsa_top.proofs.words.+number_behind.Given as goal
+use Rattle.vsa_words.proofs.numbers.+number_behind.Given as goal
 
 abbrev pub decreases-number_behind : goal.decreases-number_behind
 decreases-number_behind l = length l.digits.now

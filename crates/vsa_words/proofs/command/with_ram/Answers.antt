@@ -1,8 +1,8 @@
 use Rattle.std.proofs.Common.{rules, ap₂, codes, ◌≡◌, ◌∙◌}
 use Rattle.std.proofs.lemmas.Result.{IfOk-weaker}
 use Rattle.clap.specs.Words.{rule_of, with_rule}
-use Rattle.vsa_top.specs.Command.{option}
-use Rattle.vsa_top.proofs.command.with_ram.Goals as goal
+use Rattle.vsa_words.specs.Command.{option}
+use Rattle.vsa_words.proofs.command.with_ram.Goals as goal
 
 pub returns : goal.returns
 returns c =

@@ -1,8 +1,8 @@
 use Rattle.clap.specs.Words.{found_of}
-use Rattle.vsa_top.specs.Words.{text_of}
-use Rattle.vsa_top.proofs.CommandLemmas.{matched}
-use Rattle.vsa_top.proofs.WordsLemmas.{Texts, found_bounds, found_by, found_range, reads_alone, reads_found}
-use Rattle.vsa_top.proofs.words.reading_of.Goals as goal
+use Rattle.vsa_words.specs.Words.{text_of}
+use Rattle.vsa_words.proofs.CommandLemmas.{matched}
+use Rattle.vsa_words.proofs.WordsLemmas.{Texts, found_bounds, found_by, found_range, reads_alone, reads_found}
+use Rattle.vsa_words.proofs.words.reading_of.Goals as goal
 
 pub returns-clause-reads : goal.returns-clause-reads
 returns-clause-reads c =

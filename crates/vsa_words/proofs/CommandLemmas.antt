@@ -6,7 +6,7 @@ use Rattle.clap.specs.declared.parser.matches.Found.{Found}
 use Rattle.clap.specs.Words.{first_of, first_value, found_of, matches_of, rows_of, Text, IsAmong, Kinds, HasKind, is_simple, is_simple_and_free, kind_of}
 use Rattle.clap.specs.declared.error.Error.{Error}
 use Rattle.clap.specs.declared.error.ErrorKind.TheVariants.{OutOfMemory}
-use Rattle.vsa_top.specs.Command.{AreTaken, command, given}
+use Rattle.vsa_words.specs.Command.{AreTaken, command, given}
 use Rattle.clap.proofs.WalkLemmas.{first_value-rows}
 
 pub command_is_simple : is_simple command ≡ true

@@ -1,8 +1,8 @@
 use Rattle.std.proofs.Common.{rules, ap₂, codes, ◌≡◌, ◌∙◌}
 use Rattle.std.proofs.lemmas.Result.{IfOk-weaker}
 use Rattle.clap.specs.Words.{rule_of, with_rule}
-use Rattle.vsa_top.specs.Command.{command, flag, option}
-use Rattle.vsa_top.proofs.command.command.Goals as goal
+use Rattle.vsa_words.specs.Command.{command, flag, option}
+use Rattle.vsa_words.proofs.command.command.Goals as goal
 
 pub returns : goal.returns
 unfolding command

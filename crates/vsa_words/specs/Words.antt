@@ -6,25 +6,24 @@ use Rattle.std.specs.declared.alloc.Global.{Global}
 use Rattle.std.specs.Borrow.{Bor}
 use Rattle.analysis_limits.specs.declared.limits.Limits.{Limits}
 use Rattle.hex.specs.Hex.{hex_digit_value}
+use Rattle.ihex_read.specs.declared.tail.Tail.{Tail}
+use Rattle.ihex_read.specs.declared.tail.Tail.TheVariants.{Blank, Second}
 use Rattle.image.specs.declared.rule_set.Rules.{Rules}
 use Rattle.image.specs.declared.rule_set.Rules.TheVariants as rules
 use Rattle.image.specs.Kept.{IsRamRange}
-use Rattle.msp430_chip.specs.declared.device.Device.{Device}
-use Rattle.mcs51_flow.specs.declared.setting.Setting.{Setting as Mcs51Setting}
-use Rattle.msp430_flow.specs.declared.setting.Setting.{Setting as Msp430Setting}
-use Rattle.vsa_top.specs.Command.{AreTaken, given}
+use Rattle.vsa_words.specs.Command.{AreTaken, given}
 use Rattle.image.specs.declared.chip_name.ChipName.{ChipName}
 use Rattle.image.specs.declared.chip_name.ChipName.TheVariants as chip
-use Rattle.vsa_top.specs.declared.words.Mode.{Mode}
-use Rattle.vsa_top.specs.declared.words.Mode.TheVariants as mode
-use Rattle.vsa_top.specs.declared.words.Options.{Options}
-use Rattle.vsa_top.specs.declared.words.Ram.{Ram}
-use Rattle.vsa_top.specs.declared.words.Span.{Span}
-use Rattle.vsa_top.specs.declared.words.Reading.{Reading}
-use Rattle.vsa_top.specs.declared.words.Reading.TheVariants.{Analyse, Assert, Check, Disasm, Run, Gen}
-use Rattle.vsa_top.specs.declared.words.Target.{Target}
-use Rattle.vsa_top.specs.declared.words.Task.{Task}
-use Rattle.vsa_top.specs.declared.words.Target.TheVariants.{Msp430, Mcs51}
+use Rattle.vsa_words.specs.declared.reading.Mode.{Mode}
+use Rattle.vsa_words.specs.declared.reading.Mode.TheVariants as mode
+use Rattle.vsa_words.specs.declared.options.Options.{Options}
+use Rattle.vsa_words.specs.declared.reading.Ram.{Ram}
+use Rattle.vsa_words.specs.declared.numbers.Span.{Span}
+use Rattle.vsa_words.specs.declared.reading.Reading.{Reading}
+use Rattle.vsa_words.specs.declared.reading.Reading.TheVariants.{Analyse, Assert, Check, Disasm, Run, Gen}
+use Rattle.vsa_words.specs.declared.reading.Target.{Target}
+use Rattle.vsa_words.specs.declared.reading.Task.{Task}
+use Rattle.vsa_words.specs.declared.reading.Target.TheVariants.{Msp430, Mcs51}
 
 -- RAM from 0200h to 09FFh, without a mirror
 abbrev pub usual_span : Span
@@ -55,14 +54,19 @@ target_rules Mcs51 = rules.Mcs51
 abbrev pub rules_of : Reading → Rules
 rules_of reading = target_rules (target_of reading)
 
+-- a run takes its script behind the image text, and assertions and a certificate stand there too
+abbrev pub tail_of : Reading → Tail
+tail_of (Analyse task) = Blank
+tail_of (Assert task) = Second
+tail_of (Check task) = Second
+tail_of (Disasm target) = Blank
+tail_of (Run target steps) = Second
+tail_of (Gen chip number) = Blank
+
 -- RAM ends in memory
 abbrev pub EndsInMemory : Rules → Type 0
 EndsInMemory (rules.Msp430 lo hi mirror) = hi < 65536
 EndsInMemory rules.Mcs51 = Unit {0}
-
--- the MSP430 with an image and this RAM
-abbrev pub device_of : Ram → List (Option ℕ) → Device
-device_of ram image = record { image = image; lo = ram.lo; hi = ram.hi; mirror = ram.mirror }
 
 -- call strings of six sites, and 64 targets of an instruction
 abbrev pub usual_limits : Limits
@@ -71,12 +75,6 @@ usual_limits = record { calls = 6; targets = 64 }
 -- how a made program is analysed: with the usual RAM and limits, by one worker
 abbrev pub usual_task : ChipName → Task
 usual_task chip = record { target = usual_target chip; limits = usual_limits; workers = 1; cert = false }
-
-abbrev pub msp430_setting : Ram → Limits → List (Option ℕ) → Msp430Setting
-msp430_setting ram limits image = record { device = device_of ram image; limits = limits }
-
-abbrev pub mcs51_setting : Limits → List (Option ℕ) → Mcs51Setting
-mcs51_setting limits image = record { image = image; limits = limits }
 
 -- the number of four digits, the highest first, where each has a value
 abbrev pub number_from : (a b c d : Option ℕ) → Option ℕ

@@ -1,7 +1,7 @@
 use Rattle.std.proofs.Common.{◌≡◌, true, ap, sym, ◌∙◌, map, string_bytes, rules}
 use Rattle.clap.specs.Words.{app_of, fault_of, is_simple, is_simple_and_free, matches_of}
-use Rattle.vsa_top.proofs.CommandLemmas.{command_is_free, command_is_simple, not_taken}
-use Rattle.vsa_top.proofs.command.matches_of.Goals as goal
+use Rattle.vsa_words.proofs.CommandLemmas.{command_is_free, command_is_simple, not_taken}
+use Rattle.vsa_words.proofs.command.matches_of.Goals as goal
 
 pub returns-in-Ok : goal.returns-in-Ok
 returns-in-Ok c =

@@ -2,8 +2,8 @@ use Rattle.std.proofs.Common.{rules, ap, ap₂, codes, ◌≡◌, ◌∙◌}
 use Rattle.std.proofs.lemmas.Result.{IfOk-weaker}
 use Rattle.clap.specs.Words.{app_of, new_app, rule_of, with_rule}
 use Rattle.clap.specs.Simple.{app_of_fields}
-use Rattle.vsa_top.specs.Command.{nameless, needed}
-use Rattle.vsa_top.proofs.command.with_places.Goals as goal
+use Rattle.vsa_words.specs.Command.{nameless, needed}
+use Rattle.vsa_words.proofs.command.with_places.Goals as goal
 
 pub returns : goal.returns
 returns c =

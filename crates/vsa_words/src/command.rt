@@ -2,7 +2,7 @@
 
 ghost use Rattle.std.specs.Prelude.{◌≡◌, IfOk, MatchOption, map, string_bytes};
 ghost use Rattle.clap.specs.Words.{app_of, found_of, matches_of as the_matches, rows_of};
-ghost use Rattle.vsa_top.specs.Command.{AreTaken, command as the_command, with_places as places, with_ram as rams, with_task as tasks};
+ghost use Rattle.vsa_words.specs.Command.{AreTaken, command as the_command, with_places as places, with_ram as rams, with_task as tasks};
 
 use clap::error::ErrorKind;
 use clap::{Arg, ArgAction, ArgMatches, Command};

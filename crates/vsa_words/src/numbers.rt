@@ -1,0 +1,112 @@
+//! Numbers and ranges of addresses in words.
+
+ghost use Rattle.std.specs.Prelude.{◌≡◌, ◌<◌, ◌≤◌, ◌↔◌, ℕ, IfSome, IsTrue, MatchOption, None};
+ghost use Rattle.hex.specs.Hex.{hex_digit_value};
+ghost use Rattle.image.specs.Kept.{IsRamRange};
+ghost use Rattle.image.specs.declared.rule_set.Rules.TheVariants.{Msp430};
+ghost use Rattle.vsa_words.specs.declared.numbers.Span.{Span as ASpan};
+ghost use Rattle.vsa_words.specs.Words.{IsNumber, IsNumberBehind, IsNumberIn, IsRange, number_of as the_number};
+
+/// The first and the last address of a range. They begin and end whole words, behind the peripherals.
+#[derive(Clone, Copy, Debug, PartialEq, Eq)]
+pub struct Span {
+    pub lo: u16,
+    pub hi: u16,
+}
+
+impl Span {
+    /// From 0200h to 09FFh.
+    pub const USUAL: Span = Span {
+        lo: 0x0200,
+        hi: 0x09FF,
+    };
+}
+
+/// The greatest number that words say.
+const MOST_NUMBER: u32 = 1_000_000;
+
+/// The value of a hexadecimal digit in either case.
+fn digit_of(byte: u8) -> Option<u16>
+    ensures value { result ≡ hex_digit_value byte }
+    ensures below { IfSome result (λ digit. digit < 16) }
+{
+    match byte {
+        b'0'..=b'9' => Some((byte - b'0') as u16),
+        b'A'..=b'F' => Some((byte - b'A') as u16 + 10),
+        b'a'..=b'f' => Some((byte - b'a') as u16 + 10),
+        _ => None,
+    }
+}
+
+/// The number of four hexadecimal digits.
+fn number_of(digits: &[u8]) -> Option<u16>
+    ensures { result ≡ the_number digits.now }
+{
+    match digits {
+        [a, b, c, d] => {
+            let (a, b) = (digit_of(*a)?, digit_of(*b)?);
+            let (c, d) = (digit_of(*c)?, digit_of(*d)?);
+            Some(a * 4096 + b * 256 + c * 16 + d)
+        }
+        _ => None,
+    }
+}
+
+/// Whether RAM may stand there.
+fn is_ram_range(span: Span) -> bool
+    ensures { IsTrue result ↔ IsRamRange (Msp430 span.lo span.hi None) }
+{
+    span.lo % 2 == 0 && span.hi % 2 == 1 && span.lo >= 0x0200 && span.lo < span.hi
+}
+
+/// The range `LO-HI`, by four hexadecimal digits each.
+pub fn range_of(text: &[u8]) -> Option<Span>
+    ensures { MatchOption result ((span : ASpan) → ¬ IsRange text.now span) (IsRange text.now) }
+{
+    if text.len() != 9 || text[4] != b'-' {
+        return None;
+    }
+    let lo = number_of(&text[..4])?;
+    let hi = number_of(&text[5..])?;
+    let span = Span { lo, hi };
+    if is_ram_range(span) { Some(span) } else { None }
+}
+
+/// The number of decimal digits behind those of another one, where it is at most a million.
+fn number_behind(number: u32, digits: &[u8]) -> Option<u32>
+    requires { number ≤ 1000000 }
+    ensures { MatchOption result ((steps : ℕ) → ¬ IsNumberBehind number digits.now steps) (IsNumberBehind number digits.now) }
+{
+    let Some((digit, rest)) = digits.split_first() else {
+        return Some(number);
+    };
+    if !digit.is_ascii_digit() {
+        return None;
+    }
+    let longer = 10 * number + (*digit - b'0') as u32;
+    if longer > MOST_NUMBER {
+        return None;
+    }
+    number_behind(longer, rest)
+}
+
+/// A number of 1 to 7 decimal digits, at most a million.
+fn decimal_of(text: &[u8]) -> Option<u32>
+    ensures { MatchOption result ((number : ℕ) → ¬ IsNumber text.now number) (IsNumber text.now) }
+{
+    if text.is_empty() || text.len() > 7 {
+        return None;
+    }
+    number_behind(0, text)
+}
+
+/// A number of 1 to 7 decimal digits between two others.
+pub fn number_in(text: &[u8], least: u32, most: u32) -> Option<u32>
+    ensures { MatchOption result ((number : ℕ) → ¬ IsNumberIn least most text.now number) (IsNumberIn least most text.now) }
+{
+    let number = decimal_of(text)?;
+    if number < least || number > most {
+        return None;
+    }
+    Some(number)
+}
