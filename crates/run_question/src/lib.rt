@@ -11,9 +11,7 @@ mod mcs51;
 mod msp430;
 mod question;
 mod reads;
-mod rules;
 
 pub use mcs51::mcs51_asks;
 pub use msp430::msp430_asks;
 pub use question::{Asked, Question};
-pub use rules::msp430_rules;

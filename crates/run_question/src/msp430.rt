@@ -1,12 +1,13 @@
 //! What a run of the MSP430 asks.
 
+ghost use Rattle.image.specs.declared.rule_set.Rules.TheVariants.{Msp430};
 ghost use Rattle.msp430_emu.specs.Stepping.{IsMsp430};
 
 use crate::question::{Asked, Question};
 use crate::reads::{Read, left_of, read_of, with_zeros};
 use arrayvec::{ArrayString, ArrayVec};
 use call_context::{Item, Space};
-use image::{Image, Rules};
+use image::{Image, RamRange};
 use msp430_decode::{
     Destination, Instr, Operation, Register, SingleOperation, Source, Width, decode,
 };
@@ -25,12 +26,12 @@ const BYTES: usize = 4;
 pub fn msp430_asks(
     alloc: Global,
     image: &Image,
-    rules: Rules,
+    ram: RamRange,
     script: &[u16],
 ) -> Result<Option<Asked>, Memory>
-    requires { IsMsp430 rules }
+    requires { IsMsp430 (Msp430 ram.lo ram.hi ram.mirror) }
 {
-    let mut machine = Machine::reset(alloc, image, rules)?;
+    let mut machine = Machine::reset(alloc, image, ram.rules())?;
     let mut choices = Choices::new(Vec::from_slice(alloc, script)?);
     for done in 0..STEPS {
         match machine.step(image, &mut choices) {

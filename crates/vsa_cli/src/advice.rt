@@ -2,10 +2,9 @@
 
 use crate::inputs::other_input;
 use crate::mcs51_warnings::Mcs51Seen;
-use crate::msp430_warnings::{Msp430Seen, RamPlaces};
+use crate::msp430_warnings::Msp430Seen;
 use crate::need::print_question;
 use crate::noted::Noted;
-use crate::options::{USUAL_RAM, range_of};
 use crate::slips::{Slip, slip_of};
 use crate::source::NotedSource;
 use crate::usage::USAGE;
@@ -15,6 +14,7 @@ use std::alloc::Global;
 use std::{io, str};
 use vsa_io::{Sink, Source};
 use vsa_top::Status;
+use vsa_words::{Reading, Target, reading_of};
 
 /// The questions of a step of the MSP430.
 const MSP430_QUESTIONS: &str =
@@ -274,32 +274,6 @@ fn print_warnings(rt: &impl Eprint, watch: &Watch) -> io::Result<()> {
     }
 }
 
-/// The range that an option says.
-fn range_said(words: &[String], name: &str) -> Option<(u16, u16)> {
-    let mut is_next = false;
-    for word in words {
-        let text = word.as_str();
-        if is_next {
-            return range_of(text.as_bytes());
-        }
-        if let Some(text) = text.strip_prefix(name) {
-            match text.strip_prefix("=") {
-                Some(range) => return range_of(range.as_bytes()),
-                None => is_next = text.is_empty(),
-            }
-        }
-    }
-    None
-}
-
-/// The RAM that the words say, and else the usual one, with its mirror.
-pub fn ram_of(words: &[String]) -> RamPlaces {
-    RamPlaces {
-        ram: range_said(words, "--ram").unwrap_or(USUAL_RAM),
-        mirror: range_said(words, "--mirror"),
-    }
-}
-
 /// A list for the text of a run, whose question is looked up where its script ends too early.
 pub fn kept_text(alloc: Global, words: &[String]) -> Option<Vec<u8>> {
     if has_word(words, "run") {
@@ -311,13 +285,15 @@ pub fn kept_text(alloc: Global, words: &[String]) -> Option<Vec<u8>> {
 
 /// What looks at the lines of an answer to these words: at those of a report.
 pub fn watch_of(alloc: Global, words: &[String]) -> Option<Watch> {
-    if !has_word(words, "analyse") && !has_word(words, "check") {
-        return None;
-    }
-    if has_word(words, "mcs51") {
-        return Some(Watch::new(Seen::Mcs51(Mcs51Seen::new(alloc))));
-    }
-    Some(Watch::new(Seen::Msp430(Msp430Seen::new(alloc, ram_of(words)))))
+    let target = match reading_of(alloc, words).ok()?? {
+        Reading::Analyse { task } => task.target,
+        Reading::Check { task } => task.target,
+        _ => return None,
+    };
+    Some(Watch::new(match target {
+        Target::Msp430 { ram } => Seen::Msp430(Msp430Seen::new(alloc, ram)),
+        Target::Mcs51 => Seen::Mcs51(Mcs51Seen::new(alloc)),
+    }))
 }
 
 /// Says what an input is that is no image text, or what is wrong with one of its lines.

@@ -7,7 +7,6 @@ mod mcs51_warnings;
 mod msp430_warnings;
 mod need;
 mod noted;
-mod options;
 mod output;
 mod slips;
 mod source;

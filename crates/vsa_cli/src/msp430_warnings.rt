@@ -1,40 +1,31 @@
 //! What is seen of a report of the MSP430.
 
-use crate::options::word_of;
 use crate::warnings::Variable;
+use hex_digits::word;
+use image::RamRange;
 use report_lines::{Access, Instr, Kind, Line, Stack, cut};
 use std::alloc::Global;
 
-/// The first and the last address of RAM, and those of its mirror.
-#[derive(Clone, Copy)]
-pub struct RamPlaces {
-    pub ram: (u16, u16),
-    pub mirror: Option<(u16, u16)>,
+/// The byte of RAM at an address of RAM or of its mirror.
+fn byte_of(ram: RamRange, at: u16) -> Option<u16> {
+    if ram.lo <= at && at <= ram.hi {
+        return Some(at);
+    }
+    match ram.mirror {
+        Some((first, last)) if first <= at && at <= last => {
+            Some(ram.lo.wrapping_add(at.wrapping_sub(first)))
+        }
+        _ => None,
+    }
 }
 
-impl RamPlaces {
-    /// The byte of RAM at an address of RAM or of the mirror.
-    fn byte_at(self, at: u16) -> Option<u16> {
-        let (lo, hi) = self.ram;
-        if lo <= at && at <= hi {
-            return Some(at);
+/// Where a stack begins in RAM that begins at this address. An empty one begins behind its place.
+fn top_of(ram: RamRange, at: u16) -> u16 {
+    match ram.mirror {
+        Some((first, last)) if first <= at && at.wrapping_sub(1) <= last => {
+            ram.lo.wrapping_add(at.wrapping_sub(first))
         }
-        match self.mirror {
-            Some((first, last)) if first <= at && at <= last => {
-                Some(lo.wrapping_add(at.wrapping_sub(first)))
-            }
-            _ => None,
-        }
-    }
-
-    /// Where a stack begins in RAM that begins at this address. An empty one begins behind its place.
-    fn top_at(self, at: u16) -> u16 {
-        match self.mirror {
-            Some((first, last)) if first <= at && at.wrapping_sub(1) <= last => {
-                self.ram.0.wrapping_add(at.wrapping_sub(first))
-            }
-            _ => at,
-        }
+        _ => at,
     }
 }
 
@@ -56,7 +47,7 @@ struct Reach {
 /// What is seen of a report of the MSP430, line by line.
 #[derive(Drop)]
 pub struct Msp430Seen {
-    ram: RamPlaces,
+    ram: RamRange,
     /// The first instruction that allows interrupts, and the address behind it, where one may come.
     allows: Option<(u16, u16)>,
     /// How many lines there write a word. An interrupt's entry has two, and no instruction more than one there.
@@ -69,7 +60,7 @@ pub struct Msp430Seen {
 
 impl Msp430Seen {
     /// Nothing is seen yet of a report with this RAM.
-    pub fn new(alloc: Global, ram: RamPlaces) -> Msp430Seen {
+    pub fn new(alloc: Global, ram: RamRange) -> Msp430Seen {
         Msp430Seen {
             ram,
             allows: None,
@@ -99,8 +90,8 @@ impl Msp430Seen {
         }
         for operand in instr.text.split(|byte| *byte == b',' || *byte == b' ') {
             if let [b'&', digits @ .., b'h'] = operand
-                && let Some(at) = word_of(digits)
-                && let Some(byte) = self.ram.byte_at(at)
+                && let Some(at) = word(digits)
+                && let Some(byte) = byte_of(self.ram, at)
             {
                 let variable = Variable { at, pc: instr.pc };
                 // Where memory is short a variable is missed, and the report is as it was.
@@ -123,8 +114,8 @@ impl Msp430Seen {
             return;
         }
         let here = Reach {
-            low: self.ram.top_at(stack.at.least),
-            high: self.ram.top_at(stack.at.greatest),
+            low: top_of(self.ram, stack.at.least),
+            high: top_of(self.ram, stack.at.greatest),
             pointer: stack.at.least,
         };
         self.stack = Some(match self.stack {
@@ -167,19 +158,19 @@ fn joined(one: Reach, other: Reach) -> Reach {
 fn constant_of(operand: &[u8]) -> Option<u16> {
     match operand {
         [b'#', digit] if digit.is_ascii_digit() => Some(u16::from(*digit).wrapping_sub(0x30)),
-        [b'#', digits @ .., b'h'] => word_of(digits),
+        [b'#', digits @ .., b'h'] => word(digits),
         _ => None,
     }
 }
 
 /// Whether an instruction sets GIE by a constant.
 fn allows_interrupts(text: &[u8]) -> bool {
-    let Some((word, operands)) = cut(text, b' ') else {
+    let Some((name, operands)) = cut(text, b' ') else {
         return false;
     };
     let Some((source, place)) = cut(operands, b',') else {
         return false;
     };
-    let sets = word.starts_with(b"BIS") || word.starts_with(b"MOV");
+    let sets = name.starts_with(b"BIS") || name.starts_with(b"MOV");
     sets && place == b"SR".as_slice() && constant_of(source).is_some_and(|number| number & 8 != 0)
 }

@@ -2,25 +2,26 @@
 
 ghost use Rattle.image.specs.Kept.{IsRamRange};
 
-use crate::advice::{has_word, ram_of};
+use crate::advice::has_word;
 use arrayvec::ArrayVec;
 use chip_numbers::Space;
 use ihex_read::{Image, MOST_BYTES, Reader, Rules, Tail};
-use run_question::{Asked, Question, mcs51_asks, msp430_asks, msp430_rules};
+use run_question::{Asked, Question, mcs51_asks, msp430_asks};
 use script_text::Reader as ScriptReader;
 use std::alloc::{AllocError, Global};
 use std::io;
+use vsa_words::{Reading, Target, reading_of};
 
 /// What the run asks that the words and a text say, if it can be told.
 pub fn asked_of(alloc: Global, words: &[String], text: &[u8]) -> Option<Asked> {
-    if has_word(words, "mcs51") {
-        let (image, script) = parts_of(alloc, Rules::Mcs51, text)?;
-        return mcs51_asks(alloc, &image, script.as_slice()).ok()?;
+    let Reading::Run { target, .. } = reading_of(alloc, words).ok()?? else {
+        return None;
+    };
+    let (image, script) = parts_of(alloc, target.rules(), text)?;
+    match target {
+        Target::Msp430 { ram } => msp430_asks(alloc, &image, ram, script.as_slice()).ok()?,
+        Target::Mcs51 => mcs51_asks(alloc, &image, script.as_slice()).ok()?,
     }
-    let places = ram_of(words);
-    let rules = msp430_rules(places.ram.0, places.ram.1, places.mirror)?;
-    let (image, script) = parts_of(alloc, rules, text)?;
-    msp430_asks(alloc, &image, rules, script.as_slice()).ok()?
 }
 
 /// The image and the script of a text.

@@ -1,15 +1,12 @@
 //! What is wrong with the words of a command line that asks nothing.
 
-use crate::options::{NUMBERS, USUAL_RAM, is_number_in, is_range, range_of, takes_option};
 use clap::error::ErrorKind;
-use clap::{Arg, ArgAction, ArgMatches, Command, Error};
+use clap::{ArgMatches, Error};
+use image::{ChipName, RamRange};
 use std::alloc::{AllocError, Global};
-
-/// The words of modes.
-const MODES: [&str; 6] = ["analyse", "assert", "check", "disasm", "run", "gen"];
-
-/// The words of chips.
-const CHIPS: [&str; 2] = ["msp430", "mcs51"];
+use vsa_words::{
+    Mode, OptionName, Span, USUAL_RAM, Value, chip_of, mode_of, number_in, range_of, vsa_command,
+};
 
 /// What the words ask in place of an answer.
 #[derive(Drop)]
@@ -18,36 +15,6 @@ pub enum Slip {
     Help,
     /// Nothing. The text says what is wrong.
     Wrong(String),
-}
-
-/// An option with a text.
-fn option<'a>(alloc: Global, name: &'a str, value: &'a str) -> Arg<'a> {
-    Arg::new(alloc, name).long(name).value_name(value)
-}
-
-/// A mode and a chip.
-fn with_places<'a>(alloc: Global) -> Result<Command<'a>, AllocError> {
-    Command::new(alloc, "vsa")
-        .no_binary_name(true)
-        .arg(Arg::new(alloc, "mode").value_name("MODE").required(true))?
-        .arg(Arg::new(alloc, "chip").value_name("CHIP").required(true))
-}
-
-/// The command line as people see it.
-fn command<'a>(alloc: Global) -> Result<Command<'a>, AllocError> {
-    with_places(alloc)?
-        .arg(option(alloc, "ram", "LO-HI"))?
-        .arg(option(alloc, "mirror", "LO-HI"))?
-        .arg(option(alloc, "calls", "N"))?
-        .arg(option(alloc, "targets", "N"))?
-        .arg(option(alloc, "workers", "N"))?
-        .arg(option(alloc, "steps", "N"))?
-        .arg(option(alloc, "number", "N"))?
-        .arg(
-            Arg::new(alloc, "cert")
-                .long("cert")
-                .action(ArgAction::SetTrue),
-        )
 }
 
 /// What clap says of an error, without the lines that name the usage.
@@ -104,110 +71,126 @@ fn refused(alloc: Global, words: &[String], error: &Error) -> Result<Slip, Alloc
     with_hint(words, text)
 }
 
-/// A word that is no mode or no chip.
-fn wrong_place(alloc: Global, matches: &ArgMatches<'_>) -> Result<Option<String>, AllocError> {
-    let mode = matches.get_str("mode").unwrap_or("");
-    if !MODES.iter().any(|own| *own == mode) {
-        return Ok(Some(format!(in alloc;
-            "there is no mode '{mode}': it is analyse, assert, check, disasm, run or gen"
-        )?));
-    }
-    let chip = matches.get_str("chip").unwrap_or("");
-    if !CHIPS.iter().any(|own| *own == chip) {
-        return Ok(Some(format!(in alloc; "there is no chip '{chip}': it is msp430 or mcs51")?));
-    }
-    Ok(None)
-}
-
-/// What is wrong with the text of an option with a range.
-fn wrong_range(
+/// A word that is no mode, or no chip where the mode is one.
+fn wrong_place(
     alloc: Global,
     matches: &ArgMatches<'_>,
-    name: &str,
+    mode: Option<Mode>,
+) -> Result<String, AllocError> {
+    if mode.is_none() {
+        let word = matches.get_str("mode").unwrap_or("");
+        return format!(in alloc;
+            "there is no mode '{word}': it is analyse, assert, check, disasm, run or gen"
+        );
+    }
+    let word = matches.get_str("chip").unwrap_or("");
+    format!(in alloc; "there is no chip '{word}': it is msp430 or mcs51")
+}
+
+/// Whether RAM may stand in a range.
+fn holds_ram(text: &[u8]) -> bool {
+    match range_of(text) {
+        Some(Span { lo, hi }) => RamRange::new(lo, hi, None).is_some(),
+        None => false,
+    }
+}
+
+/// What is wrong with the text of an option.
+fn wrong_text_of(
+    alloc: Global,
+    option: OptionName,
+    text: &str,
 ) -> Result<Option<String>, AllocError> {
-    match matches.get_str(name) {
-        Some(text) if !is_range(text.as_bytes()) => Ok(Some(format!(in alloc;
+    let name = option.word();
+    match option.value() {
+        Value::Range if !holds_ram(text.as_bytes()) => Ok(Some(format!(in alloc;
             "'{text}' is no range for --{name}: two addresses of four hexadecimal digits, as 0200-03FF, of which the first is even and at least 0200, and the second odd and greater"
         )?)),
+        Value::Number { least, most } if number_in(text.as_bytes(), least, most).is_none() => {
+            Ok(Some(format!(in alloc;
+                "'{text}' is no number for --{name}: {least} to {most}, by 1 to 7 decimal digits"
+            )?))
+        }
         _ => Ok(None),
     }
 }
 
-/// What is wrong with an option's text.
+/// What is wrong with the first option whose text is wrong.
 fn wrong_text(alloc: Global, matches: &ArgMatches<'_>) -> Result<Option<String>, AllocError> {
-    for name in ["ram", "mirror"] {
-        if let Some(text) = wrong_range(alloc, matches, name)? {
-            return Ok(Some(text));
-        }
-    }
-    for number in NUMBERS.iter() {
-        if let Some(text) = matches.get_str(number.name)
-            && !is_number_in(text.as_bytes(), number.least, number.most)
+    for option in OptionName::ALL.iter() {
+        if let Some(text) = matches.get_str(option.word())
+            && let Some(wrong) = wrong_text_of(alloc, *option, text)?
         {
-            let (name, least, most) = (number.name, number.least, number.most);
-            return Ok(Some(format!(in alloc;
-                "'{text}' is no number for --{name}: {least} to {most}, by 1 to 7 decimal digits"
-            )?));
+            return Ok(Some(wrong));
         }
     }
     Ok(None)
 }
 
-/// An option that the mode doesn't take.
-fn foreign_number(
+/// The first mode that an option is of.
+fn mode_with(option: OptionName) -> &'static str {
+    match Mode::ALL.iter().find(|mode| option.is_of_mode(**mode)) {
+        Some(mode) => mode.word(),
+        None => "",
+    }
+}
+
+/// Whether an option is given. A flag always has a text.
+fn is_given(matches: &ArgMatches<'_>, option: OptionName) -> bool {
+    match option.value() {
+        Value::Nothing => matches.get_flag(option.word()),
+        _ => matches.get_str(option.word()).is_some(),
+    }
+}
+
+/// The first option that the mode or the chip doesn't take.
+fn foreign_option(
     alloc: Global,
     matches: &ArgMatches<'_>,
-    mode: &str,
+    mode: Mode,
+    chip: ChipName,
 ) -> Result<Option<String>, AllocError> {
-    for number in NUMBERS.iter() {
-        let (name, own) = (number.name, number.mode);
-        if matches.get_str(name).is_some() && !takes_option(mode, number) {
+    for option in OptionName::ALL.iter() {
+        let (name, word) = (option.word(), mode.word());
+        if !is_given(matches, *option) {
+            continue;
+        }
+        if !option.is_of_mode(mode) {
+            return Ok(Some(match option.value() {
+                Value::Range => format!(in alloc;
+                    "{word} doesn't take --{name}: a made program has the usual RAM"
+                )?,
+                _ => {
+                    let own = mode_with(*option);
+                    format!(in alloc; "--{name} is an option of {own}, and {word} doesn't take it")?
+                }
+            }));
+        }
+        if !option.is_of_chip(chip) {
             return Ok(Some(format!(in alloc;
-                "--{name} is an option of {own}, and {mode} doesn't take it"
+                "--{name} is an option of msp430, and mcs51 doesn't take it"
             )?));
         }
     }
     Ok(None)
 }
 
-/// An option that the mode or the chip doesn't take, or else the one that is lacking.
-fn wrong_option(alloc: Global, matches: &ArgMatches<'_>) -> Result<String, AllocError> {
-    let mode = matches.get_str("mode").unwrap_or("");
-    if let Some(text) = foreign_number(alloc, matches, mode)? {
-        return Ok(text);
-    }
-    if matches.get_flag("cert") && mode != "analyse" {
-        return format!(in alloc; "--cert is an option of analyse, and {mode} doesn't take it");
-    }
-    String::from_str(alloc, wrong_memory(matches, mode))
+/// The range that an option says.
+fn range_said(matches: &ArgMatches<'_>, option: OptionName) -> Option<Span> {
+    range_of(matches.get_str(option.word())?.as_bytes())
 }
 
-/// What is wrong with RAM and its mirror, or else that gen lacks its number.
-fn wrong_memory(matches: &ArgMatches<'_>, mode: &str) -> &'static str {
-    let (ram, mirror) = (matches.get_str("ram"), matches.get_str("mirror"));
-    if mode == "gen" {
-        return match (ram, mirror) {
-            (None, None) => "gen needs --number N, the number of functions, 1 to 2000",
-            (Some(_), _) => "gen doesn't take --ram: a made program has the usual RAM",
-            (None, Some(_)) => "gen doesn't take --mirror: a made program has the usual RAM",
-        };
+/// Why RAM may not have its mirror, or else that gen lacks its number.
+fn wrong_memory(matches: &ArgMatches<'_>, mode: Mode) -> &'static str {
+    if mode == Mode::Gen {
+        return "gen needs --number N, the number of functions, 1 to 2000";
     }
-    if matches.get_str("chip").unwrap_or("") == "msp430" {
-        return wrong_mirror(ram, mirror);
-    }
-    if ram.is_some() {
-        "--ram is an option of msp430, and mcs51 doesn't take it"
-    } else {
-        "--mirror is an option of msp430, and mcs51 doesn't take it"
-    }
-}
-
-/// Why RAM may not have a mirror.
-fn wrong_mirror(ram: Option<&str>, mirror: Option<&str>) -> &'static str {
-    let ram = ram.and_then(|text| range_of(text.as_bytes()));
-    let mirror = mirror.and_then(|text| range_of(text.as_bytes()));
-    match (ram.unwrap_or(USUAL_RAM), mirror) {
-        ((lo, hi), Some((first, last))) if first <= hi && lo <= last => {
+    let (lo, hi) = match range_said(matches, OptionName::Ram) {
+        Some(ram) => (ram.lo, ram.hi),
+        None => (USUAL_RAM.lo, USUAL_RAM.hi),
+    };
+    match range_said(matches, OptionName::Mirror) {
+        Some(mirror) if mirror.lo <= hi && lo <= mirror.hi => {
             "--mirror names an address of RAM. Without --ram LO-HI RAM is 0200-09FF"
         }
         _ => "--mirror is longer than RAM. Without --ram LO-HI RAM is 0200-09FF",
@@ -216,16 +199,20 @@ fn wrong_mirror(ram: Option<&str>, mirror: Option<&str>) -> &'static str {
 
 /// What the words ask, or what is wrong with them, where they are no valid command line.
 pub fn slip_of(alloc: Global, words: &[String]) -> Result<Slip, AllocError> {
-    let matches = match command(alloc)?.try_get_matches_from(words) {
+    let matches = match vsa_command(alloc)?.try_get_matches_from(words) {
         Ok(matches) => matches,
         Err(error) => return refused(alloc, words, &error),
     };
-    if let Some(text) = wrong_place(alloc, &matches)? {
-        return with_hint(words, text);
-    }
-    let text = match wrong_text(alloc, &matches)? {
-        Some(text) => text,
-        None => wrong_option(alloc, &matches)?,
+    let mode = mode_of(matches.get_str("mode"));
+    let chip = chip_of(matches.get_str("chip"));
+    let (Some(mode), Some(chip)) = (mode, chip) else {
+        return with_hint(words, wrong_place(alloc, &matches, mode)?);
     };
-    Ok(Slip::Wrong(text))
+    if let Some(text) = wrong_text(alloc, &matches)? {
+        return Ok(Slip::Wrong(text));
+    }
+    match foreign_option(alloc, &matches, mode, chip)? {
+        Some(text) => Ok(Slip::Wrong(text)),
+        None => Ok(Slip::Wrong(String::from_str(alloc, wrong_memory(&matches, mode))?)),
+    }
 }

@@ -1,8 +1,8 @@
 //! A source that remembers how its text begins, and how a line of it does.
 
-use crate::options::word_of;
 use arrayvec::ArrayVec;
 use vsa_io::{Failed, Source};
+use vsa_words::number_of;
 
 /// How many bytes of a text are remembered.
 const ROOM: usize = 64;
@@ -133,7 +133,7 @@ impl<S: Source + Drop> NotedSource<S> {
             return None;
         }
         match place.head() {
-            [b':', _, _, digits @ .., _, _] => word_of(digits),
+            [b':', _, _, digits @ .., _, _] => number_of(digits),
             _ => None,
         }
     }

@@ -1,18 +1,19 @@
 //! Slips in words, and what inputs are.
 
-use crate::advice::ram_of;
+use crate::advice::watch_of;
 use crate::inputs::other_input;
 use crate::mcs51_warnings::Mcs51Seen;
-use crate::msp430_warnings::{Msp430Seen, RamPlaces};
+use crate::msp430_warnings::Msp430Seen;
 use crate::need::{asked_of, question_text};
-use crate::options::{USUAL_RAM, is_number_in, range_of};
 use crate::slips::{Slip, slip_of};
 use crate::source::NotedSource;
+use crate::usage::USAGE;
 use crate::warnings::{Seen, Watch};
 use report_lines::Line;
 use std::alloc::Global;
 use std::test::Fail;
 use vsa_io::{CleanSource, Source};
+use vsa_words::{OptionName, Span, USUAL_RAM, Value, number_in, range_of};
 
 /// Words, and a part of what is said of them.
 const SLIPS: [(&str, &str); 28] = [
@@ -92,12 +93,32 @@ fn each_slip_is_named(rt: HostRuntime) -> Result<(), Fail> {
 
 #[test]
 fn numbers_and_ranges(rt: HostRuntime) {
-    assert!(rt; is_number_in(b"0000008", 0, 8));
-    assert!(rt; !is_number_in(b"00000008", 0, 8));
-    assert!(rt; !is_number_in(b"", 0, 8));
-    assert!(rt; !is_number_in(b"+5", 0, 8));
-    assert_eq!(rt; range_of(b"0200-03fF"), Some((0x0200, 0x03FF)));
-    assert_eq!(rt; range_of(b"0201-03FF"), None);
+    assert_eq!(rt; number_in(b"0000008", 0, 8), Some(8));
+    assert_eq!(rt; number_in(b"00000008", 0, 8), None);
+    assert_eq!(rt; number_in(b"", 0, 8), None);
+    assert_eq!(rt; number_in(b"+5", 0, 8), None);
+    let span = Span {
+        lo: 0x0200,
+        hi: 0x03FF,
+    };
+    assert_eq!(rt; range_of(b"0200-03fF"), Some(span));
+    assert_eq!(rt; range_of(b"0200-03f"), None);
+}
+
+/// The usage has each option, and the numbers that it takes.
+#[test]
+fn options_of_the_usage(rt: HostRuntime) -> Result<(), Fail> {
+    for option in OptionName::ALL.iter() {
+        let head = format!(in rt.alloc(); "  --{}", option.word())?;
+        let line = USAGE.lines().find(|line| line.starts_with(head.as_str()));
+        let line = line.unwrap_or("");
+        assert!(rt; !line.is_empty(), "{head}");
+        if let Value::Number { least, most } = option.value() {
+            let range = format!(in rt.alloc(); "{least} to {most}")?;
+            assert!(rt; line.contains(range.as_str()), "{head}: {range}");
+        }
+    }
+    Ok(())
 }
 
 #[test]
@@ -118,14 +139,9 @@ fn inputs_are_told(rt: HostRuntime) {
     assert!(rt; other_input(b"main:\n").is_none());
 }
 
-const USUAL: RamPlaces = RamPlaces {
-    ram: USUAL_RAM,
-    mirror: None,
-};
-
-/// What is seen of a report of the MSP430.
-fn seen(alloc: Global, report: &str, ram: RamPlaces) -> Msp430Seen {
-    let mut seen = Msp430Seen::new(alloc, ram);
+/// What is seen of a report of the MSP430 with the usual RAM.
+fn seen(alloc: Global, report: &str) -> Msp430Seen {
+    let mut seen = Msp430Seen::new(alloc, USUAL_RAM);
     for line in report.lines() {
         if let Ok(line) = Line::read(line.as_bytes()) {
             seen.note(&line);
@@ -138,7 +154,7 @@ fn seen(alloc: Global, report: &str, ram: RamPlaces) -> Msp430Seen {
 fn warnings(rt: HostRuntime) {
     let report =
         "I F000 31408002 MOV #0280h,SP\nI F004 32D2 BIS #8,SR\nI F006 0F12 PUSH R15\nI F008 82437E02 MOV #0,&027Eh\nS F004 0280\nS F008 027E\n";
-    let watch = seen(rt.alloc(), report, USUAL);
+    let watch = seen(rt.alloc(), report);
     assert_eq!(rt; watch.allowed_in_vain(), Some(0xF004));
     assert_eq!(rt;
         watch
@@ -149,10 +165,10 @@ fn warnings(rt: HostRuntime) {
     // An interrupt comes, and its handler never returns.
     let report =
         "I F004 32D2 BIS #8,SR\nI F006 FF3F JMP F006h\nM F006 mem w2 027C\nM F006 mem w2 027E\n";
-    assert_eq!(rt; seen(rt.alloc(), report, USUAL).allowed_in_vain(), None);
+    assert_eq!(rt; seen(rt.alloc(), report).allowed_in_vain(), None);
     let report =
         "I F004 32D0D800 BIS #00D8h,SR\nI F008 0013 RETI\nI F00A 82430002 MOV #0,&0200h\nS F004 0280\n";
-    let watch = seen(rt.alloc(), report, USUAL);
+    let watch = seen(rt.alloc(), report);
     assert_eq!(rt; watch.allowed_in_vain(), None);
     assert!(rt; watch.overwritten().is_none());
 }
@@ -162,22 +178,28 @@ fn warnings_with_a_mirror(rt: HostRuntime) -> Result<(), Fail> {
     let report =
         "I F000 3140000A MOV #0A00h,SP\nI F004 0F12 PUSH R15\nI F006 8243FE18 MOV #0,&18FEh\nI F00A 8243FE09 MOV #0,&09FEh\nS F004 0A00\nS F006 09FE\nS F00A 09FE\n";
     for (line, want) in [
-        ("--ram 1100-18FF", None),
+        ("analyse msp430 --ram 1100-18FF", None),
         (
-            "--mirror 0200-09FF --ram 1100-18FF",
+            "analyse msp430 --mirror 0200-09FF --ram 1100-18FF",
             Some((0x18FE, 0xF006, 0x09FE)),
         ),
         (
-            "--ram=1100-18FF --mirror=0200-09FF",
+            "check --ram=1100-18FF --mirror=0200-09FF msp430",
             Some((0x18FE, 0xF006, 0x09FE)),
         ),
-        ("", Some((0x09FE, 0xF00A, 0x09FE))),
+        ("analyse msp430", Some((0x09FE, 0xF00A, 0x09FE))),
     ] {
         let words = words_of(rt.alloc(), line)?;
-        let watch = seen(rt.alloc(), report, ram_of(words.as_slice()));
-        let found = watch
-            .overwritten()
-            .map(|(variable, low)| (variable.at, variable.pc, low));
+        let Some(mut watch) = watch_of(rt.alloc(), words.as_slice()) else {
+            return Err(Fail::from("no report is looked at"));
+        };
+        watch.look(report.as_bytes());
+        let found = match watch.seen() {
+            Seen::Msp430(seen) => seen
+                .overwritten()
+                .map(|(variable, low)| (variable.at, variable.pc, low)),
+            Seen::Mcs51(_) => None,
+        };
         assert_eq!(rt; found, want, "{line}");
     }
     Ok(())

@@ -59,7 +59,7 @@ use Rattle.vsa_top.specs.Headline.{CertifiesOn, CoversRunsOf, HoldsOf, ReportsOn
 use Rattle.vsa_top.specs.Input.{text_limit, front_of, input_of, AreTexts, Gives, InputGives, IsBad, IsTooLong, IsImageOf}
 use Rattle.image.specs.declared.chip_name.ChipName.{ChipName}
 use Rattle.image.specs.declared.chip_name.ChipName.TheVariants as chip
-use Rattle.vsa_words.specs.declared.reading.Ram.{Ram}
+use Rattle.image.specs.declared.ram_range.RamRange.{RamRange}
 use Rattle.vsa_words.specs.declared.reading.Reading.{Reading}
 use Rattle.vsa_words.specs.declared.reading.Reading.TheVariants.{Analyse, Assert, Check, Disasm, Run, Gen}
 use Rattle.vsa_words.specs.declared.reading.Target.{Target}
@@ -167,7 +167,7 @@ record IsGiven (target : Target) (limits : Limits) (image : List (Option ℕ)) :
   pub top : EndsInMemory (target_rules target)
   pub calls : limits.calls ≤ 8
 
-is_msp430 : (ram : Ram) (limits : Limits) (image : List (Option ℕ)) → IsGiven (Msp430 ram) limits image → IsMsp430Program (msp430_setting ram limits image)
+is_msp430 : (ram : RamRange) (limits : Limits) (image : List (Option ℕ)) → IsGiven (Msp430 ram) limits image → IsMsp430Program (msp430_setting ram limits image)
 is_msp430 ram limits image given = record { program = record { read = given.read; ram = given.ram; top = given.top }; calls = given.calls }
 
 is_mcs51 : (limits : Limits) (image : List (Option ℕ)) → IsGiven Mcs51 limits image → IsMcs51Program (mcs51_setting limits image)

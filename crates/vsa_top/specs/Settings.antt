@@ -1,16 +1,16 @@
 -- What of each chip the words set: the MSP430's RAM, and how much an analysis follows.
 use Rattle.std.specs.Prelude.{ℕ, List, Option}
 use Rattle.analysis_limits.specs.declared.limits.Limits.{Limits}
+use Rattle.image.specs.declared.ram_range.RamRange.{RamRange}
 use Rattle.mcs51_flow.specs.declared.setting.Setting.{Setting as Mcs51Setting}
 use Rattle.msp430_chip.specs.declared.device.Device.{Device}
 use Rattle.msp430_flow.specs.declared.setting.Setting.{Setting as Msp430Setting}
-use Rattle.vsa_words.specs.declared.reading.Ram.{Ram}
 
 -- the MSP430 with an image and this RAM
-abbrev pub device_of : Ram → List (Option ℕ) → Device
+abbrev pub device_of : RamRange → List (Option ℕ) → Device
 device_of ram image = record { image = image; lo = ram.lo; hi = ram.hi; mirror = ram.mirror }
 
-abbrev pub msp430_setting : Ram → Limits → List (Option ℕ) → Msp430Setting
+abbrev pub msp430_setting : RamRange → Limits → List (Option ℕ) → Msp430Setting
 msp430_setting ram limits image = record { device = device_of ram image; limits = limits }
 
 abbrev pub mcs51_setting : Limits → List (Option ℕ) → Mcs51Setting

@@ -1,31 +1,34 @@
 -- What the words ask: numbers of steps, options, and readings, of which there is at most one.
 use Rattle.std.proofs.lemmas.Bool.Decides.{nat_tests}
-use Rattle.std.proofs.lemmas.Bool.{and_parts, cond_both, leb-true}
-use Rattle.std.proofs.Common.{◌≡◌, ◌&&◌, Bool, true, false, cond, nat_le, drop, slice_index, ℕ, ◌+◌, ◌-◌, ◌*◌, ◌<◌, ◌≤◌, List, [], ◌∷◌, Option, None, Some, refl, sym, ◌∙◌, ap, ap₂, subst, arith, All}
+use Rattle.std.proofs.lemmas.Bool.{cond_both}
+use Rattle.std.proofs.Common.{◌≡◌, ◌&&◌, Bool, cond, nat_eq, nat_le, drop, slice_index, ℕ, ◌+◌, ◌-◌, ◌*◌, ◌<◌, ◌≤◌, List, [], ◌∷◌, Option, None, Some, refl, sym, ◌∙◌, ap, ap₂, subst, arith, All}
 use Rattle.std.proofs.lemmas.List.Elements.{All-cons, All-tail}
-use Rattle.std.specs.Prelude.{◌||◌, nat_lt, IfNone, IfSome, MatchOption, map, option_map, codes, string_bytes}
+use Rattle.std.specs.Prelude.{IfNone, IfSome, MatchOption, map, option_map, codes, string_bytes}
 use Rattle.std.specs.List.{IsFirstAndRest}
 use Rattle.std.specs.declared.string.String.{String}
 use Rattle.std.specs.declared.alloc.Global.{Global}
-use Rattle.image.specs.declared.rule_set.Rules.TheVariants as rules
 use Rattle.hex.specs.Hex.{hex_digit_value}
-use Rattle.image.specs.Kept.{IsMirror, IsRamRange}
-use Rattle.image.specs.declared.rule_set.Rules.{Rules}
+use Rattle.image.specs.Kept.{IsRamRange}
 use Rattle.image.specs.declared.chip_name.ChipName.{ChipName}
 use Rattle.image.specs.declared.chip_name.ChipName.TheVariants as chip
+use Rattle.vsa_words.specs.declared.numbers.Span.{Span}
+use Rattle.vsa_words.specs.declared.options.OptionName.{OptionName}
+use Rattle.vsa_words.specs.declared.options.OptionName.TheVariants as name
+use Rattle.vsa_words.specs.declared.options.Options.{Options}
+use Rattle.vsa_words.specs.declared.options.Value.{Value}
+use Rattle.vsa_words.specs.declared.options.Value.TheVariants.{Range, Number, Nothing}
 use Rattle.vsa_words.specs.declared.reading.Mode.{Mode}
 use Rattle.vsa_words.specs.declared.reading.Mode.TheVariants as mode
-use Rattle.vsa_words.specs.declared.options.Options.{Options}
-use Rattle.vsa_words.specs.declared.reading.Ram.{Ram}
-use Rattle.vsa_words.specs.declared.numbers.Span.{Span}
 use Rattle.vsa_words.specs.declared.reading.Reading.{Reading}
+use Rattle.vsa_words.specs.declared.reading.Reading.TheVariants.{Analyse, Gen}
 use Rattle.vsa_words.specs.declared.reading.Target.{Target}
-use Rattle.vsa_words.specs.declared.reading.Target.TheVariants.{Msp430}
 use Rattle.clap.specs.Words.{first_value, matches_of, rows_of}
 use Rattle.clap.specs.declared.parser.matches.Found.{Found}
 use Rattle.vsa_words.specs.Command.{AreTaken, command, given}
+use Rattle.vsa_words.specs.Numbers.{IsDigit, IsNumber, IsNumberBehind, IsNumberIn, IsRange, number_behind, number_from, number_of}
+use Rattle.vsa_words.specs.Options.{IsNumberFor, IsSaid, Say, SaysNumber, SaysRange, is_given, option_word, value_of}
+use Rattle.vsa_words.specs.Words.{Ask, EndsInMemory, IsAsked, IsBounded, IsOnlyReading, Reads, asked, chip_word, mode_word, or_else, ram_by, rules_of, target_by, target_rules, task_of, usual_target}
 use Rattle.vsa_words.proofs.CommandLemmas.{given_is}
-use Rattle.vsa_words.specs.Words.{may_mirror, usual_span, with_mirror, EndsInMemory, IsDigit, IsNumberBehind, IsRange, IsNumber, IsNumberIn, IsSaid, Reads, Say, asked, analysis_by, assertion_by, checking_by, chip_word, disassembly_of, making_of, number_behind, number_from, number_of, mode_word, reading_with, run_by, untasked, unflagged, unsaid, is_given, IsBounded, target_by, target_rules, or_else, rules_of, usual_target}
 
 -- NUMBERS
 
@@ -81,6 +84,11 @@ outside least most text number is refused other also =
 one_within : (least most : ℕ) (text : List ℕ) (number other : ℕ) → IsNumberIn least most text number → IsNumberIn least most text other → number ≡ other
 one_within least most text number other is also = one_number text number other is.is also.is
 
+one_for : (value : Value) (text : List ℕ) (number other : ℕ) → IsNumberFor value text number → IsNumberFor value text other → number ≡ other
+one_for (Number least most) text number other is also = one_within least most text number other is also
+one_for Range text number other is also = absurd is
+one_for Nothing text number other is also = absurd is
+
 -- an option says one thing, where its text does
 one_said : {A : Type 0} (reads : List ℕ → A → Type 0) → ((text : List ℕ) (a b : A) → reads text a → reads text b → a ≡ b)
     → (text : Option (List ℕ)) (a b : Option A) → IsSaid reads text a → IsSaid reads text b → a ≡ b
@@ -91,17 +99,21 @@ one_said reads one None (Some a) b is also = absurd is
 one_said reads one (Some text) None b is also = absurd is
 one_said reads one (Some text) (Some a) None is also = absurd also
 
-pub say_one : (text_of : List ℕ → Option (List ℕ)) (a b : Options) → Say text_of a → Say text_of b → a ≡ b
-say_one text_of a b said also =
-    let rams : a.ram ≡ b.ram = one_said IsRange one_range (text_of (codes "ram")) a.ram b.ram said.ranged also.ranged in
-    let number : (least most : ℕ) (id : List ℕ) (m n : Option ℕ) → IsSaid (IsNumberIn least most) (text_of id) m → IsSaid (IsNumberIn least most) (text_of id) n → m ≡ n
-    = λ least most id m n. one_said (IsNumberIn least most) (one_within least most) (text_of id) m n in
-    let calls : a.calls ≡ b.calls = number 0 8 (codes "calls") a.calls b.calls said.called also.called in
-    let targets : a.targets ≡ b.targets = number 1 256 (codes "targets") a.targets b.targets said.aimed also.aimed in
-    let workers : a.workers ≡ b.workers = number 1 16 (codes "workers") a.workers b.workers said.shared also.shared in
-    let steps : a.steps ≡ b.steps = number 0 1000000 (codes "steps") a.steps b.steps said.stepped also.stepped in
-    let numbers : a.number ≡ b.number = number 1 2000 (codes "number") a.number b.number said.counted also.counted in
-    let mirrors : a.mirror ≡ b.mirror = one_said IsRange one_range (text_of (codes "mirror")) a.mirror b.mirror said.mirrored also.mirrored in
+one_number_said : (given : List ℕ → Option (List ℕ)) (option : OptionName) (m n : Option ℕ) → SaysNumber given option m → SaysNumber given option n → m ≡ n
+one_number_said given option m n = one_said (IsNumberFor (value_of option)) (one_for (value_of option)) (given (option_word option)) m n
+
+one_range_said : (given : List ℕ → Option (List ℕ)) (option : OptionName) (m n : Option Span) → SaysRange given option m → SaysRange given option n → m ≡ n
+one_range_said given option m n = one_said IsRange one_range (given (option_word option)) m n
+
+pub say_one : (given : List ℕ → Option (List ℕ)) (a b : Options) → Say given a → Say given b → a ≡ b
+say_one given a b said also =
+    let rams : a.ram ≡ b.ram = one_range_said given name.Ram a.ram b.ram said.ranged also.ranged in
+    let mirrors : a.mirror ≡ b.mirror = one_range_said given name.Mirror a.mirror b.mirror said.mirrored also.mirrored in
+    let calls : a.calls ≡ b.calls = one_number_said given name.Calls a.calls b.calls said.called also.called in
+    let targets : a.targets ≡ b.targets = one_number_said given name.Targets a.targets b.targets said.aimed also.aimed in
+    let workers : a.workers ≡ b.workers = one_number_said given name.Workers a.workers b.workers said.shared also.shared in
+    let steps : a.steps ≡ b.steps = one_number_said given name.Steps a.steps b.steps said.stepped also.stepped in
+    let numbers : a.number ≡ b.number = one_number_said given name.Number a.number b.number said.counted also.counted in
     let certs : a.cert ≡ b.cert = said.flagged ∙ sym also.flagged in
     let options : (r m : Option Span) (c t w s n : Option ℕ) (f : Bool) → Options
     = λ r m c t w s n f. record { ram = r; mirror = m; calls = c; targets = t; workers = w; steps = s; number = n; cert = f } in
@@ -112,27 +124,27 @@ say_one text_of a b said also =
 
 -- the same texts say the same
 pub say_like : (f g : List ℕ → Option (List ℕ)) → ((id : List ℕ) → f id ≡ g id) → (o : Options) → Say f o → Say g o
-say_like f g like o said = record {
-  ranged = subst (λ t. IsSaid IsRange t o.ram) (like (codes "ram")) said.ranged;
-  mirrored = subst (λ t. IsSaid IsRange t o.mirror) (like (codes "mirror")) said.mirrored;
-  called = subst (λ t. IsSaid (IsNumberIn 0 8) t o.calls) (like (codes "calls")) said.called;
-  aimed = subst (λ t. IsSaid (IsNumberIn 1 256) t o.targets) (like (codes "targets")) said.aimed;
-  shared = subst (λ t. IsSaid (IsNumberIn 1 16) t o.workers) (like (codes "workers")) said.shared;
-  stepped = subst (λ t. IsSaid (IsNumberIn 0 1000000) t o.steps) (like (codes "steps")) said.stepped;
-  counted = subst (λ t. IsSaid (IsNumberIn 1 2000) t o.number) (like (codes "number")) said.counted;
-  flagged = said.flagged ∙ ap is_given (like (codes "cert"));
-}
+say_like f g like o said =
+    let number : (option : OptionName) (n : Option ℕ) → SaysNumber f option n → SaysNumber g option n
+    = λ option n is. subst (λ t. IsSaid (IsNumberFor (value_of option)) t n) (like (option_word option)) is in record {
+      ranged = subst (λ t. IsSaid IsRange t o.ram) (like (option_word name.Ram)) said.ranged;
+      mirrored = subst (λ t. IsSaid IsRange t o.mirror) (like (option_word name.Mirror)) said.mirrored;
+      called = number name.Calls o.calls said.called;
+      aimed = number name.Targets o.targets said.aimed;
+      shared = number name.Workers o.workers said.shared;
+      stepped = number name.Steps o.steps said.stepped;
+      counted = number name.Number o.number said.counted;
+      flagged = said.flagged ∙ ap is_given (like (option_word name.Cert));
+    }
 
--- what an option says by what its text says
-pub said_by : {A : Type 0} (reads : List ℕ → A → Type 0) (text : List ℕ) (found : Option A)
-    → MatchOption found ((a : A) → reads text a → ⊥) (reads text)
-    → MatchOption (option_map Some found) ((said : Option A) → IsSaid reads (Some text) said → ⊥) (IsSaid reads (Some text))
-said_by {A} reads text None none = go
+-- what an option doesn't say, where its text doesn't
+pub none_said : {A : Type 0} (reads : List ℕ → A → Type 0) (text : List ℕ) (given : Option (List ℕ)) → Some text ≡ given
+    → ((a : A) → reads text a → ⊥) → (said : Option A) → IsSaid reads given said → ⊥
+none_said {A} reads text given is none said says = of_some said (subst (λ t. IsSaid reads t said) (sym is) says)
   where
-    go : (said : Option A) → IsSaid reads (Some text) said → ⊥
-    go None is = is
-    go (Some a) is = none a is
-said_by reads text (Some a) is = is
+    of_some : (said : Option A) → IsSaid reads (Some text) said → ⊥
+    of_some None says = says
+    of_some (Some a) says = none a says
 
 abbrev pub IsSaidBy : (text_of : List ℕ → Option (List ℕ)) → Option Options → Type 0
 IsSaidBy text_of found = MatchOption found ((options : Options) → Say text_of options → ⊥) (Say text_of)
@@ -143,62 +155,23 @@ said_like f g like (Some options) said = say_like f g like options said
 
 -- READINGS
 
-first_letter : (a b : List ℕ) → a ≡ b → slice_index a 0 ≡ slice_index b 0
-first_letter a b h = ap (λ (t : List ℕ). slice_index t 0) h
+-- the mode of a word, by its second letter
+mode_by : ℕ → Mode
+mode_by letter =
+    cond (nat_eq letter 110) mode.Analyse (cond (nat_eq letter 115) mode.Assert (cond (nat_eq letter 104) mode.Check
+    (cond (nat_eq letter 105) mode.Disasm (cond (nat_eq letter 117) mode.Run mode.Gen))))
 
-apart : (a b : ℕ) → a ≡ b → a ≡ 114 → b ≡ 103 → ⊥
-apart a b same r g = omega arith
-
-apart_first : (a b : ℕ) → a ≡ b → a ≡ 97 → b ≡ 100 → ⊥
-apart_first a b same x y = omega arith
-
-run_or_gen : mode_word mode.Run ≡ mode_word mode.Gen → ⊥
-run_or_gen h =
-    apart (slice_index (mode_word mode.Run) 0) (slice_index (mode_word mode.Gen) 0) (first_letter (mode_word mode.Run) (mode_word mode.Gen) h) refl refl
-
--- the words of one length differ in their first letter
-assert_or_disasm : mode_word mode.Assert ≡ mode_word mode.Disasm → ⊥
-assert_or_disasm h =
-    let letters = first_letter (mode_word mode.Assert) (mode_word mode.Disasm) h in
-    apart_first (slice_index (mode_word mode.Assert) 0) (slice_index (mode_word mode.Disasm) 0) letters refl refl
+mode_is_by : (m : Mode) → mode_by (slice_index (mode_word m) 1) ≡ m
+unfolding mode_by
+mode_is_by mode.Analyse = refl
+mode_is_by mode.Assert = refl
+mode_is_by mode.Check = refl
+mode_is_by mode.Disasm = refl
+mode_is_by mode.Run = refl
+mode_is_by mode.Gen = refl
 
 one_mode : (a b : Mode) → mode_word a ≡ mode_word b → a ≡ b
-one_mode mode.Analyse mode.Analyse h = refl
-one_mode mode.Analyse mode.Disasm h = absurd (cc h)
-one_mode mode.Analyse mode.Run h = absurd (cc h)
-one_mode mode.Analyse mode.Gen h = absurd (cc h)
-one_mode mode.Analyse mode.Assert h = absurd (cc h)
-one_mode mode.Assert mode.Analyse h = absurd (cc h)
-one_mode mode.Assert mode.Assert h = refl
-one_mode mode.Assert mode.Disasm h = absurd (assert_or_disasm h)
-one_mode mode.Assert mode.Run h = absurd (cc h)
-one_mode mode.Assert mode.Gen h = absurd (cc h)
-one_mode mode.Analyse mode.Check h = absurd (cc h)
-one_mode mode.Assert mode.Check h = absurd (cc h)
-one_mode mode.Check mode.Analyse h = absurd (cc h)
-one_mode mode.Check mode.Assert h = absurd (cc h)
-one_mode mode.Check mode.Check h = refl
-one_mode mode.Check mode.Disasm h = absurd (cc h)
-one_mode mode.Check mode.Run h = absurd (cc h)
-one_mode mode.Check mode.Gen h = absurd (cc h)
-one_mode mode.Disasm mode.Check h = absurd (cc h)
-one_mode mode.Run mode.Check h = absurd (cc h)
-one_mode mode.Gen mode.Check h = absurd (cc h)
-one_mode mode.Disasm mode.Analyse h = absurd (cc h)
-one_mode mode.Disasm mode.Assert h = absurd (assert_or_disasm (sym h))
-one_mode mode.Disasm mode.Disasm h = refl
-one_mode mode.Disasm mode.Run h = absurd (cc h)
-one_mode mode.Disasm mode.Gen h = absurd (cc h)
-one_mode mode.Run mode.Analyse h = absurd (cc h)
-one_mode mode.Run mode.Assert h = absurd (cc h)
-one_mode mode.Run mode.Disasm h = absurd (cc h)
-one_mode mode.Run mode.Run h = refl
-one_mode mode.Run mode.Gen h = absurd (run_or_gen h)
-one_mode mode.Gen mode.Analyse h = absurd (cc h)
-one_mode mode.Gen mode.Assert h = absurd (cc h)
-one_mode mode.Gen mode.Disasm h = absurd (cc h)
-one_mode mode.Gen mode.Run h = absurd (run_or_gen (sym h))
-one_mode mode.Gen mode.Gen h = refl
+one_mode a b h = sym (mode_is_by a) ∙ ap (λ (t : List ℕ). mode_by (slice_index t 1)) h ∙ mode_is_by b
 
 one_chip : (a b : ChipName) → chip_word a ≡ chip_word b → a ≡ b
 one_chip chip.Msp430 chip.Msp430 h = refl
@@ -235,63 +208,41 @@ found_by words f first second mode chip options matched is named mode_is chip_is
       said = said_like (first_value f) (given (Texts words)) (λ id. text id (first_value f id) refl) options said;
     }
 
-found_reads : (words : List (String Global)) (mode : Mode) (chip : ChipName) (options : Options) (reading : Option Reading)
-    → IsFound words (Some mode) (Some chip) (Some options) → reading ≡ asked mode chip options → IfSome reading (Reads words)
-found_reads words mode chip options None found same = tt
-found_reads words mode chip options (Some reading) found same = record {
-  taken = found.taken;
-  mode = mode;
-  chip = chip;
-  options = options;
-  mode_is = found.mode_is;
-  chip_is = found.chip_is;
-  say = found.said;
-  is = sym same;
-}
+-- the mode, the chip and the options that were found ask what the words do
+ask_alone : (words : List (String Global)) (mode : Mode) (chip : ChipName) (options : Options) (other : Reading)
+    → IsFound words (Some mode) (Some chip) (Some options) → Reads words other → Ask mode chip options other
+ask_alone words mode chip options other found reads =
+    let modes : reads.mode ≡ mode = one_mode reads.mode mode (one_some (mode_word reads.mode) (mode_word mode) (sym reads.mode_is ∙ found.mode_is)) in
+    let chips : reads.chip ≡ chip = one_chip reads.chip chip (one_some (chip_word reads.chip) (chip_word chip) (sym reads.chip_is ∙ found.chip_is)) in
+    let same : reads.options ≡ options = say_one (given (Texts words)) reads.options options reads.say found.said in
+    subst (λ m. Ask m chip options other) modes
+    (subst (λ c. Ask reads.mode c options other) chips (subst (λ o. Ask reads.mode reads.chip o other) same reads.ask))
 
-pub reads_found : (words : List (String Global)) (mode : Option Mode) (chip : Option ChipName) (options : Option Options) (reading : Option Reading)
-    → IsFound words mode chip options → reading ≡ reading_with mode chip options → IfSome reading (Reads words)
-reads_found words None chip options reading found same = rw same tt
-reads_found words (Some mode) None options reading found same = rw same tt
-reads_found words (Some mode) (Some chip) None reading found same = rw same tt
-reads_found words (Some mode) (Some chip) (Some options) reading found same = found_reads words mode chip options reading found same
+asked_only : (words : List (String Global)) (mode : Mode) (chip : ChipName) (options : Options) (reading : Option Reading)
+    → IsFound words (Some mode) (Some chip) (Some options) → IsAsked (Some mode) (Some chip) (Some options) reading → IsOnlyReading words reading
+asked_only words mode chip options None found none = λ other reads. none other (ask_alone words mode chip options other found reads)
+asked_only words mode chip options (Some reading) found asked = (
+  record {
+    taken = found.taken;
+    mode = mode;
+    chip = chip;
+    options = options;
+    mode_is = found.mode_is;
+    chip_is = found.chip_is;
+    say = found.said;
+    ask = asked;
+  },
+  λ other reads. one_some other reading (sym (ask_alone words mode chip options other found reads).is ∙ asked.is),
+)
 
--- the one reading that there may be
-asked_alone : (words : List (String Global)) (mode : Mode) (chip : ChipName) (options : Options) (other : Reading)
-    → IsFound words (Some mode) (Some chip) (Some options) → Reads words other → asked mode chip options ≡ Some other
-asked_alone words mode chip options other found reads =
-    let modes : mode ≡ reads.mode = one_mode mode reads.mode (one_some (mode_word mode) (mode_word reads.mode) (sym found.mode_is ∙ reads.mode_is)) in
-    let chips : chip ≡ reads.chip = one_chip chip reads.chip (one_some (chip_word chip) (chip_word reads.chip) (sym found.chip_is ∙ reads.chip_is)) in
-    let same : options ≡ reads.options = say_one (given (Texts words)) options reads.options found.said reads.say in
-    ap₂ (λ (m : Mode) (c : ChipName). asked m c options) modes chips ∙ ap (asked reads.mode reads.chip) same ∙ reads.is
+pub only_found : (words : List (String Global)) (mode : Option Mode) (chip : Option ChipName) (options : Option Options) (reading : Option Reading)
+    → IsFound words mode chip options → IsAsked mode chip options reading → IsOnlyReading words reading
+only_found words None chip options reading found none = rw none (λ other reads. found.mode_is reads.mode reads.mode_is)
+only_found words (Some mode) None options reading found none = rw none (λ other reads. found.chip_is reads.chip reads.chip_is)
+only_found words (Some mode) (Some chip) None reading found none = rw none (λ other reads. found.said reads.options reads.say)
+only_found words (Some mode) (Some chip) (Some options) reading found asked = asked_only words mode chip options reading found asked
 
--- no other reading is there than the one that was found
-abbrev pub IsAlone : List (String Global) → Option Reading → Type 0
-IsAlone words found =
-    IfSome found (λ reading. (other : Reading) → Reads words other → other ≡ reading) × IfNone found ((reading : Reading) → Reads words reading → ⊥)
-
-alone_by : (words : List (String Global)) (found : Option Reading) → ((other : Reading) → Reads words other → found ≡ Some other) → IsAlone words found
-alone_by words None only = (tt, λ reading reads. absurd (cc (only reading reads)))
-alone_by words (Some reading) only = (λ other reads. one_some other reading (sym (only other reads)), tt)
-
-pub reads_alone : (words : List (String Global)) (mode : Option Mode) (chip : Option ChipName) (options : Option Options) (reading : Option Reading)
-    → IsFound words mode chip options → reading ≡ reading_with mode chip options → IsAlone words reading
-reads_alone words None chip options reading found same =
-    rw same (tt, λ reading reads. found.mode_is reads.mode reads.mode_is)
-reads_alone words (Some mode) None options reading found same =
-    rw same (tt, λ reading reads. found.chip_is reads.chip reads.chip_is)
-reads_alone words (Some mode) (Some chip) None reading found same =
-    rw same (tt, λ reading reads. found.said reads.options reads.say)
-reads_alone words (Some mode) (Some chip) (Some options) reading found same =
-    alone_by words reading (λ other reads. same ∙ asked_alone words mode chip options other found reads)
-
--- RAM stands where it may
-abbrev IsRam : Rules → Type 0
-IsRam rules_so = IsRamRange rules_so × EndsInMemory rules_so
-
-abbrev RangeOf : Option Span → Type 0
-RangeOf None = Unit {0}
-RangeOf (Some ram) = IsRam (rules.Msp430 ram.lo ram.hi None)
+-- BOUNDS
 
 digit_below : (c : ℕ) → IfSome (hex_digit_value c) (λ v. v < 16)
 digit_below c =
@@ -317,154 +268,103 @@ number_below (a ∷ b ∷ c ∷ []) = tt
 number_below (a ∷ b ∷ c ∷ d ∷ []) = four_below (hex_digit_value a) (hex_digit_value b) (hex_digit_value c) (hex_digit_value d) (digit_below a) (digit_below b) (digit_below c) (digit_below d)
 number_below (a ∷ b ∷ c ∷ d ∷ e ∷ digits) = tt
 
-range_said : (text : Option (List ℕ)) (ram : Option Span) → IsSaid IsRange text ram → RangeOf ram
-range_said text None said = tt
-range_said None (Some ram) said = absurd said
-range_said (Some text) (Some ram) said = (said.allowed, subst (λ o. IfSome o (λ n. n < 65536)) said.last (number_below (drop 5 text)))
+abbrev EndOf : Option Span → Type 0
+EndOf said = IfSome said (λ span. span.hi < 65536)
 
-range_or_usual : (held : Option Span) → RangeOf held → IsRam (rules.Msp430 (or_else held usual_span).lo (or_else held usual_span).hi None)
-range_or_usual None held = ((refl, refl, omega arith, omega arith, tt), omega arith)
-range_or_usual (Some ram) held = held
+range_end : (text : Option (List ℕ)) (span : Span) → IsSaid IsRange text (Some span) → span.hi < 65536
+range_end None span is = absurd is
+range_end (Some text) span is = subst (λ o. IfSome o (λ n. n < 65536)) is.last (number_below (drop 5 text))
 
--- a mirror of whole words behind the peripherals, that RAM may have
-mirror_is : (ram mirror : Span) → RangeOf (Some ram) → RangeOf (Some mirror) → may_mirror ram mirror ≡ true → IsMirror ram.lo ram.hi mirror.lo mirror.hi
-mirror_is ram mirror held range may =
-    let parts = and_parts (nat_le (mirror.hi + ram.lo) (ram.hi + mirror.lo)) (nat_lt mirror.hi ram.lo || nat_lt ram.hi mirror.lo) may in
-    let short : mirror.hi + ram.lo ≤ ram.hi + mirror.lo = leb-true (mirror.hi + ram.lo) (ram.hi + mirror.lo) parts.0 in
-    let up : ram.lo < ram.hi = held.0.3 in
-    record {
-      low = range.0.0;
-      high = range.0.1;
-      behind = range.0.2;
-      some = range.0.3;
-      top = range.1;
-      short = omega (arith, short, up);
-      apart = parts.1;
-    }
+end_said : (given : List ℕ → Option (List ℕ)) (said : Option Span) → SaysRange given name.Ram said → EndOf said
+end_said given None is = tt
+end_said given (Some span) is = range_end (given (codes "ram")) span is
 
-abbrev RangeIn : Option Target → Type 0
-RangeIn None = Unit {0}
-RangeIn (Some target) = IsRam (target_rules target)
+abbrev BoundOf : (least most : ℕ) → Option ℕ → Type 0
+BoundOf least most said = IfSome said (λ n. (least ≤ n) × (n ≤ most))
 
-mirrored_range : (ram : Span) (mirror : Option Span) → RangeOf (Some ram) → RangeOf mirror → RangeIn (option_map Msp430 (with_mirror ram mirror))
-mirrored_range ram None held range = held
-mirrored_range ram (Some mirror) held range =
-    let all : Ram = record { lo = ram.lo; hi = ram.hi; mirror = Some (mirror.lo, mirror.hi) } in
-    cond_both (may_mirror ram mirror) (Some all) None (λ made. RangeIn (option_map Msp430 made))
-    (λ e. ((held.0.0, held.0.1, held.0.2, held.0.3, mirror_is ram mirror held range e), held.1)) (λ e. tt)
+bound_said : (text : Option (List ℕ)) (least most : ℕ) (said : Option ℕ) → IsSaid (IsNumberIn least most) text said → BoundOf least most said
+bound_said text least most None is = tt
+bound_said None least most (Some n) is = absurd is
+bound_said (Some text) least most (Some n) is = (is.no_less, is.no_more)
 
-target_range : (chip : ChipName) (ram mirror : Option Span) → RangeOf ram → RangeOf mirror → RangeIn (target_by chip ram mirror)
-target_range chip.Msp430 ram mirror held range = mirrored_range (or_else ram usual_span) mirror (range_or_usual ram held) range
-target_range chip.Mcs51 None None held range = (tt, tt)
-target_range chip.Mcs51 None (Some mirror) held range = tt
-target_range chip.Mcs51 (Some ram) mirror held range = tt
+bound_or : (least most : ℕ) (said : Option ℕ) (usual : ℕ) → BoundOf least most said → least ≤ usual → usual ≤ most
+    → (least ≤ or_else said usual) × (or_else said usual ≤ most)
+bound_or least most None usual is low high = (low, high)
+bound_or least most (Some n) usual is low high = is
 
-abbrev RangeOfReading : Option Reading → Type 0
-RangeOfReading found = IfSome found (λ reading. IsRam (rules_of reading) × IsBounded reading)
+ram_end : (ram mirror : Option Span) → EndOf ram → (ram_by ram mirror).hi < 65536
+ram_end None mirror end = omega arith
+ram_end (Some ram) mirror end = end
 
-unsaid_range : {A : Type 0} (said : Option A) (found : Option Reading) → RangeOfReading found → RangeOfReading (unsaid said found)
-unsaid_range None found held = held
-unsaid_range (Some said) found held = tt
+target_end : (chip : ChipName) (o : Options) → EndOf o.ram → EndsInMemory (target_rules (target_by chip o))
+target_end chip.Msp430 o end = ram_end o.ram o.mirror end
+target_end chip.Mcs51 o end = tt
 
-unflagged_range : (flag : Bool) (found : Option Reading) → RangeOfReading found → RangeOfReading (unflagged flag found)
-unflagged_range true found held = tt
-unflagged_range false found held = held
+usual_end : (chip : ChipName) → EndsInMemory (target_rules (usual_target chip))
+usual_end chip.Msp430 = omega arith
+usual_end chip.Mcs51 = tt
 
-untasked_range : (o : Options) (found : Option Reading) → RangeOfReading found → RangeOfReading (untasked o found)
-untasked_range o found held = unsaid_range o.calls _ (unsaid_range o.targets _ (unsaid_range o.workers _ (unflagged_range o.cert found held)))
+abbrev IsWithin : Reading → Type 0
+IsWithin reading = EndsInMemory (rules_of reading) × IsBounded reading
 
-abbrev CallsOf : Option ℕ → Type 0
-CallsOf calls = IfSome calls (λ n. n ≤ 8)
+-- the options are within their bounds
+record AreWithin (o : Options) : Type 0 where
+  end : EndOf o.ram
+  calls : BoundOf 0 8 o.calls
+  workers : BoundOf 1 16 o.workers
+  number : BoundOf 1 2000 o.number
 
-few_or_usual : (calls : Option ℕ) → CallsOf calls → or_else calls 6 ≤ 8
-few_or_usual None few = omega arith
-few_or_usual (Some calls) few = few
+making_within : (chip : ChipName) (number : Option ℕ) → BoundOf 1 2000 number → IfSome (option_map (Gen chip) number) IsWithin
+making_within chip None is = tt
+making_within chip (Some number) is = (usual_end chip, is)
 
-abbrev WorkersOf : Option ℕ → Type 0
-WorkersOf workers = IfSome workers (λ n. (1 ≤ n) × (n ≤ 16))
+task_within : (target : Target) (o : Options) → AreWithin o → IsBounded (Analyse (task_of target o))
+task_within target o is =
+    let workers = bound_or 1 16 o.workers 1 is.workers (omega arith) (omega arith) in
+    ((bound_or 0 8 o.calls 6 is.calls (omega arith) (omega arith)).1, workers.0, workers.1)
 
-some_or_one : (workers : Option ℕ) → WorkersOf workers → (1 ≤ or_else workers 1) × (or_else workers 1 ≤ 16)
-some_or_one None some = (omega arith, omega arith)
-some_or_one (Some workers) some = some
+asked_within : (mode : Mode) (chip : ChipName) (o : Options) → AreWithin o → IfSome (asked mode chip o) IsWithin
+asked_within mode.Analyse chip o is = (target_end chip o is.end, task_within (target_by chip o) o is)
+asked_within mode.Assert chip o is = (target_end chip o is.end, task_within (target_by chip o) o is)
+asked_within mode.Check chip o is = (target_end chip o is.end, task_within (target_by chip o) o is)
+asked_within mode.Disasm chip o is = (target_end chip o is.end, tt)
+asked_within mode.Run chip o is = (target_end chip o is.end, tt)
+asked_within mode.Gen chip o is = making_within chip o.number is.number
 
-analysis_range : (target : Option Target) (o : Options) → RangeIn target → CallsOf o.calls → WorkersOf o.workers → RangeOfReading (analysis_by target o)
-analysis_range None o held few some = tt
-analysis_range (Some target) o held few some = (held, (few_or_usual o.calls few, (some_or_one o.workers some).0, (some_or_one o.workers some).1))
+reads_within : (words : List (String Global)) (reading : Reading) → Reads words reading → IsWithin reading
+reads_within words reading reads =
+    let given_of = given (Texts words) in
+    let o = reads.options in
+    subst (λ found. IfSome found IsWithin) reads.ask.is (asked_within reads.mode reads.chip o (record {
+      end = end_said given_of o.ram reads.say.ranged;
+      calls = bound_said (given_of (codes "calls")) 0 8 o.calls reads.say.called;
+      workers = bound_said (given_of (codes "workers")) 1 16 o.workers reads.say.shared;
+      number = bound_said (given_of (codes "number")) 1 2000 o.number reads.say.counted;
+    }))
 
-assertion_range : (target : Option Target) (o : Options) → RangeIn target → CallsOf o.calls → WorkersOf o.workers → RangeOfReading (assertion_by target o)
-assertion_range None o held few some = tt
-assertion_range (Some target) o held few some = (held, (few_or_usual o.calls few, (some_or_one o.workers some).0, (some_or_one o.workers some).1))
+-- WHAT IS FOUND
 
-checking_range : (target : Option Target) (o : Options) → RangeIn target → CallsOf o.calls → WorkersOf o.workers → RangeOfReading (checking_by target o)
-checking_range None o held few some = tt
-checking_range (Some target) o held few some = (held, (few_or_usual o.calls few, (some_or_one o.workers some).0, (some_or_one o.workers some).1))
+pub only_reads : (words : List (String Global)) (found : Option Reading) → IsOnlyReading words found → IfSome found (Reads words)
+only_reads words None only = tt
+only_reads words (Some reading) only = only.0
 
-disassembly_range : (target : Option Target) → RangeIn target → RangeOfReading (disassembly_of target)
-disassembly_range None held = tt
-disassembly_range (Some target) held = (held, tt)
+pub only_range : (words : List (String Global)) (found : Option Reading) → IsOnlyReading words found → IfSome found (λ reading. IsRamRange (rules_of reading))
+only_range words None only = tt
+only_range words (Some reading) only = only.0.ask.stands
 
-run_range : (target : Option Target) (steps : Option ℕ) → RangeIn target → RangeOfReading (run_by target steps)
-run_range None steps held = tt
-run_range (Some target) steps held = (held, tt)
+pub only_end : (words : List (String Global)) (found : Option Reading) → IsOnlyReading words found → IfSome found (λ reading. EndsInMemory (rules_of reading))
+only_end words None only = tt
+only_end words (Some reading) only = (reads_within words reading only.0).0
 
-abbrev CountOf : Option ℕ → Type 0
-CountOf number = IfSome number (λ n. (1 ≤ n) × (n ≤ 2000))
+pub only_bounds : (words : List (String Global)) (found : Option Reading) → IsOnlyReading words found → IfSome found IsBounded
+only_bounds words None only = tt
+only_bounds words (Some reading) only = (reads_within words reading only.0).1
 
-usual_range : (chip : ChipName) → IsRam (target_rules (usual_target chip))
-usual_range chip.Msp430 = range_or_usual None tt
-usual_range chip.Mcs51 = (tt, tt)
+pub only_alone : (words : List (String Global)) (found : Option Reading) → IsOnlyReading words found
+    → IfSome found (λ reading. (other : Reading) → Reads words other → other ≡ reading)
+only_alone words None only = tt
+only_alone words (Some reading) only = only.1
 
-making_range : (chip : ChipName) (number : Option ℕ) → CountOf number → RangeOfReading (making_of chip number)
-making_range chip None held = tt
-making_range chip (Some number) held = (usual_range chip, held)
-
-asked_range : (mode : Mode) (chip : ChipName) (o : Options) → RangeOf o.ram → RangeOf o.mirror → CallsOf o.calls → WorkersOf o.workers → CountOf o.number → RangeOfReading (asked mode chip o)
-asked_range mode.Analyse chip o range mirror few some count = unsaid_range o.steps _ (unsaid_range o.number _ (analysis_range (target_by chip o.ram o.mirror) o (target_range chip o.ram o.mirror range mirror) few some))
-asked_range mode.Assert chip o range mirror few some count =
-    unflagged_range o.cert _ (unsaid_range o.steps _ (unsaid_range o.number _ (assertion_range (target_by chip o.ram o.mirror) o
-    (target_range chip o.ram o.mirror range mirror) few some)))
-asked_range mode.Check chip o range mirror few some count =
-    unflagged_range o.cert _ (unsaid_range o.workers _ (unsaid_range o.steps _ (unsaid_range o.number _ (checking_range (target_by chip o.ram o.mirror) o
-    (target_range chip o.ram o.mirror range mirror) few some))))
-asked_range mode.Disasm chip o range mirror few some count =
-    untasked_range o _ (unsaid_range o.steps _ (unsaid_range o.number _ (disassembly_range (target_by chip o.ram o.mirror) (target_range chip o.ram o.mirror range mirror))))
-asked_range mode.Run chip o range mirror few some count =
-    untasked_range o _ (unsaid_range o.number _ (run_range (target_by chip o.ram o.mirror) o.steps (target_range chip o.ram o.mirror range mirror)))
-asked_range mode.Gen chip o range mirror few some count = untasked_range o _ (unsaid_range o.ram _ (unsaid_range o.mirror _ (unsaid_range o.steps _ (making_range chip o.number count))))
-
-calls_said : (text : Option (List ℕ)) (calls : Option ℕ) → IsSaid (IsNumberIn 0 8) text calls → CallsOf calls
-calls_said text None said = tt
-calls_said None (Some calls) said = absurd said
-calls_said (Some text) (Some calls) said = said.no_more
-
-workers_said : (text : Option (List ℕ)) (workers : Option ℕ) → IsSaid (IsNumberIn 1 16) text workers → WorkersOf workers
-workers_said text None said = tt
-workers_said None (Some workers) said = absurd said
-workers_said (Some text) (Some workers) said = (said.no_less, said.no_more)
-
-count_said : (text : Option (List ℕ)) (number : Option ℕ) → IsSaid (IsNumberIn 1 2000) text number → CountOf number
-count_said text None said = tt
-count_said None (Some number) said = absurd said
-count_said (Some text) (Some number) said = (said.no_less, said.no_more)
-
-pub reads_range : (words : List (String Global)) (reading : Reading) → Reads words reading → IsRam (rules_of reading) × IsBounded reading
-reads_range words reading reads =
-    subst RangeOfReading reads.is
-    (asked_range reads.mode reads.chip reads.options
-    (range_said (given (Texts words) (codes "ram")) reads.options.ram reads.say.ranged)
-    (range_said (given (Texts words) (codes "mirror")) reads.options.mirror reads.say.mirrored)
-    (calls_said (given (Texts words) (codes "calls")) reads.options.calls reads.say.called)
-    (workers_said (given (Texts words) (codes "workers")) reads.options.workers reads.say.shared)
-    (count_said (given (Texts words) (codes "number")) reads.options.number reads.say.counted))
-
-pub found_range : (words : List (String Global)) (found : Option Reading) → IfSome found (Reads words) → IfSome found (λ reading. IsRamRange (rules_of reading))
-found_range words None reads = tt
-found_range words (Some reading) reads = (reads_range words reading reads).0.0
-
-pub found_end : (words : List (String Global)) (found : Option Reading) → IfSome found (Reads words) → IfSome found (λ reading. EndsInMemory (rules_of reading))
-found_end words None reads = tt
-found_end words (Some reading) reads = (reads_range words reading reads).0.1
-
-pub found_bounds : (words : List (String Global)) (found : Option Reading) → IfSome found (Reads words) → IfSome found IsBounded
-found_bounds words None reads = tt
-found_bounds words (Some reading) reads = (reads_range words reading reads).1
+pub only_none : (words : List (String Global)) (found : Option Reading) → IsOnlyReading words found → IfNone found ((reading : Reading) → Reads words reading → ⊥)
+only_none words None only = only
+only_none words (Some reading) only = tt

@@ -1,9 +1,10 @@
 //! The command of the words.
 
-ghost use Rattle.std.specs.Prelude.{◌≡◌, IfOk, MatchOption, map, string_bytes};
-ghost use Rattle.clap.specs.Words.{app_of, found_of, matches_of as the_matches, rows_of};
-ghost use Rattle.vsa_words.specs.Command.{AreTaken, command as the_command, with_places as places, with_ram as rams, with_task as tasks};
+ghost use Rattle.std.specs.Prelude.{◌≡◌, false, IfOk, MatchOption, map, string_bytes};
+ghost use Rattle.clap.specs.Words.{app_of, found_of, matches_of as the_matches, rows_of, rule_of};
+ghost use Rattle.vsa_words.specs.Command.{AreTaken, command as the_command, rule_by, with_places as places};
 
+use crate::options::{OptionName, Value};
 use clap::error::ErrorKind;
 use clap::{Arg, ArgAction, ArgMatches, Command};
 use std::alloc::{AllocError, Global};
@@ -14,41 +15,32 @@ fn with_places<'a>(alloc: Global) -> Result<Command<'a>, AllocError>
 {
     Command::new(alloc, "vsa")
         .no_binary_name(true)
-        .arg(Arg::new(alloc, "mode").required(true))?
-        .arg(Arg::new(alloc, "chip").required(true))
+        .arg(Arg::new(alloc, "mode").value_name("MODE").required(true))?
+        .arg(Arg::new(alloc, "chip").value_name("CHIP").required(true))
 }
 
-/// The same, and where RAM stands and its mirror.
-fn with_ram<'a>(alloc: Global) -> Result<Command<'a>, AllocError>
-    ensures { IfOk result (λ command. app_of command ≡ rams) }
+/// An option of this name, with what stands behind it.
+fn arg_of<'a>(alloc: Global, name: &'a str, value: Value) -> Arg<'a>
+    ensures rule { rule_of result ≡ rule_by value name.now }
+    ensures local { result.global ≡ false }
 {
-    with_places(alloc)?
-        .arg(Arg::new(alloc, "ram").long("ram"))?
-        .arg(Arg::new(alloc, "mirror").long("mirror"))
+    let arg = Arg::new(alloc, name).long(name);
+    match value {
+        Value::Range => arg.value_name("LO-HI"),
+        Value::Number { .. } => arg.value_name("N"),
+        Value::Nothing => arg.action(ArgAction::SetTrue),
+    }
 }
 
-/// The same, and how it is analysed.
-fn with_task<'a>(alloc: Global) -> Result<Command<'a>, AllocError>
-    ensures { IfOk result (λ command. app_of command ≡ tasks) }
-{
-    with_ram(alloc)?
-        .arg(Arg::new(alloc, "calls").long("calls"))?
-        .arg(Arg::new(alloc, "targets").long("targets"))?
-        .arg(Arg::new(alloc, "workers").long("workers"))
-}
-
-/// The command: a mode and a chip, options with one text each, and a flag.
-fn command<'a>(alloc: Global) -> Result<Command<'a>, AllocError>
+/// The command: a mode, a chip and the options.
+pub fn vsa_command<'a>(alloc: Global) -> Result<Command<'a>, AllocError>
     ensures { IfOk result (λ command. app_of command ≡ the_command) }
 {
-    with_task(alloc)?
-        .arg(Arg::new(alloc, "steps").long("steps"))?
-        .arg(Arg::new(alloc, "number").long("number"))?
-        .arg(
-            Arg::new(alloc, "cert")
-                .long("cert")
-                .action(ArgAction::SetTrue),
-        )
+    let mut command = with_places(alloc)?;
+    for option in OptionName::ALL {
+        command = command.arg(arg_of(alloc, option.word(), option.value()))?;
+    }
+    Ok(command)
 }
 
 /// What the words give, where the command takes them.
@@ -59,7 +51,7 @@ pub fn matches_of<'a>(
     ensures { IfOk result (λ found. MatchOption found (¬ AreTaken (map string_bytes words.now))
         (λ matches. AreTaken (map string_bytes words.now) × (rows_of (found_of matches) ≡ the_matches the_command (map string_bytes words.now)))) }
 {
-    let command = command(alloc)?;
+    let command = vsa_command(alloc)?;
     match command.try_get_matches_from(words) {
         Ok(matches) => Ok(Some(matches)),
         Err(error) => {

@@ -9,5 +9,8 @@ mod options;
 mod reading;
 mod words;
 
-pub use reading::{Mode, Ram, Reading, Target, Task, word_of};
-pub use words::reading_of;
+pub use command::vsa_command;
+pub use numbers::{Span, number_in, number_of, range_of};
+pub use options::{OptionName, Value};
+pub use reading::{Mode, Reading, Target, Task, USUAL_RAM, word_of};
+pub use words::{chip_of, mode_of, reading_of};

@@ -2,24 +2,14 @@
 
 ghost use Rattle.std.specs.Prelude.{◌≡◌, ◌<◌, ◌≤◌, ◌↔◌, ℕ, IfSome, IsTrue, MatchOption, None};
 ghost use Rattle.hex.specs.Hex.{hex_digit_value};
-ghost use Rattle.image.specs.Kept.{IsRamRange};
-ghost use Rattle.image.specs.declared.rule_set.Rules.TheVariants.{Msp430};
 ghost use Rattle.vsa_words.specs.declared.numbers.Span.{Span as ASpan};
-ghost use Rattle.vsa_words.specs.Words.{IsNumber, IsNumberBehind, IsNumberIn, IsRange, number_of as the_number};
+ghost use Rattle.vsa_words.specs.Numbers.{IsNumber, IsNumberBehind, IsNumberIn, IsRange, number_of as the_number};
 
-/// The first and the last address of a range. They begin and end whole words, behind the peripherals.
+/// The first and the last address of a range.
 #[derive(Clone, Copy, Debug, PartialEq, Eq)]
 pub struct Span {
     pub lo: u16,
     pub hi: u16,
-}
-
-impl Span {
-    /// From 0200h to 09FFh.
-    pub const USUAL: Span = Span {
-        lo: 0x0200,
-        hi: 0x09FF,
-    };
 }
 
 /// The greatest number that words say.
@@ -39,7 +29,7 @@ fn digit_of(byte: u8) -> Option<u16>
 }
 
 /// The number of four hexadecimal digits.
-fn number_of(digits: &[u8]) -> Option<u16>
+pub fn number_of(digits: &[u8]) -> Option<u16>
     ensures { result ≡ the_number digits.now }
 {
     match digits {
@@ -52,13 +42,6 @@ fn number_of(digits: &[u8]) -> Option<u16>
     }
 }
 
-/// Whether RAM may stand there.
-fn is_ram_range(span: Span) -> bool
-    ensures { IsTrue result ↔ IsRamRange (Msp430 span.lo span.hi None) }
-{
-    span.lo % 2 == 0 && span.hi % 2 == 1 && span.lo >= 0x0200 && span.lo < span.hi
-}
-
 /// The range `LO-HI`, by four hexadecimal digits each.
 pub fn range_of(text: &[u8]) -> Option<Span>
     ensures { MatchOption result ((span : ASpan) → ¬ IsRange text.now span) (IsRange text.now) }
@@ -68,8 +51,7 @@ pub fn range_of(text: &[u8]) -> Option<Span>
     }
     let lo = number_of(&text[..4])?;
     let hi = number_of(&text[5..])?;
-    let span = Span { lo, hi };
-    if is_ram_range(span) { Some(span) } else { None }
+    Some(Span { lo, hi })
 }
 
 /// The number of decimal digits behind those of another one, where it is at most a million.

@@ -1,11 +1,11 @@
 //! What a command line asks.
 
 ghost use Rattle.std.specs.Prelude.{◌≡◌};
-ghost use Rattle.vsa_words.specs.Words.{chip_word, rules_of, tail_of, target_of, target_rules, usual_target, usual_task};
+ghost use Rattle.vsa_words.specs.Words.{chip_word, mode_word, rules_of, tail_of, target_of, target_rules, usual_target, usual_task};
 
 use analysis_limits::Limits;
 use ihex_read::Tail;
-use image::{ChipName, Rules};
+use image::{ChipName, RamRange, Rules};
 
 /// What is done with an image.
 #[derive(Clone, Copy, Debug, PartialEq, Eq)]
@@ -24,6 +24,32 @@ pub enum Mode {
     Gen,
 }
 
+impl Mode {
+    /// All of them, in the order in which the usage has them.
+    pub const ALL: [Mode; 6] = [
+        Mode::Analyse,
+        Mode::Assert,
+        Mode::Check,
+        Mode::Disasm,
+        Mode::Run,
+        Mode::Gen,
+    ];
+
+    /// Its word.
+    pub fn word(self) -> &'static str
+        ensures { result.now ≡ mode_word self }
+    {
+        match self {
+            Mode::Analyse => "analyse",
+            Mode::Assert => "assert",
+            Mode::Check => "check",
+            Mode::Disasm => "disasm",
+            Mode::Run => "run",
+            Mode::Gen => "gen",
+        }
+    }
+}
+
 /// The word of a chip.
 pub fn word_of(chip: ChipName) -> &'static str
     ensures { result.now ≡ chip_word chip }
@@ -34,27 +60,17 @@ pub fn word_of(chip: ChipName) -> &'static str
     }
 }
 
-/// The first and the last address of the MSP430's RAM, and those of its mirror, where RAM answers a second time.
-#[derive(Clone, Copy, Debug, PartialEq, Eq)]
-pub struct Ram {
-    pub lo: u16,
-    pub hi: u16,
-    pub mirror: Option<(u16, u16)>,
-}
-
-impl Ram {
-    /// RAM from 0200h to 09FFh, without a mirror.
-    pub const USUAL: Ram = Ram {
-        lo: 0x0200,
-        hi: 0x09FF,
-        mirror: None,
-    };
-}
+/// RAM from 0200h to 09FFh, without a mirror.
+pub const USUAL_RAM: RamRange = RamRange {
+    lo: 0x0200,
+    hi: 0x09FF,
+    mirror: None,
+};
 
 /// A chip, with all that the words say of it.
 #[derive(Clone, Copy, Debug, PartialEq, Eq)]
 pub enum Target {
-    Msp430 { ram: Ram },
+    Msp430 { ram: RamRange },
     Mcs51,
 }
 
@@ -64,7 +80,7 @@ impl Target {
         ensures { result ≡ usual_target chip }
     {
         match chip {
-            ChipName::Msp430 => Target::Msp430 { ram: Ram::USUAL },
+            ChipName::Msp430 => Target::Msp430 { ram: USUAL_RAM },
             ChipName::Mcs51 => Target::Mcs51,
         }
     }
@@ -74,11 +90,7 @@ impl Target {
         ensures { result ≡ target_rules self }
     {
         match self {
-            Target::Msp430 { ram } => Rules::Msp430 {
-                lo: ram.lo,
-                hi: ram.hi,
-                mirror: ram.mirror,
-            },
+            Target::Msp430 { ram } => ram.rules(),
             Target::Mcs51 => Rules::Mcs51,
         }
     }
