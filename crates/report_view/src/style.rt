@@ -30,9 +30,9 @@ dd a,td,tbody th,code,pre,.strip span,p a,li a:first-child{font-family:var(--mon
 p a,li a:first-child,p code{font-size:.92em}
 section,.scroll{overflow-x:auto}
 table{border-collapse:collapse;width:100%;font-size:13px;line-height:1.6}
-section table{table-layout:fixed;min-width:1000px}
+section table{table-layout:fixed;min-width:1100px}
 section{content-visibility:auto;contain-intrinsic-size:auto 5600px}
-caption{text-align:left;color:var(--dim);padding:0 0 6px}
+caption{text-align:left;color:var(--dim);padding:0 max(0px,calc(720px - 100vw)) 6px 0}
 th,td{vertical-align:top;padding:2px 14px 2px 0;text-align:left;overflow-wrap:anywhere}
 thead th{font-weight:600;color:var(--dim);border-bottom:2px solid var(--line);white-space:nowrap}
 .v thead th{font-size:0;line-height:0;padding-top:0;padding-bottom:0;border:0}
@@ -63,7 +63,7 @@ td em{font-style:normal;font-weight:400;color:var(--dim)}
 .d i+i{background:none;border:2px solid var(--bar);border-left:0}
 .o>*,.y>*{background:var(--badbg)}
 .o th,.y td{box-shadow:inset 4px 0 var(--bad)}
-.y td{color:var(--bad);font-family:inherit;padding:0 14px 6px 12px}
+.y td{color:var(--bad);font-family:inherit;padding:0 max(14px,calc(1162px - 100vw)) 6px 12px}
 .g td{color:var(--dim);font-family:inherit;padding:5px 14px 5px 12px;border-top:1px dashed var(--line);background:repeating-linear-gradient(135deg,transparent 0 6px,var(--soft) 6px 12px)}
 figure{margin:14px 0}
 figcaption{font-size:14px;margin-bottom:6px}
