@@ -1,6 +1,6 @@
 //! The book and its readings.
 
-ghost use Rattle.std.specs.Prelude.{◌≡◌, ◌↔◌, [], IsTrue, IfOk};
+ghost use Rattle.std.specs.Prelude.{◌≡◌, ◌↔◌, ◌<◌, ◌≤◌, ◌^◌, ℕ, [], IsTrue, IfOk};
 ghost use Rattle.round_core.specs.Claimable.{HasAtLeast};
 ghost use Rattle.round_core.specs.Kept.{nodes_of, works_of, is_live, live_pairs};
 ghost use Rattle.round_core.specs.Machine.{replay, HasClaimable, IsFinished, IsLegalJournal};
@@ -126,6 +126,14 @@ impl<C: Chip> Book<C> {
         ensures { IsTrue result ↔ HasAtLeast (replay (C.analysis self.now.base) self.now.journal) least }
     {
         self.parts.can_claim(least)
+    }
+
+    /// How many places the next claims may look at: no fewer than the units that can be claimed now. It looks at none of them.
+    pub fn candidates(&self) -> usize
+        ensures { (least : ℕ) → least < 2 ^ 64
+            → HasAtLeast (replay (C.analysis self.now.base) self.now.journal) least → least ≤ result }
+    {
+        self.parts.candidates()
     }
 
     /// Whether a unit can be claimed.

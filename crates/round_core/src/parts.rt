@@ -1,6 +1,6 @@
 //! What a book keeps.
 
-ghost use Rattle.std.specs.Prelude.{count_by, min, false, filter, ◌≡◌, ◌<◌, ◌≤◌, length, ◌++◌, ◌∷◌, [], None, IsSome, OnErr, Some, IfOk, IfSome, MatchOption, OnOk, IsTrue, is_some, map, not, ◌↔◌};
+ghost use Rattle.std.specs.Prelude.{count_by, min, false, filter, ◌≡◌, ◌<◌, ◌≤◌, length, ◌++◌, ◌∷◌, [], None, IsSome, OnErr, Some, IfOk, IfSome, MatchOption, OnOk, IsTrue, is_some, map, not, ◌↔◌, ◌^◌, ℕ};
 ghost use Rattle.std.specs.List.{AllByRecursion};
 ghost use Rattle.std.specs.Option.{option_map};
 ghost use Rattle.round_core.specs.Agenda.{AreDifferent};
@@ -205,6 +205,17 @@ impl<A> Parts<A> {
         let least = least as usize;
         let found = self.claimable_candidates(least);
         least <= found + self.new_returns(least - found)
+    }
+
+    /// How many places the next claims may look at: those of candidates, and those that were given back.
+    pub fn candidates(&self) -> usize
+        ensures { (b : BookState A) (least : ℕ) → least < 2 ^ 64 → Shows b self.now → HasAtLeast b least
+            → least ≤ result }
+    {
+        self.agenda
+            .candidates
+            .len()
+            .saturating_add(self.turns.returned().len())
     }
 
     /// Whether a unit can be claimed.
