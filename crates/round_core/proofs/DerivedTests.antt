@@ -24,7 +24,7 @@ unit_eq = (unit_impl.ghosts).eq
 abbrev pub TellsEqual : {X : Type 0} → (X → X → Bool) → Type 0
 TellsEqual {X} test = (a b : X) → Decides (test a b) (a ≡ b)
 
-agree : {P : Type 0} (x y : Bool) → Decides x P → (y ≡ true → P) → (P → y ≡ true) → x ≡ y
+pub agree : {P : Type 0} (x y : Bool) → Decides x P → (y ≡ true → P) → (P → y ≡ true) → x ≡ y
 agree true y d f g = sym (g (d.0 refl))
 agree false true d f g = d.1 (f refl)
 agree false false d f g = refl

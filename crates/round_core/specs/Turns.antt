@@ -1,6 +1,7 @@
 -- Units that are out with their places, and the journal.
-use Rattle.std.specs.Prelude.{◌≡◌, ◌+◌, if◌then◌else◌, Option, None, Some, List, length}
+use Rattle.std.specs.Prelude.{◌≡◌, ◌+◌, ℕ, if◌then◌else◌, Option, None, Some, List, [], ◌∷◌, length}
 use Rattle.std.specs.Map.{lookup}
+use Rattle.std.specs.Option.{option_map}
 use Rattle.call_context.specs.declared.node.Unit.{Unit as WorkUnit}
 use Rattle.round_core.specs.Agenda.{AreDifferent, IsIn}
 use Rattle.round_core.specs.Same.{same_unit}
@@ -16,6 +17,16 @@ pub record Standing : Type 0 where
 -- the place of a unit that is out
 abbrev pub place_out : List (WorkUnit × Place) → WorkUnit → Option Place
 place_out out unit = lookup (same_unit unit) out
+
+-- where a unit that is out stands
+abbrev pub index_out : List (WorkUnit × Place) → WorkUnit → Option ℕ
+index_out [] unit = None
+index_out (e ∷ es) unit = if same_unit unit e.0 then Some 0 else option_map (λ index. index + 1) (index_out es unit)
+
+-- each unit stands there once
+abbrev pub StandOnce : List (WorkUnit × Place) → Type 0
+StandOnce [] = Unit {0}
+StandOnce (e ∷ es) = (place_out es e.0 ≡ None) × StandOnce es
 
 -- no place was given back twice since the last claim, and none of a unit that is out
 pub record AreGivenBack (turns : Standing) : Type 0 where

@@ -8,6 +8,7 @@ mod claim;
 mod event;
 mod expect;
 mod former;
+mod key;
 mod laws;
 mod nodes;
 mod parts;

@@ -62,16 +62,7 @@ impl<A> Nodes<A> {
         states
     }
 
-    /// The place of a node, its state, and how often that rose.
-    pub fn find(&self, node: &Node) -> Option<(usize, &A, u32)>
-        ensures place { option_map (λ found. found.0) result ≡ place_of self.now.rows node.now }
-        ensures held { MatchOption result (held_at self.now.rows node.now ≡ None) (λ found. held_at self.now.rows node.now ≡ Some (record { node = node.now; state = found.1.now; rises = found.2 })) }
-    {
-        equal_nodes_are_one();
-        self.table.find(node)
-    }
-
-    /// The same, which is quickly found where the guess of its place is right.
+    /// The place of a node, its state, and how often that rose, which are quickly found where the guess is right.
     pub fn find_near(&self, node: &Node, guess: usize) -> Option<(usize, &A, u32)>
         ensures place { option_map (λ found. found.0) result ≡ place_of self.now.rows node.now }
         ensures held { MatchOption result (held_at self.now.rows node.now ≡ None) (λ found. held_at self.now.rows node.now ≡ Some (record { node = node.now; state = found.1.now; rises = found.2 })) }

@@ -351,8 +351,10 @@ impl<A: Drop> Parts<A> {
         ensures returned { self.new.turns.returned ≡ self.old.turns.returned }
         ensures agenda { self.new.agenda ≡ self.old.agenda }
     {
+        let posted = raised.guess;
         self.nodes.set_all(raised, spent);
         let place = self.turns.post(seat, unit);
-        spent.keep_work(self.works.set(*unit, work, versions, place));
+        let replaced = self.works.set(*unit, work, versions, place, posted);
+        spent.keep_work(replaced);
     }
 }

@@ -30,8 +30,9 @@ fn prepare<C: Chip>(
     ensures placed { IfOk result (λ raised. ArePlaced parts.old.nodes.rows raised.rows.items) }
 {
     let alloc = parts.nodes.allocator();
-    let raised = all_raised(alloc, chip, &parts.nodes, done.work.posts.as_slice())?;
     let (unit, place) = (done.ticket.unit(), done.ticket.place());
+    let guess = parts.works.posted(place);
+    let raised = all_raised(alloc, chip, &parts.nodes, done.work.posts.as_slice(), guess)?;
     parts.prepare(unit, place, done.work.waits.as_slice(), &raised)?;
     Ok(raised)
 }

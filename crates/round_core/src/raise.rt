@@ -41,11 +41,13 @@ fn state_after<C: Chip>(
     }
 }
 
-/// The place of a node, its state, and how often that rose, where earlier posts raised some nodes.
+/// The place of a node, its state, and how often that rose, where earlier posts raised some nodes. It is quickly found
+/// where the guess of its place is right.
 fn held_in<'a, A>(
     nodes: &'a Nodes<A>,
     earlier: &'a Raised<A>,
     node: &Node,
+    guess: usize,
 ) -> Option<(usize, &'a A, u32)>
     requires { RisesOver nodes.now.rows earlier.now }
     ensures place { option_map (λ found. found.0) result ≡ place_of (with_all nodes.now.rows (held_rows earlier.now.rows.items)) node.now }
@@ -56,7 +58,7 @@ fn held_in<'a, A>(
             let risen = &earlier.rows[index];
             Some((risen.place, &risen.state, risen.rises))
         }
-        None => nodes.find(node),
+        None => nodes.find_near(node, guess),
     }
 }
 
@@ -81,7 +83,7 @@ fn risen_row<C: Chip>(
     Ok(Some((state, rises)))
 }
 
-/// Raises a node to a post, beside what earlier posts raised.
+/// Raises a node to a post, beside what earlier posts raised, and answers its place.
 fn raise_one<C: Chip>(
     alloc: Global,
     chip: &C,
@@ -89,12 +91,13 @@ fn raise_one<C: Chip>(
     all: &mut Raised<C::Abs>,
     node: &Node,
     posted: &C::Abs,
-) -> Result<(), Memory>
+    guess: usize,
+) -> Result<usize, Memory>
     requires { RisesOver nodes.now.rows all.old }
     ensures over { OnOk result (RisesOver nodes.now.rows all.new) }
     ensures raised { OnOk result (with_all nodes.now.rows (held_rows all.new.rows.items) ≡ raised (C.analysis (C.base chip.now)) (with_all nodes.now.rows (held_rows all.old.rows.items)) (node.now, posted.now)) }
 {
-    match held_in(nodes, all, node) {
+    match held_in(nodes, all, node, guess) {
         Some((place, held, rises)) => {
             match risen_row(alloc, chip, node, held, rises, posted)? {
                 Some((state, rises)) => all.put(Risen {
@@ -103,7 +106,7 @@ fn raise_one<C: Chip>(
                     state,
                     rises,
                 }),
-                None => Ok(()),
+                None => Ok(place),
             }
         }
         None => {
@@ -119,19 +122,23 @@ fn raise_one<C: Chip>(
     }
 }
 
-/// The nodes that posts raise, with what each has after the last of them.
+/// The nodes that posts raise, with what each has after the last of them. The node of the first post may stand at `guess`,
+/// and those of further ones behind it, as they do where they were first posted together.
 pub fn all_raised<C: Chip>(
     alloc: Global,
     chip: &C,
     nodes: &Nodes<C::Abs>,
     posts: &[(Node, C::Abs)],
+    guess: usize,
 ) -> Result<Raised<C::Abs>, Memory>
     ensures over { IfOk result (RisesOver nodes.now.rows) }
     ensures raised { IfOk result (λ all. with_all nodes.now.rows (held_rows all.rows.items) ≡ all_raised (C.analysis (C.base chip.now)) nodes.now.rows posts.now) }
 {
     let mut all = Raised::new(alloc, nodes.len());
+    let mut near = guess;
     for (node, posted) in posts {
-        raise_one(alloc, chip, nodes, &mut all, node, posted)?;
+        near = raise_one(alloc, chip, nodes, &mut all, node, posted, near)?.wrapping_add(1);
     }
+    all.guess = near.wrapping_sub(posts.len());
     Ok(all)
 }

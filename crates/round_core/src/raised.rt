@@ -4,7 +4,8 @@ ghost use Rattle.std.specs.Prelude.{◌≡◌, ◌==◌, ◌+◌, ◌<◌, [], L
 ghost use Rattle.round_core.specs.Machine.{Held, place_of, with_held};
 ghost use Rattle.round_core.specs.Raise.{held_of, held_rows, place_for, with_all, RisesOver};
 
-use call_context::{Node, equal_nodes_are_one};
+use crate::key::same_node;
+use call_context::Node;
 use no_memory::Memory;
 use std::alloc::Global;
 
@@ -22,6 +23,8 @@ pub struct Risen<A> {
 pub struct Raised<A> {
     pub rows: Vec<Risen<A>>,
     pub next: usize,
+    /// Where the node of the first post may stand when the unit is done again. No contract speaks of it.
+    pub guess: usize,
 }
 
 /// Where a node stands among rows. A post raises few nodes, so they are looked through.
@@ -29,9 +32,8 @@ pub fn index_of<A>(rows: &[Risen<A>], node: &Node) -> Option<usize>
     ensures index { result ≡ place_of (held_rows rows.now) node.now }
     ensures bound { IfSome result (λ index. index < length rows.now) }
 {
-    equal_nodes_are_one();
     for index in 0..rows.len() {
-        if *node == rows[index].node {
+        if same_node(node, &rows[index].node) {
             return Some(index);
         }
     }
@@ -58,22 +60,25 @@ impl<A: Drop> Raised<A> {
         Raised {
             rows: Vec::new(alloc),
             next: nodes,
+            guess: nodes,
         }
     }
 
-    /// Puts a row in the place of the one with its node, or last. Places that no number counts are refused.
-    pub fn put(&mut self, risen: Risen<A>) -> Result<(), Memory>
+    /// Puts a row in the place of the one with its node, or last, and answers its place in the book. Places that no number
+    /// counts are refused.
+    pub fn put(&mut self, risen: Risen<A>) -> Result<usize, Memory>
         ensures rows { OnOk result (held_rows self.new.rows.items ≡ with_held (held_rows self.old.rows.items) (held_of risen)) }
         ensures over { (nodes : List (Held A)) → RisesOver nodes self.old → risen.place ≡ place_for (with_all nodes (held_rows self.old.rows.items)) risen.node → OnOk result (RisesOver nodes self.new) }
     {
+        let place = risen.place;
         match index_of(self.rows.as_slice(), &risen.node) {
             Some(index) => self.rows[index] = risen,
             None => {
-                let next = next_behind(self.next, risen.place)?;
+                let next = next_behind(self.next, place)?;
                 self.rows.push(risen)?;
                 self.next = next;
             }
         }
-        Ok(())
+        Ok(place)
     }
 }

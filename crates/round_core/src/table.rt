@@ -7,6 +7,7 @@ ghost use Rattle.std.specs.Option.{option_map};
 ghost use Rattle.round_core.specs.Reserved.{HasPlace};
 ghost use Rattle.round_core.specs.Rows.{mark_part, value_part, with_entry};
 
+use crate::key::Key;
 use crate::reserved::push_reserved;
 use indexmap::IndexMap;
 use no_memory::Memory;
@@ -79,7 +80,7 @@ fn put_mark<K: Eq + Hash + Drop, M: Copy>(
     }
 }
 
-impl<K: Copy + Eq + Hash + Drop, V, M: Copy> Table<K, V, M> {
+impl<K: Key, V, M: Copy> Table<K, V, M> {
     /// No rows.
     pub fn new(alloc: Global) -> Self
         ensures { result.rows ≡ [] }
@@ -104,16 +105,6 @@ impl<K: Copy + Eq + Hash + Drop, V, M: Copy> Table<K, V, M> {
     {
         let Table { marks, values } = self;
         (marks, values)
-    }
-
-    /// The place of a key, its value, and its mark.
-    pub fn find(&self, key: &K) -> Option<(usize, &V, M)>
-        ensures place { option_map (λ found. found.0) result ≡ position (K.eq key.now) (keys_of self.now.rows) }
-        ensures row { MatchOption result (lookup (K.eq key.now) self.now.rows ≡ None) (λ found. lookup (K.eq key.now) self.now.rows ≡ Some (found.1.now, found.2)) }
-    {
-        let (index, _, mark) = self.marks.get_full(key)?;
-        let (_, value) = self.values.get(index)?;
-        Some((index, value, *mark))
     }
 
     /// The allocator.
@@ -141,7 +132,7 @@ impl<K: Copy + Eq + Hash + Drop, V, M: Copy> Table<K, V, M> {
         ensures { result ≡ true → position (K.eq key.now) (keys_of self.now.rows) ≡ Some place }
     {
         match self.marks.as_slice().get_index(place) {
-            Some((stored, _)) => *key == *stored,
+            Some((stored, _)) => key.is_same(stored),
             None => false,
         }
     }

@@ -1,14 +1,14 @@
 //! Units that are out, and the journal.
 
-ghost use Rattle.std.specs.Prelude.{◌≡◌, ◌↔◌, ◌==◌, ◌++◌, ◌∷◌, [], IsTrue, IsSome, OnOk, OnErr, Some, None, is_some, length};
-ghost use Rattle.round_core.specs.Turns.{place_out, TakesHome};
+ghost use Rattle.std.specs.Prelude.{◌≡◌, ◌↔◌, ◌<◌, ◌++◌, ◌∷◌, [], IsTrue, IfSome, IsSome, OnOk, OnErr, Some, None, is_some, length};
+ghost use Rattle.round_core.specs.Turns.{index_out, place_out, StandOnce, TakesHome};
 ghost use Rattle.round_core.specs.declared.place.Place.{Place};
 
 use crate::event::Event;
+use crate::key::same_unit;
 use crate::place::Place;
 use crate::reserved::push_reserved;
-use call_context::{Unit, equal_nodes_are_one};
-use indexmap::IndexMap;
+use call_context::Unit;
 use no_memory::Memory;
 use std::alloc::Global;
 use std::marker::Model;
@@ -17,33 +17,48 @@ use std::marker::Model;
 /// happened. There is room for what the end of each unit that is out adds.
 #[derive(Drop)]
 pub struct Turns {
-    out: IndexMap<Unit, Place>,
+    out: Vec<(Unit, Place)>,
     returned: Vec<Place>,
     journal: Vec<Event>,
 }
 
 impl Model for Turns {
     ghost use Rattle.std.specs.Prelude.{◌+◌, ◌≤◌, vec_len, vec_capacity, length};
-    ghost use Rattle.round_core.specs.Turns.{Standing};
+    ghost use Rattle.round_core.specs.Turns.{Standing, StandOnce};
 
     ghost Value = { Standing };
 
-    ghost view = { λ t. record { journal = t.journal.items; out = t.out.entries; returned = t.returned.items } };
+    ghost view = { λ t. record { journal = t.journal.items; out = t.out.items; returned = t.returned.items } };
 
     ghost invariant = { λ t.
-        (vec_len t.returned + length t.out.entries ≤ vec_capacity t.returned)
-        × (vec_len t.journal + length t.out.entries ≤ vec_capacity t.journal) };
+        (vec_len t.returned + length t.out.items ≤ vec_capacity t.returned)
+        × (vec_len t.journal + length t.out.items ≤ vec_capacity t.journal)
+        × StandOnce t.out.items };
+}
+
+/// Where a unit stands among those that are out. Each worker has few out, so they are looked through.
+fn index_of(out: &[(Unit, Place)], unit: &Unit) -> Option<usize>
+    ensures index { result ≡ index_out out.now unit.now }
+    ensures bound { IfSome result (λ index. index < length out.now) }
+{
+    for index in 0..out.len() {
+        if same_unit(unit, &out[index].0) {
+            return Some(index);
+        }
+    }
+    None
 }
 
 /// Takes a unit home.
-fn take_home(out: &mut IndexMap<Unit, Place>, unit: &Unit) -> Place
-    requires { IsSome (place_out out.old.entries unit.now) }
-    ensures place { place_out out.old.entries unit.now ≡ Some result }
-    ensures others { TakesHome out.old.entries unit.now out.new.entries }
+fn take_home(out: &mut Vec<(Unit, Place)>, unit: &Unit) -> Place
+    requires out { IsSome (place_out out.old.items unit.now) }
+    requires once { StandOnce out.old.items }
+    ensures place { place_out out.old.items unit.now ≡ Some result }
+    ensures others { TakesHome out.old.items unit.now out.new.items }
+    ensures once { StandOnce out.new.items }
 {
-    equal_nodes_are_one();
-    match out.swap_remove(unit) {
-        Some(place) => place,
+    match index_of(out.as_slice(), unit) {
+        Some(index) => out.remove(index).1,
         None => unreachable!(),
     }
 }
@@ -54,7 +69,7 @@ impl Turns {
         ensures { result ≡ record { journal = []; out = []; returned = [] } }
     {
         Turns {
-            out: IndexMap::new(alloc),
+            out: Vec::new(alloc),
             returned: Vec::new(alloc),
             journal: Vec::new(alloc),
         }
@@ -99,8 +114,7 @@ impl Turns {
     pub fn is_out(&self, unit: &Unit) -> bool
         ensures { result ≡ is_some (place_out self.now.out unit.now) }
     {
-        equal_nodes_are_one();
-        !self.out.is_empty() && self.out.contains_key(unit)
+        index_of(self.out.as_slice(), unit).is_some()
     }
 
     /// Takes a unit out. A refusal leaves all as it was.
@@ -113,11 +127,10 @@ impl Turns {
         }) }
         ensures refused { OnErr result (self.new ≡ self.old) }
     {
-        equal_nodes_are_one();
         let ends = self.out.len() + 1;
         self.returned.reserve(ends)?;
         self.journal.reserve(ends + 1)?;
-        self.out.insert(*unit, place)?;
+        self.out.push((*unit, place))?;
         push_reserved(&mut self.journal, Event::Claim { seat, unit: *unit });
         Ok(())
     }

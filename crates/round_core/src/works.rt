@@ -21,16 +21,30 @@ use std::marker::Model;
 #[derive(Drop)]
 pub struct Works<A> {
     table: Table<Unit, Work<A>, Versions>,
-    /// Where the last work of the location at a place may stand. Who looks there sees whether it does, and else looks the
-    /// unit up, so no contract speaks of it.
-    own: Vec<usize>,
+    /// By the places of locations. Who looks there sees whether it is so, and else looks the unit or the node up, so no
+    /// contract speaks of it.
+    own: Vec<Guess>,
 }
 
-/// Notes where the last work of the unit at a place stands.
-fn note(own: &mut Vec<usize>, place: Place, index: usize) {
+/// Where the last work of a location may stand, and the node that it posted to first.
+#[derive(Clone, Copy)]
+struct Guess {
+    work: usize,
+    posted: usize,
+}
+
+impl Guess {
+    const NONE: Guess = Guess {
+        work: usize::MAX,
+        posted: usize::MAX,
+    };
+}
+
+/// Notes a guess for the unit at a place.
+fn note(own: &mut Vec<Guess>, place: Place, guess: Guess) {
     if let Place::One(node) = place {
         if let Some(known) = own.get_mut(node) {
-            *known = index;
+            *known = guess;
         }
     }
 }
@@ -83,12 +97,17 @@ impl<A> Works<A> {
         live_works(&places, works)
     }
 
-    /// Where the last work of the unit at a place may stand.
-    fn guess(&self, place: Place) -> usize {
+    /// What is noted for the unit at a place.
+    fn guess(&self, place: Place) -> Guess {
         match place {
-            Place::One(node) => self.own.get(node).copied().unwrap_or(usize::MAX),
-            Place::Back(..) => usize::MAX,
+            Place::One(node) => self.own.get(node).copied().unwrap_or(Guess::NONE),
+            Place::Back(..) => Guess::NONE,
         }
+    }
+
+    /// Where the node may stand that the last work of the unit at a place posted to first.
+    pub fn posted(&self, place: Place) -> usize {
+        self.guess(place).posted
     }
 
     /// Where the last work of a unit stands, whose place may be this one, with that work and the versions of its inputs.
@@ -96,7 +115,7 @@ impl<A> Works<A> {
         ensures { MatchOption result (done_at self.now.rows unit.now ≡ None) (λ found. done_at self.now.rows unit.now ≡ Some (record { unit = unit.now; work = found.1.now; versions = found.2 })) }
     {
         equal_nodes_are_one();
-        self.table.find_near(unit, self.guess(place))
+        self.table.find_near(unit, self.guess(place).work)
     }
 
     /// Whether the last work of a location, whose place may be this one, waits for a frame.
@@ -127,18 +146,20 @@ impl<A> Works<A> {
         ensures room { OnOk result (1 ≤ self.new.room) }
     {
         if self.own.len() < nodes {
-            self.own.resize(nodes, usize::MAX)?;
+            self.own.resize(nodes, Guess::NONE)?;
         }
         self.table.reserve(1)
     }
 
-    /// Puts a row in the place of the one with its unit, or last. There is room for it. It answers the work that it replaces.
+    /// Puts a row in the place of the one with its unit, or last, and notes where the node of its first post may stand. There
+    /// is room for it. It answers the work that it replaces.
     pub fn set(
         &mut self,
         unit: Unit,
         work: Work<A>,
         versions: Versions,
         place: Place,
+        posted: usize,
     ) -> Option<Work<A>>
     where
         A: Drop,
@@ -147,9 +168,13 @@ impl<A> Works<A> {
         ensures room { self.old.room ≤ self.new.room + 1 }
     {
         equal_nodes_are_one();
-        let known = self.table.place_near(&unit, self.guess(place));
-        let index = known.unwrap_or(self.table.len());
-        note(&mut self.own, place, index);
+        let known = self.table.place_near(&unit, self.guess(place).work);
+        let work_at = known.unwrap_or(self.table.len());
+        let guess = Guess {
+            work: work_at,
+            posted,
+        };
+        note(&mut self.own, place, guess);
         self.table.set_at(known, unit, work, versions)
     }
 }

@@ -13,8 +13,8 @@ loop-node-preserved g c =
     let x = c.loop-node-item.result in
     let inside : i < length posts = omega arith in
     record {
-      over = c.in_ok-raise_one.ensures.over;
-      raised = c.in_ok-raise_one.ensures.raised
+      over = c.in_ok-near.ensures.over;
+      raised = c.in_ok-near.ensures.raised
           ∙ ap (λ hs. raised m hs x) c.loop-node.invariant.raised
           ∙ sym (all_raised-append m ns (take i posts) x)
           ∙ ap (λ p. all_raised m ns (take i posts ++ p ∷ [])) c.loop-node-item.is

@@ -35,7 +35,7 @@ returns-in-None-clause-place g c =
     let node = c.args.node.now in
     let none : held_at (held_rows rs) node ≡ None =
     at-none node (held_rows rs) (ap (λ t. place_of (held_rows t) node) (sym c.as_slice.ensures.value) ∙ sym c.in-None.ensures.index) in
-    c.find.ensures.place ∙ sym (place-beside c.args.nodes.now.rows (held_rows rs) node none)
+    c.find_near.ensures.place ∙ sym (place-beside c.args.nodes.now.rows (held_rows rs) node none)
 
 pub returns-in-None-clause-held : goal.returns-in-None-clause-held
 returns-in-None-clause-held g c =
@@ -43,5 +43,5 @@ returns-in-None-clause-held g c =
     let node = c.args.node.now in
     let none : held_at (held_rows rs) node ≡ None =
     at-none node (held_rows rs) (ap (λ t. place_of (held_rows t) node) (sym c.as_slice.ensures.value) ∙ sym c.in-None.ensures.index) in
-    subst (λ o. MatchOption c.find.result (o ≡ None) (λ found. o ≡ Some (record { node = node; state = found.1.now; rises = found.2 })))
-    (sym (held_at-with_all-none c.args.nodes.now.rows (held_rows rs) node none)) c.find.ensures.held
+    subst (λ o. MatchOption c.find_near.result (o ≡ None) (λ found. o ≡ Some (record { node = node; state = found.1.now; rises = found.2 })))
+    (sym (held_at-with_all-none c.args.nodes.now.rows (held_rows rs) node none)) c.find_near.ensures.held

@@ -4,20 +4,19 @@ use Rattle.round_core.specs.Raise.{held_rows}
 use Rattle.round_core.specs.Same.{same_node}
 use Rattle.round_core.specs.declared.raised.Risen.{Risen}
 use Rattle.round_core.proofs.Cases.{get-index}
-use Rattle.round_core.proofs.DerivedTests.{node_eq, node_eq-same}
 use Rattle.round_core.proofs.RaisedLemmas.{place-here, no-place-yet}
 use Rattle.round_core.proofs.raised.index_of.Goals as goal
 
-pub returns-then-eq-clause-index : goal.returns-then-eq-clause-index
-returns-then-eq-clause-index g c =
+pub returns-then-same_node-clause-index : goal.returns-then-same_node-clause-index
+returns-then-same_node-clause-index g c =
     let rows = c.args.rows.now in
     let node = c.args.node.now in
     let i = c.loop-index.index in
     let r = c.index-rows-index.result in
     let at : slice_get rows i ≡ Some r = get-index rows i r c.loop-index-test.true c.index-rows-index.is in
-    let there : c.eq.result ≡ node_eq node (slice_index_or rows i r).node = c.eq.ensures in
-    let test : c.eq.result ≡ node_eq node r.node = there ∙ ap (λ (t : Risen _). node_eq node t.node) (sym c.index-rows-index.is) in
-    let same : same_node node r.node ≡ true = sym (node_eq-same c.equal_nodes_are_one.ensures.nodes node r.node) ∙ sym test ∙ c.if-eq.true in
+    let there : c.same_node.result ≡ same_node node (slice_index_or rows i r).node = c.same_node.ensures in
+    let test : c.same_node.result ≡ same_node node r.node = there ∙ ap (λ (t : Risen _). same_node node t.node) (sym c.index-rows-index.is) in
+    let same : same_node node r.node ≡ true = sym test ∙ c.if-same_node.true in
     sym (place-here rows node i r at c.loop-index.invariant same)
 
 pub loop-index-preserved : goal.loop-index-preserved
@@ -27,9 +26,9 @@ loop-index-preserved g c =
     let i = c.loop-index.index in
     let r = c.index-rows-index.result in
     let at : slice_get rows i ≡ Some r = get-index rows i r c.loop-index-test.true c.index-rows-index.is in
-    let there : c.eq.result ≡ node_eq node (slice_index_or rows i r).node = c.eq.ensures in
-    let test : c.eq.result ≡ node_eq node r.node = there ∙ ap (λ (t : Risen _). node_eq node t.node) (sym c.index-rows-index.is) in
-    let other : same_node node r.node ≡ false = sym (node_eq-same c.equal_nodes_are_one.ensures.nodes node r.node) ∙ sym test ∙ c.if-eq.false in
+    let there : c.same_node.result ≡ same_node node (slice_index_or rows i r).node = c.same_node.ensures in
+    let test : c.same_node.result ≡ same_node node r.node = there ∙ ap (λ (t : Risen _). same_node node t.node) (sym c.index-rows-index.is) in
+    let other : same_node node r.node ≡ false = sym test ∙ c.if-same_node.false in
     let up : suc i ≡ i + 1 = omega arith in
     subst (λ k. place_of (held_rows (take k rows)) node ≡ None) up (no-place-yet rows node i r at c.loop-index.invariant other)
 

@@ -1,8 +1,9 @@
-use Rattle.std.proofs.Common.{◌∙◌, sym, subst, IsSome, None, Option, cond}
-use Rattle.std.proofs.Math.Path.{ap₂}
-use Rattle.round_core.proofs.DerivedTests.{unit_eq-same}
+use Rattle.std.proofs.Common.{◌≡◌, ◌∙◌, ap, sym, subst, IsSome, None, Some, Option, slice_get, length, ◌+◌}
+use Rattle.std.proofs.lemmas.List.Edits.{length-remove}
 use Rattle.round_core.specs.declared.place.Place.{Place}
-use Rattle.round_core.proofs.TurnsLemmas.{lookup-same}
+use Rattle.round_core.specs.Turns.{index_out, place_out, StandOnce}
+use Rattle.round_core.proofs.Cases.{get-index}
+use Rattle.round_core.proofs.TurnsLemmas.{index-bound, index-entry, index-none, removed-once, removed-places}
 use Rattle.round_core.proofs.turns.take_home.Goals as goal
 
 abbrev none_place : Option Place
@@ -10,16 +11,38 @@ none_place = None
 
 pub unreachable-requires : goal.unreachable-requires
 unreachable-requires c =
-    let some : IsSome none_place = subst (λ o. IsSome o) (sym (lookup-same c.equal_nodes_are_one.ensures.units c.args.unit.now c.args.out.now.entries) ∙ sym c.in-None.ensures.value) c.requires in absurd (cc)
+    let out = c.args.out.now.items in
+    let unit = c.args.unit.now in
+    let none : index_out out unit ≡ None = ap (λ l. index_out l unit) (sym c.as_slice.ensures.value) ∙ sym c.in-None.ensures.index in
+    let some : IsSome none_place = subst (λ o. IsSome o) (index-none out unit none) c.requires.out in absurd (cc)
 
 pub returns-clause-place : goal.returns-clause-place
-returns-clause-place c = sym (lookup-same c.equal_nodes_are_one.ensures.units c.args.unit.now c.args.out.now.entries) ∙ sym c.in-Some.ensures.value
+returns-clause-place c =
+    let out = c.args.out.now.items in
+    let unit = c.args.unit.now in
+    let i = c.in-Some.index in
+    let at : index_out out unit ≡ Some i = ap (λ l. index_out l unit) (sym c.as_slice.ensures.value) ∙ sym c.in-Some.ensures.index in
+    let e = index-entry out unit i at in
+    let here : slice_get out i ≡ Some c.remove.result = get-index out i c.remove.result (index-bound out unit i at) c.remove.ensures.value in
+    let both : Some e.0 ≡ Some c.remove.result = sym e.1 ∙ here in
+    let same : e.0 ≡ c.remove.result = cc in
+    e.2 ∙ ap (λ t. Some t.1) same
 
 pub returns-clause-others : goal.returns-clause-others
-returns-clause-others c = record {
-  count = c.in-Some.ensures.len;
-  places = λ other.
-      sym (lookup-same c.equal_nodes_are_one.ensures.units other c.swap_remove.new.self.entries)
-      ∙ c.in-Some.ensures.updates.0 other
-      ∙ ap₂ (λ b r. cond b None r) (unit_eq-same c.equal_nodes_are_one.ensures.units c.args.unit.now other) (lookup-same c.equal_nodes_are_one.ensures.units other c.args.out.now.entries);
-}
+returns-clause-others c =
+    let out = c.args.out.now.items in
+    let unit = c.args.unit.now in
+    let i = c.in-Some.index in
+    let at : index_out out unit ≡ Some i = ap (λ l. index_out l unit) (sym c.as_slice.ensures.value) ∙ sym c.in-Some.ensures.index in
+    record {
+      count = ap (λ l. length l + 1) c.remove.ensures.items ∙ length-remove out i (index-bound out unit i at);
+      places = λ other. ap (λ l. place_out l other) c.remove.ensures.items ∙ removed-places out unit i c.requires.once at other;
+    }
+
+pub returns-clause-once : goal.returns-clause-once
+returns-clause-once c =
+    let out = c.args.out.now.items in
+    let unit = c.args.unit.now in
+    let i = c.in-Some.index in
+    let at : index_out out unit ≡ Some i = ap (λ l. index_out l unit) (sym c.as_slice.ensures.value) ∙ sym c.in-Some.ensures.index in
+    subst (λ l. StandOnce l) (sym c.remove.ensures.items) (removed-once out unit i c.requires.once at)

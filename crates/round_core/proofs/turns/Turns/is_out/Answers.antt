@@ -1,8 +1,11 @@
 use Rattle.std.proofs.Common.{◌∙◌, ap, is_some}
-use Rattle.round_core.specs.Turns.{place_out}
-use Rattle.round_core.proofs.TurnsLemmas.{lookup-same}
+use Rattle.round_core.specs.Turns.{index_out, place_out}
+use Rattle.round_core.proofs.TurnsLemmas.{index-some}
 use Rattle.round_core.proofs.turns.Turns.is_out.Goals as goal
 
-pub returns-then-not-is_empty : goal.returns-then-not-is_empty
-returns-then-not-is_empty c =
-    c.contains_key.ensures ∙ ap (λ o. is_some o) (lookup-same c.equal_nodes_are_one.ensures.units c.args.unit.now c.self.inside.out.entries) ∙ ap (λ v. is_some (place_out v.out c.args.unit.now)) c.self.view_is
+pub returns : goal.returns
+returns c =
+    let unit = c.args.unit.now in
+    c.is_some.ensures ∙ ap (λ o. is_some o) c.index_of.ensures.index
+    ∙ ap (λ l. is_some (index_out l unit)) c.as_slice.ensures.value
+    ∙ index-some c.self.inside.out.items unit ∙ ap (λ v. is_some (place_out v.out unit)) c.self.view_is
