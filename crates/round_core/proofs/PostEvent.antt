@@ -69,7 +69,7 @@ module _ {A : Type 0} (m : Analysis A) where
   -- the book behind a post
   pub posted-shown : (journal : List Event) (p q p' : Parts A) (seat : ℕ) (o : Out A) (work : Work A) (raised : List (Held A))
       → Shows (replay m journal) p → p.turns.journal ≡ journal → out_at (replay m journal).out o.unit ≡ Some o → work ≡ m.work o.unit o.at o.exit
-      → IsPrepared p q o.unit work.waits raised → with_all p.nodes.rows raised ≡ all_raised m p.nodes.rows work.posts
+      → IsPrepared p q o.unit o.versions work.waits raised → with_all p.nodes.rows raised ≡ all_raised m p.nodes.rows work.posts
       → p'.nodes.rows ≡ with_all q.nodes.rows raised
       → p'.works.rows ≡ with_done q.works.rows (record { unit = o.unit; work = work; versions = o.versions })
       → p'.turns.journal ≡ q.turns.journal ++ Post seat o.unit ∷ [] → TakesHome q.turns.out o.unit p'.turns.out → p'.turns.returned ≡ q.turns.returned → p'.agenda ≡ q.agenda
@@ -81,8 +81,8 @@ module _ {A : Type 0} (m : Analysis A) where
       let er : ExpectsRows b.done p.agenda mid (with_all b.nodes raised) raised =
       subst (λ ds. ExpectsRows ds p.agenda mid (with_all b.nodes raised) raised) s.done
       (subst (λ hs. ExpectsRows p.works.rows p.agenda mid (with_all hs raised) raised) s.nodes g.1) in
-      let eu : ExpectsUnit mid p'.agenda b.nodes o.unit work.waits =
-      subst (λ a. ExpectsUnit mid a b.nodes o.unit work.waits) (sym agenda) (subst (λ hs. ExpectsUnit mid q.agenda hs o.unit work.waits) s.nodes g.3) in
+      let eu : ExpectsUnit mid p'.agenda b.nodes o.unit o.versions work.waits =
+      subst (λ a. ExpectsUnit mid a b.nodes o.unit o.versions work.waits) (sym agenda) (subst (λ hs. ExpectsUnit mid q.agenda hs o.unit o.versions work.waits) s.nodes g.3) in
       let g2 : Grows mid p'.agenda = subst (λ a. Grows mid a) (sym agenda) g.4 in
       let came : TakesHome p.turns.out o.unit p'.turns.out = subst (λ t. TakesHome t.out o.unit p'.turns.out) ready.turns home in
       let shown = behind-shown b p p' o work raised mid s is ready.distinct er g.2 eu g2 came (returned ∙ ap (λ t. t.returned) ready.turns)

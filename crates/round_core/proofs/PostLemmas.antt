@@ -23,7 +23,7 @@ use Rattle.round_core.specs.Expected.{Grows, ExpectsNode, ExpectsRows, ExpectsUn
 use Rattle.round_core.specs.Raise.{with_all}
 use Rattle.round_core.specs.Shown.{AreDistinct, IsExpected, Shows}
 use Rattle.round_core.specs.Turns.{TakesHome}
-use Rattle.round_core.proofs.Cases.{truth, if_true, if_false, then_some, map_some}
+use Rattle.round_core.proofs.Cases.{truth, if_true, if_false, match_some, then_some, map_some}
 use Rattle.round_core.proofs.ClaimLemmas.{held-place, place-held}
 use Rattle.round_core.proofs.OutLemmas.{same_unit-sym, comes_home, out_at-without, posted_back}
 use Rattle.round_core.proofs.RaiseLemmas.{held_at-with_all-none, distinct-with_all, place-with_all}
@@ -89,7 +89,7 @@ module _ {A : Type 0} where
 module _ {A : Type 0} (b : BookState A) (p p' : Parts A) (o : Out A) (work : Rattle.chip_law.specs.declared.chip.Work.Work A) (raised : List (Held A)) (mid : Agenda)
     (s : Shows b p) (is : out_at b.out o.unit ≡ Some o) (d : AreDistinct raised)
     (er : ExpectsRows b.done p.agenda mid (with_all b.nodes raised) raised) (g1 : Grows p.agenda mid)
-    (eu : ExpectsUnit mid p'.agenda b.nodes o.unit work.waits) (g2 : Grows mid p'.agenda)
+    (eu : ExpectsUnit mid p'.agenda b.nodes o.unit o.versions work.waits) (g2 : Grows mid p'.agenda)
     (home : TakesHome p.turns.out o.unit p'.turns.out) (ret : p'.turns.returned ≡ p.turns.returned) where
   abbrev last : Done A
   last = record { unit = o.unit; work = work; versions = o.versions }
@@ -130,9 +130,9 @@ module _ {A : Type 0} (b : BookState A) (p p' : Parts A) (o : Out A) (work : Rat
 
   -- what the unit that came home expects, seen as a location's own work
   own : (n : Node) → unit.One n ≡ o.unit → (i : ℕ) → place_of b.nodes n ≡ Some i
-      → IsIn (place.One i) p'.agenda.candidates.keys × ((f : Frame) → IsIn f work.waits → IsIn i (places_in p'.agenda.waiting f))
+      → (HasRisen o.versions (versions_of b.nodes (unit.One n)) → IsIn (place.One i) p'.agenda.candidates.keys) × ((f : Frame) → IsIn f work.waits → IsIn i (places_in p'.agenda.waiting f))
       × ((f : Frame) → IsIn f work.waits → (x : ℕ) → IsIn x (places_in mid.exits f) → IsIn (place.Back i x) p'.agenda.candidates.keys)
-  own n e i at = let x : ExpectsUnit mid p'.agenda b.nodes (unit.One n) work.waits = subst (λ u. ExpectsUnit mid p'.agenda b.nodes u work.waits) (sym e) eu in x i at
+  own n e i at = let x : ExpectsUnit mid p'.agenda b.nodes (unit.One n) o.versions work.waits = subst (λ u. ExpectsUnit mid p'.agenda b.nodes u o.versions work.waits) (sym e) eu in x i at
 
   own-place : (n : Node) → unit.One n ≡ o.unit → (i : ℕ) × (place_of b.nodes n ≡ Some i)
   own-place n e = let x = s.out o.unit o is in one-place b.nodes n x.0 (ap (λ u. placed b.nodes u) e ∙ x.2)
@@ -148,6 +148,13 @@ module _ {A : Type 0} (b : BookState A) (p p' : Parts A) (o : Out A) (work : Rat
     due = subst (λ r. MatchOption r (Unit {0}) (λ x. HasRisen x.versions (versions_of b.nodes v))) (done_at-other b.done last v e)
         (subst (λ t. MatchOption (done_at behind.done v) (Unit {0}) (λ x. HasRisen x.versions t)) same k.due);
   }
+
+  -- the unit that came home can be claimed anew where an input rose since it was claimed
+  has-risen : (v : WorkUnit) → v ≡ o.unit → versions_of behind.nodes v ≡ versions_of b.nodes v → IsClaimable behind v → HasRisen o.versions (versions_of b.nodes v)
+  has-risen v e same k =
+      let at : done_at behind.done v ≡ Some last = ap (λ u. done_at behind.done u) e ∙ done_at-same b.done last in
+      subst (λ t. HasRisen o.versions t) same
+      (match_some (Unit {0}) (λ (x : Done A). HasRisen x.versions (versions_of behind.nodes v)) (done_at behind.done v) last at k.due)
 
   abbrev Expected : WorkUnit → Type 0
   Expected v = IsExpected behind.nodes p'.agenda.candidates.keys p'.turns.returned v
@@ -173,7 +180,7 @@ module _ {A : Type 0} (b : BookState A) (p p' : Parts A) (o : Out A) (work : Rat
         | inl t ↦
             let u = same_unit-eq (unit.One (At pc calls frame)) o.unit t in
             let i = own-place (At pc calls frame) u in
-            (place.One i.0, one-placed behind.nodes (At pc calls frame) i.0 (place-with_all raised b.nodes (At pc calls frame) i.0 i.1), inl (own (At pc calls frame) u i.0 i.1).0)
+            (place.One i.0, one-placed behind.nodes (At pc calls frame) i.0 (place-with_all raised b.nodes (At pc calls frame) i.0 i.1), inl ((own (At pc calls frame) u i.0 i.1).0 (has-risen (unit.One (At pc calls frame)) u (ap (λ t. one_version t) (versions-same (At pc calls frame) e)) k)))
         | inr t ↦
             let held = sym (held_at-with_all-none b.nodes raised (At pc calls frame) e) ∙ k.known.1 in
             was-expected (unit.One (At pc calls frame)) (was-claimable (unit.One (At pc calls frame)) (k.known.0, held) t (ap (λ t. one_version t) (versions-same (At pc calls frame) e)) k)
@@ -195,8 +202,10 @@ module _ {A : Type 0} (b : BookState A) (p p' : Parts A) (o : Out A) (work : Rat
       quiet : waits_for b.done (At pc calls frame) left ≡ true → (i j : ℕ) → place_of b.nodes (At pc calls frame) ≡ Some i → place_of b.nodes (Exit from left) ≡ Some j → held_at raised (At pc calls frame) ≡ None → held_at raised (Exit from left) ≡ None → Expected (unit.Back (At pc calls frame) (Exit from left))
       quiet w i j a c e f = elim (truth (same_unit (unit.Back (At pc calls frame) (Exit from left)) o.unit)) [
         | inl t ↦
-            let u : ExpectsUnit mid p'.agenda b.nodes (unit.Back (At pc calls frame) (Exit from left)) work.waits = subst (λ z. ExpectsUnit mid p'.agenda b.nodes z work.waits) (sym (same_unit-eq (unit.Back (At pc calls frame) (Exit from left)) o.unit t)) eu in
-            found i j (place-with_all raised b.nodes (At pc calls frame) i a) (place-with_all raised b.nodes (Exit from left) j c) (u i j a c)
+            let one = same_unit-eq (unit.Back (At pc calls frame) (Exit from left)) o.unit t in
+            let u : ExpectsUnit mid p'.agenda b.nodes (unit.Back (At pc calls frame) (Exit from left)) o.versions work.waits = subst (λ z. ExpectsUnit mid p'.agenda b.nodes z o.versions work.waits) (sym one) eu in
+            let rose = has-risen (unit.Back (At pc calls frame) (Exit from left)) one (ap₂ (λ y z. two_versions y z) (versions-same (At pc calls frame) e) (versions-same (Exit from left) f)) k in
+            found i j (place-with_all raised b.nodes (At pc calls frame) i a) (place-with_all raised b.nodes (Exit from left) j c) (u i j a c rose)
         | inr t ↦
             let hn = sym (held_at-with_all-none b.nodes raised (At pc calls frame) e) ∙ k.known.2 in
             let hx = sym (held_at-with_all-none b.nodes raised (Exit from left) f) ∙ k.known.3 in

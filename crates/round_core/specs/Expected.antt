@@ -7,7 +7,8 @@ use Rattle.call_context.specs.declared.node.Unit.{Unit as WorkUnit}
 use Rattle.call_context.specs.declared.node.Unit.TheVariants as unit
 use Rattle.round_core.specs.declared.agenda.Agenda.{Agenda}
 use Rattle.round_core.specs.declared.place.Place.TheVariants as place
-use Rattle.round_core.specs.Machine.{Done, Held, place_of, waits_for}
+use Rattle.round_core.specs.declared.versions.Versions.{Versions}
+use Rattle.round_core.specs.Machine.{Done, HasRisen, Held, place_of, versions_of, waits_for}
 use Rattle.round_core.specs.Agenda.{IsIn, places_in, KeepsPlaces, KeepsCandidates}
 use Rattle.round_core.specs.Returns.{HasReturnsTo, HasReturnsFrom}
 
@@ -29,10 +30,12 @@ abbrev pub ExpectsRows : {A : Type 0} → List (Done A) → Agenda → Agenda �
 ExpectsRows {A} done old new nodes rows =
     (row : Held A) → IsIn row rows → (place : ℕ) × (place_of nodes row.node ≡ Some place) × ExpectsNode done old new row.node place
 
--- A unit is a candidate once it is home, and its location waits for the frames of its work. Returns from exits that
--- were known are candidates.
-abbrev pub ExpectsUnit : {A : Type 0} → Agenda → Agenda → List (Held A) → WorkUnit → List Frame → Type 0
-ExpectsUnit old new nodes (unit.One node) frames = (at : ℕ) → place_of nodes node ≡ Some at → IsIn (place.One at) new.candidates.keys
+-- A unit that comes home is a candidate where an input rose since it was claimed, and its location waits for the frames
+-- of its work. Returns from exits that were known are candidates.
+abbrev pub ExpectsUnit : {A : Type 0} → Agenda → Agenda → List (Held A) → WorkUnit → Versions → List Frame → Type 0
+ExpectsUnit old new nodes (unit.One node) versions frames = (at : ℕ) → place_of nodes node ≡ Some at
+    → (HasRisen versions (versions_of nodes (unit.One node)) → IsIn (place.One at) new.candidates.keys)
     × ((frame : Frame) → IsIn frame frames → IsIn at (places_in new.waiting frame))
     × ((frame : Frame) → IsIn frame frames → HasReturnsTo new.candidates.keys at (places_in old.exits frame))
-ExpectsUnit old new nodes (unit.Back node exit) frames = (at from : ℕ) → place_of nodes node ≡ Some at → place_of nodes exit ≡ Some from → IsIn (place.Back at from) new.candidates.keys
+ExpectsUnit old new nodes (unit.Back node exit) versions frames = (at from : ℕ) → place_of nodes node ≡ Some at → place_of nodes exit ≡ Some from
+    → HasRisen versions (versions_of nodes (unit.Back node exit)) → IsIn (place.Back at from) new.candidates.keys

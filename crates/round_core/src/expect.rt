@@ -6,7 +6,7 @@ ghost use Rattle.round_core.specs.Agenda.{IsIn, places_in, KeepsCandidates, Keep
 ghost use Rattle.round_core.specs.Expected.{Grows, ExpectsNode, ExpectsUnit};
 ghost use Rattle.round_core.specs.declared.raised.Risen.{Risen};
 ghost use Rattle.round_core.specs.Returns.{HasReturnsTo, HasReturnsFrom};
-ghost use Rattle.round_core.specs.Machine.{waits_for};
+ghost use Rattle.round_core.specs.Machine.{HasRisen, waits_for};
 
 use crate::agenda::Agenda;
 use crate::candidates::{add_candidate, add_returns_from, add_returns_to};
@@ -14,6 +14,7 @@ use crate::nodes::Nodes;
 use crate::place::Place;
 use crate::places::Places;
 use crate::raised::Risen;
+use crate::versions::Versions;
 use crate::works::Works;
 use call_context::{Frame, Node, Unit};
 use no_memory::Memory;
@@ -111,35 +112,60 @@ fn expect_waits(agenda: &mut Agenda, place: usize, frames: &[Frame]) -> Result<(
     add_returns(&mut agenda.candidates, &agenda.exits, place, frames)
 }
 
-/// Adds a unit itself, whose place may be this one, and the returns that its work waits for.
+/// Adds a unit that comes home to its place, if an input rose since it was claimed.
+fn expect_again(
+    candidates: &mut BTreeSet<Place>,
+    place: Place,
+    claimed: Versions,
+    now: Versions,
+) -> Result<(), Memory>
+    ensures added { OnOk result (HasRisen claimed now → IsIn place candidates.new.keys) }
+    ensures kept { KeepsCandidates candidates.old.keys candidates.new.keys }
+{
+    if claimed.at < now.at || claimed.exit < now.exit {
+        add_candidate(candidates, place)
+    } else {
+        Ok(())
+    }
+}
+
+/// Adds a unit that comes home, whose place may be this one, and the returns that its work waits for.
 pub fn expect_unit<A>(
     agenda: &mut Agenda,
     nodes: &Nodes<A>,
     unit: &Unit,
     place: Place,
+    claimed: Versions,
     frames: &[Frame],
 ) -> Result<(), Memory>
-    ensures expected { OnOk result (ExpectsUnit agenda.old agenda.new nodes.now.rows unit.now frames.now) }
+    ensures expected { OnOk result (ExpectsUnit agenda.old agenda.new nodes.now.rows unit.now claimed frames.now) }
     ensures grows { Grows agenda.old agenda.new }
 {
     let (at_node, at_exit) = place.of_nodes();
     match unit {
         Unit::One(node) => {
-            let Some(place) = nodes.place_near(node, at_node) else {
+            let Some((place, _, at)) = nodes.find_near(node, at_node) else {
                 return Ok(());
             };
-            add_candidate(&mut agenda.candidates, Place::One(place))?;
+            let now = Versions { at, exit: 0 };
+            expect_again(&mut agenda.candidates, Place::One(place), claimed, now)?;
             expect_waits(agenda, place, frames)
         }
         Unit::Back(node, exit) => {
-            let places = (
-                nodes.place_near(node, at_node),
-                nodes.place_near(exit, at_exit),
+            let found = (
+                nodes.find_near(node, at_node),
+                nodes.find_near(exit, at_exit),
             );
-            let (Some(node), Some(exit)) = places else {
+            let (Some((node, _, at)), Some((from, _, exit))) = found else {
                 return Ok(());
             };
-            add_candidate(&mut agenda.candidates, Place::Back(node, exit))
+            let now = Versions { at, exit };
+            expect_again(
+                &mut agenda.candidates,
+                Place::Back(node, from),
+                claimed,
+                now,
+            )
         }
     }
 }

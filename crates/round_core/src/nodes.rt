@@ -84,14 +84,6 @@ impl<A> Nodes<A> {
         self.table.len()
     }
 
-    /// The place of a node, which is quickly found where the guess is right.
-    pub fn place_near(&self, node: &Node, guess: usize) -> Option<usize>
-        ensures { result ≡ place_of self.now.rows node.now }
-    {
-        equal_nodes_are_one();
-        self.table.place_near(node, guess)
-    }
-
     /// The node at a place, its state, and how often that rose.
     pub fn at(&self, place: usize) -> Option<(&Node, &A, u32)>
         ensures row { MatchOption result (length self.now.rows ≤ place) (λ found. slice_get self.now.rows place ≡ Some (record { node = found.0.now; state = found.1.now; rises = found.2 })) }

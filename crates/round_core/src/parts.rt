@@ -313,16 +313,17 @@ impl<A> Parts<A> {
         &mut self,
         unit: &Unit,
         place: Place,
+        claimed: Versions,
         frames: &[Frame],
         raised: &Raised<A>,
     ) -> Result<(), Memory>
         requires { RisesOver self.old.nodes.rows raised.now }
         ensures shown { StaysShown self.old self.new }
         ensures journal { self.new.turns.journal ≡ self.old.turns.journal }
-        ensures prepared { OnOk result (IsPrepared self.old self.new unit.now frames.now (held_rows raised.now.rows.items)) }
+        ensures prepared { OnOk result (IsPrepared self.old self.new unit.now claimed frames.now (held_rows raised.now.rows.items)) }
     {
         expect_raised(&mut self.agenda, &self.works, raised.rows.as_slice())?;
-        expect_unit(&mut self.agenda, &self.nodes, unit, place, frames)?;
+        expect_unit(&mut self.agenda, &self.nodes, unit, place, claimed, frames)?;
         self.nodes.reserve(raised.rows.len())?;
         self.works.reserve(self.nodes.len())?;
         Ok(())

@@ -26,14 +26,15 @@ fn prepare<C: Chip>(
     ensures shown { StaysShown parts.old parts.new }
     ensures journal { parts.new.turns.journal ≡ parts.old.turns.journal }
     ensures raised { IfOk result (λ raised. with_all parts.old.nodes.rows (held_rows raised.rows.items) ≡ all_raised (C.analysis (C.base chip.now)) parts.old.nodes.rows done.now.work.posts) }
-    ensures prepared { IfOk result (λ raised. IsPrepared parts.old parts.new done.now.ticket.unit done.now.work.waits (held_rows raised.rows.items)) }
+    ensures prepared { IfOk result (λ raised. IsPrepared parts.old parts.new done.now.ticket.unit done.now.ticket.versions done.now.work.waits (held_rows raised.rows.items)) }
     ensures placed { IfOk result (λ raised. ArePlaced parts.old.nodes.rows raised.rows.items) }
 {
     let alloc = parts.nodes.allocator();
     let (unit, place) = (done.ticket.unit(), done.ticket.place());
     let guess = parts.works.posted(place);
     let raised = all_raised(alloc, chip, &parts.nodes, done.work.posts.as_slice(), guess)?;
-    parts.prepare(unit, place, done.work.waits.as_slice(), &raised)?;
+    let claimed = done.ticket.versions();
+    parts.prepare(unit, place, claimed, done.work.waits.as_slice(), &raised)?;
     Ok(raised)
 }
 

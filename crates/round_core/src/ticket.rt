@@ -63,6 +63,13 @@ impl<C: Chip> Ticket<C> {
         self.place
     }
 
+    /// The versions of the unit's inputs when it was claimed.
+    pub(crate) fn versions(&self) -> Versions
+        ensures { result ≡ self.now.versions }
+    {
+        self.versions
+    }
+
     /// The unit that is out.
     pub fn unit(&self) -> &Unit
         ensures { result.now ≡ self.now.unit }
