@@ -8,6 +8,7 @@ mod msp430_warnings;
 mod need;
 mod noted;
 mod output;
+mod progress;
 mod slips;
 mod source;
 #[cfg(test)]
@@ -18,11 +19,13 @@ mod warnings;
 use crate::advice::{kept_text, print_advice, watch_of};
 use crate::noted::Noted;
 use crate::output::Output;
+use crate::progress::Progress;
 use crate::source::NotedSource;
+use std::io::IsTerminal;
 use std::process::ExitCode;
 use std::{env, io};
 use vsa_io::StdinSource;
-use vsa_top::{NoGate, Status, vsa};
+use vsa_top::{Status, vsa};
 
 /// The words after the program's name. If one of them isn't UTF-8 there are none, which are as invalid.
 fn words(rt: &HostRuntime) -> io::Result<Vec<String>> {
@@ -41,9 +44,11 @@ fn main(rt: HostRuntime) -> ExitCode {
         return ExitCode::from(Status::Memory as u8);
     };
     let words = words.as_slice();
+    let progress = Progress::new(&rt, rt.stderr().is_terminal());
     let mut source = NotedSource::new(StdinSource::new(&rt), kept_text(rt.alloc(), words));
-    let mut sink = Noted::new(Output::new(&rt), watch_of(rt.alloc(), words));
-    let outcome = vsa(&rt, rt.alloc(), words, &mut source, &mut sink, &NoGate);
+    let mut sink = Noted::new(Output::new(&rt, &progress), watch_of(rt.alloc(), words));
+    let outcome = vsa(&rt, rt.alloc(), words, &mut source, &mut sink, &progress);
+    progress.clear();
     // Nobody is there to read what a closed pipe means. Where standard error fails, only the words are lost.
     if !sink.sink().is_closed() {
         let _ = print_advice(&rt, rt.alloc(), outcome.status, words, &source, &sink);

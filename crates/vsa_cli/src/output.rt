@@ -4,23 +4,28 @@ ghost use Rattle.std.specs.Prelude.{◌≡◌, ◌≤◌, ◌<◌, length, None,
 ghost use Rattle.vsa_io.specs.Count.{one_more};
 ghost use Rattle.vsa_io.specs.Stream.{HasRisen};
 
+use crate::progress::Progress;
 use std::io;
 use std::io::{Print, Printer, Write};
+use std::rt::{Clock, Files};
 use vsa_io::{Failed, Sink};
 
 /// A sink over the standard output.
 #[derive(Drop)]
 pub struct Output<'a, P: Print> {
     writer: Printer<'a, P>,
+    /// The line that must go before there is output, which may come to the same terminal.
+    progress: &'a Progress<'a, P>,
     faults: u64,
     is_closed: bool,
 }
 
 impl<'a, P: Print> Output<'a, P> {
     /// The standard output of this runtime, with no fault counted.
-    pub fn new(rt: &'a P) -> Output<'a, P> {
+    pub fn new(rt: &'a P, progress: &'a Progress<'a, P>) -> Output<'a, P> {
         Output {
             writer: io::writer(rt),
+            progress,
             faults: 0,
             is_closed: false,
         }
@@ -32,7 +37,7 @@ impl<'a, P: Print> Output<'a, P> {
     }
 }
 
-impl<'a, P: Print> Sink for Output<'a, P> {
+impl<'a, P: Print + Clock + Eprint + Files + AllocGlobal> Sink for Output<'a, P> {
     ghost held = { λ _. None };
 
     ghost faults = { λ s. s.faults };
@@ -45,6 +50,7 @@ impl<'a, P: Print> Sink for Output<'a, P> {
         ensures nothing_to_do { length bytes.now ≡ 0 → OnOk result (self.new.faults ≡ self.old.faults) }
         ensures never_falls { self.old.faults ≤ self.new.faults }
     {
+        self.progress.clear();
         match self.writer.write(bytes) {
             Ok(count) => {
                 if count == 0 && !bytes.is_empty() {

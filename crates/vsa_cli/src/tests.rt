@@ -5,6 +5,7 @@ use crate::inputs::other_input;
 use crate::mcs51_warnings::Mcs51Seen;
 use crate::msp430_warnings::Msp430Seen;
 use crate::need::{asked_of, question_text};
+use crate::progress::{line_of, megabytes_in};
 use crate::slips::{Slip, slip_of};
 use crate::source::NotedSource;
 use crate::usage::USAGE;
@@ -118,6 +119,23 @@ fn options_of_the_usage(rt: HostRuntime) -> Result<(), Fail> {
             assert!(rt; line.contains(range.as_str()), "{head}: {range}");
         }
     }
+    Ok(())
+}
+
+#[test]
+fn progress_in_words(rt: HostRuntime) -> Result<(), Fail> {
+    let line = line_of(rt.alloc(), 67, Some(46), 1034, (812, 12))?;
+    assert_eq!(rt;
+        line.as_str(),
+        "vsa: at work for 1:07, 46 MB, 812 nodes, 1034 turns, 12 units left"
+    );
+    let line = line_of(rt.alloc(), 5, None, 7, (0, 0))?;
+    assert_eq!(rt; line.as_str(), "vsa: at work for 0:05, 7 turns");
+    assert_eq!(rt;
+        megabytes_in("Name:\tvsa\nVmRSS:\t    2049 kB\nThreads:\t1\n"),
+        Some(3)
+    );
+    assert_eq!(rt; megabytes_in("VmRSS:\n"), None);
     Ok(())
 }
 

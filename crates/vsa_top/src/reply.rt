@@ -114,11 +114,11 @@ fn status_of_run(end: End) -> Status
 }
 
 /// The book of a program that one worker analyses.
-fn book_alone<C: Chip>(alloc: Global, chip: &C) -> Result<Book<C>, Memory>
+fn book_alone<C: Chip, G: Gate>(alloc: Global, chip: &C, gate: &G) -> Result<Book<C>, Memory>
     ensures base { IfOk result (λ book. book.base ≡ C.base chip.now) }
     ensures analysis { IfOk result (λ book. IsAnalysis (C.analysis book.base) 1 book.journal) }
 {
-    fixpoint_alone(alloc, chip)
+    fixpoint_alone(alloc, chip, gate)
 }
 
 /// The book of a program that so many workers analyse.
@@ -135,7 +135,7 @@ pub fn book_of<R: Threads + Wait + Sync, C: Chip<Base: Send> + Send + Sync, G: G
     ensures analysis { IfOk result (λ book. IsAnalysis (C.analysis book.base) workers book.journal) }
 {
     if workers == 1 {
-        return book_alone(alloc, chip);
+        return book_alone(alloc, chip, gate);
     }
     fixpoint(rt, alloc, chip, workers, gate)
 }

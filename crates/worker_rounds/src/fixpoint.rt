@@ -7,13 +7,25 @@ ghost use Rattle.round_core.specs.declared.event.Event.TheVariants.{Claim, Post}
 ghost use Rattle.worker_rounds.specs.Turns.{AreTurns};
 ghost use Rattle.call_context.specs.declared.node.Unit.{Unit as AUnit};
 
+use crate::gate::Gate;
 use chip_law::Chip;
 use no_memory::Memory;
 use round_core::{Book, Claimed, Done, turns_bring_home};
 use std::alloc::Global;
 
+/// Tells of the work that was posted last, and how large the book is by now.
+fn tell<C: Chip, G: Gate>(gate: &G, book: &Book<C>) {
+    gate.after(0);
+    gate.told(book.nodes().len(), book.candidates());
+}
+
 /// Claims a unit, works on it and posts the work. True says that the book is finished, and nothing was done.
-fn turn<C: Chip>(alloc: Global, chip: &C, book: &mut Book<C>) -> Result<bool, Memory>
+fn turn<C: Chip, G: Gate>(
+    alloc: Global,
+    chip: &C,
+    gate: &G,
+    book: &mut Book<C>,
+) -> Result<bool, Memory>
     requires chip { C.base chip.now ≡ book.old.base }
     requires none_out { (replay (C.analysis book.old.base) book.old.journal).out ≡ [] }
     ensures finished { IfOk result (λ finished. finished ≡ true → (book.new ≡ book.old) × IsFinished (replay (C.analysis book.old.base) book.old.journal)) }
@@ -23,9 +35,13 @@ fn turn<C: Chip>(alloc: Global, chip: &C, book: &mut Book<C>) -> Result<bool, Me
 {
     match book.claim(chip, 0)? {
         Claimed::Ticket(ticket) => {
+            gate.before(0);
             let work = chip.work(alloc, ticket.unit(), ticket.at(), ticket.exit())?;
             match book.post(chip, Done { ticket, work }) {
-                Ok(()) => Ok(false),
+                Ok(()) => {
+                    tell(gate, book);
+                    Ok(false)
+                }
                 Err((memory, _)) => Err(memory),
             }
         }
@@ -33,8 +49,12 @@ fn turn<C: Chip>(alloc: Global, chip: &C, book: &mut Book<C>) -> Result<bool, Me
     }
 }
 
-/// Claims, works and posts until the book is finished.
-pub fn fixpoint_alone<C: Chip>(alloc: Global, chip: &C) -> Result<Book<C>, Memory>
+/// Claims, works and posts until the book is finished. The gate is told of each turn, and nothing depends on it.
+pub fn fixpoint_alone<C: Chip, G: Gate>(
+    alloc: Global,
+    chip: &C,
+    gate: &G,
+) -> Result<Book<C>, Memory>
     ensures base { IfOk result (λ book. book.base ≡ C.base chip.now) }
     ensures legal { IfOk result (λ book. IsLegalJournal (C.analysis book.base) book.journal) }
     ensures finished { IfOk result (λ book. IsFinished (replay (C.analysis book.base) book.journal)) }
@@ -43,7 +63,7 @@ pub fn fixpoint_alone<C: Chip>(alloc: Global, chip: &C) -> Result<Book<C>, Memor
     turns_bring_home::<C>();
     let mut book = Book::open(alloc, chip)?;
     for _ in 0..u64::MAX {
-        if turn(alloc, chip, &mut book)? {
+        if turn(alloc, chip, gate, &mut book)? {
             // The journal of a book is legal by itself.
             book.journal();
             return Ok(book);

@@ -7,6 +7,10 @@ pub trait Gate {
 
     /// The work of this seat was posted.
     fn after(&self, seat: u32);
+
+    /// So many nodes are in the book, and at most so many units wait to be claimed. It is told where one worker is alone,
+    /// behind each of its posts.
+    fn told(&self, _nodes: usize, _waiting: usize) {}
 }
 
 /// A gate that looks away.
