@@ -87,7 +87,7 @@ gives_reply reading answered input before after journal (unreplied (inl fault) k
 gives_reply reading answered input before after journal (unreplied (inr memory) kept none) quiet room = absurd (room memory)
 
 -- Done is the status of a closed report, and Open that of another
-closed_is : (is_closed : Bool) → Done ≡ status_of_analysis is_closed → is_closed ≡ true
+pub closed_is : (is_closed : Bool) → Done ≡ status_of_analysis is_closed → is_closed ≡ true
 closed_is true e = refl
 closed_is false e = absurd (cc)
 
@@ -139,7 +139,7 @@ abbrev ShowMcs51 : Type 0
 ShowMcs51 = ShowSites IsMcs51Program mcs51_analysis
 
 -- what is known of texts
-abbrev HaveRules : Type 0
+abbrev pub HaveRules : Type 0
 HaveRules = (rules : Rules) (tail : Tail) (lines : List (List ℕ)) (image : List (Option ℕ)) → Denotes rules tail lines image → IsReadUnder rules image
 
 abbrev pub HaveOneImage : Type 0
@@ -147,7 +147,7 @@ HaveOneImage = (rules : Rules) (tail : Tail) (lines : List (List ℕ)) (image ot
     → Denotes rules tail lines image → Denotes rules tail lines other → image ≡ other
 
 -- the image of an answer is the one that the text denotes
-same_image : HaveOneImage → (rules : Rules) (input : Option (List ℕ)) (text : List ℕ) (image other : List (Option ℕ)) → input ≡ Some text
+pub same_image : HaveOneImage → (rules : Rules) (input : Option (List ℕ)) (text : List ℕ) (image other : List (Option ℕ)) → input ≡ Some text
     → Denotes rules Blank (texts.lines_of text) image → IfSome input (λ t. IsImageOf rules t other) → other ≡ image
 same_image one rules None text image other e denoted found = absurd (cc)
 same_image one rules (Some read) text image other e denoted found =
@@ -155,22 +155,22 @@ same_image one rules (Some read) text image other e denoted found =
     one rules Blank (texts.lines_of text) other image (subst (λ t. Denotes rules Blank (texts.lines_of t) other) same found.denoted) denoted
 
 -- the image that a text without a second one gives
-gives_image : (rules : Rules) (input second : Option (List ℕ)) (image : List (Option ℕ)) → InputGives rules Blank input second image
+pub gives_image : (rules : Rules) (input second : Option (List ℕ)) (image : List (Option ℕ)) → InputGives rules Blank input second image
     → IfSome input (λ t. IsImageOf rules t image)
 gives_image rules None second image gives = tt
 gives_image rules (Some text) second image gives = gives.2.0
 
 -- an image that is analysed was read under its rules, and the words bound its RAM and the call strings
-record IsGiven (target : Target) (limits : Limits) (image : List (Option ℕ)) : Type 0 where
+pub record IsGiven (target : Target) (limits : Limits) (image : List (Option ℕ)) : Type 0 where
   pub read : IsReadUnder (target_rules target) image
   pub ram : IsRamRange (target_rules target)
   pub top : EndsInMemory (target_rules target)
   pub calls : limits.calls ≤ 8
 
-is_msp430 : (ram : RamRange) (limits : Limits) (image : List (Option ℕ)) → IsGiven (Msp430 ram) limits image → IsMsp430Program (msp430_setting ram limits image)
+pub is_msp430 : (ram : RamRange) (limits : Limits) (image : List (Option ℕ)) → IsGiven (Msp430 ram) limits image → IsMsp430Program (msp430_setting ram limits image)
 is_msp430 ram limits image given = record { program = record { read = given.read; ram = given.ram; top = given.top }; calls = given.calls }
 
-is_mcs51 : (limits : Limits) (image : List (Option ℕ)) → IsGiven Mcs51 limits image → IsMcs51Program (mcs51_setting limits image)
+pub is_mcs51 : (limits : Limits) (image : List (Option ℕ)) → IsGiven Mcs51 limits image → IsMcs51Program (mcs51_setting limits image)
 is_mcs51 limits image given = record { program = given.read; calls = given.calls }
 
 covers_image : CoverMsp430 → CoverMcs51 → (target : Target) (limits : Limits) (workers : ℕ) (image : List (Option ℕ)) (report : List ℕ) (journal : List Event)

@@ -5,6 +5,7 @@ pub mod Headline
 pub mod Input
 pub mod Mcs51
 pub mod Msp430
+pub mod Own
 pub mod Scripts
 pub mod Settings
 pub mod Summary

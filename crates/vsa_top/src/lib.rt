@@ -11,6 +11,7 @@ mod made;
 mod mcs51;
 mod msp430;
 mod outcome;
+mod own;
 mod reply;
 mod script;
 mod second;

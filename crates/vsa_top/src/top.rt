@@ -1,6 +1,6 @@
 //! The top call.
 
-ghost use Rattle.std.specs.Prelude.{◌≡◌, ◌≢◌, [], ◌≤◌, ℕ, List, Option, Some, ◌⊎◌};
+ghost use Rattle.std.specs.Prelude.{◌≡◌, ◌≢◌, [], ◌≤◌, ℕ, List, Option, Some, true, length, ◌⊎◌};
 ghost use Rattle.vsa_io.specs.Stream.{HasRisen, AppendsPrefix, appended};
 ghost use Rattle.ihex_read.specs.declared.tail.Tail.TheVariants.{Second};
 ghost use Rattle.image.specs.Kept.{IsRamRange};
@@ -12,12 +12,15 @@ ghost use Rattle.vsa_words.specs.declared.reading.Task.{Task as ATask};
 ghost use Rattle.vsa_top.specs.Alone.{IsOneReply, TellsAnalysis, WorksAlone};
 ghost use Rattle.vsa_top.specs.Answer.{Analyses, Answers, AreRefused, Ends, IsCutShort, IsVerdictOn, IsWritten};
 ghost use Rattle.vsa_top.specs.Input.{Gives, input_of};
+ghost use Rattle.vsa_top.specs.Own.{IsOwn, TellsReport, WritesOwn};
+ghost use Rattle.vsa_top.specs.Scripts.{second_limit};
 ghost use Rattle.vsa_words.specs.Words.{IsBounded, Reads, rules_of, tail_of};
 
 use crate::alone::replies_are_one;
 use crate::headline::reports_hold;
 use crate::made::reply_to;
 use crate::outcome::{Outcome, Status};
+use crate::own::own_certificates_pass;
 use crate::reply::{NoReply, Reply};
 use round_core::Event;
 use std::alloc::Global;
@@ -105,6 +108,11 @@ pub fn vsa<R: Threads + Wait + Sync, S: Source, K: Sink, G: Gate + Sync>(
     // the chip with the input's image, whoever made the certificate.
     ensures certified { (task : ATask) → Reads words.now (Check task) → result.status ≡ Status.Done
         → CertifiesOn task.target (S.left source.old) (K.held sink.old) (K.held sink.new) }
+    // Where the words ask an analysis with a certificate, the input denotes an image and the status is Done, what was written is
+    // a report with its own certificate behind it: the report of a closed book, and the certificate of that book's table.
+    ensures own { (task : ATask) → Reads words.now (Analyse task) → task.cert ≡ true
+        → result.status ≡ Status.Done
+        → WritesOwn task (S.left source.old) (K.held sink.old) (K.held sink.new) }
     // Open is the status of an analysis alone: that of the input's image, with or without assertions, or that of a made
     // program.
     ensures open_alone { (reading : AReading) → Reads words.now reading → result.status ≡ Status.Open → Analyses reading }
@@ -136,6 +144,18 @@ pub fn vsa<R: Threads + Wait + Sync, S: Source, K: Sink, G: Gate + Sync>(
         → ¬ HasRisen (S.faults source.old) (S.faults source.new) → ¬ HasRisen (K.faults sink.old) (K.faults sink.new)
         → IsVerdictOn task image certificate result.status (K.held sink.old) (K.held sink.new) ⊎ (result.status ≡ Status.Memory) }
 
+    // Where an input gives an image and behind it a report's own certificate, as an analysis of this image under these limits
+    // writes it, the answer is Done with this very report, where no count of faults rose, or Memory.
+    ensures accepted { (task : ATask) (text report certificate : List ℕ) (image : List (Option ℕ))
+        → Reads words.now (Check task) → S.left source.old ≡ Some text
+        → Gives (rules_of (Check task)) Second text image certificate
+        → IsOwn task.target task.limits image report certificate
+        → length certificate ≤ second_limit
+        → ¬ HasRisen (S.faults source.old) (S.faults source.new)
+        → ¬ HasRisen (K.faults sink.old) (K.faults sink.new)
+        → TellsReport result.status (K.held sink.old) (K.held sink.new) report
+        ⊎ (result.status ≡ Status.Memory) }
+
     // Each made program's text gives an image, so its summary is told, or Memory.
     ensures made { (chip : AChip) (number : ℕ) → Reads words.now (Gen chip number)
         → ¬ HasRisen (S.faults source.old) (S.faults source.new) → ¬ HasRisen (K.faults sink.old) (K.faults sink.new)
@@ -160,6 +180,7 @@ pub fn vsa<R: Threads + Wait + Sync, S: Source, K: Sink, G: Gate + Sync>(
         Ok(Some(reading)) => {
             reports_hold();
             replies_are_one();
+            own_certificates_pass();
             answer(rt, alloc, reading, source, sink, gate)
         }
         Ok(None) => written(sink, b"USAGE\n", Status::Usage, Vec::new(alloc)),

@@ -83,6 +83,21 @@ returns-in-Ok-Some-clause-certified g c = λ task reads told.
     (subst (λ status. Answers (Check task) status input before after c.answer.result.journal.items) told
     (subst (λ r. Answers r c.answer.result.status input before after c.answer.result.journal.items) (sym same) c.answer.ensures.answer))
 
+pub returns-in-Ok-Some-clause-own : goal.returns-in-Ok-Some-clause-own
+returns-in-Ok-Some-clause-own g c = λ task reads asked told.
+    let words = c.args.words.now in
+    let reading = c.in-Ok-Some.reading in
+    let found = c.in-Ok-Some.field-0 in
+    let is = c.in-Ok-Some.field-0-is in
+    let input = g.S.Source.left c.args.source.now in
+    let before = g.K.Sink.held c.args.sink.now in
+    let after = g.K.Sink.held c.answer.new.sink in
+    let same : Analyse task ≡ reading =
+    some_of found reading (λ r. (other : Reading) → Reads words other → other ≡ r) is c.in-Ok-Some.ensures.alone (Analyse task) reads in
+    c.own_certificates_pass.ensures.written task input before after c.answer.result.journal.items asked
+    (subst (λ status. Answers (Analyse task) status input before after c.answer.result.journal.items) told
+    (subst (λ r. Answers r c.answer.result.status input before after c.answer.result.journal.items) (sym same) c.answer.ensures.answer))
+
 pub returns-in-Ok-Some-clause-open_alone : goal.returns-in-Ok-Some-clause-open_alone
 returns-in-Ok-Some-clause-open_alone g c = λ other reads told.
     let words = c.args.words.now in
@@ -191,6 +206,25 @@ returns-in-Ok-Some-clause-verdict g c = λ task text certificate image reads e g
     (subst (λ r. Answers r c.answer.result.status input before after c.answer.result.journal.items) (sym same) c.answer.ensures.answer) e gives
     (λ fault. quiet_source (c.answer.ensures.read_fault fault)) (λ fault. quiet_sink (c.answer.ensures.write_fault fault))
 
+pub returns-in-Ok-Some-clause-accepted : goal.returns-in-Ok-Some-clause-accepted
+returns-in-Ok-Some-clause-accepted g c = λ task text report certificate image reads e gives own fits quiet_source quiet_sink.
+    let words = c.args.words.now in
+    let reading = c.in-Ok-Some.reading in
+    let found = c.in-Ok-Some.field-0 in
+    let is = c.in-Ok-Some.field-0-is in
+    let input = g.S.Source.left c.args.source.now in
+    let before = g.K.Sink.held c.args.sink.now in
+    let after = g.K.Sink.held c.answer.new.sink in
+    let same : Check task ≡ reading =
+    some_of found reading (λ r. (other : Reading) → Reads words other → other ≡ r) is c.in-Ok-Some.ensures.alone (Check task) reads in
+    let range = some_of found reading (λ r. IsRamRange (rules_of r)) is c.in-Ok-Some.ensures.range in
+    let end = some_of found reading (λ r. EndsInMemory (rules_of r)) is c.in-Ok-Some.ensures.end in
+    let bounded = some_of found reading IsBounded is c.in-Ok-Some.ensures.bounded in
+    c.own_certificates_pass.ensures.accepted task c.answer.result.status input before after c.answer.result.journal.items text report certificate image
+    (subst (λ r. IsRamRange (rules_of r)) (sym same) range) (subst (λ r. EndsInMemory (rules_of r)) (sym same) end) (subst IsBounded (sym same) bounded)
+    (subst (λ r. Answers r c.answer.result.status input before after c.answer.result.journal.items) (sym same) c.answer.ensures.answer) e gives own fits
+    (λ fault. quiet_source (c.answer.ensures.read_fault fault)) (λ fault. quiet_sink (c.answer.ensures.write_fault fault))
+
 pub returns-in-Ok-None-clause-answer : goal.returns-in-Ok-None-clause-answer
 returns-in-Ok-None-clause-answer g c = λ reading reads.
     absurd (none_of c.in-Ok-None.field-0 ((r : Reading) → Reads c.args.words.now r → ⊥) c.in-Ok-None.field-0-is c.in-Ok-None.ensures.none reading reads)
@@ -201,6 +235,10 @@ returns-in-Ok-None-clause-complete g c = λ reading text image second reads.
 
 pub returns-in-Ok-None-clause-verdict : goal.returns-in-Ok-None-clause-verdict
 returns-in-Ok-None-clause-verdict g c = λ task text certificate image reads.
+    absurd (none_of c.in-Ok-None.field-0 ((r : Reading) → Reads c.args.words.now r → ⊥) c.in-Ok-None.field-0-is c.in-Ok-None.ensures.none (Check task) reads)
+
+pub returns-in-Ok-None-clause-accepted : goal.returns-in-Ok-None-clause-accepted
+returns-in-Ok-None-clause-accepted g c = λ task text report certificate image reads.
     absurd (none_of c.in-Ok-None.field-0 ((r : Reading) → Reads c.args.words.now r → ⊥) c.in-Ok-None.field-0-is c.in-Ok-None.ensures.none (Check task) reads)
 
 pub returns-in-Ok-None-clause-made : goal.returns-in-Ok-None-clause-made

@@ -1,0 +1,51 @@
+//! That the certificate which an analysis writes behind its report passes its check.
+
+ghost use Rattle.std.specs.Prelude.{◌≡◌, ◌≤◌, ℕ, Option, Some, List, length, true, ◌⊎◌};
+ghost use Rattle.image.specs.Kept.{IsRamRange};
+ghost use Rattle.ihex_read.specs.declared.tail.Tail.TheVariants.{Second};
+ghost use Rattle.round_core.specs.declared.event.Event.{Event as AnEvent};
+ghost use Rattle.vsa_top.specs.Answer.{Answers};
+ghost use Rattle.vsa_top.specs.Input.{Gives};
+ghost use Rattle.vsa_top.specs.Own.{IsOwn, TellsReport, WritesOwn};
+ghost use Rattle.vsa_top.specs.Scripts.{second_limit};
+ghost use Rattle.vsa_words.specs.Words.{EndsInMemory, IsBounded, rules_of};
+ghost use Rattle.vsa_top.specs.declared.outcome.Status.TheVariants.{Done, Memory, ReadFault, WriteFault};
+ghost use Rattle.vsa_top.specs.declared.outcome.Status.{Status as AStatus};
+ghost use Rattle.vsa_words.specs.declared.reading.Reading.TheVariants.{Analyse, Check};
+ghost use Rattle.vsa_words.specs.declared.reading.Task.{Task as ATask};
+
+use crate::headline::reports_hold;
+use cert_verdict::{own_certificates_are_closed, verdicts_are_one};
+use ihex_read::{image_or_fault, images_keep_rules};
+use mcs51_flow::{Mcs51Chip, stacks_grow_by_bytes};
+use msp430_flow::{Msp430Chip, stacks_grow_by_words};
+use report_text::closed_books_are_told;
+
+/// What an analysis writes with a certificate and Done is a report and its own certificate behind it. Where a report's own
+/// certificate is checked, and isn't longer than a second text may be, the answer is this report with Done, unless something
+/// fails or memory isn't there.
+pub(crate) fn own_certificates_pass()
+    ensures written { (task : ATask) (input before after : Option (List ℕ)) (journal : List AnEvent)
+        → task.cert ≡ true → Answers (Analyse task) Done input before after journal
+        → WritesOwn task input before after }
+    ensures accepted { (task : ATask) (answered : AStatus) (input before after : Option (List ℕ))
+        (journal : List AnEvent) (text report certificate : List ℕ) (image : List (Option ℕ))
+        → IsRamRange (rules_of (Check task)) → EndsInMemory (rules_of (Check task))
+        → IsBounded (Check task) → Answers (Check task) answered input before after journal
+        → input ≡ Some text → Gives (rules_of (Check task)) Second text image certificate
+        → IsOwn task.target task.limits image report certificate
+        → length certificate ≤ second_limit → ¬ (answered ≡ ReadFault) → ¬ (answered ≡ WriteFault)
+        → TellsReport answered before after report ⊎ (answered ≡ Memory) }
+{
+    reports_hold();
+    image_or_fault();
+    images_keep_rules();
+    stacks_grow_by_words();
+    stacks_grow_by_bytes();
+    closed_books_are_told::<Msp430Chip>();
+    closed_books_are_told::<Mcs51Chip>();
+    own_certificates_are_closed::<Msp430Chip>();
+    own_certificates_are_closed::<Mcs51Chip>();
+    verdicts_are_one::<Msp430Chip>();
+    verdicts_are_one::<Mcs51Chip>();
+}
