@@ -2,7 +2,6 @@ use Rattle.std.proofs.Common.{◌≡◌, ◌∙◌, ap, subst, sym, OnOk, Option
 use Rattle.call_context.specs.declared.node.Frame.{Frame}
 use Rattle.call_context.specs.declared.node.Unit.TheVariants as unit
 use Rattle.round_core.specs.declared.place.Place.TheVariants.{One}
-use Rattle.round_core.specs.declared.versions.Versions.{Versions}
 use Rattle.round_core.specs.Agenda.{IsIn, places_in}
 use Rattle.round_core.specs.Expected.{ExpectsUnit}
 use Rattle.round_core.specs.Machine.{Held, HasRisen, versions_of}

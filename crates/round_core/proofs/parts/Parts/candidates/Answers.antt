@@ -1,4 +1,4 @@
-use Rattle.std.specs.Prelude.{◌≡◌, is_some, length}
+use Rattle.std.specs.Prelude.{is_some, length}
 use Rattle.std.proofs.Common.{arith, ap}
 use Rattle.std.proofs.lemmas.List.Sums.{count_by-le-length}
 use Rattle.round_core.specs.Shown.{found_at, is_new_return}

@@ -1,5 +1,5 @@
-use Rattle.std.specs.Prelude.{vec_len, vec_capacity}
-use Rattle.std.proofs.Common.{◌≡◌, ◌∙◌, ◌+◌, ◌≤◌, ap, sym, subst, rules, arith, length, length-append, List, ◌++◌, ◌∷◌, [], None}
+use Rattle.std.specs.Prelude.{vec_len}
+use Rattle.std.proofs.Common.{◌≡◌, ◌∙◌, ap, sym, subst, rules, arith, length, length-append, List, ◌++◌, ◌∷◌, [], None}
 use Rattle.std.proofs.Math.Path.{ap₂}
 use Rattle.round_core.specs.Turns.{place_out, Standing, StandOnce}
 use Rattle.round_core.specs.declared.event.Event.{Event}
