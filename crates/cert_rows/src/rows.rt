@@ -11,7 +11,7 @@ use std::alloc::{AllocError, Global};
 use std::process::Abort;
 use std::test::Fail;
 use vsa_io::CleanSink;
-use worker_rounds::{NoGate, fixpoint_alone};
+use worker_rounds::fixpoint_alone;
 
 /// The closed table that the analysis finds.
 const CLOSED: &str = "CERT 1\nN 0000::base 0002\nN 0001::base 0001\nN 0002::base 0000\nEND\n";
@@ -283,7 +283,7 @@ fn open_sites(rt: HostRuntime) -> Result<(), Fail> {
 #[test]
 fn own_certificate(rt: HostRuntime) -> Result<(), Fail> {
     let alloc = rt.alloc();
-    let book = fixpoint_alone(alloc, &Countdown, &NoGate)?;
+    let book = fixpoint_alone(alloc, &Countdown)?;
     let mut sink = CleanSink::with_room(alloc, 7, 100)?;
     let Ok(()) = write(alloc, &Countdown, &book, &mut sink) else {
         panic!(rt; "not written");

@@ -37,7 +37,7 @@ use std::thread::Threads;
 use vsa_io::Source;
 use vsa_words::{Reading, Target, Task};
 use worker_crew::fixpoint;
-use worker_rounds::{Gate, fixpoint_alone};
+use worker_rounds::{Gate, watched_fixpoint};
 
 /// A status with its text, and the events whose replay gives the book of which the text is the report, if it is one.
 #[derive(Drop)]
@@ -118,7 +118,7 @@ fn book_alone<C: Chip, G: Gate>(alloc: Global, chip: &C, gate: &G) -> Result<Boo
     ensures base { IfOk result (λ book. book.base ≡ C.base chip.now) }
     ensures analysis { IfOk result (λ book. IsAnalysis (C.analysis book.base) 1 book.journal) }
 {
-    fixpoint_alone(alloc, chip, gate)
+    watched_fixpoint(alloc, chip, gate)
 }
 
 /// The book of a program that so many workers analyse.

@@ -7,7 +7,7 @@ ghost use Rattle.round_core.specs.declared.event.Event.TheVariants.{Claim, Post}
 ghost use Rattle.worker_rounds.specs.Turns.{AreTurns};
 ghost use Rattle.call_context.specs.declared.node.Unit.{Unit as AUnit};
 
-use crate::gate::Gate;
+use crate::gate::{Gate, NoGate};
 use chip_law::Chip;
 use no_memory::Memory;
 use round_core::{Book, Claimed, Done, turns_bring_home};
@@ -49,8 +49,18 @@ fn turn<C: Chip, G: Gate>(
     }
 }
 
-/// Claims, works and posts until the book is finished. The gate is told of each turn, and nothing depends on it.
-pub fn fixpoint_alone<C: Chip, G: Gate>(
+/// Claims, works and posts until the book is finished.
+pub fn fixpoint_alone<C: Chip>(alloc: Global, chip: &C) -> Result<Book<C>, Memory>
+    ensures base { IfOk result (λ book. book.base ≡ C.base chip.now) }
+    ensures legal { IfOk result (λ book. IsLegalJournal (C.analysis book.base) book.journal) }
+    ensures finished { IfOk result (λ book. IsFinished (replay (C.analysis book.base) book.journal)) }
+    ensures turns { IfOk result (λ book. AreTurns book.journal) }
+{
+    watched_fixpoint(alloc, chip, &NoGate)
+}
+
+/// The same, with a gate that is told of each turn. Nothing depends on it.
+pub fn watched_fixpoint<C: Chip, G: Gate>(
     alloc: Global,
     chip: &C,
     gate: &G,

@@ -7,6 +7,6 @@ use Rattle.vsa_top.proofs.reply.book_alone.Goals as goal
 pub returns-clause-analysis : goal.returns-clause-analysis
 returns-clause-analysis g c =
     let m = g.C.Chip.analysis in
-    if_all c.fixpoint_alone.result (λ b. IsLegalJournal (m b.base) b.journal) (λ b. IsFinished (replay (m b.base) b.journal)) (λ b. AreTurns b.journal)
+    if_all c.watched_fixpoint.result (λ b. IsLegalJournal (m b.base) b.journal) (λ b. IsFinished (replay (m b.base) b.journal)) (λ b. AreTurns b.journal)
     (λ b. IsAnalysis (m b.base) 1 b.journal) (λ b. alone_is (m b.base) b.journal)
-    c.fixpoint_alone.ensures.legal c.fixpoint_alone.ensures.finished c.fixpoint_alone.ensures.turns
+    c.watched_fixpoint.ensures.legal c.watched_fixpoint.ensures.finished c.watched_fixpoint.ensures.turns

@@ -1,7 +1,7 @@
 use Rattle.std.proofs.Common.{◌≡◌, refl, sym, subst}
 use Rattle.round_core.specs.Kept.{Kept}
 use Rattle.worker_rounds.proofs.TurnLemmas.{IsBetweenTurns, behind_turn}
-use Rattle.worker_rounds.proofs.fixpoint.fixpoint_alone.Goals as goal
+use Rattle.worker_rounds.proofs.fixpoint.watched_fixpoint.Goals as goal
 
 pub loop-init : goal.loop-init
 loop-init g c =
