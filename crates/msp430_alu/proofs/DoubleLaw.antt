@@ -178,7 +178,7 @@ result_related laws first device ram registers pc len done Words origin target o
 -- THE LAW
 
 -- the flags behind a write
-pub flags_put : (laws : Premises) (device : Device) (framed : Bool) (a : Known) (first : Option ChipState) (next : Form) (left : Left) (made_set : MadeSet) (made_so : Made) (width : Width) → IsKnown device.lo device.hi framed a
+pub flags_put : (laws : Premises) (device : Device) (framed : Bool) (a : Known) (first : Option ChipState) (next : Form) (left : Left) (made_set : MadeSet) (made_so : Made) (width : Width) → IsKnown device.ram.lo device.ram.hi framed a
     → HoldsOfMade width made_set made_so → IsPut laws device a first next left → IsLeft device (with_flag_bits a made_set.1) first next (with_status made_so.1 left)
 flags_put laws device framed a first next left made_set made_so width form made_is put = record {
   next_is = subst (IsResult 65536 next) (sym (get_or-set_other left.registers 2 0 (with_made_flags (get_or left.registers 2 0) made_so.1) 0 (λ e. omega (arith, e)))) put.next_is;

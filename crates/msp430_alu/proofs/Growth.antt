@@ -37,7 +37,7 @@ pub state_are : (device : Device) (s : ChipState) → IsChipState device s → A
 state_are device s is = record { count = is.registers; words = is.words; even_sp = is.even_sp; status = is.status; nothing = is.nothing }
 
 -- PC counts so
-pub on_the_way : (device : Device) (framed : Bool) (a : Known) (counted_so : Form) (first : Option ChipState) (s : ChipState) (counted : ℕ) → IsKnown device.lo device.hi framed a → HoldsOf device a s first
+pub on_the_way : (device : Device) (framed : Bool) (a : Known) (counted_so : Form) (first : Option ChipState) (s : ChipState) (counted : ℕ) → IsKnown device.ram.lo device.ram.hi framed a → HoldsOf device a s first
     → counted < 65536 → IsResult 65536 counted_so counted → IsOnTheWay device framed a counted_so first (set s.registers 0 counted) s.ram
 on_the_way device framed a counted_so first s counted form holds small is =
     let are = state_are device s holds.state in
@@ -86,7 +86,7 @@ grown_on laws device framed a counted first registers ram on kinds width (source
     let word : Word = record { set = add 65536 (register_word a counted register).set (single more); entry = None } in
     let held : IsHeld (option_map suspended_of first) word value = record { normal = sum.normal; holds = (sum.has, tt) } in
     record {
-      form = register_form laws device.lo device.hi framed a register word kind (record { normal = sum.normal; entry = no_relation framed }) on.form;
+      form = register_form laws device.ram.lo device.ram.hi framed a register word kind (record { normal = sum.normal; entry = no_relation framed }) on.form;
       are = written_are registers register value small kind on.are;
       counts = subst (IsResult 65536 counted) (sym (pointer_pc registers register value is kind)) on.counts;
       parts = register_put laws device framed a first registers ram register word value on.form on.are (pointer_no_status register is kind) kind held on.parts;

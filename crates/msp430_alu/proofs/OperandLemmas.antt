@@ -68,7 +68,7 @@ word_normal laws lo hi framed a form register = elim (cases_lt (register - 4) (l
 
 -- registers on the way through an instruction, in which PC counts so
 pub record IsOnTheWay (device : Device) (framed : Bool) (a : Known) (counted : Form) (first : Option ChipState) (registers ram : List ℕ) : Type 0 where
-  pub form : IsKnown device.lo device.hi framed a
+  pub form : IsKnown device.ram.lo device.ram.hi framed a
   pub are : AreRegisters registers
   pub counts : IsResult 65536 counted (get_or registers 0 0)
   pub parts : HoldsOfParts device a first registers ram
@@ -103,7 +103,7 @@ register_held laws device framed a counted first registers ram on register bits 
     let same : value ≡ value + 512 * bits = omega (arith, zero_bits) in
     subst (λ word. IsHeld (option_map suspended_of first) word (value + 512 * bits)) (sym (general_word a counted register is.above))
     (record {
-      normal = word_normal laws device.lo device.hi framed a on.form (number register);
+      normal = word_normal laws device.ram.lo device.ram.hi framed a on.form (number register);
       holds = subst (HoldsOfWord (option_map suspended_of first) (word_of a (number register))) same (on.parts.words (number register) is.above is.below);
     })
 

@@ -50,7 +50,7 @@ sp_seen : (laws : Premises) (device : Device) (framed : Bool) (a : Known) (count
 sp_seen laws device framed a counted first registers ram set_so on is =
     let same : even (get_or registers 1 0) ≡ get_or registers 1 0 = omega (arith, on.are.even_sp) in
     record {
-      form = sp_form laws device.lo device.hi framed a set_so is.normal on.form;
+      form = sp_form laws device.ram.lo device.ram.hi framed a set_so is.normal on.form;
       are = on.are;
       counts = on.counts;
       parts = record {
@@ -69,7 +69,7 @@ sp_set : (laws : Premises) (device : Device) (framed : Bool) (a : Known) (counte
 sp_set laws device framed a counted first registers ram set_so value on is same =
     let small = laws.known.sets.below 65536 value set_so is.normal is.has in
     record {
-      form = sp_form laws device.lo device.hi framed a set_so is.normal on.form;
+      form = sp_form laws device.ram.lo device.ram.hi framed a set_so is.normal on.form;
       are = subst (λ v. AreRegisters (set registers 1 v)) same (sp_are registers value small on.are);
       counts = subst (IsResult 65536 counted) (sym (get_or-set_other registers 1 0 value 0 (λ e. omega (arith, e)))) on.counts;
       parts = subst (λ v. HoldsOfParts device (with_sp a set_so) first (set registers 1 v) ram) same

@@ -113,7 +113,7 @@ pub record IsWritten (first : Option Suspended) (width : Width) (word : Word) (v
   pub held : IsHeld first word value
   pub byte : size_of width ≡ 1 → (n : ℕ) → Has 65536 word.set n → n < 256
 
-pub register_put : (laws : Premises) (device : Device) (framed : Bool) (a : Known) (first : Option ChipState) (registers ram : List ℕ) (register : Register) (word : Word) (value : ℕ) → IsKnown device.lo device.hi framed a
+pub register_put : (laws : Premises) (device : Device) (framed : Bool) (a : Known) (first : Option ChipState) (registers ram : List ℕ) (register : Register) (word : Word) (value : ℕ) → IsKnown device.ram.lo device.ram.hi framed a
     → AreRegisters registers → is_status (place.InRegister register) ≡ false → Kind register → IsHeld (option_map suspended_of first) word value
     → HoldsOfParts device a first registers ram → HoldsOfParts device (put_register a register word) first (with_register registers register value) ram
 register_put laws device framed a first registers ram register word value form are no_status (Counter e) held holds =
@@ -175,7 +175,7 @@ register_next laws first registers register word value behind_so are pc small (G
 pub record IsReady (device : Device) (framed : Bool) (a : Known) (first : Option ChipState) (registers ram : List ℕ) (behind_so : ℕ) : Type 0 where
   pub device_so : IsDevice device
   pub base : framed ≡ false → first ≡ None
-  pub form : IsKnown device.lo device.hi framed a
+  pub form : IsKnown device.ram.lo device.ram.hi framed a
   pub are : AreRegisters registers
   pub ram_is : IsRam device ram
   pub pc : get_or registers 0 0 ≡ behind_so

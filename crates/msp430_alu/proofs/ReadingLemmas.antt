@@ -62,26 +62,26 @@ byte_small device is at byte e = elim (cases_Bool (nat_le (length device.image) 
 both_in_ram : (device : Device) → IsDevice device → (at : ℕ) → at % 2 ≡ 0 → is_ram device (at + 1) ≡ is_ram device at
 both_in_ram device is at no_bit = elim (cases_Bool (is_ram device at)) [
   | inl inside ↦
-      let ends = and_parts (nat_le device.lo at) (nat_le at device.hi) inside in
-      let low : device.lo ≤ at = leb-true device.lo at ends.0 in
-      let high : at ≤ device.hi = leb-true at device.hi ends.1 in
-      let above : at + 1 ≤ device.hi = omega (arith, is.ram.high, no_bit) in
-      and_from (nat_le device.lo (at + 1)) (nat_le (at + 1) device.hi) (le-leb device.lo (at + 1) (omega arith)) (le-leb (at + 1) device.hi above) ∙ sym inside
+      let ends = and_parts (nat_le device.ram.lo at) (nat_le at device.ram.hi) inside in
+      let low : device.ram.lo ≤ at = leb-true device.ram.lo at ends.0 in
+      let high : at ≤ device.ram.hi = leb-true at device.ram.hi ends.1 in
+      let above : at + 1 ≤ device.ram.hi = omega (arith, is.ram.high, no_bit) in
+      and_from (nat_le device.ram.lo (at + 1)) (nat_le (at + 1) device.ram.hi) (le-leb device.ram.lo (at + 1) (omega arith)) (le-leb (at + 1) device.ram.hi above) ∙ sym inside
   | inr outside ↦ elim (cases_Bool (is_ram device (at + 1))) [
     | inr other ↦ other ∙ sym outside
     | inl inside ↦
-        let ends = and_parts (nat_le device.lo (at + 1)) (nat_le (at + 1) device.hi) inside in
-        let low : device.lo ≤ at + 1 = leb-true device.lo (at + 1) ends.0 in
-        let high : at + 1 ≤ device.hi = leb-true (at + 1) device.hi ends.1 in
-        let below : device.lo ≤ at = omega (arith, is.ram.low, no_bit) in
-        let there : is_ram device at ≡ true = and_from (nat_le device.lo at) (nat_le at device.hi) (le-leb device.lo at below) (le-leb at device.hi (omega arith)) in
+        let ends = and_parts (nat_le device.ram.lo (at + 1)) (nat_le (at + 1) device.ram.hi) inside in
+        let low : device.ram.lo ≤ at + 1 = leb-true device.ram.lo (at + 1) ends.0 in
+        let high : at + 1 ≤ device.ram.hi = leb-true (at + 1) device.ram.hi ends.1 in
+        let below : device.ram.lo ≤ at = omega (arith, is.ram.low, no_bit) in
+        let there : is_ram device at ≡ true = and_from (nat_le device.ram.lo at) (nat_le at device.ram.hi) (le-leb device.ram.lo at below) (le-leb at device.ram.hi (omega arith)) in
         absurd (cc)
   ]
 ]
 
 -- a byte that is read: of RAM, or of no RAM by what the program has
 byte_of_ram : (device : Device) (ram : List ℕ) (at byte : ℕ) → is_ram device at ≡ true → MayReadByte device ram at byte → byte ≡ ram_byte device ram at
-byte_of_ram device ram at byte inside (OfRam there is) = is ∙ sym (cond-true (is_ram device at) (get_or ram (at - device.lo) 0) 0 inside)
+byte_of_ram device ram at byte inside (OfRam there is) = is ∙ sym (cond-true (is_ram device at) (get_or ram (at - device.ram.lo) 0) 0 inside)
 byte_of_ram device ram at byte inside (OfProgram outside is) = absurd (cc)
 byte_of_ram device ram at byte inside (OfNeither outside is small) = absurd (cc)
 
@@ -103,7 +103,7 @@ read_small device is ram small at byte (OfNeither outside e few) = few
 
 pub record IsMemory (device : Device) (a : Known) (first : Option Suspended) (ram : List ℕ) : Type 0 where
   pub device_so : IsDevice device
-  pub cells : AreCells device.lo device.hi device.lo a.cells.cells
+  pub cells : AreCells device.ram.lo device.ram.hi device.ram.lo a.cells.cells
   pub stands : StandsUnder first a.cells.cells (ram_byte device ram)
 
 byte_image_held : (laws : Premises) (first : Option Suspended) (byte : ℕ) (found : Option ℕ) → byte < 256 → (found ≡ Some byte) ⊎ (found ≡ None) → IsHeld first (byte_by found) byte
@@ -136,9 +136,9 @@ one_held laws device a first ram memory Byte address x below reads =
       | inl inside ↦
           let is = byte_of_ram device ram at x inside reads in
           let held : IsHeld first (read a.cells.cells at 1) x = record {
-            normal = laws.known.cells.read_normal device.lo device.hi device.lo at 1 a.cells.cells memory.cells;
+            normal = laws.known.cells.read_normal device.ram.lo device.ram.hi device.ram.lo at 1 a.cells.cells memory.cells;
             holds = subst (HoldsOfWord first (read a.cells.cells at 1)) (sym is)
-                (laws.known.cells.reads first (ram_byte device ram) device.lo device.hi device.lo at 1 a.cells.cells memory.cells (omega (arith, fits)) (inl refl) memory.stands);
+                (laws.known.cells.reads first (ram_byte device ram) device.ram.lo device.ram.hi device.ram.lo at 1 a.cells.cells memory.cells (omega (arith, fits)) (inl refl) memory.stands);
           } in
           subst (λ word. IsHeld first word x) (sym (cond-true (is_ram device at) (read a.cells.cells at 1) (program_word device Byte at) inside)) held
       | inr outside ↦
@@ -163,9 +163,9 @@ one_held laws device a first ram memory Words address x below reads =
           ap (λ n. ram_byte device ram at + 256 * ram_byte device ram n) next
           ∙ omega (arith, first_byte, second_byte, reads.word_is) in
           let held : IsHeld first (read a.cells.cells at 2) x = record {
-            normal = laws.known.cells.read_normal device.lo device.hi device.lo at 2 a.cells.cells memory.cells;
+            normal = laws.known.cells.read_normal device.ram.lo device.ram.hi device.ram.lo at 2 a.cells.cells memory.cells;
             holds = subst (HoldsOfWord first (read a.cells.cells at 2)) is
-                (laws.known.cells.reads first (ram_byte device ram) device.lo device.hi device.lo at 2 a.cells.cells memory.cells (omega (arith, small)) (inr refl) memory.stands);
+                (laws.known.cells.reads first (ram_byte device ram) device.ram.lo device.ram.hi device.ram.lo at 2 a.cells.cells memory.cells (omega (arith, small)) (inr refl) memory.stands);
           } in
           subst (λ word. IsHeld first word x) (sym (cond-true (is_ram device at) (read a.cells.cells at 2) (program_word device Words at) inside)) held
       | inr outside ↦
@@ -193,19 +193,19 @@ image_normal : (laws : Premises) (device : Device) → IsDevice device → (widt
 image_normal laws device is Words at = word_normal laws (byte_at device.image at) (byte_at device.image (at + 1)) (byte_small device is at) (byte_small device is (at + 1))
 image_normal laws device is Byte at = byte_normal laws (byte_at device.image at) (byte_small device is at)
 
-one_normal : (laws : Premises) (device : Device) (a : Known) → IsDevice device → AreCells device.lo device.hi device.lo a.cells.cells → (width : Width) (at : ℕ) → IsNormal 65536 (read_one device a width at).set
+one_normal : (laws : Premises) (device : Device) (a : Known) → IsDevice device → AreCells device.ram.lo device.ram.hi device.ram.lo a.cells.cells → (width : Width) (at : ℕ) → IsNormal 65536 (read_one device a width at).set
 one_normal laws device a is cells width at =
     cond_both (is_ram device at) (read a.cells.cells at (size_of width)) (program_word device width at) (λ word. IsNormal 65536 word.set)
-    (λ e. laws.known.cells.read_normal device.lo device.hi device.lo at (size_of width) a.cells.cells cells)
+    (λ e. laws.known.cells.read_normal device.ram.lo device.ram.hi device.ram.lo at (size_of width) a.cells.cells cells)
     (λ e. image_normal laws device is width at)
 
-each_normal : (laws : Premises) (device : Device) (a : Known) → IsDevice device → AreCells device.lo device.hi device.lo a.cells.cells → (width : Width) (set : Form) (list : List ℕ) → IsNormal 65536 set
+each_normal : (laws : Premises) (device : Device) (a : Known) → IsDevice device → AreCells device.ram.lo device.ram.hi device.ram.lo a.cells.cells → (width : Width) (set : Form) (list : List ℕ) → IsNormal 65536 set
     → IsNormal 65536 (read_each device a width set list)
 each_normal laws device a is cells width set [] normal = normal
 each_normal laws device a is cells width set (at ∷ rest) normal =
     each_normal laws device a is cells width (join 65536 set (read_one device a width at).set) rest (laws.known.sets.join_normal 65536 set (read_one device a width at).set normal (one_normal laws device a is cells width at))
 
-each_keeps : (laws : Premises) (device : Device) (a : Known) → IsDevice device → AreCells device.lo device.hi device.lo a.cells.cells → (width : Width) (set : Form) (list : List ℕ) (v : ℕ) → IsNormal 65536 set
+each_keeps : (laws : Premises) (device : Device) (a : Known) → IsDevice device → AreCells device.ram.lo device.ram.hi device.ram.lo a.cells.cells → (width : Width) (set : Form) (list : List ℕ) (v : ℕ) → IsNormal 65536 set
     → Has 65536 set v → Has 65536 (read_each device a width set list) v
 each_keeps laws device a is cells width set [] v normal has = has
 each_keeps laws device a is cells width set (at ∷ rest) v normal has =
@@ -213,7 +213,7 @@ each_keeps laws device a is cells width set (at ∷ rest) v normal has =
     let next_normal = one_normal laws device a is cells width at in
     each_keeps laws device a is cells width (join 65536 set next) rest v (laws.known.sets.join_normal 65536 set next normal next_normal) (laws.known.sets.join_first 65536 set next normal next_normal v has)
 
-each_has : (laws : Premises) (device : Device) (a : Known) → IsDevice device → AreCells device.lo device.hi device.lo a.cells.cells → (width : Width) (set : Form) (list : List ℕ) (at v : ℕ) → IsNormal 65536 set
+each_has : (laws : Premises) (device : Device) (a : Known) → IsDevice device → AreCells device.ram.lo device.ram.hi device.ram.lo a.cells.cells → (width : Width) (set : Form) (list : List ℕ) (at v : ℕ) → IsNormal 65536 set
     → Contains list at → Has 65536 (read_one device a width at).set v → Has 65536 (read_each device a width set list) v
 each_has laws device a is cells width set [] at v normal there has = absurd (in_none at there)
 each_has laws device a is cells width set (first ∷ rest) at v normal there has =
@@ -230,7 +230,7 @@ unknown_held : (laws : Premises) (first : Option Suspended) (width : Width) (v :
 unknown_held laws first Words v small = unknown_word laws first v small
 unknown_held laws first Byte v small = unknown_byte laws first v small
 
-pub list_held : (laws : Premises) (device : Device) (a : Known) (first : Option Suspended) → IsDevice device → AreCells device.lo device.hi device.lo a.cells.cells → (width : Width) (list : List ℕ) (at v : ℕ)
+pub list_held : (laws : Premises) (device : Device) (a : Known) (first : Option Suspended) → IsDevice device → AreCells device.ram.lo device.ram.hi device.ram.lo a.cells.cells → (width : Width) (list : List ℕ) (at v : ℕ)
     → v < modulus width → Contains list at → IsHeld first (read_one device a width at) v → IsHeld first (read_list device a width list) v
 list_held laws device a first is cells width [] at v small there held = absurd (in_none at there)
 list_held laws device a first is cells width (only ∷ []) at v small there held = elim (in_cons only [] at there) [
@@ -253,14 +253,14 @@ list_held laws device a first is cells width (one ∷ next ∷ rest) at v small 
     })
     (λ many. unknown_held laws first width v small)
 
-list_normal : (laws : Premises) (device : Device) (a : Known) → IsDevice device → AreCells device.lo device.hi device.lo a.cells.cells → (width : Width) (list : List ℕ) → IsNormal 65536 (read_list device a width list).set
+list_normal : (laws : Premises) (device : Device) (a : Known) → IsDevice device → AreCells device.ram.lo device.ram.hi device.ram.lo a.cells.cells → (width : Width) (list : List ℕ) → IsNormal 65536 (read_list device a width list).set
 list_normal laws device a is cells width [] = unknown_normal laws width
 list_normal laws device a is cells width (only ∷ []) = one_normal laws device a is cells width only
 list_normal laws device a is cells width (one ∷ next ∷ rest) =
     cond_both (nat_le (length rest) 254) (record { set = read_each device a width (read_one device a width one).set (next ∷ rest); entry = None }) (unknown (size_of width)) (λ word. IsNormal 65536 word.set)
     (λ few. each_normal laws device a is cells width (read_one device a width one).set (next ∷ rest) (one_normal laws device a is cells width one)) (λ many. unknown_normal laws width)
 
-pub read_known_normal : (laws : Premises) (device : Device) (a : Known) → IsDevice device → AreCells device.lo device.hi device.lo a.cells.cells → (width : Width) (set : Form) → IsNormal 65536 (read_known device a width set).set
+pub read_known_normal : (laws : Premises) (device : Device) (a : Known) → IsDevice device → AreCells device.ram.lo device.ram.hi device.ram.lo a.cells.cells → (width : Width) (set : Form) → IsNormal 65536 (read_known device a width set).set
 read_known_normal laws device a is cells width set = list_normal laws device a is cells width (members 65536 set)
 
 pub read_below : (device : Device) → IsDevice device → (ram : List ℕ) → ((at : ℕ) → ram_byte device ram at < 256) → (width : Width) (address x : ℕ) → MayRead device ram width address x → x < modulus width

@@ -209,24 +209,24 @@ any_cell_form framed map at width word some even_so is forms c h =
     (λ e there. one_form framed map place size word stored forms c there)
     (λ e there. several_form framed at size word map.cells forms c there) h
 
-store_touched : (laws : Premises) (device : Device) (framed : Bool) (width : Width) (at : Form) (touched : List (ℕ × ℕ)) → device.lo ≤ device.hi → AreRanges device.lo device.hi touched
-    → AreRanges device.lo device.hi (if framed then touched_behind device.lo device.hi (size_of width) at touched else touched)
-store_touched laws device true width at touched le are = (behind_grows laws device.lo device.hi (size_of width) at touched le (some_size width) are).form
+store_touched : (laws : Premises) (device : Device) (framed : Bool) (width : Width) (at : Form) (touched : List (ℕ × ℕ)) → device.ram.lo ≤ device.ram.hi → AreRanges device.ram.lo device.ram.hi touched
+    → AreRanges device.ram.lo device.ram.hi (if framed then touched_behind device.ram.lo device.ram.hi (size_of width) at touched else touched)
+store_touched laws device true width at touched le are = (behind_grows laws device.ram.lo device.ram.hi (size_of width) at touched le (some_size width) are).form
 store_touched laws device false width at touched le are = are
 
 store_none : (device : Device) (framed : Bool) (width : Width) (at : Form) (touched : List (ℕ × ℕ)) → (framed ≡ false → touched ≡ []) → framed ≡ false
-    → (if framed then touched_behind device.lo device.hi (size_of width) at touched else touched) ≡ []
+    → (if framed then touched_behind device.ram.lo device.ram.hi (size_of width) at touched else touched) ≡ []
 store_none device true width at touched none base = absurd (cc)
 store_none device false width at touched none base = none base
 
 pub store_form : (laws : Premises) (device : Device) (framed : Bool) (a : Known) (width : Width) (at : Form) (word : Word) → IsDevice device → 1 ≤ length (members 65536 at)
-    → (size_of width ≡ 2 → HasRemainder 65536 2 0 at) → IsCellWord framed width word → IsKnown device.lo device.hi framed a → IsKnown device.lo device.hi framed (with_store device framed a width at word)
+    → (size_of width ≡ 2 → HasRemainder 65536 2 0 at) → IsCellWord framed width word → IsKnown device.ram.lo device.ram.hi framed a → IsKnown device.ram.lo device.ram.hi framed (with_store device framed a width at word)
 store_form laws device framed a width at word is some even_so cell form =
     let map = a.cells in
     let size = size_of width in
     let top : map.hi < 65536 = subst (λ n. n < 65536) (sym form.up_to) is.ram.top in
     let are : AreCells map.lo map.hi map.lo map.cells =
-    subst (λ lo. AreCells lo map.hi lo map.cells) (sym form.from) (subst (λ hi. AreCells device.lo hi device.lo map.cells) (sym form.up_to) form.cells) in
+    subst (λ lo. AreCells lo map.hi lo map.cells) (sym form.from) (subst (λ hi. AreCells device.ram.lo hi device.ram.lo map.cells) (sym form.up_to) form.cells) in
     let after = laws.known.cells.store_form map.lo size map at word top (omega arith) are (size_is width) cell.storable.normal cell.storable.byte in
     record {
       sp = form.sp;
@@ -237,7 +237,7 @@ store_form laws device framed a width at word is some even_so cell form =
       fact = form.fact;
       from = laws.known.cells.store_lo size map at word ∙ form.from;
       up_to = laws.known.cells.store_hi size map at word ∙ form.up_to;
-      cells = subst (λ lo. AreCells lo device.hi lo (write_any map at size word).cells) form.from (subst (λ hi. AreCells map.lo hi map.lo (write_any map at size word).cells) form.up_to after);
+      cells = subst (λ lo. AreCells lo device.ram.hi lo (write_any map at size word).cells) form.from (subst (λ hi. AreCells map.lo hi map.lo (write_any map at size word).cells) form.up_to after);
       each_cell = any_cell_form framed map at width word some even_so cell form.each_cell;
       touched = store_touched laws device framed width at a.touched (omega (arith, is.ram.some)) form.touched;
       none_touched = store_none device framed width at a.touched form.none_touched;

@@ -32,59 +32,59 @@ use Rattle.msp430_alu.specs.Premises.{Premises}
 
 -- BYTES OF RAM
 
-ram_low : (device : Device) (at : ℕ) → is_ram device at ≡ true → device.lo ≤ at
-ram_low device at inside = leb-true device.lo at (and_parts (nat_le device.lo at) (nat_le at device.hi) inside).0
+ram_low : (device : Device) (at : ℕ) → is_ram device at ≡ true → device.ram.lo ≤ at
+ram_low device at inside = leb-true device.ram.lo at (and_parts (nat_le device.ram.lo at) (nat_le at device.ram.hi) inside).0
 
-ram_high : (device : Device) (at : ℕ) → is_ram device at ≡ true → at ≤ device.hi
-ram_high device at inside = leb-true at device.hi (and_parts (nat_le device.lo at) (nat_le at device.hi) inside).1
+ram_high : (device : Device) (at : ℕ) → is_ram device at ≡ true → at ≤ device.ram.hi
+ram_high device at inside = leb-true at device.ram.hi (and_parts (nat_le device.ram.lo at) (nat_le at device.ram.hi) inside).1
 
-in_ram : (device : Device) (at : ℕ) → device.lo ≤ at → at ≤ device.hi → is_ram device at ≡ true
-in_ram device at low high = and_from (nat_le device.lo at) (nat_le at device.hi) (le-leb device.lo at low) (le-leb at device.hi high)
+in_ram : (device : Device) (at : ℕ) → device.ram.lo ≤ at → at ≤ device.ram.hi → is_ram device at ≡ true
+in_ram device at low high = and_from (nat_le device.ram.lo at) (nat_le at device.ram.hi) (le-leb device.ram.lo at low) (le-leb at device.ram.hi high)
 
-with_byte_unfolded : (device : Device) (ram : List ℕ) (at byte : ℕ) → with_byte device ram at byte ≡ (if is_ram device at then set ram (at - device.lo) byte else ram)
+with_byte_unfolded : (device : Device) (ram : List ℕ) (at byte : ℕ) → with_byte device ram at byte ≡ (if is_ram device at then set ram (at - device.ram.lo) byte else ram)
 unfolding with_byte
 with_byte_unfolded device ram at byte = refl
 
 byte_ram : (device : Device) (ram : List ℕ) (at byte : ℕ) → byte < 256 → IsRam device ram → IsRam device (with_byte device ram at byte)
 byte_ram device ram at byte small is = subst (IsRam device) (sym (with_byte_unfolded device ram at byte))
-    (cond_both (is_ram device at) (set ram (at - device.lo) byte) ram (IsRam device)
-    (λ e. record { count = length-set ram (at - device.lo) byte ∙ is.count; bytes = All-set (λ b. b < 256) ram (at - device.lo) byte small is.bytes }) (λ e. is))
+    (cond_both (is_ram device at) (set ram (at - device.ram.lo) byte) ram (IsRam device)
+    (λ e. record { count = length-set ram (at - device.ram.lo) byte ∙ is.count; bytes = All-set (λ b. b < 256) ram (at - device.ram.lo) byte small is.bytes }) (λ e. is))
 
 -- the written byte, where it lies in RAM
 byte_there : (device : Device) (ram : List ℕ) (at byte : ℕ) → is_ram device at ≡ true → IsRam device ram → ram_byte device (with_byte device ram at byte) at ≡ byte
 byte_there device ram at byte inside is =
     let low = ram_low device at inside in
     let high = ram_high device at inside in
-    let place : at - device.lo < length ram = omega (arith, is.count) in
-    let stored : with_byte device ram at byte ≡ set ram (at - device.lo) byte = with_byte_unfolded device ram at byte ∙ cond-true (is_ram device at) (set ram (at - device.lo) byte) ram inside in
+    let place : at - device.ram.lo < length ram = omega (arith, is.count) in
+    let stored : with_byte device ram at byte ≡ set ram (at - device.ram.lo) byte = with_byte_unfolded device ram at byte ∙ cond-true (is_ram device at) (set ram (at - device.ram.lo) byte) ram inside in
     ap (λ bytes. ram_byte device bytes at) stored
-    ∙ cond-true (is_ram device at) (get_or (set ram (at - device.lo) byte) (at - device.lo) 0) 0 inside
-    ∙ get_or-set_same ram (at - device.lo) byte 0 place
+    ∙ cond-true (is_ram device at) (get_or (set ram (at - device.ram.lo) byte) (at - device.ram.lo) 0) 0 inside
+    ∙ get_or-set_same ram (at - device.ram.lo) byte 0 place
 
 -- each other byte stays
 byte_elsewhere : (device : Device) (ram : List ℕ) (at byte b : ℕ) → (b ≡ at → ⊥) → ram_byte device (with_byte device ram at byte) b ≡ ram_byte device ram b
 byte_elsewhere device ram at byte b other = elim (cases_Bool (is_ram device at)) [
-  | inr outside ↦ ap (λ bytes. ram_byte device bytes b) (with_byte_unfolded device ram at byte ∙ cond-false (is_ram device at) (set ram (at - device.lo) byte) ram outside)
+  | inr outside ↦ ap (λ bytes. ram_byte device bytes b) (with_byte_unfolded device ram at byte ∙ cond-false (is_ram device at) (set ram (at - device.ram.lo) byte) ram outside)
   | inl inside ↦
-      let stored : with_byte device ram at byte ≡ set ram (at - device.lo) byte = with_byte_unfolded device ram at byte ∙ cond-true (is_ram device at) (set ram (at - device.lo) byte) ram inside in
+      let stored : with_byte device ram at byte ≡ set ram (at - device.ram.lo) byte = with_byte_unfolded device ram at byte ∙ cond-true (is_ram device at) (set ram (at - device.ram.lo) byte) ram inside in
       ap (λ bytes. ram_byte device bytes b) stored ∙
       elim (cases_Bool (is_ram device b)) [
-        | inr past ↦ cond-false (is_ram device b) (get_or (set ram (at - device.lo) byte) (b - device.lo) 0) 0 past ∙ sym (cond-false (is_ram device b) (get_or ram (b - device.lo) 0) 0 past)
+        | inr past ↦ cond-false (is_ram device b) (get_or (set ram (at - device.ram.lo) byte) (b - device.ram.lo) 0) 0 past ∙ sym (cond-false (is_ram device b) (get_or ram (b - device.ram.lo) 0) 0 past)
         | inl there ↦
             let low = ram_low device at inside in
             let also = ram_low device b there in
-            let apart : b - device.lo ≡ at - device.lo → ⊥ = λ e. other (omega (arith, e, low, also)) in
-            cond-true (is_ram device b) (get_or (set ram (at - device.lo) byte) (b - device.lo) 0) 0 there
-            ∙ get_or-set_other ram (at - device.lo) (b - device.lo) byte 0 apart
-            ∙ sym (cond-true (is_ram device b) (get_or ram (b - device.lo) 0) 0 there)
+            let apart : b - device.ram.lo ≡ at - device.ram.lo → ⊥ = λ e. other (omega (arith, e, low, also)) in
+            cond-true (is_ram device b) (get_or (set ram (at - device.ram.lo) byte) (b - device.ram.lo) 0) 0 there
+            ∙ get_or-set_other ram (at - device.ram.lo) (b - device.ram.lo) byte 0 apart
+            ∙ sym (cond-true (is_ram device b) (get_or ram (b - device.ram.lo) 0) 0 there)
       ]
 ]
 
 ram_small : (device : Device) (ram : List ℕ) → IsRam device ram → (at : ℕ) → ram_byte device ram at < 256
 ram_small device ram is at =
-    cond_both (is_ram device at) (get_or ram (at - device.lo) 0) 0 (λ b. b < 256)
+    cond_both (is_ram device at) (get_or ram (at - device.ram.lo) 0) 0 (λ b. b < 256)
     (λ e. let low = ram_low device at e in let high = ram_high device at e in
-    All-get_or (λ b. b < 256) ram (at - device.lo) 0 (omega (arith, is.count, low, high)) is.bytes)
+    All-get_or (λ b. b < 256) ram (at - device.ram.lo) 0 (omega (arith, is.count, low, high)) is.bytes)
     (λ e. omega arith)
 
 pub stored_ram : (device : Device) (ram : List ℕ) (width : Width) (address value : ℕ) → value < modulus width → IsRam device ram → IsRam device (with_stored device ram width address value)
@@ -94,14 +94,14 @@ stored_ram device ram Words address value small is =
 stored_ram device ram Byte address value small is = byte_ram device ram (aligned device Byte address) value small is
 
 -- a RAM behind a store and behind a write of cells agree
-agrees_there : (laws : Premises) (device : Device) → HasRam device → (ram : List ℕ) (width : Width) (address value : ℕ) → address < 65536 → value < modulus width → IsRam device ram → (b : ℕ) → device.lo ≤ b → b ≤ device.hi
+agrees_there : (laws : Premises) (device : Device) → HasRam device → (ram : List ℕ) (width : Width) (address value : ℕ) → address < 65536 → value < modulus width → IsRam device ram → (b : ℕ) → device.ram.lo ≤ b → b ≤ device.ram.hi
     → written (ram_byte device ram) (aligned device width address) (size_of width) value b ≡ ram_byte device (with_stored device ram width address value) b
 unfolding written
 agrees_there laws device where_so ram Byte address value below small is b low high =
     let at = aligned device Byte address in
     elim (cases_eq b at) [
       | inl same ↦
-          let inside : is_ram device at ≡ true = in_ram device at (subst (λ n. device.lo ≤ n) same low) (subst (λ n. n ≤ device.hi) same high) in
+          let inside : is_ram device at ≡ true = in_ram device at (subst (λ n. device.ram.lo ≤ n) same low) (subst (λ n. n ≤ device.ram.hi) same high) in
           let whole : value % 256 ≡ value = omega (arith, small) in
           cond-true (b == at) (value % 256) (ram_byte device ram b) (eq-eqb b at same)
           ∙ whole ∙ sym (byte_there device ram at value inside is) ∙ ap (ram_byte device (with_byte device ram at value)) (sym same)
@@ -115,7 +115,7 @@ agrees_there laws device where_so ram Words address value below small is b low h
     let rest = if b == (at + 1) % 65536 then value / 256 else ram_byte device ram b in
     elim (cases_eq b at) [
       | inl same ↦
-          let inside : is_ram device at ≡ true = in_ram device at (subst (λ n. device.lo ≤ n) same low) (subst (λ n. n ≤ device.hi) same high) in
+          let inside : is_ram device at ≡ true = in_ram device at (subst (λ n. device.ram.lo ≤ n) same low) (subst (λ n. n ≤ device.ram.hi) same high) in
           cond-true (b == at) (value % 256) rest (eq-eqb b at same)
           ∙ sym (byte_there device ram at (value % 256) inside is) ∙ ap (ram_byte device first) (sym same)
           ∙ sym (byte_elsewhere device first (at + 1) (value / 256) b (λ e. omega (arith, e, same)))
@@ -123,7 +123,7 @@ agrees_there laws device where_so ram Words address value below small is b low h
           cond-false (b == at) (value % 256) rest (ne_eqb b at other) ∙
           elim (cases_eq b (at + 1)) [
             | inl same ↦
-                let inside : is_ram device (at + 1) ≡ true = in_ram device (at + 1) (subst (λ n. device.lo ≤ n) same low) (subst (λ n. n ≤ device.hi) same high) in
+                let inside : is_ram device (at + 1) ≡ true = in_ram device (at + 1) (subst (λ n. device.ram.lo ≤ n) same low) (subst (λ n. n ≤ device.ram.hi) same high) in
                 let small_low : value % 256 < 256 = omega arith in
                 cond-true (b == (at + 1) % 65536) (value / 256) (ram_byte device ram b) (eq-eqb b ((at + 1) % 65536) (same ∙ sym next))
                 ∙ sym (byte_there device first (at + 1) (value / 256) inside (byte_ram device ram at (value % 256) small_low is))
@@ -147,14 +147,14 @@ pub record IsStorable (width : Width) (word : Word) : Type 0 where
   pub byte : size_of width ≡ 1 → (n : ℕ) → Has 65536 word.set n → n < 256
 
 cells_stored : (laws : Premises) (device : Device) (map : CellMap) (first : Option Suspended) (ram : List ℕ) (width : Width) (set_so : Form) (address value : ℕ) (word : Word) → IsDevice device → IsRam device ram
-    → map.lo ≡ device.lo → map.hi ≡ device.hi → AreCells device.lo device.hi device.lo map.cells → address < 65536 → IsResult 65536 set_so (aligned device width address)
+    → map.lo ≡ device.ram.lo → map.hi ≡ device.ram.hi → AreCells device.ram.lo device.ram.hi device.ram.lo map.cells → address < 65536 → IsResult 65536 set_so (aligned device width address)
     → value < modulus width → IsStorable width word → HoldsOfWord first word value → StandsUnder first map.cells (ram_byte device ram)
     → StandsUnder first (write_any map set_so (size_of width) word).cells (ram_byte device (with_stored device ram width address value))
 cells_stored laws device map first ram width set_so address value word is ram_is from up_to cells below at small storable holds stands =
     let size = size_of width in
     let top : map.hi < 65536 = subst (λ n. n < 65536) (sym up_to) is.ram.top in
     let are : AreCells map.lo map.hi map.lo map.cells =
-    subst (λ lo. AreCells lo map.hi lo map.cells) (sym from) (subst (λ hi. AreCells device.lo hi device.lo map.cells) (sym up_to) cells) in
+    subst (λ lo. AreCells lo map.hi lo map.cells) (sym from) (subst (λ hi. AreCells device.ram.lo hi device.ram.lo map.cells) (sym up_to) cells) in
     let after = laws.known.cells.store_form map.lo size map set_so word top (omega arith) are (size_is width) storable.normal storable.byte in
     let written_so = laws.known.cells.store first (ram_byte device ram) map.lo size (aligned device width address) value map set_so word top are at.normal (size_is width) storable.normal storable.byte stands at.has holds in
     laws.known.cells.agree first (written (ram_byte device ram) (aligned device width address) size value) (ram_byte device (with_stored device ram width address value)) map.lo map.hi map.lo
@@ -261,36 +261,36 @@ unwritten device ram Words address value b other =
 
 outside_same : (device : Device) (one other : List ℕ) (b : ℕ) → is_ram device b ≡ false → ram_byte device one b ≡ ram_byte device other b
 outside_same device one other b outside =
-    cond-false (is_ram device b) (get_or one (b - device.lo) 0) 0 outside ∙ sym (cond-false (is_ram device b) (get_or other (b - device.lo) 0) 0 outside)
+    cond-false (is_ram device b) (get_or one (b - device.ram.lo) 0) 0 outside ∙ sym (cond-false (is_ram device b) (get_or other (b - device.ram.lo) 0) 0 outside)
 
 pub some_size : (width : Width) → 1 ≤ size_of width
 some_size Words = omega arith
 some_size Byte = omega arith
 
 stays_untouched : (laws : Premises) (device : Device) (ram : List ℕ) (width : Width) (address value : ℕ) (set_so : Form) (touched : List (ℕ × ℕ)) (f : ChipState) → IsDevice device
-    → AreRanges device.lo device.hi touched → Has 65536 set_so (aligned device width address) → KeepsUntouched device touched ram (Some f) → (b : ℕ)
-    → has_address (touched_behind device.lo device.hi (size_of width) set_so touched) b ≡ false → ram_byte device (with_stored device ram width address value) b ≡ ram_byte device f.ram b
+    → AreRanges device.ram.lo device.ram.hi touched → Has 65536 set_so (aligned device width address) → KeepsUntouched device touched ram (Some f) → (b : ℕ)
+    → has_address (touched_behind device.ram.lo device.ram.hi (size_of width) set_so touched) b ≡ false → ram_byte device (with_stored device ram width address value) b ≡ ram_byte device f.ram b
 stays_untouched laws device ram width address value set_so touched f is are has keeps b none =
-    let grows = behind_grows laws device.lo device.hi (size_of width) set_so touched (omega (arith, is.ram.some)) (some_size width) are in
-    let before : has_address touched b ≡ false = false_from_ne_true (has_address touched b) (λ there. both_ways (has_address (touched_behind device.lo device.hi (size_of width) set_so touched) b) none (grows.keeps b there)) in
+    let grows = behind_grows laws device.ram.lo device.ram.hi (size_of width) set_so touched (omega (arith, is.ram.some)) (some_size width) are in
+    let before : has_address touched b ≡ false = false_from_ne_true (has_address touched b) (λ there. both_ways (has_address (touched_behind device.ram.lo device.ram.hi (size_of width) set_so touched) b) none (grows.keeps b there)) in
     let same : ram_byte device (with_stored device ram width address value) b ≡ ram_byte device ram b = elim (cases_Bool (is_ram device b)) [
       | inr outside ↦ outside_same device (with_stored device ram width address value) ram b outside
       | inl inside ↦ unwritten device ram width address value b (λ after last.
-          both_ways (has_address (touched_behind device.lo device.hi (size_of width) set_so touched) b) none
-          (behind_touched laws device.lo device.hi (size_of width) (aligned device width address) b set_so touched (some_size width) are has (ram_low device b inside) (ram_high device b inside) after last))
+          both_ways (has_address (touched_behind device.ram.lo device.ram.hi (size_of width) set_so touched) b) none
+          (behind_touched laws device.ram.lo device.ram.hi (size_of width) (aligned device width address) b set_so touched (some_size width) are has (ram_low device b inside) (ram_high device b inside) after last))
     ] in
     same ∙ keeps b before
 
 store_untouched : (laws : Premises) (device : Device) (framed : Bool) (ram : List ℕ) (width : Width) (address value : ℕ) (set_so : Form) (touched : List (ℕ × ℕ)) (first : Option ChipState) → IsDevice device
-    → (framed ≡ false → first ≡ None) → AreRanges device.lo device.hi touched → Has 65536 set_so (aligned device width address) → KeepsUntouched device touched ram first
-    → KeepsUntouched device (if framed then touched_behind device.lo device.hi (size_of width) set_so touched else touched) (with_stored device ram width address value) first
+    → (framed ≡ false → first ≡ None) → AreRanges device.ram.lo device.ram.hi touched → Has 65536 set_so (aligned device width address) → KeepsUntouched device touched ram first
+    → KeepsUntouched device (if framed then touched_behind device.ram.lo device.ram.hi (size_of width) set_so touched else touched) (with_stored device ram width address value) first
 store_untouched laws device framed ram width address value set_so touched None is base are has keeps = tt
 store_untouched laws device true ram width address value set_so touched (Some f) is base are has keeps = stays_untouched laws device ram width address value set_so touched f is are has keeps
 store_untouched laws device false ram width address value set_so touched (Some f) is base are has keeps = let none = base refl in absurd (cc)
 
 -- what is known behind a store holds behind it
 pub store_holds : (laws : Premises) (device : Device) (framed : Bool) (a : Known) (first : Option ChipState) (registers ram : List ℕ) (width : Width) (address value : ℕ) (set_so : Form) (word : Word) → IsDevice device → IsRam device ram
-    → (framed ≡ false → first ≡ None) → IsKnown device.lo device.hi framed a → address < 65536 → IsResult 65536 set_so (aligned device width address) → value < modulus width → IsStorable width word
+    → (framed ≡ false → first ≡ None) → IsKnown device.ram.lo device.ram.hi framed a → address < 65536 → IsResult 65536 set_so (aligned device width address) → value < modulus width → IsStorable width word
     → HoldsOfWord (option_map suspended_of first) word value → HoldsOfParts device a first registers ram
     → HoldsOfParts device (with_store device framed a width set_so word) first registers (with_stored device ram width address value)
 store_holds laws device framed a first registers ram width address value set_so word is ram_is base form below at small storable has holds = record {

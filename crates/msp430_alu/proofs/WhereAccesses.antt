@@ -193,17 +193,17 @@ aligned_fits laws device is width at small = laws.made_fits device width at is s
 pub located_is : (laws : Premises) (device : Device) → HasRam device → (width : Width) (set : Form) (address : ℕ) → IsResult 65536 set address
     → IsResult 65536 (located device width set) (aligned device width address)
 located_is laws device is Words set address result =
-    canonical_is laws device.lo device.hi device.mirror _ (even address) is.some is.top is.mirror (even_parts_is laws set address result)
-located_is laws device is Byte set address result = canonical_is laws device.lo device.hi device.mirror set address is.some is.top is.mirror result
+    canonical_is laws device.ram.lo device.ram.hi device.ram.mirror _ (even address) is.some is.top is.mirror (even_parts_is laws set address result)
+located_is laws device is Byte set address result = canonical_is laws device.ram.lo device.ram.hi device.ram.mirror set address is.some is.top is.mirror result
 
 pub located_normal : (laws : Premises) (device : Device) → HasRam device → (width : Width) (set : Form) → IsNormal 65536 set → IsNormal 65536 (located device width set)
-located_normal laws device is Words set normal = canonical_normal laws device.lo device.hi device.mirror _ is.mirror (even_parts_form laws set normal).normal
-located_normal laws device is Byte set normal = canonical_normal laws device.lo device.hi device.mirror set is.mirror normal
+located_normal laws device is Words set normal = canonical_normal laws device.ram.lo device.ram.hi device.ram.mirror _ is.mirror (even_parts_form laws set normal).normal
+located_normal laws device is Byte set normal = canonical_normal laws device.ram.lo device.ram.hi device.ram.mirror set is.mirror normal
 
 pub located_even : (laws : Premises) (device : Device) → HasRam device → (width : Width) (set : Form) → IsNormal 65536 set → size_of width ≡ 2
     → HasRemainder 65536 2 0 (located device width set)
 located_even laws device is Words set normal e = let parts = even_parts_form laws set normal in
-    canonical_even laws device.lo device.hi device.mirror _ is.low is.mirror parts.normal parts.even
+    canonical_even laws device.ram.lo device.ram.hi device.ram.mirror _ is.low is.mirror parts.normal parts.even
 located_even laws device is Byte set normal e = absurd (omega (arith, e))
 
 pub located_fits : (laws : Premises) (device : Device) → HasRam device → (width : Width) (set : Form) (v : ℕ) → IsNormal 65536 set → Has 65536 (located device width set) v

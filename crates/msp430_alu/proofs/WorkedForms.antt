@@ -165,12 +165,12 @@ program_relation : (framed : Bool) (device : Device) (width : Width) (at : ℕ) 
 program_relation framed device Words at = word_relation framed _ _
 program_relation framed device Byte at = byte_relation framed _
 
-one_relation : (framed : Bool) (device : Device) (a : Known) (width : Width) (at : ℕ) → IsKnown device.lo device.hi framed a → IsRelation framed (read_one device a width at).entry
+one_relation : (framed : Bool) (device : Device) (a : Known) (width : Width) (at : ℕ) → IsKnown device.ram.lo device.ram.hi framed a → IsRelation framed (read_one device a width at).entry
 one_relation framed device a width at form =
     cond_both (is_ram device at) (read a.cells.cells at (size_of width)) (program_word device width at) (λ word. IsRelation framed word.entry)
     (λ e. read_relation framed a.cells.cells at (size_of width) form.each_cell) (λ e. program_relation framed device width at)
 
-pub list_relation : (framed : Bool) (device : Device) (a : Known) (width : Width) (list : List ℕ) → IsKnown device.lo device.hi framed a → IsRelation framed (read_list device a width list).entry
+pub list_relation : (framed : Bool) (device : Device) (a : Known) (width : Width) (list : List ℕ) → IsKnown device.ram.lo device.ram.hi framed a → IsRelation framed (read_list device a width list).entry
 list_relation framed device a width [] form = no_relation framed
 list_relation framed device a width (only ∷ []) form = one_relation framed device a width only form
 list_relation framed device a width (one ∷ next ∷ rest) form =
@@ -197,9 +197,9 @@ destination_small pc len a counted (destination.Indexed register offset) = tt
 destination_small pc len a counted (destination.Symbolic offset) = tt
 destination_small pc len a counted (destination.Absolute address) = tt
 
-pub operand_form : (laws : Premises) (device : Device) (framed : Bool) (a : Known) (counted : Form) → IsDevice device → IsKnown device.lo device.hi framed a → IsNormal 65536 counted → AreKinds → (width : Width) (reach : Reach)
+pub operand_form : (laws : Premises) (device : Device) (framed : Bool) (a : Known) (counted : Form) → IsDevice device → IsKnown device.ram.lo device.ram.hi framed a → IsNormal 65536 counted → AreKinds → (width : Width) (reach : Reach)
     → IsReachSmall reach → IsWord framed (operand_word device a counted width reach)
-operand_form laws device framed a counted is form normal kinds width (InRegister register) small = register_word_form laws device.lo device.hi framed a counted form normal register (kinds register)
+operand_form laws device framed a counted is form normal kinds width (InRegister register) small = register_word_form laws device.ram.lo device.ram.hi framed a counted form normal register (kinds register)
 operand_form laws device framed a counted is form normal kinds width (InMemory set_so) small = record {
   normal = read_known_normal laws device a is form.cells width (located device width set_so);
   entry = list_relation framed device a width (members 65536 (located device width set_so)) form;
@@ -289,16 +289,16 @@ written_form laws framed Byte set_so entry normal form =
       };
     }
 
-pub put_form : (laws : Premises) (device : Device) (framed : Bool) (a : Known) → IsDevice device → IsKnown device.lo device.hi framed a → AreKinds → (width : Width) (reach : Reach) (word : Word) → IsReachNormal reach
-    → IsWritable framed width word → IsKnown device.lo device.hi framed (put_known device framed a width reach word)
-put_form laws device framed a is form kinds width (InRegister register) word normal writable = register_form laws device.lo device.hi framed a register word (kinds register) writable.word_so form
+pub put_form : (laws : Premises) (device : Device) (framed : Bool) (a : Known) → IsDevice device → IsKnown device.ram.lo device.ram.hi framed a → AreKinds → (width : Width) (reach : Reach) (word : Word) → IsReachNormal reach
+    → IsWritable framed width word → IsKnown device.ram.lo device.ram.hi framed (put_known device framed a width reach word)
+put_form laws device framed a is form kinds width (InRegister register) word normal writable = register_form laws device.ram.lo device.ram.hi framed a register word (kinds register) writable.word_so form
 put_form laws device framed a is form kinds width (InMemory set_so) word normal writable =
     let there = located_normal laws device is.ram width set_so normal in
     store_form laws device framed a width (located device width set_so) word is (laws.known.sets.some 65536 (located device width set_so) there) (located_even laws device is.ram width set_so normal) writable.cell form
 put_form laws device framed a is form kinds width (Fixed value) word normal writable = form
 
-pub put_if_form : (laws : Premises) (device : Device) (framed : Bool) (a : Known) → IsDevice device → IsKnown device.lo device.hi framed a → AreKinds → (writes : Bool) (width : Width) (reach : Reach) (word : Word) → IsReachNormal reach
-    → IsWritable framed width word → IsKnown device.lo device.hi framed (put_known_if writes device framed a width reach word)
+pub put_if_form : (laws : Premises) (device : Device) (framed : Bool) (a : Known) → IsDevice device → IsKnown device.ram.lo device.ram.hi framed a → AreKinds → (writes : Bool) (width : Width) (reach : Reach) (word : Word) → IsReachNormal reach
+    → IsWritable framed width word → IsKnown device.ram.lo device.ram.hi framed (put_known_if writes device framed a width reach word)
 put_if_form laws device framed a is form kinds true width reach word normal writable = put_form laws device framed a is form kinds width reach word normal writable
 put_if_form laws device framed a is form kinds false width reach word normal writable = form
 
@@ -338,7 +338,7 @@ counter_form laws pc len origin target =
     cond_both (reads_counter origin target) (join 65536 (single ((pc + 2) % 65536)) (single ((pc + 4) % 65536))) (single ((pc + len) % 65536)) (IsNormal 65536)
     (λ e. laws.known.sets.join_normal 65536 (single ((pc + 2) % 65536)) (single ((pc + 4) % 65536)) one.0 two.0) (λ e. (laws.known.sets.single 65536 ((pc + len) % 65536) (omega arith)).0)
 
-target_form : (laws : Premises) (device : Device) (framed : Bool) (a : Known) (counted : Form) → IsDevice device → IsKnown device.lo device.hi framed a → IsNormal 65536 counted → AreKinds → (done : Operation) (width : Width) (reach : Reach)
+target_form : (laws : Premises) (device : Device) (framed : Bool) (a : Known) (counted : Form) → IsDevice device → IsKnown device.ram.lo device.ram.hi framed a → IsNormal 65536 counted → AreKinds → (done : Operation) (width : Width) (reach : Reach)
     → IsReachSmall reach → IsWord framed (destination_word device a counted done width reach)
 target_form laws device framed a counted is form normal kinds done width reach small =
     cond_both (reads_destination done) (operand_word device a counted width reach) (record { set = single 0; entry = None }) (IsWord framed)
@@ -357,11 +357,11 @@ pub record DoubleForms (device : Device) (framed : Bool) (width : Width) (one ot
   pub source : IsWord framed one
   pub target_so : IsWord framed other
   pub writable : IsWritable framed width word
-  pub put : IsKnown device.lo device.hi framed put_so
-  pub after_so : IsKnown device.lo device.hi framed after
+  pub put : IsKnown device.ram.lo device.ram.hi framed put_so
+  pub after_so : IsKnown device.ram.lo device.ram.hi framed after
   pub next_so : AreNext ahead next
 
-pub double_forms : (laws : Premises) (device : Device) (framed : Bool) (a : Known) → IsDevice device → IsKnown device.lo device.hi framed a → AreKinds → (pc len : ℕ) (done : Operation) (width : Width) (origin : Source) (target : Destination)
+pub double_forms : (laws : Premises) (device : Device) (framed : Bool) (a : Known) → IsDevice device → IsKnown device.ram.lo device.ram.hi framed a → AreKinds → (pc len : ℕ) (done : Operation) (width : Width) (origin : Source) (target : Destination)
     → IsSource origin → IsDestination target
     → let counted = counter_set pc len origin target in
     let grown_so = grown_known a counted width origin in
@@ -376,7 +376,7 @@ double_forms laws device framed a is form kinds pc len done width origin target 
     let counted = counter_set pc len origin target in
     let counted_so = counter_form laws pc len origin target in
     let grown_so = grown_known a counted width origin in
-    let grown_is = grown_form laws device.lo device.hi framed a counted form counted_so kinds width origin in
+    let grown_is = grown_form laws device.ram.lo device.ram.hi framed a counted form counted_so kinds width origin in
     let from = source_reach pc a counted origin in
     let to = destination_reach pc len grown_so counted target in
     let one = operand_word device a counted width from in
@@ -389,24 +389,24 @@ double_forms laws device framed a is form kinds pc len done width origin target 
     let writable = written_form laws framed width made_so.0 relation (made_form laws framed done width origin target one other (carry_of a) one_is other_is)
     (relation_form framed done (constant_of origin) one.entry other.entry (λ m e. constant_below origin m from_so e) one_is.entry other_is.entry) in
     let put_is = put_if_form laws device framed grown_so is grown_is kinds (writes_result done) width to word
-    (destination_form laws device.lo device.hi framed grown_so counted grown_is counted_so kinds pc len target to_so) writable in
+    (destination_form laws device.ram.lo device.ram.hi framed grown_so counted grown_is counted_so kinds pc len target to_so) writable in
     let put_so = put_known_if (writes_result done) device framed grown_so width to word in
     record {
       source = one_is;
       target_so = other_is;
       writable = writable;
       put = put_is;
-      after_so = flags_form device.lo device.hi framed put_so made_so.1 put_is;
+      after_so = flags_form device.ram.lo device.ram.hi framed put_so made_so.1 put_is;
       next_so = next_if_form laws (writes_result done) to word ((pc + len) % 65536) writable.word_so.normal (omega arith);
     }
 
 -- the parts of `double_worked`
 pub record WorkedForm (device : Device) (framed : Bool) (after : Known) (ahead : ℕ) (next : Form) : Type 0 where
-  pub after_so : IsKnown device.lo device.hi framed after
+  pub after_so : IsKnown device.ram.lo device.ram.hi framed after
   pub next_so : AreNext ahead next
 
 pub double_worked_form : (laws : Premises) → AreKinds → (device : Device) (framed : Bool) (a : Known) (pc len : ℕ) (done : Operation) (width : Width) (origin : Source) (target : Destination) → IsDevice device
-    → IsKnown device.lo device.hi framed a → IsSource origin → IsDestination target
+    → IsKnown device.ram.lo device.ram.hi framed a → IsSource origin → IsDestination target
     → WorkedForm device framed (double_worked device framed a pc len done width origin target).after ((pc + len) % 65536) (double_worked device framed a pc len done width origin target).next
 unfolding double_worked
 double_worked_form laws kinds device framed a pc len done width origin target is form from_so to_so =
@@ -417,11 +417,11 @@ double_worked_form laws kinds device framed a pc len done width origin target is
 
 -- the parts of what an instruction with one operand makes of a state
 pub record SingleForms (device : Device) (framed : Bool) (put_so after : Known) (ahead : ℕ) (next : Form) : Type 0 where
-  pub put : IsKnown device.lo device.hi framed put_so
-  pub after_so : IsKnown device.lo device.hi framed after
+  pub put : IsKnown device.ram.lo device.ram.hi framed put_so
+  pub after_so : IsKnown device.ram.lo device.ram.hi framed after
   pub next_so : AreNext ahead next
 
-pub single_forms : (laws : Premises) (device : Device) (framed : Bool) (a : Known) → IsDevice device → IsKnown device.lo device.hi framed a → AreKinds → (pc len : ℕ) (done : SingleOperation) (width : Width) (operand : Source)
+pub single_forms : (laws : Premises) (device : Device) (framed : Bool) (a : Known) → IsDevice device → IsKnown device.ram.lo device.ram.hi framed a → AreKinds → (pc len : ℕ) (done : SingleOperation) (width : Width) (operand : Source)
     → IsSource operand → HasWidth done width
     → let counted = single ((pc + len) % 65536) in
     let grown_so = grown_known a counted width operand in
@@ -434,23 +434,23 @@ single_forms laws device framed a is form kinds pc len done width operand from_s
     let counted = single ((pc + len) % 65536) in
     let counted_so = (laws.known.sets.single 65536 ((pc + len) % 65536) (omega arith)).0 in
     let grown_so = grown_known a counted width operand in
-    let grown_is = grown_form laws device.lo device.hi framed a counted form counted_so kinds width operand in
+    let grown_is = grown_form laws device.ram.lo device.ram.hi framed a counted form counted_so kinds width operand in
     let from = source_reach pc a counted operand in
     let one = operand_word device a counted width from in
     let one_is = operand_form laws device framed a counted is form counted_so kinds width from (source_small pc a counted operand from_so) in
     let made_so = single_made done width (values_of width one) (carry_of a) in
     let word = written_word width made_so.0 None in
     let writable = written_form laws framed width made_so.0 None (laws.results.single_normal done width (values_of width one) (carry_of a) fits (values_form laws framed width one one_is)) (no_relation framed) in
-    let put_is = put_form laws device framed grown_so is grown_is kinds width from word (source_form laws device.lo device.hi framed a counted form counted_so kinds pc operand from_so) writable in
+    let put_is = put_form laws device framed grown_so is grown_is kinds width from word (source_form laws device.ram.lo device.ram.hi framed a counted form counted_so kinds pc operand from_so) writable in
     let put_so = put_known device framed grown_so width from word in
     record {
       put = put_is;
-      after_so = flags_form device.lo device.hi framed put_so made_so.1 put_is;
+      after_so = flags_form device.ram.lo device.ram.hi framed put_so made_so.1 put_is;
       next_so = next_form laws from word ((pc + len) % 65536) writable.word_so.normal (omega arith);
     }
 
 pub single_worked_form : (laws : Premises) → AreKinds → (device : Device) (framed : Bool) (a : Known) (pc len : ℕ) (done : SingleOperation) (width : Width) (operand : Source) → IsDevice device
-    → IsKnown device.lo device.hi framed a → IsSource operand → HasWidth done width
+    → IsKnown device.ram.lo device.ram.hi framed a → IsSource operand → HasWidth done width
     → WorkedForm device framed (single_worked device framed a pc len done width operand).after ((pc + len) % 65536) (single_worked device framed a pc len done width operand).next
 unfolding single_worked
 single_worked_form laws kinds device framed a pc len done width operand is form from_so fits =
@@ -505,7 +505,7 @@ called_form laws framed Call width x after small is =
 called_form laws framed other width x after small is = ahead_next laws after small
 
 pub push_worked_form : (laws : Premises) → AreKinds → (device : Device) (framed : Bool) (a : Known) (pc len : ℕ) (done : SingleOperation) (width : Width) (operand : Source) → IsDevice device
-    → IsKnown device.lo device.hi framed a → IsSource operand
+    → IsKnown device.ram.lo device.ram.hi framed a → IsSource operand
     → WorkedForm device framed (push_worked device framed a pc len done width operand).after ((pc + len) % 65536) (push_worked device framed a pc len done width operand).next
 unfolding push_worked
 push_worked_form laws kinds device framed a pc len done width operand is form from_so =
@@ -514,13 +514,13 @@ push_worked_form laws kinds device framed a pc len done width operand is form fr
     let counted = single after in
     let counted_so = (laws.known.sets.single 65536 after small).0 in
     let forming = forming_known operand a in
-    let forming_is = forming_form laws device.lo device.hi framed a operand form in
+    let forming_is = forming_form laws device.ram.lo device.ram.hi framed a operand form in
     let from = source_reach pc forming counted operand in
     let x = operand_word device forming counted width from in
     let x_is = operand_form laws device framed forming counted is forming_is counted_so kinds width from (source_small pc forming counted operand from_so) in
     let grown_so = grown_known a counted width operand in
     let at = lowered_known grown_so in
-    let at_is = lowered_form laws device.lo device.hi framed grown_so (grown_form laws device.lo device.hi framed a counted form counted_so kinds width operand) in
+    let at_is = lowered_form laws device.ram.lo device.ram.hi framed grown_so (grown_form laws device.ram.lo device.ram.hi framed a counted form counted_so kinds width operand) in
     record {
       after_so = put_form laws device framed at is at_is kinds Words (InMemory at.sp) (pushed_known done width x after) at_is.sp.normal
           (word_writable framed (pushed_known done width x after) (pushed_form laws framed done width x after small x_is));

@@ -242,7 +242,7 @@ LeavesStatus other = Unit {0}
 pub record IsUnder (device : Device) (framed : Bool) (a : Known) (s : ChipState) (first : Option ChipState) : Type 0 where
   pub device_so : IsDevice device
   pub base : framed ≡ false → first ≡ None
-  pub form : IsKnown device.lo device.hi framed a
+  pub form : IsKnown device.ram.lo device.ram.hi framed a
   pub holds : HoldsOf device a s first
 
 -- what an instruction leaves stands under what is known behind it, and PC is one of the next addresses

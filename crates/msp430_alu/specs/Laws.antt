@@ -56,15 +56,15 @@ pub record DoublesHold : Type 0 where
       → IsHit device width (double_worked device framed a (register_of s 0) len done width origin target).store at
   pub form : (device : Device) (framed : Bool) (a : Known) (pc len : ℕ) (done : Operation) (width : Width)
       (origin : Source) (target : Destination)
-      → IsDevice device → IsKnown device.lo device.hi framed a → IsSource origin → IsDestination target
-      → IsKnown device.lo device.hi framed (double_worked device framed a pc len done width origin target).after
+      → IsDevice device → IsKnown device.ram.lo device.ram.hi framed a → IsSource origin → IsDestination target
+      → IsKnown device.ram.lo device.ram.hi framed (double_worked device framed a pc len done width origin target).after
   pub next : (device : Device) (framed : Bool) (a : Known) (pc len : ℕ) (done : Operation) (width : Width)
       (origin : Source) (target : Destination)
-      → IsDevice device → IsKnown device.lo device.hi framed a → IsSource origin → IsDestination target
+      → IsDevice device → IsKnown device.ram.lo device.ram.hi framed a → IsSource origin → IsDestination target
       → IsNormal 65536 (double_worked device framed a pc len done width origin target).next
   pub even : (device : Device) (framed : Bool) (a : Known) (pc len : ℕ) (done : Operation) (width : Width)
       (origin : Source) (target : Destination)
-      → IsDevice device → IsKnown device.lo device.hi framed a → IsSource origin → IsDestination target
+      → IsDevice device → IsKnown device.ram.lo device.ram.hi framed a → IsSource origin → IsDestination target
       → (pc + len) % 65536 % 2 ≡ 0
       → HasRemainder 65536 2 0 (double_worked device framed a pc len done width origin target).next
 
@@ -89,15 +89,15 @@ pub record SinglesHold : Type 0 where
       → IsHit device width (single_worked device framed a (register_of s 0) len done width operand).store at
   pub form : (device : Device) (framed : Bool) (a : Known) (pc len : ℕ) (done : SingleOperation) (width : Width)
       (operand : Source)
-      → IsDevice device → IsKnown device.lo device.hi framed a → IsSource operand → HasWidth done width
-      → IsKnown device.lo device.hi framed (single_worked device framed a pc len done width operand).after
+      → IsDevice device → IsKnown device.ram.lo device.ram.hi framed a → IsSource operand → HasWidth done width
+      → IsKnown device.ram.lo device.ram.hi framed (single_worked device framed a pc len done width operand).after
   pub next : (device : Device) (framed : Bool) (a : Known) (pc len : ℕ) (done : SingleOperation) (width : Width)
       (operand : Source)
-      → IsDevice device → IsKnown device.lo device.hi framed a → IsSource operand → HasWidth done width
+      → IsDevice device → IsKnown device.ram.lo device.ram.hi framed a → IsSource operand → HasWidth done width
       → IsNormal 65536 (single_worked device framed a pc len done width operand).next
   pub even : (device : Device) (framed : Bool) (a : Known) (pc len : ℕ) (done : SingleOperation) (width : Width)
       (operand : Source)
-      → IsDevice device → IsKnown device.lo device.hi framed a → IsSource operand → HasWidth done width
+      → IsDevice device → IsKnown device.ram.lo device.ram.hi framed a → IsSource operand → HasWidth done width
       → (pc + len) % 65536 % 2 ≡ 0
       → HasRemainder 65536 2 0 (single_worked device framed a pc len done width operand).next
 
@@ -121,15 +121,15 @@ pub record PushesHold : Type 0 where
       → IsHit device Words (push_worked device framed a (register_of s 0) len done width operand).store at
   pub form : (device : Device) (framed : Bool) (a : Known) (pc len : ℕ) (done : SingleOperation) (width : Width)
       (operand : Source)
-      → IsDevice device → IsKnown device.lo device.hi framed a → IsSource operand
-      → IsKnown device.lo device.hi framed (push_worked device framed a pc len done width operand).after
+      → IsDevice device → IsKnown device.ram.lo device.ram.hi framed a → IsSource operand
+      → IsKnown device.ram.lo device.ram.hi framed (push_worked device framed a pc len done width operand).after
   pub next : (device : Device) (framed : Bool) (a : Known) (pc len : ℕ) (done : SingleOperation) (width : Width)
       (operand : Source)
-      → IsDevice device → IsKnown device.lo device.hi framed a → IsSource operand
+      → IsDevice device → IsKnown device.ram.lo device.ram.hi framed a → IsSource operand
       → IsNormal 65536 (push_worked device framed a pc len done width operand).next
   pub even : (device : Device) (framed : Bool) (a : Known) (pc len : ℕ) (done : SingleOperation) (width : Width)
       (operand : Source)
-      → IsDevice device → IsKnown device.lo device.hi framed a → IsSource operand → (pc + len) % 65536 % 2 ≡ 0
+      → IsDevice device → IsKnown device.ram.lo device.ram.hi framed a → IsSource operand → (pc + len) % 65536 % 2 ≡ 0
       → HasRemainder 65536 2 0 (push_worked device framed a pc len done width operand).next
 
 -- An access at one of some addresses is made at one of where they are located. What is known behind a store of a word there holds
@@ -139,23 +139,23 @@ pub record WordsHold : Type 0 where
       → Has 65536 (located_set device Words set) (aligned device Words at)
   pub stored : (device : Device) (framed : Bool) (a : Known) (first : Option ChipState) (registers ram : List ℕ)
       (set : Form) (at v : ℕ) (word : Word)
-      → IsDevice device → IsRam device ram → (framed ≡ false → first ≡ None) → IsKnown device.lo device.hi framed a
+      → IsDevice device → IsRam device ram → (framed ≡ false → first ≡ None) → IsKnown device.ram.lo device.ram.hi framed a
       → IsNormal 65536 set → Has 65536 set at → IsWord framed word
       → HoldsOfWord (option_map suspended_of first) word v → HoldsOfParts device a first registers ram
       → HoldsOfParts device (with_store device framed a Words (located_set device Words set) word) first registers
       (with_stored device ram Words at v)
   pub stored_form : (device : Device) (framed : Bool) (a : Known) (set : Form) (word : Word) → IsDevice device
-      → IsKnown device.lo device.hi framed a → IsNormal 65536 set → IsWord framed word
-      → IsKnown device.lo device.hi framed (with_store device framed a Words (located_set device Words set) word)
+      → IsKnown device.ram.lo device.ram.hi framed a → IsNormal 65536 set → IsWord framed word
+      → IsKnown device.ram.lo device.ram.hi framed (with_store device framed a Words (located_set device Words set) word)
   pub ram : (device : Device) (ram : List ℕ) (at v : ℕ) → v < 65536 → IsRam device ram
       → IsRam device (with_stored device ram Words at v)
   pub read : (device : Device) (framed : Bool) (a : Known) (first : Option ChipState) (registers ram : List ℕ)
       (set : Form) (at word : ℕ)
-      → IsDevice device → IsKnown device.lo device.hi framed a → IsNormal 65536 set → Has 65536 set at
+      → IsDevice device → IsKnown device.ram.lo device.ram.hi framed a → IsNormal 65536 set → Has 65536 set at
       → HoldsOfParts device a first registers ram → MayReadWord device ram at word
       → HoldsOfWord (option_map suspended_of first) (read_known device a Words (located_set device Words set)) word
   pub read_form : (device : Device) (framed : Bool) (a : Known) (set : Form) → IsDevice device
-      → IsKnown device.lo device.hi framed a → IsWord framed (read_known device a Words set)
+      → IsKnown device.ram.lo device.ram.hi framed a → IsWord framed (read_known device a Words set)
   pub status : (framed : Bool) (first : Option ChipState) (status : Status) (sr bits : ℕ) → length status.bits ≡ 9
       → IsStatusRelation framed status.entry → sr < 512 → bits < 128
       → HoldsOfStatus (option_map suspended_of first) status sr

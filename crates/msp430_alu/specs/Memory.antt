@@ -23,7 +23,7 @@ use Rattle.msp430_alu.specs.Registers.{even_parts}
 pub record IsDevice (device : Device) : Type 0 where
   pub size : length device.image ≡ 65536
   pub bytes : All IsByte device.image
-  pub apart : (at : ℕ) → device.lo ≤ at → at ≤ device.hi → byte_at device.image at ≡ None
+  pub apart : (at : ℕ) → device.ram.lo ≤ at → at ≤ device.ram.hi → byte_at device.image at ≡ None
   pub ram : HasRam device
 
 -- the bytes of a device's RAM
@@ -50,7 +50,7 @@ canonical_by lo (Some (first, last)) set =
     (moved ((lo + 65536 - first) % 65536) (cut 65536 set first len)))
 
 abbrev pub canonical : Device → Form → Form
-canonical device set = canonical_by device.lo device.mirror set
+canonical device set = canonical_by device.ram.lo device.ram.mirror set
 
 -- where accesses at these addresses are made: bit 0 of a word's doesn't count
 abbrev pub located : Device → Width → Form → Form
@@ -120,5 +120,5 @@ with_store device framed a width at word = record {
   registers = a.registers;
   fact = a.fact;
   cells = write_any a.cells at (size_of width) word;
-  touched = if framed then touched_behind device.lo device.hi (size_of width) at a.touched else a.touched;
+  touched = if framed then touched_behind device.ram.lo device.ram.hi (size_of width) at a.touched else a.touched;
 }

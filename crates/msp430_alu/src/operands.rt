@@ -75,11 +75,11 @@ fn canonical(device: &Device, set: &Vs16) -> Vs16
     requires { HasRam device.now }
     ensures { result ≡ memory.canonical device.now set.now }
 {
-    let Some((first, last)) = device.mirror else {
+    let Some((first, last)) = device.ram.mirror else {
         return *set;
     };
     let len = last as u32 + 1 - first as u32;
-    let by = Vs16::one(device.lo.wrapping_sub(first));
+    let by = Vs16::one(device.ram.lo.wrapping_sub(first));
     let outside = set.cut(last.wrapping_add(1), 65536 - len);
     match (outside, set.cut(first, len)) {
         (Some(outside), Some(inside)) => outside.join(&inside.add(&by)),

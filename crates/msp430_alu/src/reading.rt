@@ -63,7 +63,7 @@ pub fn read_one<M: Cells>(device: &Device, state: &State<M>, width: Width, at: u
     requires { at + chip.size_of width ≤ 65536 }
     ensures { result ≡ memory.read_one device.now state.now width at }
 {
-    if device.lo <= at && at <= device.hi {
+    if device.ram.lo <= at && at <= device.ram.hi {
         return state.cells.read(at, size_of(width));
     }
     program_word(device, width, at)

@@ -88,7 +88,7 @@ pub fn store<M: Cells>(
     let size = size_of(width);
     state.cells.write_any(at, size, word)?;
     if framed {
-        touch_behind(device.lo, device.hi, size, at, &mut state.touched)?;
+        touch_behind(device.ram.lo, device.ram.hi, size, at, &mut state.touched)?;
     }
     Ok(())
 }

@@ -27,11 +27,11 @@ canon_small lo hi (Some (first, last)) at some top is small =
     (λ e. small)
 
 pub aligned_even : (device : Device) (at : ℕ) → HasRam device → aligned device Word at % 2 ≡ 0
-aligned_even device at is = canon_even device.lo device.hi device.mirror (even at) is.low is.mirror (omega arith)
+aligned_even device at is = canon_even device.ram.lo device.ram.hi device.ram.mirror (even at) is.low is.mirror (omega arith)
 
 pub aligned_fits : (device : Device) (width : Width) (at : ℕ) → HasRam device → at < 65536 → aligned device width at + size_of width ≤ 65536
 aligned_fits device Word at is small =
-    let below = canon_small device.lo device.hi device.mirror (even at) is.some is.top is.mirror (omega (arith, small)) in
+    let below = canon_small device.ram.lo device.ram.hi device.ram.mirror (even at) is.some is.top is.mirror (omega (arith, small)) in
     let no_bit : canon device (even at) % 2 ≡ 0 = aligned_even device at is in
     omega (arith, below, no_bit)
-aligned_fits device Byte at is small = let below = canon_small device.lo device.hi device.mirror at is.some is.top is.mirror small in omega (arith, below)
+aligned_fits device Byte at is small = let below = canon_small device.ram.lo device.ram.hi device.ram.mirror at is.some is.top is.mirror small in omega (arith, below)

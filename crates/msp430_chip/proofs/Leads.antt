@@ -48,7 +48,7 @@ outside_leads device ram at (Some b) other is = answer_gives (MayReadByte device
 
 byte_leads : (device : Device) (ram : List ℕ) (at : ℕ) → Gives (MayReadByte device ram at) (read_byte device ram at)
 unfolding read_byte
-byte_leads device ram at = if_gives (MayReadByte device ram at) (is_ram device at) (answer (slice_index ram (at - device.lo))) (read_outside (byte_at device.image at))
+byte_leads device ram at = if_gives (MayReadByte device ram at) (is_ram device at) (answer (slice_index ram (at - device.ram.lo))) (read_outside (byte_at device.image at))
     (λ here. answer_gives (MayReadByte device ram at) _ (OfRam here refl))
     (λ other. outside_leads device ram at (byte_at device.image at) other refl)
 

@@ -32,15 +32,15 @@ outside_gives : (byte : Option ℕ) → IsByte byte → Gives (λ (b : ℕ). b <
 outside_gives None is = ask_gives 256 (omega arith)
 outside_gives (Some b) is = answer_gives (λ (b : ℕ). b < 256) b is
 
-within_ram : (device : Device) (at : ℕ) → is_ram device at ≡ true → at - device.lo < ram_size device
+within_ram : (device : Device) (at : ℕ) → is_ram device at ≡ true → at - device.ram.lo < ram_size device
 within_ram device at is = grind (arith, nat_tests)
 
-ram_byte : (device : Device) (ram : List ℕ) (at : ℕ) → IsMemory device ram → is_ram device at ≡ true → slice_index ram (at - device.lo) < 256
-ram_byte device ram at is here = let w = within_ram device at here in All-get_or (λ b. b < 256) ram (at - device.lo) _ (omega (arith, is.size, w)) is.bytes
+ram_byte : (device : Device) (ram : List ℕ) (at : ℕ) → IsMemory device ram → is_ram device at ≡ true → slice_index ram (at - device.ram.lo) < 256
+ram_byte device ram at is here = let w = within_ram device at here in All-get_or (λ b. b < 256) ram (at - device.ram.lo) _ (omega (arith, is.size, w)) is.bytes
 
 pub read_byte_gives : (device : Device) (ram : List ℕ) (at : ℕ) → IsMemory device ram → Gives (λ (b : ℕ). b < 256) (read_byte device ram at)
 unfolding read_byte
-read_byte_gives device ram at is = if_gives (λ (b : ℕ). b < 256) (is_ram device at) (answer (slice_index ram (at - device.lo))) (read_outside (byte_at device.image at))
+read_byte_gives device ram at is = if_gives (λ (b : ℕ). b < 256) (is_ram device at) (answer (slice_index ram (at - device.ram.lo))) (read_outside (byte_at device.image at))
     (λ here. answer_gives (λ (b : ℕ). b < 256) _ (ram_byte device ram at is here))
     (λ _. outside_gives (byte_at device.image at) (byte_is device.image at is.image))
 
@@ -69,7 +69,7 @@ chosen_keeps device false ram other is be = be
 with_byte_keeps : (device : Device) (ram : List ℕ) (at byte : ℕ) → IsMemory device ram → byte < 256 → IsMemory device (with_byte device ram at byte)
 unfolding with_byte
 with_byte_keeps device ram at byte is below =
-    chosen_keeps device (is_ram device at) (slice_set ram (at - device.lo) byte) ram (set_keeps device ram (at - device.lo) byte is below) is
+    chosen_keeps device (is_ram device at) (slice_set ram (at - device.ram.lo) byte) ram (set_keeps device ram (at - device.ram.lo) byte is below) is
 
 pub with_stored_keeps : (device : Device) (ram : List ℕ) (width : Width) (at value : ℕ) → IsMemory device ram → value < modulus width
     → IsMemory device (with_stored device ram width at value)

@@ -35,7 +35,7 @@ use Rattle.msp430_chip.specs.Step.{Left, put, put_if, with_status, done, behind,
 
 -- a byte of RAM, of the program, or else any
 pub data MayReadByte (device : Device) (ram : List ℕ) (at byte : ℕ) : Type 0 where
-  OfRam : is_ram device at ≡ true → byte ≡ slice_index ram (at - device.lo) → MayReadByte device ram at byte
+  OfRam : is_ram device at ≡ true → byte ≡ slice_index ram (at - device.ram.lo) → MayReadByte device ram at byte
   OfProgram : is_ram device at ≡ false → byte_at device.image at ≡ Some byte → MayReadByte device ram at byte
   OfNeither : is_ram device at ≡ false → byte_at device.image at ≡ None → byte < 256 → MayReadByte device ram at byte
 

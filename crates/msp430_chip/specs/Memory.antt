@@ -11,14 +11,14 @@ use Rattle.msp430_chip.specs.State.{even}
 
 -- RAM of whole words, in memory, with its mirror
 pub record HasRam (device : Device) : Type 0 where
-  pub low : device.lo % 2 ≡ 0
-  pub high : device.hi % 2 ≡ 1
-  pub some : device.lo < device.hi
-  pub top : device.hi < 65536
-  pub mirror : HasMirror device.lo device.hi device.mirror
+  pub low : device.ram.lo % 2 ≡ 0
+  pub high : device.ram.hi % 2 ≡ 1
+  pub some : device.ram.lo < device.ram.hi
+  pub top : device.ram.hi < 65536
+  pub mirror : HasMirror device.ram.lo device.ram.hi device.ram.mirror
 
 abbrev pub is_ram : Device → ℕ → Bool
-is_ram device at = nat_le device.lo at && nat_le at device.hi
+is_ram device at = nat_le device.ram.lo at && nat_le at device.ram.hi
 
 abbrev pub is_program : Device → ℕ → Bool
 is_program device at = is_some (byte_at device.image at)
@@ -35,7 +35,7 @@ canon_by lo None at = at
 canon_by lo (Some (first, last)) at = if nat_le first at && nat_le at last then lo + (at - first) else at
 
 abbrev pub canon : Device → ℕ → ℕ
-canon device at = canon_by device.lo device.mirror at
+canon device at = canon_by device.ram.lo device.ram.mirror at
 
 -- where an access is made: bit 0 of a word's address doesn't count
 abbrev pub aligned : Device → Width → ℕ → ℕ
@@ -51,7 +51,7 @@ read_outside None = ask 256
 -- a byte of RAM or of the program, or else any
 unfoldable pub read_byte : Device → List ℕ → ℕ → Asking ℕ
 read_byte device ram at choices =
-    if is_ram device at then Some (slice_index ram (at - device.lo), choices)
+    if is_ram device at then Some (slice_index ram (at - device.ram.lo), choices)
     else read_outside (byte_at device.image at) choices
 
 unfoldable pub read_word : Device → List ℕ → ℕ → Asking ℕ
@@ -67,7 +67,7 @@ read device ram Byte at = read_byte device ram (aligned device Byte at)
 -- WRITES
 
 unfoldable pub with_byte : Device → List ℕ → ℕ → ℕ → List ℕ
-with_byte device ram at byte = if is_ram device at then slice_set ram (at - device.lo) byte else ram
+with_byte device ram at byte = if is_ram device at then slice_set ram (at - device.ram.lo) byte else ram
 
 -- the bytes of RAM behind a store
 abbrev pub with_stored : Device → List ℕ → Width → ℕ → ℕ → List ℕ

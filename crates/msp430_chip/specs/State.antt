@@ -18,7 +18,7 @@ allows_interrupts s = register_of s 2 / 8 % 2 == 1
 
 -- how many bytes of RAM the device has
 abbrev pub ram_size : Device → ℕ
-ram_size device = device.hi + 1 - device.lo
+ram_size device = device.ram.hi + 1 - device.ram.lo
 
 -- sixteen words, of which PC and SP are even, SR holds its bits 8 to 0 and R3 nothing, and the bytes of RAM
 pub record IsChipState (device : Device) (s : ChipState) : Type 0 where

@@ -2,18 +2,16 @@
 
 ghost use Rattle.std.specs.Prelude.{◌≡◌, IfOk};
 
-use image::Image;
+use image::{Image, RamRange};
 use no_memory::Memory;
 use std::alloc::Global;
 
-/// An MSP430 with a program in its memory and RAM from its lowest to its highest address, which are even and odd. On some
-/// devices RAM answers a second time, from the first to the last address of a mirror.
+/// An MSP430 with a program in its memory, and where its RAM stands, from an even to an odd address. On some devices RAM
+/// answers a second time, from the first to the last address of a mirror.
 #[derive(Drop)]
 pub struct Device {
     pub image: Image,
-    pub lo: u16,
-    pub hi: u16,
-    pub mirror: Option<(u16, u16)>,
+    pub ram: RamRange,
 }
 
 impl Device {
@@ -23,9 +21,7 @@ impl Device {
     {
         Ok(Device {
             image: self.image.copy(alloc)?,
-            lo: self.lo,
-            hi: self.hi,
-            mirror: self.mirror,
+            ram: self.ram,
         })
     }
 }

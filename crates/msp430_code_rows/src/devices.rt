@@ -2,7 +2,7 @@
 
 ghost use Rattle.std.specs.Prelude.{◌≡◌, ◌<◌, IfOk, length};
 
-use image::Image;
+use image::{Image, RamRange};
 use msp430_chip::{Device, Ram};
 use std::alloc::{AllocError, Global};
 use std::test::Fail;
@@ -30,14 +30,16 @@ fn copies_of_devices(rt: HostRuntime) -> Result<(), Fail> {
     let image = Image::new(places(rt.alloc(), 0xFFFE, 0x40)?);
     let device = Device {
         image,
-        lo: 0x0200,
-        hi: 0x02FF,
-        mirror: Some((0x1000, 0x10FF)),
+        ram: RamRange {
+            lo: 0x0200,
+            hi: 0x02FF,
+            mirror: Some((0x1000, 0x10FF)),
+        },
     };
     let copy = device.copy(rt.alloc())?;
-    assert_eq!(rt; copy.lo, 0x0200);
-    assert_eq!(rt; copy.hi, 0x02FF);
-    assert_eq!(rt; copy.mirror, Some((0x1000, 0x10FF)));
+    assert_eq!(rt; copy.ram.lo, 0x0200);
+    assert_eq!(rt; copy.ram.hi, 0x02FF);
+    assert_eq!(rt; copy.ram.mirror, Some((0x1000, 0x10FF)));
     assert_eq!(rt; copy.image.byte(0xFFFE), Some(0x40));
     assert_eq!(rt; copy.image.byte(0xFFFF), None);
     Ok(())

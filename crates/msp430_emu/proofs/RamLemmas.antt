@@ -16,7 +16,7 @@ set_if false ram place byte below bytes = bytes
 
 byte_kept : (device : Device) (ram : List ℕ) (at byte : ℕ) → byte < 256 → All (λ b. b < 256) ram → All (λ b. b < 256) (with_byte device ram at byte)
 unfolding memory.with_byte
-byte_kept device ram at byte below bytes = set_if (is_ram device at) ram (at - device.lo) byte below bytes
+byte_kept device ram at byte below bytes = set_if (is_ram device at) ram (at - device.ram.lo) byte below bytes
 
 pub bytes_kept : (device : Device) (ram : List ℕ) (width : Width) (at value : ℕ) → value < modulus width → All (λ b. b < 256) ram
     → All (λ b. b < 256) (with_stored device ram width at value)

@@ -1,6 +1,7 @@
 -- What a step of the machine says of the chip.
 use Rattle.std.specs.Prelude.{◌≡◌, ℕ, Option, None, Some, List, map}
 use Rattle.chip_numbers.specs.Single.{Single}
+use Rattle.image.specs.declared.ram_range.RamRange.{RamRange}
 use Rattle.image.specs.declared.rule_set.Rules.{Rules}
 use Rattle.image.specs.declared.rule_set.Rules.TheVariants.{Msp430, Mcs51}
 use Rattle.msp430_chip.specs.declared.device.Device.{Device}
@@ -29,18 +30,18 @@ IsStill (Wild cause) = Unit {0}
 IsStill NeedChoice = Unit {0}
 
 -- the device of an image and RAM
-abbrev pub device_of : List (Option ℕ) → (lo hi : ℕ) → (mirror : Option (ℕ × ℕ)) → Device
-device_of image lo hi mirror = record { image = image; lo = lo; hi = hi; mirror = mirror }
+abbrev pub device_of : List (Option ℕ) → RamRange → Device
+device_of image ram = record { image = image; ram = ram }
 
 -- the rules are those of an MSP430 with RAM
 abbrev pub IsMsp430 : Rules → Type 0
-IsMsp430 (Msp430 lo hi mirror) = HasRam (range lo hi mirror)
+IsMsp430 (Msp430 lo hi mirror) = HasRam (range (record { lo = lo; hi = hi; mirror = mirror }))
 IsMsp430 Mcs51 = ⊥
 
 -- the device of an image under rules; those of another chip have none
 abbrev pub device_under : Rules → List (Option ℕ) → Device
-device_under (Msp430 lo hi mirror) image = device_of image lo hi mirror
-device_under Mcs51 image = device_of image 0 0 None
+device_under (Msp430 lo hi mirror) image = device_of image (record { lo = lo; hi = hi; mirror = mirror })
+device_under Mcs51 image = device_of image (record { lo = 0; hi = 0; mirror = None })
 
 -- the answer for an outcome, and the state behind it
 abbrev pub Ends : Outcome ChipState → Stepped → ChipState → Type 0

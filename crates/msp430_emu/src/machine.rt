@@ -10,7 +10,7 @@ use crate::state::Machine;
 use crate::step::advance;
 use crate::stepped::Stepped;
 use choosing::Choices;
-use image::{Image, Rules};
+use image::{Image, RamRange, Rules};
 use msp430_chip::{ChipState, Ram, one_front};
 use no_memory::Memory;
 use std::alloc::Global;
@@ -21,43 +21,33 @@ impl Machine {
         requires { IsMsp430 rules }
         ensures reset { IfOk result (λ machine. IsResetOf (device_under rules image.now) machine.state) }
         ensures zeros { IfOk result (λ machine. machine.state ≡ first_state (device_under rules image.now)) }
-        ensures lo { IfOk result (λ machine. machine.lo ≡ (device_under rules image.now).lo) }
-        ensures hi { IfOk result (λ machine. machine.hi ≡ (device_under rules image.now).hi) }
-        ensures mirror { IfOk result (λ machine. machine.mirror ≡ (device_under rules image.now).mirror) }
+        ensures ram { IfOk result (λ machine. machine.ram ≡ (device_under rules image.now).ram) }
     {
         let Rules::Msp430 { lo, hi, mirror } = rules else {
             unreachable!()
         };
         let mut registers = [0; 16];
         registers[0] = even(image_word(image, 0xFFFE));
-        let ram = Ram::new(alloc, hi as usize + 1 - lo as usize)?;
-        Ok(Machine {
-            lo,
-            hi,
-            mirror,
-            state: ChipState {
-                registers,
-                ram,
-                late: false,
-            },
-        })
+        let state = ChipState {
+            registers,
+            ram: Ram::new(alloc, hi as usize + 1 - lo as usize)?,
+            late: false,
+        };
+        let ram = RamRange { lo, hi, mirror };
+        Ok(Machine { ram, state })
     }
 
     /// One step under an image, by the next choices. Where no step is done, machine and choices are as before.
     pub fn step(&mut self, image: &Image, choices: &mut Choices) -> Stepped
-        ensures steps { Steps (device_of image.now self.old.lo self.old.hi self.old.mirror) self.old.state choices.old result self.new.state choices.new }
-        ensures form { IsChipState (device_of image.now self.old.lo self.old.hi self.old.mirror) self.new.state }
+        ensures steps { Steps (device_of image.now self.old.ram) self.old.state choices.old result self.new.state choices.new }
+        ensures form { IsChipState (device_of image.now self.old.ram) self.new.state }
         ensures still { IsStill result → self.new ≡ self.old }
         ensures unused { IsStill result → choices.new ≡ choices.old }
-        ensures lo { self.new.lo ≡ self.old.lo }
-        ensures hi { self.new.hi ≡ self.old.hi }
-        ensures mirror { self.new.mirror ≡ self.old.mirror }
+        ensures ram { self.new.ram ≡ self.old.ram }
     {
         let layout = Layout {
             image,
-            lo: self.lo,
-            hi: self.hi,
-            mirror: self.mirror,
+            ram: self.ram,
         };
         let mut unused = choices.unused();
         let stepped = advance(&layout, &mut self.state, &mut unused);

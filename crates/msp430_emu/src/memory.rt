@@ -8,18 +8,16 @@ ghost use Rattle.msp430_chip.specs.State as state;
 ghost use Rattle.choosing.specs.Choosing.{asked};
 
 use choosing::Unused;
-use image::Image;
+use image::{Image, RamRange};
 use msp430_chip::{Ram, accesses_are_in_memory};
 use msp430_decode::Width;
 use std::marker::Model;
 
-/// A program, and where RAM stands and its mirror. Contracts see the device.
+/// A program, and where RAM stands. Contracts see the device.
 #[derive(Drop)]
 pub(crate) struct Layout<'a> {
     pub image: &'a Image,
-    pub lo: u16,
-    pub hi: u16,
-    pub mirror: Option<(u16, u16)>,
+    pub ram: RamRange,
 }
 
 impl<'a> Model for Layout<'a> {
@@ -28,9 +26,9 @@ impl<'a> Model for Layout<'a> {
 
     ghost Value = { Device };
 
-    ghost view = { λ l. record { image = l.image.now; lo = l.lo; hi = l.hi; mirror = l.mirror } };
+    ghost view = { λ l. record { image = l.image.now; ram = l.ram } };
 
-    ghost invariant = { λ l. HasRam (record { image = l.image.now; lo = l.lo; hi = l.hi; mirror = l.mirror }) };
+    ghost invariant = { λ l. HasRam (record { image = l.image.now; ram = l.ram }) };
 }
 
 /// A word without bit 0.
@@ -55,7 +53,7 @@ impl<'a> Layout<'a> {
     fn keeps_ram(&self)
         ensures { HasRam self.now }
     {
-        let _lo = self.lo;
+        let _ram = self.ram;
     }
 
     /// An address of the mirror as that of RAM.
@@ -63,8 +61,8 @@ impl<'a> Layout<'a> {
         ensures { result ≡ memory.canon self.now at }
     {
         self.keeps_ram();
-        match self.mirror {
-            Some((first, last)) if first <= at && at <= last => self.lo + (at - first),
+        match self.ram.mirror {
+            Some((first, last)) if first <= at && at <= last => self.ram.lo + (at - first),
             _ => at,
         }
     }
@@ -85,7 +83,7 @@ impl<'a> Layout<'a> {
     fn is_ram(&self, at: u16) -> bool
         ensures { result ≡ memory.is_ram self.now at }
     {
-        self.lo <= at && at <= self.hi
+        self.ram.lo <= at && at <= self.ram.hi
     }
 
     fn is_program(&self, at: u16) -> bool
@@ -103,7 +101,7 @@ pub(crate) fn read_byte(layout: &Layout, ram: &Ram, at: u16, choices: &mut Unuse
     ensures below { IfSome result (λ value. value < 256) }
 {
     if layout.is_ram(at) {
-        return Some(ram.byte((at - layout.lo) as usize) as u16);
+        return Some(ram.byte((at - layout.ram.lo) as usize) as u16);
     }
     match layout.image.byte(at) {
         Some(byte) => Some(byte as u16),
@@ -148,7 +146,7 @@ fn store_byte(layout: &Layout, ram: &mut Ram, at: u16, byte: u8)
     ensures length { length ram.new ≡ length ram.old }
 {
     if layout.is_ram(at) {
-        ram.set((at - layout.lo) as usize, byte);
+        ram.set((at - layout.ram.lo) as usize, byte);
     }
 }
 

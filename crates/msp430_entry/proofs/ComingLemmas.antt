@@ -146,7 +146,7 @@ pub record IsListed (device : Device) (coming_so : Coming) : Type 0 where
   pub words : AreEvenWords coming_so.sp
   pub entry : IsEntrySp coming_so.known_sp
 
-pub is_listed : (laws : MemoryLaws) (device : Device) (framed : Bool) (a : Known) (coming_so : Coming) → IsKnown device.lo device.hi framed a → Contains (comings_of device a) coming_so → IsListed device coming_so
+pub is_listed : (laws : MemoryLaws) (device : Device) (framed : Bool) (a : Known) (coming_so : Coming) → IsKnown device.ram.lo device.ram.hi framed a → Contains (comings_of device a) coming_so → IsListed device coming_so
 is_listed laws device framed a coming_so form h = elim (cases_Bool (may_interrupt a)) [
   | inr off ↦ absurd (in_none coming_so (subst (λ list. Contains list coming_so) (none_listed device a off) h))
   | inl on ↦
@@ -161,7 +161,7 @@ is_listed laws device framed a coming_so form h = elim (cases_Bool (may_interrup
       }
 ]
 
-pub frame_so : (laws : MemoryLaws) (device : Device) (framed : Bool) (a : Known) (coming_so : Coming) → IsKnown device.lo device.hi framed a → Contains (comings_of device a) coming_so
+pub frame_so : (laws : MemoryLaws) (device : Device) (framed : Bool) (a : Known) (coming_so : Coming) → IsKnown device.ram.lo device.ram.hi framed a → Contains (comings_of device a) coming_so
     → IsFrame (frame_of_coming coming_so) × (may_come device coming_so.vector ≡ true)
 frame_so laws device framed a coming_so form h = let is = is_listed laws device framed a coming_so form h in ((is.below, is.entry, refl), is.may)
 

@@ -130,20 +130,20 @@ counter_word_form laws pc small = record { normal = (laws.known.sets.single 6553
 status_word_form : (laws : MemoryLaws) (status : Status) → length status.bits ≡ 9 → IsWord true (record { set = status_set status; entry = Some (itself 2) })
 status_word_form laws status long = laws.words.status_form true (record { bits = status.bits; entry = Some (itself 2) }) long (refl, omega arith, refl, omega arith)
 
-counted_form : (laws : MemoryLaws) (device : Device) (framed : Bool) (a : Known) (pc : ℕ) (sp : Form) → IsDevice device → IsKnown device.lo device.hi framed a → pc < 65536 → AreEvenWords sp
-    → IsKnown device.lo device.hi true (counted_known device a pc sp)
+counted_form : (laws : MemoryLaws) (device : Device) (framed : Bool) (a : Known) (pc : ℕ) (sp : Form) → IsDevice device → IsKnown device.ram.lo device.ram.hi framed a → pc < 65536 → AreEvenWords sp
+    → IsKnown device.ram.lo device.ram.hi true (counted_known device a pc sp)
 counted_form laws device framed a pc sp is form small words =
-    laws.words.stored_form device true (handed a) (counted_sp sp) (record { set = single pc; entry = Some (itself 0) }) is (handed_form laws device.lo device.hi framed a form)
+    laws.words.stored_form device true (handed a) (counted_sp sp) (record { set = single pc; entry = Some (itself 0) }) is (handed_form laws device.ram.lo device.ram.hi framed a form)
     (slot_words laws sp 65534 words (omega arith) refl).normal (counter_word_form laws pc small)
 
-stored_form : (laws : MemoryLaws) (device : Device) (framed : Bool) (a : Known) (pc : ℕ) (sp : Form) → IsDevice device → IsKnown device.lo device.hi framed a → pc < 65536 → AreEvenWords sp
-    → IsKnown device.lo device.hi true (stored_known device a pc sp)
+stored_form : (laws : MemoryLaws) (device : Device) (framed : Bool) (a : Known) (pc : ℕ) (sp : Form) → IsDevice device → IsKnown device.ram.lo device.ram.hi framed a → pc < 65536 → AreEvenWords sp
+    → IsKnown device.ram.lo device.ram.hi true (stored_known device a pc sp)
 stored_form laws device framed a pc sp is form small words =
     laws.words.stored_form device true (counted_known device a pc sp) (entered_sp sp) (record { set = status_set a.status; entry = Some (itself 2) }) is
     (counted_form laws device framed a pc sp is form small words) (slot_words laws sp 65532 words (omega arith) refl).normal (status_word_form laws a.status form.bits)
 
-pub entered_form : (laws : MemoryLaws) (device : Device) (framed : Bool) (a : Known) (pc : ℕ) (coming_so : Coming) → IsDevice device → IsKnown device.lo device.hi framed a → IsEvenWord pc
-    → Contains (comings_of device a) coming_so → IsKnown device.lo device.hi true (entered_known device a pc coming_so.sp)
+pub entered_form : (laws : MemoryLaws) (device : Device) (framed : Bool) (a : Known) (pc : ℕ) (coming_so : Coming) → IsDevice device → IsKnown device.ram.lo device.ram.hi framed a → IsEvenWord pc
+    → Contains (comings_of device a) coming_so → IsKnown device.ram.lo device.ram.hi true (entered_known device a pc coming_so.sp)
 unfolding entered_known
 entered_form laws device framed a pc coming_so is form word listed =
     let words = (is_listed laws device framed a coming_so form listed).words in
@@ -185,7 +185,7 @@ stored_parts laws device framed a s first sp bits under words has few =
     let counter_ram = with_stored device s.ram Words counter_at pc in
     let counter_holds : HoldsOfWord (Some (suspended_of s)) (record { set = single pc; entry = Some (itself 0) }) pc = ((laws.known.sets.single 65536 pc small).1, from_itself s 0 pc refl small) in
     let counted = laws.words.stored device true (handed a) (Some s) s.registers s.ram (counted_sp sp) counter_at pc (record { set = single pc; entry = Some (itself 0) }) is ram_is (λ e. absurd (cc))
-    (handed_form laws device.lo device.hi framed a form) (slot_words laws sp 65534 words (omega arith) refl).normal (slot_has laws sp 65534 (register_of s 1) words (omega arith) has)
+    (handed_form laws device.ram.lo device.ram.hi framed a form) (slot_words laws sp 65534 words (omega arith) refl).normal (slot_has laws sp 65534 (register_of s 1) words (omega arith) has)
     (counter_word_form laws pc small) counter_holds (handed_parts laws device framed a s first under) in
     let status_holds = laws.words.status true (Some s) (record { bits = a.status.bits; entry = Some (itself 2) }) sr bits form.bits (refl, omega arith, refl, omega arith) state.status few
     (record { bits = under.holds.parts.status.bits; entry = from_itself s 2 sr refl (omega (arith, state.status)) }) in

@@ -42,10 +42,10 @@ pub record EntriesHold : Type 0 where
       → IsHit device Word (Some (counter_slot device coming_so.sp)) at ⊎ IsHit device Word
       (Some (status_slot device coming_so.sp)) at
   pub form : (device : Device) (framed : Bool) (a : Known) (pc : ℕ) (coming_so : Coming) → IsDevice device
-      → IsKnown device.lo device.hi framed a → IsEvenWord pc → Contains (comings_of device a) coming_so
-      → IsKnown device.lo device.hi true (entered_known device a pc coming_so.sp)
+      → IsKnown device.ram.lo device.ram.hi framed a → IsEvenWord pc → Contains (comings_of device a) coming_so
+      → IsKnown device.ram.lo device.ram.hi true (entered_known device a pc coming_so.sp)
   pub frame : (device : Device) (framed : Bool) (a : Known) (coming_so : Coming)
-      → IsKnown device.lo device.hi framed a → Contains (comings_of device a) coming_so
+      → IsKnown device.ram.lo device.ram.hi framed a → Contains (comings_of device a) coming_so
       → IsFrame (frame_of_coming coming_so) × (may_come device coming_so.vector ≡ true)
   pub handler : (device : Device) (vector : ℕ) → IsDevice device → IsEvenWord (handler_of device vector)
   pub below : (device : Device) (a : Known) (coming_so : Coming) → Contains (comings_of device a) coming_so

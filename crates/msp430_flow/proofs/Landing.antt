@@ -78,7 +78,7 @@ use Rattle.msp430_flow.proofs.Stepping.{device_of, done_by_hit, entered_state, e
 
 -- what the work of an instruction rests on
 pub record IsFormed (device : Device) (framed : Bool) (made_so : Worked) : Type 0 where
-  pub after : IsKnown device.lo device.hi framed made_so.after
+  pub after : IsKnown device.ram.lo device.ram.hi framed made_so.after
   pub next : (to : ℕ) → Has 65536 made_so.next to → IsEvenWord to
 
 -- the next addresses are even words
@@ -93,7 +93,7 @@ target_even pc offset h = let even = h.1 in
     cond_both (nat_lt offset 512) ((pc + 2 + 2 * offset) % 65536) ((pc + 2 + 2 * offset + 65536 - 2048) % 65536) IsEvenWord
     (λ e. (omega arith, omega arith)) (λ e. (omega arith, omega arith))
 
-module _ (laws : Laws) (device : Device) (framed : Bool) (a : Known) (pc : ℕ) (is : IsDevice device) (form : IsKnown device.lo device.hi framed a) (even : IsEvenWord pc) where
+module _ (laws : Laws) (device : Device) (framed : Bool) (a : Known) (pc : ℕ) (is : IsDevice device) (form : IsKnown device.ram.lo device.ram.hi framed a) (even : IsEvenWord pc) where
   status_form : (operation : Operation) (width : Width) (origin : Source) (target : Destination) → IsSource origin → target ≡ destination.Register Sr
       → IsFormed device framed (worked device framed a pc (instr.Double operation width origin target))
   status_form operation width origin target fits status =
@@ -163,7 +163,7 @@ module _ (laws : Laws) (device : Device) (framed : Bool) (a : Known) (pc : ℕ) 
   }
 
   -- what is known behind every instruction
-  worked_form : (instr_so : Instr) → IsInstr instr_so → IsKnown device.lo device.hi framed (worked device framed a pc instr_so).after
+  worked_form : (instr_so : Instr) → IsInstr instr_so → IsKnown device.ram.lo device.ram.hi framed (worked device framed a pc instr_so).after
   worked_form (instr.Double operation width origin target) fits = (double_form operation width origin target fits (target_view target)).after
   worked_form (instr.Single Push width operand) fits = (push_form Push width operand fits).after
   worked_form (instr.Single Call width operand) fits = (push_form Call width operand fits).after
@@ -179,12 +179,12 @@ module _ (laws : Laws) (device : Device) (framed : Bool) (a : Known) (pc : ℕ) 
 -- A way goes to an even address, what is known there is in form, and an interrupt may come there as GIE was before.
 pub record IsWay (device : Device) (framed : Bool) (late : Tri) (way : Way Known) : Type 0 where
   pub even : IsEvenWord way.0
-  pub known : IsKnown device.lo device.hi framed way.1
+  pub known : IsKnown device.ram.lo device.ram.hi framed way.1
   pub late_is : way.1.late ≡ late
 
 abbrev IsAhead : Device → Bool → Tri → Option Known → Type 0
 IsAhead device framed late None = Unit {0}
-IsAhead device framed late (Some a) = IsKnown device.lo device.hi framed a × (a.late ≡ late)
+IsAhead device framed late (Some a) = IsKnown device.ram.lo device.ram.hi framed a × (a.late ≡ late)
 
 common_itself : (bit : Tri) → common_bit bit bit ≡ bit
 common_itself Zero = refl
@@ -209,15 +209,15 @@ ways_form laws device framed late behind target on jumped f g a b way (joins one
     let second = some_ahead device framed late jumped other b is_jumped in
     record {
       even = subst IsEvenWord (sym to) f;
-      known = subst (IsKnown device.lo device.hi framed) (sym is) (laws.states.join_form device.lo device.hi framed one other first.0 second.0);
+      known = subst (IsKnown device.ram.lo device.ram.hi framed) (sym is) (laws.states.join_form device.ram.lo device.ram.hi framed one other first.0 second.0);
       late_is = ap (λ (k : Known). k.late) is ∙ joined_late late one other first.1 second.1;
     }
 
-cut_ahead : Laws → (device : Device) (framed : Bool) (condition : Condition) (taken : Bool) (a : Known) (found : Option Known) → IsKnown device.lo device.hi framed a
+cut_ahead : Laws → (device : Device) (framed : Bool) (condition : Condition) (taken : Bool) (a : Known) (found : Option Known) → IsKnown device.ram.lo device.ram.hi framed a
     → known_cut condition taken a ≡ found → IsAhead device framed a.late found
 cut_ahead laws device framed condition taken a None known e = tt
 cut_ahead laws device framed condition taken a (Some b) known e =
-    (laws.cuts.form device.lo device.hi framed a b condition taken known e, (laws.cuts.interrupts a b condition taken e).1)
+    (laws.cuts.form device.ram.lo device.ram.hi framed a b condition taken known e, (laws.cuts.interrupts a b condition taken e).1)
 
 fact_form : Laws → (instr_so : Instr) (a : Known) → IsFact a.fact → IsFact (fact_of instr_so a)
 fact_form laws (instr.Double operation width origin target) a h = laws.facts.form operation width origin target a h
@@ -225,24 +225,24 @@ fact_form laws (instr.Single operation width operand) a h = h
 fact_form laws (instr.Jump condition offset) a h = h
 fact_form laws instr.ReturnFromInterrupt a h = h
 
-ways_to_form : Laws → (device : Device) (framed : Bool) (late : Tri) (next : Form) (a : Known) → ((to : ℕ) → Has 65536 next to → IsEvenWord to) → IsKnown device.lo device.hi framed a → a.late ≡ late
+ways_to_form : Laws → (device : Device) (framed : Bool) (late : Tri) (next : Form) (a : Known) → ((to : ℕ) → Has 65536 next to → IsEvenWord to) → IsKnown device.ram.lo device.ram.hi framed a → a.late ≡ late
     → (way : Way Known) → Contains (ways_to next a) way → IsWay device framed late way
 ways_to_form laws device framed late next a even known is way h =
     let (there, same) = laws.ways.member next a way h in
-    record { even = even way.0 there; known = subst (IsKnown device.lo device.hi framed) (sym same) known; late_is = ap (λ (k : Known). k.late) same ∙ is }
+    record { even = even way.0 there; known = subst (IsKnown device.ram.lo device.ram.hi framed) (sym same) known; late_is = ap (λ (k : Known). k.late) same ∙ is }
 
-module _ (laws : Laws) (device : Device) (framed : Bool) (a : Known) (pc : ℕ) (is : IsDevice device) (form : IsKnown device.lo device.hi framed a) (even : IsEvenWord pc) where
+module _ (laws : Laws) (device : Device) (framed : Bool) (a : Known) (pc : ℕ) (is : IsDevice device) (form : IsKnown device.ram.lo device.ram.hi framed a) (even : IsEvenWord pc) where
   -- what is known behind an instruction, before a jump tells more
-  behind_form : (instr_so : Instr) → IsInstr instr_so → IsKnown device.lo device.hi framed (known_behind device framed a pc instr_so)
+  behind_form : (instr_so : Instr) → IsInstr instr_so → IsKnown device.ram.lo device.ram.hi framed (known_behind device framed a pc instr_so)
   behind_form instr_so fits =
       let after = (worked device framed a pc instr_so).after in
       let known = worked_form laws device framed a pc is form even instr_so fits in
-      late_form device.lo device.hi framed (gie_of a) (fact_of instr_so after) after (fact_form laws instr_so after known.fact) known
+      late_form device.ram.lo device.ram.hi framed (gie_of a) (fact_of instr_so after) after (fact_form laws instr_so after known.fact) known
 
   -- and what RETI leaves at the exit of its frame
-  pub exit_known : (instr_so : Instr) → IsInstr instr_so → IsKnown device.lo device.hi framed (followed (gie_of a) None (worked device framed a pc instr_so).after)
+  pub exit_known : (instr_so : Instr) → IsInstr instr_so → IsKnown device.ram.lo device.ram.hi framed (followed (gie_of a) None (worked device framed a pc instr_so).after)
   exit_known instr_so fits =
-      late_form device.lo device.hi framed (gie_of a) None (worked device framed a pc instr_so).after tt (worked_form laws device framed a pc is form even instr_so fits)
+      late_form device.ram.lo device.ram.hi framed (gie_of a) None (worked device framed a pc instr_so).after tt (worked_form laws device framed a pc is form even instr_so fits)
 
   -- the ways to each next address
   next_ways : (instr_so : Instr) → IsInstr instr_so → ((to : ℕ) → Has 65536 (worked device framed a pc instr_so).next to → IsEvenWord to)
@@ -374,7 +374,7 @@ pub record AtLocation (setting : Setting) (pc : ℕ) (calls : List ℕ) (frame :
   pub setting_so : IsSetting setting
   pub covers : Covers setting.device (At pc calls frame) a s first
   pub fits : IsInstr instr_so
-  pub node : HasChipForm setting.device.lo setting.device.hi (At pc calls frame) a
+  pub node : HasChipForm setting.device.ram.lo setting.device.ram.hi (At pc calls frame) a
 
 abbrev LandsAt : Setting → (pc : ℕ) → List ℕ → Frame → Known → ChipState → Option ChipState → Instr → List Single → ChipState → Type 0
 LandsAt setting pc calls frame a s first instr_so items_so t =

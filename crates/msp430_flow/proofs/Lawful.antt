@@ -84,7 +84,7 @@ reset_even device program = even_start (byte_at device.image 65534) (byte_at dev
 -- STEPS
 
 under : (device : Device) → IsProgram device → (pc : ℕ) (calls : List ℕ) (frame : Frame) (a : Known) (s : ChipState) (first : Option ChipState)
-    → HasChipForm device.lo device.hi (At pc calls frame) a → Covers device (At pc calls frame) a s first → IsUnder device (is_interrupt frame) a s first
+    → HasChipForm device.ram.lo device.ram.hi (At pc calls frame) a → Covers device (At pc calls frame) a s first → IsUnder device (is_interrupt frame) a s first
 under device program pc calls frame a s first form covers = record {
   device_so = device_of device program;
   base = in_base device frame s first covers.2;
@@ -93,7 +93,7 @@ under device program pc calls frame a s first form covers = record {
 }
 
 wild_told : Laws → (setting : Setting) → IsSetting setting → (node : Node) (a : Known) (s : ChipState) (first : Option ChipState) (why : Leaving) → IsLocation node
-    → HasChipForm setting.device.lo setting.device.hi node a → Covers setting.device node a s first → StepsTo setting.device s (Wild why) → IsTold (work_of setting (One node) a None) why
+    → HasChipForm setting.device.ram.lo setting.device.ram.hi node a → Covers setting.device node a s first → StepsTo setting.device s (Wild why) → IsTold (work_of setting (One node) a None) why
 wild_told laws setting so (At pc calls frame) a s first why location form covers (choices, cause, left, step, is) =
     let device = setting.device in
     let stands = under device so.program pc calls frame a s first form covers in
@@ -103,7 +103,7 @@ wild_told laws setting so (At pc calls frame) a s first why location form covers
 wild_told laws setting so (Exit pc frame) a s first why location form covers step = absurd location
 
 lands_by : Laws → (setting : Setting) → IsSetting setting → (pc : ℕ) (calls : List ℕ) (frame : Frame) (a : Known) (s : ChipState) (first : Option ChipState) (items_so : List Single) (t : ChipState)
-    → Covers setting.device (At pc calls frame) a s first → HasChipForm setting.device.lo setting.device.hi (At pc calls frame) a → IsChipState setting.device t
+    → Covers setting.device (At pc calls frame) a s first → HasChipForm setting.device.ram.lo setting.device.ram.hi (At pc calls frame) a → IsChipState setting.device t
     → Comes setting.device (is_interrupt frame) a s first (Onward items_so t)
     → (work_at setting pc calls frame a (fetched setting.device.image pc)).opens ≡ []
     → Lands (msp430_machine setting.device) (msp430_analysis setting) (Covers setting.device) (At pc calls frame) (work_at setting pc calls frame a (fetched setting.device.image pc)) s first items_so t
@@ -121,7 +121,7 @@ lands_by laws setting so pc calls frame a s first items_so t covers node form (r
 lands_by laws setting so pc calls frame a s first items_so t covers node form (refused refusal found is) none = absurd (cc)
 
 lands : Laws → (setting : Setting) → IsSetting setting → (node : Node) (a : Known) (s : ChipState) (first : Option ChipState) (items_so : List Single) (t : ChipState) → IsLocation node
-    → HasChipForm setting.device.lo setting.device.hi node a → Covers setting.device node a s first → StepsTo setting.device s (Next items_so t) → (work_of setting (One node) a None).opens ≡ []
+    → HasChipForm setting.device.ram.lo setting.device.ram.hi node a → Covers setting.device node a s first → StepsTo setting.device s (Next items_so t) → (work_of setting (One node) a None).opens ≡ []
     → Lands (msp430_machine setting.device) (msp430_analysis setting) (Covers setting.device) node (work_of setting (One node) a None) s first items_so t
 lands laws setting so (At pc calls frame) a s first items_so t location form covers (choices, left, step) none =
     let device = setting.device in
@@ -136,7 +136,7 @@ lands laws setting so (Exit pc frame) a s first items_so t location form covers 
 
 -- the work of a return to a location whose stack pointers have that of the frame
 resumed : Laws → (setting : Setting) → IsSetting setting → (pc : ℕ) (calls : List ℕ) (frame : Frame) (from vector sp level : ℕ) (a x : Known) (f : ChipState) (first : Option ChipState) (t : ChipState)
-    → IsKnown setting.device.lo setting.device.hi (is_interrupt frame) a → IsKnown setting.device.lo setting.device.hi true x
+    → IsKnown setting.device.ram.lo setting.device.ram.hi (is_interrupt frame) a → IsKnown setting.device.ram.lo setting.device.ram.hi true x
     → Covers setting.device (At pc calls frame) a f first → Covers setting.device (Exit from (Irq vector (Some sp) level)) x t (Some f)
     → (work : Work Known) → resumption pc calls frame from sp a x ≡ work
     → Resumes (msp430_machine setting.device) (msp430_analysis setting) (Covers setting.device) (At pc calls frame) (Exit from (Irq vector (Some sp) level)) work first t
@@ -158,7 +158,7 @@ resumed laws setting so pc calls frame from vector sp level a x f first t form e
     })
 
 return_resumes : Laws → (setting : Setting) → IsSetting setting → (node exit : Node) (a x : Known) (f : ChipState) (first : Option ChipState) (t : ChipState) → IsLocation node → (IsLocation exit → ⊥)
-    → HasChipForm setting.device.lo setting.device.hi node a → HasChipForm setting.device.lo setting.device.hi exit x → Covers setting.device node a f first → Covers setting.device exit x t (Some f)
+    → HasChipForm setting.device.ram.lo setting.device.ram.hi node a → HasChipForm setting.device.ram.lo setting.device.ram.hi exit x → Covers setting.device node a f first → Covers setting.device exit x t (Some f)
     → Resumes (msp430_machine setting.device) (msp430_analysis setting) (Covers setting.device) node exit (work_of setting (Back node exit) a (Some x)) first t
 return_resumes laws setting so (Exit pc frame) exit a x f first t location exits form exit_form covers left = absurd location
 return_resumes laws setting so (At pc calls frame) (At from others frame_so) a x f first t location exits form exit_form covers left = absurd (exits tt)
@@ -171,9 +171,9 @@ return_resumes laws setting so (At pc calls frame) (Exit from (Irq vector (Some 
 
 -- what is posted has the form of its node
 abbrev IsPost : Setting → Node × Known → Type 0
-IsPost setting post = HasChipForm setting.device.lo setting.device.hi post.0 post.1
+IsPost setting post = HasChipForm setting.device.ram.lo setting.device.ram.hi post.0 post.1
 
-module _ (laws : Laws) (setting : Setting) (so : IsSetting setting) (pc : ℕ) (calls : List ℕ) (frame : Frame) (a : Known) (form : HasChipForm setting.device.lo setting.device.hi (At pc calls frame) a) where
+module _ (laws : Laws) (setting : Setting) (so : IsSetting setting) (pc : ℕ) (calls : List ℕ) (frame : Frame) (a : Known) (form : HasChipForm setting.device.ram.lo setting.device.ram.hi (At pc calls frame) a) where
   entry_posts : (post : Node × Known) → Contains (map (entry_post setting.device pc a) (comings_of setting.device a)) post → IsPost setting post
   entry_posts post h =
       let device = setting.device in
@@ -236,7 +236,7 @@ module _ (laws : Laws) (setting : Setting) (so : IsSetting setting) (pc : ℕ) (
       ]
 
   -- where it goes on from an exit
-  resumed_posts : (from vector sp level : ℕ) (x : Known) (post : Node × Known) → HasChipForm setting.device.lo setting.device.hi (Exit from (Irq vector (Some sp) level)) x
+  resumed_posts : (from vector sp level : ℕ) (x : Known) (post : Node × Known) → HasChipForm setting.device.ram.lo setting.device.ram.hi (Exit from (Irq vector (Some sp) level)) x
       → Contains (resumption pc calls frame from sp a x).posts post → IsPost setting post
   resumed_posts from vector sp level x post exit_form h =
       let framed = is_interrupt frame in
@@ -244,7 +244,7 @@ module _ (laws : Laws) (setting : Setting) (so : IsSetting setting) (pc : ℕ) (
       let full : Work Known = record { items = items.Edge from pc ∷ []; posts = (At pc calls frame, state) ∷ []; waits = []; opens = [] } in
       cond_both (is_in 65536 a.sp sp) full nothing (λ (work : Work Known). Contains work.posts post → IsPost setting post)
       (λ _ there. elim (in_cons (At pc calls frame, state) [] post there) [
-        | inl same ↦ subst (IsPost setting) same (form.0, laws.resumptions.form setting.device.lo setting.device.hi framed a x pc sp so.program.top form.1 exit_form.1 form.0.0 exit_form.0.1.1)
+        | inl same ↦ subst (IsPost setting) same (form.0, laws.resumptions.form setting.device.ram.lo setting.device.ram.hi framed a x pc sp so.program.top form.1 exit_form.1 form.0.0 exit_form.0.1.1)
         | inr none ↦ absurd (in_none post none)
       ])
       (λ _ none. absurd (in_none post none)) h
@@ -257,7 +257,7 @@ module _ (laws : Laws) (setting : Setting) (so : IsSetting setting) (pc : ℕ) (
       (λ _ there. in_none open_so there) (λ _ there. in_none open_so there) h
 
 posts_formed : Laws → (setting : Setting) → IsSetting setting → (unit : WorkUnit) (a : Known) (exit : Option Known) (to : Node) (state : Known)
-    → AreFormed (msp430_analysis setting) unit a exit → Contains (work_of setting unit a exit).posts (to, state) → HasChipForm setting.device.lo setting.device.hi to state
+    → AreFormed (msp430_analysis setting) unit a exit → Contains (work_of setting unit a exit).posts (to, state) → HasChipForm setting.device.ram.lo setting.device.ram.hi to state
 unfolding msp430_analysis
 posts_formed laws setting so (One (At pc calls frame)) a None to state formed h = posts_at laws setting so pc calls frame a formed (fetched setting.device.image pc) (to, state) refl h
 posts_formed laws setting so (One (At pc calls frame)) a (Some exit) to state formed h = absurd formed
@@ -287,15 +287,15 @@ opens_break laws setting so (Back (Exit pc frame) other) a exit at cause formed 
 
 -- THE LAWS
 
-pub alike_form : (a b : Setting) → AreAlike a b → (node : Node) (state : Known) → HasChipForm a.device.lo a.device.hi node state → HasChipForm b.device.lo b.device.hi node state
-alike_form a b alike node state form = subst (λ hi. HasChipForm b.device.lo hi node state) alike.hi (subst (λ lo. HasChipForm lo a.device.hi node state) alike.lo form)
+pub alike_form : (a b : Setting) → AreAlike a b → (node : Node) (state : Known) → HasChipForm a.device.ram.lo a.device.ram.hi node state → HasChipForm b.device.ram.lo b.device.ram.hi node state
+alike_form a b alike node state form = subst (λ ram. HasChipForm ram.lo ram.hi node state) alike.ram form
 
 pub lawful : Laws → (setting : Setting) → IsSetting setting → IsLawful (msp430_machine setting.device) (msp430_analysis setting) (Covers setting.device)
 unfolding msp430_machine msp430_analysis
 lawful laws setting so =
     let device = setting.device in
-    let lo = device.lo in
-    let hi = device.hi in
+    let lo = device.ram.lo in
+    let hi = device.ram.hi in
     let states = laws.states in
     let ascends : lo ≤ hi = let below : lo < hi = so.program.ram.3 in omega arith in
     record {

@@ -72,10 +72,10 @@ mirror_below (Some (first, last)) = range_below first last
 pub marks_below : (device : Device) → AreMarks (marks_of device)
 marks_below device =
     let image = marks_from device.image 0 32768 in
-    let ram = range_marks device.lo device.hi in
-    let mirror = mirror_marks device.mirror in
+    let ram = range_marks device.ram.lo device.ram.hi in
+    let mirror = mirror_marks device.ram.mirror in
     let ends = ram ++ mirror ++ image in
-    let both = both_below ram mirror (range_below device.lo device.hi) (mirror_below device.mirror) in
+    let both = both_below ram mirror (range_below device.ram.lo device.ram.hi) (mirror_below device.ram.mirror) in
     let behind : AreMarks ends = both_below (ram ++ mirror) image both (from_below device.image 32768 0) in
     All-cons (λ n. n < 65536) 0 (1 ∷ ends) (omega arith) (All-cons (λ n. n < 65536) 1 ends (omega arith) behind)
 

@@ -67,7 +67,7 @@ pub record States : Type 0 where
       → known_within a b ≡ true → HoldsOfParts device a first registers ram → HoldsOfParts device b first registers ram
   pub more : (device : Device) (lo hi : ℕ) (framed : Bool) (node : Node) (a b : Known) (s : ChipState) (first : Option ChipState) → IsKnown lo hi framed a
       → known_within a b ≡ true → Covers device node a s first → Covers device node b s first
-  pub reset : (device : Device) (s : ChipState) → IsResetOf device s → Covers device (At (reset_address device) [] Base) (first_known device.lo device.hi) s None
+  pub reset : (device : Device) (s : ChipState) → IsResetOf device s → Covers device (At (reset_address device) [] Base) (first_known device.ram.lo device.ram.hi) s None
 
 pub record Laws : Type 0 where
   pub known : KnownLaws

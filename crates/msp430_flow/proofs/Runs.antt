@@ -335,24 +335,24 @@ jump_is s condition offset taken e =
 
 module _ (laws : Laws) (device : Device) (framed : Bool) (first : Option ChipState) (registers ram : List ℕ) where
   -- what is known on one of two ways that are joined
-  joined_first : (a b : Known) → IsKnown device.lo device.hi framed a → IsKnown device.lo device.hi framed b → HoldsOfParts device a first registers ram
+  joined_first : (a b : Known) → IsKnown device.ram.lo device.ram.hi framed a → IsKnown device.ram.lo device.ram.hi framed b → HoldsOfParts device a first registers ram
       → HoldsOfParts device (known_joined a b) first registers ram
-  joined_first a b f g h = laws.states.parts device device.lo device.hi framed a (known_joined a b) first registers ram f (laws.states.join_held device.lo device.hi framed a b f g) h
+  joined_first a b f g h = laws.states.parts device device.ram.lo device.ram.hi framed a (known_joined a b) first registers ram f (laws.states.join_held device.ram.lo device.ram.hi framed a b f g) h
 
-  joined_second : (a b : Known) → IsKnown device.lo device.hi framed a → IsKnown device.lo device.hi framed b → HoldsOfParts device b first registers ram
+  joined_second : (a b : Known) → IsKnown device.ram.lo device.ram.hi framed a → IsKnown device.ram.lo device.ram.hi framed b → HoldsOfParts device b first registers ram
       → HoldsOfParts device (known_joined a b) first registers ram
-  joined_second a b f g h = laws.states.parts device device.lo device.hi framed b (known_joined a b) first registers ram g (laws.states.join_new device.lo device.hi framed a b f g) h
+  joined_second a b f g h = laws.states.parts device device.ram.lo device.ram.hi framed b (known_joined a b) first registers ram g (laws.states.join_new device.ram.lo device.ram.hi framed a b f g) h
 
   abbrev AreKnown : Option Known → Type 0
   AreKnown None = Unit {0}
-  AreKnown (Some a) = IsKnown device.lo device.hi framed a
+  AreKnown (Some a) = IsKnown device.ram.lo device.ram.hi framed a
 
-  known_of : (known : Option Known) (a : Known) → AreKnown known → known ≡ Some a → IsKnown device.lo device.hi framed a
+  known_of : (known : Option Known) (a : Known) → AreKnown known → known ≡ Some a → IsKnown device.ram.lo device.ram.hi framed a
   known_of known a form is = subst AreKnown is form
 
   -- alone, or joined with what is known on the other way
   way_of_stands : (all : List (Way Known)) (to : ℕ) (a : Known) (other : Option Known) (both : Known → Known)
-      → ((b : Known) → IsKnown device.lo device.hi framed b → HoldsOfParts device (both b) first registers ram) → AreKnown other → StandsAt all to a other both
+      → ((b : Known) → IsKnown device.ram.lo device.ram.hi framed b → HoldsOfParts device (both b) first registers ram) → AreKnown other → StandsAt all to a other both
       → HoldsOfParts device a first registers ram → HasWay device first all to registers ram
   way_of_stands all to a other both joined form stands h =
       let known : HoldsOfParts device stands.way.1 first registers ram = elim stands.known [
@@ -361,31 +361,31 @@ module _ (laws : Laws) (device : Device) (framed : Bool) (first : Option ChipSta
       ] in
       (stands.way, stands.listed, stands.goes, known)
 
-  way_jumped : (ahead target : ℕ) (on : Option Known) (b : Known) → AreKnown on → IsKnown device.lo device.hi framed b → HoldsOfParts device b first registers ram
+  way_jumped : (ahead target : ℕ) (on : Option Known) (b : Known) → AreKnown on → IsKnown device.ram.lo device.ram.hi framed b → HoldsOfParts device b first registers ram
       → HasWay device first (ways_of known_joined ahead target on (Some b)) target registers ram
   way_jumped ahead target on b f g h =
       way_of_stands (ways_of known_joined ahead target on (Some b)) target b on (λ a. known_joined a b) (λ a k. joined_second a b k g h) f (laws.ways.jumped known_joined ahead target on b) h
 
-  way_on : (ahead target : ℕ) (a : Known) (jumped : Option Known) → IsKnown device.lo device.hi framed a → AreKnown jumped → HoldsOfParts device a first registers ram
+  way_on : (ahead target : ℕ) (a : Known) (jumped : Option Known) → IsKnown device.ram.lo device.ram.hi framed a → AreKnown jumped → HoldsOfParts device a first registers ram
       → HasWay device first (ways_of known_joined ahead target (Some a) jumped) ahead registers ram
   way_on ahead target a jumped f g h =
       way_of_stands (ways_of known_joined ahead target (Some a) jumped) ahead a jumped (known_joined a) (λ b k. joined_first a b f k h) g (laws.ways.on known_joined ahead target a jumped) h
 
-  cut_known : (condition : Condition) (taken : Bool) (a : Known) (found : Option Known) → IsKnown device.lo device.hi framed a → known_cut condition taken a ≡ found → AreKnown found
+  cut_known : (condition : Condition) (taken : Bool) (a : Known) (found : Option Known) → IsKnown device.ram.lo device.ram.hi framed a → known_cut condition taken a ≡ found → AreKnown found
   cut_known condition taken a None f e = tt
-  cut_known condition taken a (Some b) f e = laws.cuts.form device.lo device.hi framed a b condition taken f e
+  cut_known condition taken a (Some b) f e = laws.cuts.form device.ram.lo device.ram.hi framed a b condition taken f e
 
   -- the way that a jump takes
-  way_of_jump : (pc offset : ℕ) (condition : Condition) (taken : Bool) (a b : Known) → IsKnown device.lo device.hi framed a → known_cut condition taken a ≡ Some b → HoldsOfParts device b first registers ram
+  way_of_jump : (pc offset : ℕ) (condition : Condition) (taken : Bool) (a b : Known) → IsKnown device.ram.lo device.ram.hi framed a → known_cut condition taken a ≡ Some b → HoldsOfParts device b first registers ram
       → HasWay device first (ways_behind pc (instr.Jump condition offset) (single ((pc + 2) % 65536)) a) (cond taken (target_of pc offset) ((pc + 2) % 65536)) registers ram
   way_of_jump pc offset condition true a b f e h =
       let on = known_cut condition false a in
       subst (λ found. HasWay device first (ways_of known_joined ((pc + 2) % 65536) (target_of pc offset) on found) (target_of pc offset) registers ram) (sym e)
-      (way_jumped ((pc + 2) % 65536) (target_of pc offset) on b (cut_known condition false a on f refl) (laws.cuts.form device.lo device.hi framed a b condition true f e) h)
+      (way_jumped ((pc + 2) % 65536) (target_of pc offset) on b (cut_known condition false a on f refl) (laws.cuts.form device.ram.lo device.ram.hi framed a b condition true f e) h)
   way_of_jump pc offset condition false a b f e h =
       let jumped = known_cut condition true a in
       subst (λ found. HasWay device first (ways_of known_joined ((pc + 2) % 65536) (target_of pc offset) found jumped) ((pc + 2) % 65536) registers ram) (sym e)
-      (way_on ((pc + 2) % 65536) (target_of pc offset) b jumped (laws.cuts.form device.lo device.hi framed a b condition false f e) (cut_known condition true a jumped f refl) h)
+      (way_on ((pc + 2) % 65536) (target_of pc offset) b jumped (laws.cuts.form device.ram.lo device.ram.hi framed a b condition false f e) (cut_known condition true a jumped f refl) h)
 
 pub late_form : (lo hi : ℕ) (framed : Bool) (late : Tri) (fact : Option FlagFact) (b : Known) → IsFact fact → IsKnown lo hi framed b → IsKnown lo hi framed (followed late fact b)
 late_form lo hi framed late fact b told form = record {
@@ -412,10 +412,10 @@ jump_run laws device framed a s first condition offset outcome under is =
     let next = cond taken (target_of pc offset) ((pc + 2) % 65536) in
     let registers = slice_set s.registers 0 next in
     let ahead = followed (gie_of a) a.fact a in
-    let form = late_form device.lo device.hi framed (gie_of a) a.fact a under.form.fact under.form in
-    let (b, cut_so, parts) = laws.cuts.parts device device.lo device.hi framed ahead first s.registers s.ram condition form
+    let form = late_form device.ram.lo device.ram.hi framed (gie_of a) a.fact a under.form.fact under.form in
+    let (b, cut_so, parts) = laws.cuts.parts device device.ram.lo device.ram.hi framed ahead first s.registers s.ram condition form
     (parts_followed device (gie_of a) a.fact a first s.registers s.ram under.holds.parts under.holds.parts.fact) in
-    let fact : IsFact b.fact = (laws.cuts.form device.lo device.hi framed ahead b condition taken form cut_so).fact in
+    let fact : IsFact b.fact = (laws.cuts.form device.ram.lo device.ram.hi framed ahead b condition taken form cut_so).fact in
     let long : 0 < length s.registers = omega (arith, under.holds.state.registers) in
     let way = way_of_jump laws device framed first registers s.ram pc offset condition taken ahead b form cut_so (jumped_parts device b s first next fact parts) in
     record {

@@ -299,7 +299,7 @@ worked_open setting pc calls frame a open_so instr_so len standing (Some set) is
 
 -- one of an entry
 push_open : Laws → (setting : Setting) (pc : ℕ) (calls : List ℕ) (frame : Frame) (a : Known) (open_so : ℕ × Cause)
-    → IsKnown setting.device.lo setting.device.hi (is_interrupt frame) a
+    → IsKnown setting.device.ram.lo setting.device.ram.hi (is_interrupt frame) a
     → Contains (flat_map (push_opens setting.device pc) (comings_of setting.device a)) open_so → Breaking setting pc calls frame a open_so
 push_open laws setting pc calls frame a open_so form h =
     let device = setting.device in
@@ -335,7 +335,7 @@ going_open laws setting pc calls frame a open_so instr_so len standing h =
     (λ _ there. targets_open laws setting pc calls frame a open_so instr_so len standing there) h
 
 followed_open : Laws → (setting : Setting) (pc : ℕ) (calls : List ℕ) (frame : Frame) (a : Known) (open_so : ℕ × Cause) (instr_so : Instr) (len : ℕ) → Stands setting.device.image pc instr_so len
-    → IsKnown setting.device.lo setting.device.hi (is_interrupt frame) a → Contains (followed_work setting pc calls frame a instr_so).opens open_so
+    → IsKnown setting.device.ram.lo setting.device.ram.hi (is_interrupt frame) a → Contains (followed_work setting pc calls frame a instr_so).opens open_so
     → Breaking setting pc calls frame a open_so
 followed_open laws setting pc calls frame a open_so instr_so len standing form h =
     let device = setting.device in
@@ -352,7 +352,7 @@ followed_open laws setting pc calls frame a open_so instr_so len standing form h
     ]
 
 fetched_open : Laws → (setting : Setting) → IsProgram setting.device → (pc : ℕ) (calls : List ℕ) (frame : Frame) (a : Known) (open_so : ℕ × Cause) (found : Option Instr)
-    → IsKnown setting.device.lo setting.device.hi (is_interrupt frame) a → Fetching setting.device.image pc found
+    → IsKnown setting.device.ram.lo setting.device.ram.hi (is_interrupt frame) a → Fetching setting.device.image pc found
     → Contains (work_at setting pc calls frame a found).opens open_so → Breaking setting pc calls frame a open_so
 fetched_open laws setting program pc calls frame a open_so found form (stands instr_so len is e) h =
     followed_open laws setting pc calls frame a open_so instr_so len (stands_by laws.decoding setting.device program pc len instr_so is) form
@@ -367,7 +367,7 @@ fetched_open laws setting program pc calls frame a open_so found form (none_stan
     ]
 
 pub open_breaks : Laws → (setting : Setting) → IsProgram setting.device → (pc : ℕ) (calls : List ℕ) (frame : Frame) (a : Known) (open_so : ℕ × Cause) → pc % 2 ≡ 0
-    → IsKnown setting.device.lo setting.device.hi (is_interrupt frame) a → Contains (work_at setting pc calls frame a (fetched setting.device.image pc)).opens open_so
+    → IsKnown setting.device.ram.lo setting.device.ram.hi (is_interrupt frame) a → Contains (work_at setting pc calls frame a (fetched setting.device.image pc)).opens open_so
     → (pc ≡ open_so.0) × BreaksLimit setting (At pc calls frame) a open_so.1
 open_breaks laws setting program pc calls frame a open_so even form h =
     fetched_open laws setting program pc calls frame a open_so (fetched setting.device.image pc) form (fetching_at setting.device.image pc even) h

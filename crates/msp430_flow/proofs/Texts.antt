@@ -24,8 +24,8 @@ pub texts_exact :
     → (setting : Setting) → IsSetting setting → AreTexts (msp430_analysis setting) (msp430_texts setting.device)
 unfolding msp430_analysis
 texts_exact again takes one_line nodes included setting is =
-    let lo = setting.device.lo in
-    let hi = setting.device.hi in
+    let lo = setting.device.ram.lo in
+    let hi = setting.device.ram.hi in
     let top = is.program.top in
     record {
       nodes = nodes lo hi;

@@ -155,9 +155,9 @@ work_of setting (Back (Exit pc frame) other) a exit = nothing
 
 -- a device whose image was read under the rules of the chip with this RAM
 pub record IsProgram (device : Device) : Type 0 where
-  pub read : IsReadUnder (Msp430 device.lo device.hi device.mirror) device.image
-  pub ram : IsRamRange (Msp430 device.lo device.hi device.mirror)
-  pub top : device.hi < 65536
+  pub read : IsReadUnder (Msp430 device.ram.lo device.ram.hi device.ram.mirror) device.image
+  pub ram : IsRamRange (Msp430 device.ram.lo device.ram.hi device.ram.mirror)
+  pub top : device.ram.hi < 65536
 
 -- with call strings of at most eight sites
 pub record IsSetting (setting : Setting) : Type 0 where
@@ -212,19 +212,17 @@ BreaksLimit setting (Exit pc frame) a cause = ⊥
 unfoldable pub msp430_analysis : Setting → Analysis Known
 msp430_analysis setting = record {
   first_node = At (reset_address setting.device) [] Base;
-  first_state = first_known setting.device.lo setting.device.hi;
+  first_state = first_known setting.device.ram.lo setting.device.ram.hi;
   work = work_of setting;
   within = known_within;
   join = known_joined;
   widen = λ coarse. known_widened (stops coarse setting.device);
-  top = λ node. top_known setting.device.lo setting.device.hi (is_interrupt (frame_of node));
-  HasForm = HasChipForm setting.device.lo setting.device.hi;
+  top = λ node. top_known setting.device.ram.lo setting.device.ram.hi (is_interrupt (frame_of node));
+  HasForm = HasChipForm setting.device.ram.lo setting.device.ram.hi;
   Breaks = BreaksLimit setting;
 }
 
 -- two programs with the same RAM under the same limits
 pub record AreAlike (a b : Setting) : Type 0 where
-  pub lo : a.device.lo ≡ b.device.lo
-  pub hi : a.device.hi ≡ b.device.hi
-  pub mirror : a.device.mirror ≡ b.device.mirror
+  pub ram : a.device.ram ≡ b.device.ram
   pub limits : a.limits ≡ b.limits

@@ -68,7 +68,7 @@ mirror_marks (Some (first, last)) = range_marks first last
 -- the marks of a device: those of RAM, of its mirror, and of each even address at which an instruction stands
 abbrev pub marks_of : Device → List ℕ
 marks_of device =
-    0 ∷ 1 ∷ range_marks device.lo device.hi ++ mirror_marks device.mirror ++ marks_from device.image 0 32768
+    0 ∷ 1 ∷ range_marks device.ram.lo device.ram.hi ++ mirror_marks device.ram.mirror ++ marks_from device.image 0 32768
 
 -- where widening is coarse it has none
 abbrev pub stops : Bool → Device → List ℕ

@@ -29,7 +29,7 @@ use analysis_limits::Limits;
 use arrayvec::ArrayString;
 use call_context::{Calls, Cause, Frame, InstrBytes, Item, Node, Sequence, Unit};
 use chip_law::{Chip, ChipText, InstrText, Work};
-use image::Image;
+use image::{Image, RamRange};
 use msp430_alu::Worked;
 use msp430_chip::Device;
 use msp430_decode::{Instr, decode, encode};
@@ -80,14 +80,10 @@ impl Msp430Chip {
         requires read { IsReadUnder (Rules.Msp430 lo hi mirror) image }
         requires ram { IsRamRange (Rules.Msp430 lo hi mirror) }
         requires calls { limits.calls ≤ 8 }
-        ensures { IfOk result (λ chip. chip ≡ record { device = record { image = image; lo = lo; hi = hi; mirror = mirror }; limits = limits }) }
+        ensures { IfOk result (λ chip. chip ≡ record { device = record { image = image; ram = record { lo = lo; hi = hi; mirror = mirror } }; limits = limits }) }
     {
-        let device = Device {
-            image,
-            lo,
-            hi,
-            mirror,
-        };
+        let ram = RamRange { lo, hi, mirror };
+        let device = Device { image, ram };
         let marks = marks_of(alloc, &device)?;
         let setting = Setting { device, limits };
         Ok(Msp430Chip { setting, marks })
@@ -101,13 +97,13 @@ impl Msp430Chip {
         let _marks = self.marks.as_slice();
     }
 
-    /// The first and the last address of RAM.
-    pub(crate) fn ram(&self) -> (u16, u16)
-        ensures bounds { result ≡ (self.now.device.lo, self.now.device.hi) }
-        ensures some { result.0 ≤ result.1 }
+    /// Where RAM stands.
+    pub(crate) fn ram(&self) -> RamRange
+        ensures range { result ≡ self.now.device.ram }
+        ensures some { result.lo ≤ result.hi }
     {
         self.keeps_rules();
-        (self.setting.device.lo, self.setting.device.hi)
+        self.setting.device.ram
     }
 
     /// Where the program starts: the word at FFFEh without bit 0.
@@ -427,8 +423,8 @@ impl Chip for Msp430Chip {
     ghost analysis = { msp430_analysis };
 
     fn start(&self, alloc: Global) -> Result<(Node, Kept), Memory> {
-        self.keeps_rules();
-        let first = State::first(alloc, self.setting.device.lo, self.setting.device.hi)?;
+        let ram = self.ram();
+        let first = State::first(alloc, ram.lo, ram.hi)?;
         Ok((start_node(self.reset()), Kept::new(alloc, first)?))
     }
 
@@ -464,14 +460,8 @@ impl Chip for Msp430Chip {
     }
 
     fn top(&self, alloc: Global, node: &Node) -> Result<Kept, Memory> {
-        self.keeps_rules();
-        let top = State::top(
-            alloc,
-            frame_of(node),
-            self.setting.device.lo,
-            self.setting.device.hi,
-        )?;
-        Kept::new(alloc, top)
+        let ram = self.ram();
+        Kept::new(alloc, State::top(alloc, frame_of(node), ram.lo, ram.hi)?)
     }
 
     fn within(&self, new: &Kept, held: &Kept) -> bool {

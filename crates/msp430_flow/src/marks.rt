@@ -132,8 +132,8 @@ pub fn marks_of(alloc: Global, device: &Device) -> Result<Vec<u16>, AllocError>
     let mut marks = Vec::new(alloc);
     marks.push(0)?;
     marks.push(1)?;
-    push_range(&mut marks, device.lo, device.hi)?;
-    push_mirror(&mut marks, device.mirror)?;
+    push_range(&mut marks, device.ram.lo, device.ram.hi)?;
+    push_mirror(&mut marks, device.ram.mirror)?;
     push_image(&mut marks, &device.image)?;
     Ok(marks)
 }

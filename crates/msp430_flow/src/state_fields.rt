@@ -23,8 +23,8 @@ impl StateText for Msp430Chip {
     }
 
     fn read_abs(&self, alloc: Global, node: &Node, text: &[u8]) -> Result<Option<Kept>, Memory> {
-        let (lo, hi) = self.ram();
-        match read_state(alloc, lo, hi, node, text)? {
+        let ram = self.ram();
+        match read_state(alloc, ram.lo, ram.hi, node, text)? {
             Some(state) => Ok(Some(Kept::new(alloc, state)?)),
             None => Ok(None),
         }

@@ -39,7 +39,7 @@ can_resume laws lo hi framed a exit pc below small form exit_form = record {
   masks = λ cell held. has_masks cell.word.entry (exit_form.each_cell cell held).entry;
 }
 
-pub each_tells : (laws : MemoryLaws) (device : Device) (framed : Bool) (a exit : Known) (f : ChipState) (first : Option ChipState) → IsSuspended device framed a f first → IsKnown device.lo device.hi true exit
+pub each_tells : (laws : MemoryLaws) (device : Device) (framed : Bool) (a exit : Known) (f : ChipState) (first : Option ChipState) → IsSuspended device framed a f first → IsKnown device.ram.lo device.ram.hi true exit
     → EachTells (place_word a (register_of f 0)) (suspended_of f) (option_map suspended_of first) exit.cells.cells
 each_tells laws device framed a exit f first is form = λ cell held. relation_tells laws device framed a f first is cell.word.entry (form.each_cell cell held).entry
 

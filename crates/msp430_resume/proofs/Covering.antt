@@ -29,7 +29,7 @@ use Rattle.msp430_resume.proofs.CellParts.{can_resume, cells_form, each_cell, ea
 -- COVER
 
 -- one of R4 to R15
-word_stands : (laws : MemoryLaws) (device : Device) (framed : Bool) (a exit : Known) (f : ChipState) (first : Option ChipState) (register v : ℕ) → IsSuspended device framed a f first → IsKnown device.lo device.hi true exit
+word_stands : (laws : MemoryLaws) (device : Device) (framed : Bool) (a exit : Known) (f : ChipState) (first : Option ChipState) (register v : ℕ) → IsSuspended device framed a f first → IsKnown device.ram.lo device.ram.hi true exit
     → register_of f 0 < 65536 → 3 < register → register < 16 → HoldsOfWord (Some (suspended_of f)) (word_of exit register) v
     → HoldsOfWord (option_map suspended_of first) (get_or (map (resumed_word (place_word a (register_of f 0))) exit.registers) (register - 4) (unknown 2)) v
 word_stands laws device framed a exit f first register v is form small above below holds =
@@ -38,11 +38,11 @@ word_stands laws device framed a exit f first register v is form small above bel
     let own = word_of_form laws true exit.registers form.registers (register - 4) in
     subst (λ (word : Word). HoldsOfWord (option_map suspended_of first) word v)
     (sym (resumed_at (resumed_word places) exit.registers (register - 4) (unknown 2) (omega (arith, above, below, form.count))))
-    (laws.known.frames.word places (suspended_of f) (option_map suspended_of first) (word_of exit register) v (λ place. (place_form laws device.lo device.hi framed a pc small is.form place).normal)
+    (laws.known.frames.word places (suspended_of f) (option_map suspended_of first) (word_of exit register) v (λ place. (place_form laws device.ram.lo device.ram.hi framed a pc small is.form place).normal)
     (has_masks (word_of exit register).entry own.entry) (relation_tells laws device framed a f first is (word_of exit register).entry own.entry) holds)
 
-parts_stand : (laws : MemoryLaws) (device : Device) (framed : Bool) (a exit : Known) (f t : ChipState) (first : Option ChipState) (sp : ℕ) → device.hi < 65536 → (framed ≡ false → first ≡ None)
-    → IsSuspended device framed a f first → IsKnown device.lo device.hi true exit → IsChipState device t → HoldsOfParts device exit (Some f) t.registers t.ram
+parts_stand : (laws : MemoryLaws) (device : Device) (framed : Bool) (a exit : Known) (f t : ChipState) (first : Option ChipState) (sp : ℕ) → device.ram.hi < 65536 → (framed ≡ false → first ≡ None)
+    → IsSuspended device framed a f first → IsKnown device.ram.lo device.ram.hi true exit → IsChipState device t → HoldsOfParts device exit (Some f) t.registers t.ram
     → register_of f 0 < 65536 → register_of t 1 ≡ sp → sp < 65536
     → HoldsOfParts device (resumed_known framed a (register_of f 0) sp exit) first t.registers t.ram
 unfolding resumed_known
@@ -56,7 +56,7 @@ parts_stand laws device framed a exit f t first sp below base is form state left
       words = λ register above low. word_stands laws device framed a exit f first register (register_of t register) is form small above low (left.words register above low);
       fact = fact_holds device exit f t a.fact is.state state is.form.fact is.parts.fact left.status.entry (λ register above low. (left.words register above low).1);
       cells = laws.known.frames.untouched places (suspended_of f) under (ram_byte device f.ram) (ram_byte device t.ram) a.cells exit.cells exit.touched
-          (map_form device.lo device.hi framed a below is.form) (can_resume laws device.lo device.hi framed a exit pc below small is.form form)
+          (map_form device.ram.lo device.ram.hi framed a below is.form) (can_resume laws device.ram.lo device.ram.hi framed a exit pc below small is.form form)
           (each_tells laws device framed a exit f first is form) left.untouched is.parts.cells left.cells;
       untouched = untouched_behind laws device framed a.touched exit.touched f t.ram first base is.parts.untouched left.untouched;
     }
@@ -64,8 +64,8 @@ parts_stand laws device framed a exit f t first sp below base is form state left
 register_small : (device : Device) (s : ChipState) → IsChipState device s → (register : ℕ) → register < 16 → register_of s register < 65536
 register_small device s is register lt = All-get_or (λ r. r < 65536) s.registers register 0 (omega (arith, lt, is.registers)) is.words
 
-pub covers : (laws : MemoryLaws) (device : Device) (framed : Bool) (a exit : Known) (f t : ChipState) (first : Option ChipState) (vector sp level : ℕ) → device.hi < 65536
-    → (framed ≡ false → first ≡ None) → IsKnown device.lo device.hi framed a → IsKnown device.lo device.hi true exit
+pub covers : (laws : MemoryLaws) (device : Device) (framed : Bool) (a exit : Known) (f t : ChipState) (first : Option ChipState) (vector sp level : ℕ) → device.ram.hi < 65536
+    → (framed ≡ false → first ≡ None) → IsKnown device.ram.lo device.ram.hi framed a → IsKnown device.ram.lo device.ram.hi true exit
     → HoldsOf device a f first → HoldsOf device exit t (Some f) → GoesOn (Irq vector (Some sp) level) t (Some f)
     → HoldsOf device (resumed_known framed a (register_of f 0) sp exit) t first
 unfolding resumed_known

@@ -120,7 +120,7 @@ general_place place is no_pc no_sr = elim (or_cases ((place == 0) || (place == 2
 -- the suspended state, and what is known of it
 pub record IsSuspended (device : Device) (framed : Bool) (a : Known) (f : ChipState) (first : Option ChipState) : Type 0 where
   pub state : IsChipState device f
-  pub form : IsKnown device.lo device.hi framed a
+  pub form : IsKnown device.ram.lo device.ram.hi framed a
   pub parts : HoldsOfParts device a first f.registers f.ram
 
 pub status_held : (laws : MemoryLaws) (device : Device) (framed : Bool) (a : Known) (f : ChipState) (first : Option ChipState) → IsSuspended device framed a f first → (word : ℕ)

@@ -15,8 +15,8 @@ use Rattle.value_set.specs.Joining.{is_in}
 pub record ResumptionsCover : Type 0 where
   pub covers : (device : Device) (framed : Bool) (a exit : Known) (f t : ChipState) (first : Option ChipState)
       (vector sp level : ℕ)
-      → device.hi < 65536 → (framed ≡ false → first ≡ None) → IsKnown device.lo device.hi framed a
-      → IsKnown device.lo device.hi true exit → HoldsOf device a f first → HoldsOf device exit t (Some f)
+      → device.ram.hi < 65536 → (framed ≡ false → first ≡ None) → IsKnown device.ram.lo device.ram.hi framed a
+      → IsKnown device.ram.lo device.ram.hi true exit → HoldsOf device a f first → HoldsOf device exit t (Some f)
       → GoesOn (Irq vector (Some sp) level) t (Some f)
       → HoldsOf device (resumed_known framed a (register_of f 0) sp exit) t first
   pub has : (device : Device) (a : Known) (f : ChipState) (first : Option ChipState) (sp : ℕ)

@@ -49,7 +49,7 @@ sp_is laws device framed a s first under = laws.words.located device a.sp (regis
 above_is : (laws : MemoryLaws) (device : Device) (framed : Bool) (a : Known) (s : ChipState) (first : Option ChipState) → IsUnder device framed a s first
     → Has 65536 (counter_place device a.sp) (aligned device Words ((register_of s 1 + 2) % 65536))
 above_is laws device framed a s first under =
-    laws.words.located device (above a.sp) ((register_of s 1 + 2) % 65536) under.device_so.ram (above_normal laws device.lo device.hi framed a under.form)
+    laws.words.located device (above a.sp) ((register_of s 1 + 2) % 65536) under.device_so.ram (above_normal laws device.ram.lo device.ram.hi framed a under.form)
     (above_has laws device framed a s first under)
 
 status_read : (laws : MemoryLaws) (device : Device) (framed : Bool) (a : Known) (s : ChipState) (first : Option ChipState) (outcome : Outcome ChipState) → IsUnder device framed a s first → (may : MayReturn device s outcome)
@@ -62,7 +62,7 @@ pub counter_read : (laws : MemoryLaws) (device : Device) (framed : Bool) (a : Kn
     → HoldsOfWord (option_map suspended_of first) (read_known device a Words (counter_place device a.sp)) may.target
 counter_read laws device framed a s first outcome under may =
     laws.words.read device framed a first s.registers s.ram (above a.sp) ((register_of s 1 + 2) % 65536) may.target under.device_so under.form
-    (above_normal laws device.lo device.hi framed a under.form) (above_has laws device framed a s first under) under.holds.parts may.reads_target
+    (above_normal laws device.ram.lo device.ram.hi framed a under.form) (above_has laws device framed a s first under) under.holds.parts may.reads_target
 
 -- THE REGISTERS BEHIND IT
 
@@ -131,8 +131,8 @@ return_shown laws device framed a s first under single_so (suc zero, lt, is) =
     subst (AreShowing (return_items device pc a.sp)) is (Access pc Mem false 2 (W (counter_place device a.sp)), (1, omega arith, refl), (refl, refl, refl, refl, above_is laws device framed a s first under))
 return_shown laws device framed a s first under single_so (suc (suc k), lt, is) = absurd (omega (arith, lt))
 
-pub return_form : (laws : MemoryLaws) (device : Device) (framed : Bool) (a : Known) (pc : ℕ) → IsDevice device → IsKnown device.lo device.hi framed a
-    → IsKnown device.lo device.hi framed (return_worked device a pc).after
+pub return_form : (laws : MemoryLaws) (device : Device) (framed : Bool) (a : Known) (pc : ℕ) → IsDevice device → IsKnown device.ram.lo device.ram.hi framed a
+    → IsKnown device.ram.lo device.ram.hi framed (return_worked device a pc).after
 unfolding return_worked
 return_form laws device framed a pc is form =
     let word = read_known device a Words (status_place device a.sp) in
@@ -151,12 +151,12 @@ return_form laws device framed a pc is form =
       none_touched = form.none_touched;
     }
 
-pub return_next : (laws : MemoryLaws) (device : Device) (framed : Bool) (a : Known) (pc : ℕ) → IsDevice device → IsKnown device.lo device.hi framed a → IsNormal 65536 (return_worked device a pc).next
+pub return_next : (laws : MemoryLaws) (device : Device) (framed : Bool) (a : Known) (pc : ℕ) → IsDevice device → IsKnown device.ram.lo device.ram.hi framed a → IsNormal 65536 (return_worked device a pc).next
 unfolding return_worked
 return_next laws device framed a pc is form =
     (even_parts_form laws (read_known device a Words (counter_place device a.sp)).set (laws.words.read_form device framed a (counter_place device a.sp) is form).normal).normal
 
-pub return_even : (laws : MemoryLaws) (device : Device) (framed : Bool) (a : Known) (pc : ℕ) → IsDevice device → IsKnown device.lo device.hi framed a → HasRemainder 65536 2 0 (return_worked device a pc).next
+pub return_even : (laws : MemoryLaws) (device : Device) (framed : Bool) (a : Known) (pc : ℕ) → IsDevice device → IsKnown device.ram.lo device.ram.hi framed a → HasRemainder 65536 2 0 (return_worked device a pc).next
 unfolding return_worked
 return_even laws device framed a pc is form =
     (even_parts_form laws (read_known device a Words (counter_place device a.sp)).set (laws.words.read_form device framed a (counter_place device a.sp) is form).normal).even

@@ -33,11 +33,11 @@ pub record ReturnsHold : Type 0 where
       → IsUnder device framed a s first
       → AreShown (return_worked device a (register_of s 0)).accesses (return_accesses device s)
   pub form : (device : Device) (framed : Bool) (a : Known) (pc : ℕ) → IsDevice device
-      → IsKnown device.lo device.hi framed a → IsKnown device.lo device.hi framed (return_worked device a pc).after
+      → IsKnown device.ram.lo device.ram.hi framed a → IsKnown device.ram.lo device.ram.hi framed (return_worked device a pc).after
   pub next : (device : Device) (framed : Bool) (a : Known) (pc : ℕ) → IsDevice device
-      → IsKnown device.lo device.hi framed a → IsNormal 65536 (return_worked device a pc).next
+      → IsKnown device.ram.lo device.ram.hi framed a → IsNormal 65536 (return_worked device a pc).next
   pub even : (device : Device) (framed : Bool) (a : Known) (pc : ℕ) → IsDevice device
-      → IsKnown device.lo device.hi framed a → HasRemainder 65536 2 0 (return_worked device a pc).next
+      → IsKnown device.ram.lo device.ram.hi framed a → HasRemainder 65536 2 0 (return_worked device a pc).next
   pub back : (device : Device) (framed : Bool) (a : Known) (s t : ChipState) (first : Option ChipState)
       (frame : Frame) (outcome : Outcome ChipState)
       → IsUnder device framed a s first → StandsIn frame first → goes_back device frame a ≡ true

@@ -6,7 +6,7 @@ ghost use Rattle.msp430_chip.specs.Memory.{HasRam};
 use abs_memory::CellList;
 use call_context::{Frame, Item, Sequence, Set, Space};
 use entry_value::{Cells, Entry, Word};
-use image::Image;
+use image::{Image, RamRange};
 use msp430_chip::Device;
 use msp430_decode::Width;
 use msp430_entry::{Coming, add_entry_items, comings, entered, frame_of, handler_of};
@@ -30,9 +30,11 @@ fn device(alloc: Global) -> Result<Device, Fail>
     bytes[0xFFF3] = Some(0xF1);
     Ok(Device {
         image: Image::new(bytes),
-        lo: 0x0200,
-        hi: 0x02FF,
-        mirror: None,
+        ram: RamRange {
+            lo: 0x0200,
+            hi: 0x02FF,
+            mirror: None,
+        },
     })
 }
 

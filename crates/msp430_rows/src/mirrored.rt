@@ -6,7 +6,7 @@ ghost use Rattle.msp430_chip.specs.Memory.{HasRam};
 use abs_memory::CellList;
 use call_context::{Item, Sequence, Set, Space};
 use entry_value::{Cells, Word};
-use image::Image;
+use image::{Image, RamRange};
 use msp430_alu::{Worked, double, located, push, register_word};
 use msp430_chip::Device;
 use msp430_decode::{Destination, Operation, Register, SingleOperation, Source, Width};
@@ -41,9 +41,11 @@ fn device(alloc: Global) -> Result<Device, Fail>
     bytes[0xF001] = Some(0x40);
     Ok(Device {
         image: Image::new(bytes),
-        lo: 0x1100,
-        hi: 0x38FF,
-        mirror: Some((0x0200, 0x09FF)),
+        ram: RamRange {
+            lo: 0x1100,
+            hi: 0x38FF,
+            mirror: Some((0x0200, 0x09FF)),
+        },
     })
 }
 

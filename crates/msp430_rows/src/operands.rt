@@ -5,7 +5,7 @@ ghost use Rattle.msp430_chip.specs.Memory.{HasRam};
 
 use abs_memory::CellList;
 use entry_value::{Cells, Word};
-use image::Image;
+use image::{Image, RamRange};
 use msp430_alu::{
     Reach, counter_set, located, put_register, read_known, register_word, set_flag_bits,
     source_reach,
@@ -30,9 +30,11 @@ fn device(alloc: Global) -> Result<Device, Fail>
     bytes[0xF002] = Some(0x56);
     Ok(Device {
         image: Image::new(bytes),
-        lo: 0x0200,
-        hi: 0x02FF,
-        mirror: None,
+        ram: RamRange {
+            lo: 0x0200,
+            hi: 0x02FF,
+            mirror: None,
+        },
     })
 }
 

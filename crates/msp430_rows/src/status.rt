@@ -6,7 +6,7 @@ ghost use Rattle.msp430_chip.specs.Memory.{HasRam};
 use abs_memory::CellList;
 use call_context::{Item, Set, Space};
 use entry_value::{Cells, Entry, Word};
-use image::Image;
+use image::{Image, RamRange};
 use msp430_alu::{Worked, register_word};
 use msp430_chip::Device;
 use msp430_decode::{Constant, Operation, Register, SingleOperation, Source, Width};
@@ -49,9 +49,11 @@ fn device(alloc: Global) -> Result<Device, Fail>
     bytes.resize(65536, None)?;
     Ok(Device {
         image: Image::new(bytes),
-        lo: 0x0200,
-        hi: 0x02FF,
-        mirror: None,
+        ram: RamRange {
+            lo: 0x0200,
+            hi: 0x02FF,
+            mirror: None,
+        },
     })
 }
 

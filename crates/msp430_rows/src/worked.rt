@@ -7,7 +7,7 @@ ghost use Rattle.msp430_results.specs.Results.{HasWidth};
 use abs_memory::CellList;
 use call_context::{Item, Set, Space};
 use entry_value::{Cells, Word};
-use image::Image;
+use image::{Image, RamRange};
 use msp430_alu::{Worked, double, push, put_register, register_word, single};
 use msp430_chip::Device;
 use msp430_decode::{Destination, Operation, Register, SingleOperation, Source, Width};
@@ -44,9 +44,11 @@ fn device(alloc: Global) -> Result<Device, Fail>
     bytes[0xF001] = Some(0x40);
     Ok(Device {
         image: Image::new(bytes),
-        lo: 0x0200,
-        hi: 0x02FF,
-        mirror: None,
+        ram: RamRange {
+            lo: 0x0200,
+            hi: 0x02FF,
+            mirror: None,
+        },
     })
 }
 

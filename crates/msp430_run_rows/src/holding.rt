@@ -22,8 +22,8 @@ const MIRROR: (u16, u16) = (0x0A00, 0x0A3F);
 
 /// The byte of RAM at an address.
 fn ram_byte(machine: &Machine, at: u16) -> Option<u8> {
-    if machine.lo <= at && at <= machine.hi {
-        Some(machine.state.ram.byte((at - machine.lo) as usize))
+    if machine.ram.lo <= at && at <= machine.ram.hi {
+        Some(machine.state.ram.byte((at - machine.ram.lo) as usize))
     } else {
         None
     }

@@ -79,14 +79,14 @@ covers_more laws device lo hi framed (Exit pc frame) a b s first form within cov
 
 pub ram_bytes : (device : Device) (ram : List ℕ) → length ram ≡ ram_size device → All (λ b. b < 256) ram → (at : ℕ) → ram_byte device ram at < 256
 ram_bytes device ram long bytes at =
-    cond_both (is_ram device at) (get_or ram (at - device.lo) 0) 0 (λ b. b < 256)
-    (λ e. let ends = and_parts (nat_le device.lo at) (nat_le at device.hi) e in
-    let low : device.lo ≤ at = leb-true device.lo at ends.0 in
-    let high : at ≤ device.hi = leb-true at device.hi ends.1 in
-    All-get_or (λ b. b < 256) ram (at - device.lo) 0 (omega (arith, long)) bytes)
+    cond_both (is_ram device at) (get_or ram (at - device.ram.lo) 0) 0 (λ b. b < 256)
+    (λ e. let ends = and_parts (nat_le device.ram.lo at) (nat_le at device.ram.hi) e in
+    let low : device.ram.lo ≤ at = leb-true device.ram.lo at ends.0 in
+    let high : at ≤ device.ram.hi = leb-true at device.ram.hi ends.1 in
+    All-get_or (λ b. b < 256) ram (at - device.ram.lo) 0 (omega (arith, long)) bytes)
     (λ e. omega arith)
 
-pub reset_holds : (laws : KnownLaws) (device : Device) (s : ChipState) → IsResetOf device s → HoldsOf device (first_known device.lo device.hi) s None
+pub reset_holds : (laws : KnownLaws) (device : Device) (s : ChipState) → IsResetOf device s → HoldsOf device (first_known device.ram.lo device.ram.hi) s None
 reset_holds laws device s reset =
     let long = reset.state.registers in
     let one : 1 < length s.registers = omega arith in
@@ -109,5 +109,5 @@ reset_holds laws device s reset =
       };
     }
 
-pub reset_covered : (laws : KnownLaws) (device : Device) (s : ChipState) → IsResetOf device s → Covers device (At (reset_address device) [] Base) (first_known device.lo device.hi) s None
+pub reset_covered : (laws : KnownLaws) (device : Device) (s : ChipState) → IsResetOf device s → Covers device (At (reset_address device) [] Base) (first_known device.ram.lo device.ram.hi) s None
 reset_covered laws device s reset = (reset.starts, reset_holds laws device s reset, refl)

@@ -37,7 +37,7 @@ suspended_of f = record { number = register_of f; held = held_bits }
 
 -- the byte of RAM at an address, and 0 elsewhere
 abbrev pub ram_byte : Device → List ℕ → ℕ → ℕ
-ram_byte device ram at = if is_ram device at then slice_index ram (at - device.lo) else 0
+ram_byte device ram at = if is_ram device at then slice_index ram (at - device.ram.lo) else 0
 
 pub record HoldsOfStatus (first : Option Suspended) (status : Status) (sr : ℕ) : Type 0 where
   pub bits : Agrees status.bits sr

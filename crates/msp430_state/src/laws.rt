@@ -48,7 +48,7 @@ pub fn states_cover()
         → known_within a b ≡ true → HoldsOfParts device a first registers ram → HoldsOfParts device b first registers ram }
     ensures more { (device : ADevice) (lo hi : ℕ) (framed : Bool) (node : ANode) (a b : Known) (s : AState) (first : Option AState) → IsKnown lo hi framed a
         → known_within a b ≡ true → Covers device node a s first → Covers device node b s first }
-    ensures reset { (device : ADevice) (s : AState) → IsResetOf device s → Covers device (At (reset_address device) [] Base) (first_known device.lo device.hi) s None }
+    ensures reset { (device : ADevice) (s : AState) → IsResetOf device s → Covers device (At (reset_address device) [] Base) (first_known device.ram.lo device.ram.hi) s None }
 {
     known_laws();
 }

@@ -141,11 +141,11 @@ moved laws device s len done width origin outcome may target =
     }
 
 -- MOV to R3 leaves what is grown
-pub grown_form : (laws : StatusLaws) (device : Device) (framed : Bool) (a : Known) (pc len : ℕ) (width : Width) (origin : Source) → IsDevice device → IsKnown device.lo device.hi framed a → IsSource origin
-    → IsKnown device.lo device.hi framed (grown_known a (single ((pc + len) % 65536)) width origin)
+pub grown_form : (laws : StatusLaws) (device : Device) (framed : Bool) (a : Known) (pc len : ℕ) (width : Width) (origin : Source) → IsDevice device → IsKnown device.ram.lo device.ram.hi framed a → IsSource origin
+    → IsKnown device.ram.lo device.ram.hi framed (grown_known a (single ((pc + len) % 65536)) width origin)
 unfolding double_worked
 grown_form laws device framed a pc len width origin is form from_so =
-    subst (λ counted. IsKnown device.lo device.hi framed (grown_known a counted width origin)) (counter_one laws pc len origin R3)
+    subst (λ counted. IsKnown device.ram.lo device.ram.hi framed (grown_known a counted width origin)) (counter_one laws pc len origin R3)
     (laws.doubles.form device framed a pc len Mov width origin (destination.Register R3) is form from_so tt)
 
 pub grown_parts : (laws : StatusLaws) (device : Device) (framed : Bool) (a : Known) (s : ChipState) (first : Option ChipState) (len : ℕ) (done : Operation) (width : Width) (origin : Source) (outcome : Outcome ChipState)
@@ -165,7 +165,7 @@ written_set Words word entry = refl
 written_set Byte word entry = refl
 
 -- the word that MOV to R4 leaves there
-moved_word : (laws : StatusLaws) (device : Device) (framed : Bool) (a : Known) (pc len : ℕ) (width : Width) (origin : Source) → IsDevice device → IsKnown device.lo device.hi framed a → IsSource origin
+moved_word : (laws : StatusLaws) (device : Device) (framed : Bool) (a : Known) (pc len : ℕ) (width : Width) (origin : Source) → IsDevice device → IsKnown device.ram.lo device.ram.hi framed a → IsSource origin
     → let counted = counter_set pc len origin (destination.Register R4) in let word = operand_word device a counted width (source_reach pc a counted origin) in
     word_of (double_worked device framed a pc len Mov width origin (destination.Register R4)).after 4 ≡ written_word width (values_of width word) word.entry
 unfolding double_worked
@@ -173,12 +173,12 @@ moved_word laws device framed a pc len width origin is form from_so =
     let counted = counter_set pc len origin (destination.Register R4) in
     let word = operand_word device a counted width (source_reach pc a counted origin) in
     let grown_so = grown_known a counted width origin in
-    let grown_is : IsKnown device.lo device.hi framed grown_so =
-    subst (λ counted. IsKnown device.lo device.hi framed (grown_known a counted width origin)) (sym (counter_one laws pc len origin R4)) (grown_form laws device framed a pc len width origin is form from_so) in
+    let grown_is : IsKnown device.ram.lo device.ram.hi framed grown_so =
+    subst (λ counted. IsKnown device.ram.lo device.ram.hi framed (grown_known a counted width origin)) (sym (counter_one laws pc len origin R4)) (grown_form laws device framed a pc len width origin is form from_so) in
     let some : 0 < length grown_so.registers = omega (arith, grown_is.count) in
     get_or-set_same grown_so.registers 0 (written_word width (values_of width word) word.entry) (unknown 2) some
 
-moved_normal : (laws : StatusLaws) (device : Device) (framed : Bool) (a : Known) (pc len : ℕ) (width : Width) (origin : Source) → IsDevice device → IsKnown device.lo device.hi framed a → IsSource origin
+moved_normal : (laws : StatusLaws) (device : Device) (framed : Bool) (a : Known) (pc len : ℕ) (width : Width) (origin : Source) → IsDevice device → IsKnown device.ram.lo device.ram.hi framed a → IsSource origin
     → IsNormal 65536 (word_of (double_worked device framed a pc len Mov width origin (destination.Register R4)).after 4).set
 moved_normal laws device framed a pc len width origin is form from_so =
     let after = (double_worked device framed a pc len Mov width origin (destination.Register R4)).after in

@@ -108,8 +108,8 @@ length_single operation.Sxt a = length_free
 length_single operation.Push a = length_free
 length_single operation.Call a = length_free
 
-pub single_status_form : (device : Device) (framed : Bool) (a : Known) (pc len : ℕ) (done : SingleOperation) (width : Width) → IsKnown device.lo device.hi framed a
-    → IsKnown device.lo device.hi framed (single_status_worked device framed a pc len done width).after
+pub single_status_form : (device : Device) (framed : Bool) (a : Known) (pc len : ℕ) (done : SingleOperation) (width : Width) → IsKnown device.ram.lo device.ram.hi framed a
+    → IsKnown device.ram.lo device.ram.hi framed (single_status_worked device framed a pc len done width).after
 unfolding single_status_worked
 single_status_form device framed a pc len done width form = record {
   sp = form.sp;

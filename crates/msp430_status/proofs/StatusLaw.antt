@@ -66,7 +66,7 @@ image_small device is at byte e = elim (cases_lt at (length device.image)) [
 ]
 
 read_small : (device : Device) (ram : List ℕ) → IsDevice device → All (λ b. b < 256) ram → (at byte : ℕ) → MayReadByte device ram at byte → byte < 256
-read_small device ram is bytes at byte (OfRam inside e) = subst (λ b. b < 256) (sym e) (ram_small ram (at - device.lo) bytes)
+read_small device ram is bytes at byte (OfRam inside e) = subst (λ b. b < 256) (sym e) (ram_small ram (at - device.ram.lo) bytes)
 read_small device ram is bytes at byte (OfProgram outside e) = image_small device is at byte e
 read_small device ram is bytes at byte (OfNeither outside e few) = few
 
@@ -305,8 +305,8 @@ length_status : (done : Operation) (width : Width) (given held : List Tri) → l
 length_status done width given held long nine =
     cond_both (sets_flags done) free_bits (moved_bits done width given held) (λ bits. length bits ≡ 9) (λ e. length_free) (λ e. length_moved done width given held long nine)
 
-pub status_form : (laws : StatusLaws) (device : Device) (framed : Bool) (a : Known) (pc len : ℕ) (done : Operation) (width : Width) (origin : Source) → IsDevice device → IsKnown device.lo device.hi framed a → IsSource origin
-    → IsKnown device.lo device.hi framed (status_worked device framed a pc len done width origin).after
+pub status_form : (laws : StatusLaws) (device : Device) (framed : Bool) (a : Known) (pc len : ℕ) (done : Operation) (width : Width) (origin : Source) → IsDevice device → IsKnown device.ram.lo device.ram.hi framed a → IsSource origin
+    → IsKnown device.ram.lo device.ram.hi framed (status_worked device framed a pc len done width origin).after
 unfolding status_worked
 status_form laws device framed a pc len done width origin is form from_so =
     let counted = single ((pc + len) % 65536) in

@@ -46,8 +46,8 @@ pub record StatusesHold : Type 0 where
       → (may : MayDouble device s len done width origin (destination.Register Sr) outcome) → may.left.hit ≡ None
   pub form : (device : Device) (framed : Bool) (a : Known) (pc len : ℕ) (done : Operation) (width : Width)
       (origin : Source)
-      → IsDevice device → IsKnown device.lo device.hi framed a → IsSource origin
-      → IsKnown device.lo device.hi framed (status_worked device framed a pc len done width origin).after
+      → IsDevice device → IsKnown device.ram.lo device.ram.hi framed a → IsSource origin
+      → IsKnown device.ram.lo device.ram.hi framed (status_worked device framed a pc len done width origin).after
   pub next : (device : Device) (framed : Bool) (a : Known) (pc len : ℕ) (done : Operation) (width : Width)
       (origin : Source)
       → IsNormal 65536 (status_worked device framed a pc len done width origin).next
@@ -73,8 +73,8 @@ pub record SingleStatusesHold : Type 0 where
       (outcome : Outcome ChipState)
       → (may : MaySingle device s len done width (source.Register Sr) outcome) → may.left.hit ≡ None
   pub form : (device : Device) (framed : Bool) (a : Known) (pc len : ℕ) (done : SingleOperation) (width : Width)
-      → IsKnown device.lo device.hi framed a
-      → IsKnown device.lo device.hi framed (single_status_worked device framed a pc len done width).after
+      → IsKnown device.ram.lo device.ram.hi framed a
+      → IsKnown device.ram.lo device.ram.hi framed (single_status_worked device framed a pc len done width).after
   pub next : (device : Device) (framed : Bool) (a : Known) (pc len : ℕ) (done : SingleOperation) (width : Width)
       → IsNormal 65536 (single_status_worked device framed a pc len done width).next
   pub even : (device : Device) (framed : Bool) (a : Known) (pc len : ℕ) (done : SingleOperation) (width : Width)

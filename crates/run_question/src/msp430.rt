@@ -163,7 +163,7 @@ fn nth_question(instr: &Instr, bytes: &[u16], place: usize, count: usize) -> Opt
 
 /// Whether nothing holds a byte: it is neither RAM's nor the image's.
 fn is_free(machine: &Machine, image: &Image, at: u16) -> bool {
-    !(machine.lo <= at && at <= machine.hi) && image.byte(at).is_none()
+    !(machine.ram.lo <= at && at <= machine.ram.hi) && image.byte(at).is_none()
 }
 
 /// Adds the bytes of a read that nothing holds.

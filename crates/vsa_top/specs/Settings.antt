@@ -8,7 +8,7 @@ use Rattle.msp430_flow.specs.declared.setting.Setting.{Setting as Msp430Setting}
 
 -- the MSP430 with an image and this RAM
 abbrev pub device_of : RamRange → List (Option ℕ) → Device
-device_of ram image = record { image = image; lo = ram.lo; hi = ram.hi; mirror = ram.mirror }
+device_of ram image = record { image = image; ram = ram }
 
 abbrev pub msp430_setting : RamRange → Limits → List (Option ℕ) → Msp430Setting
 msp430_setting ram limits image = record { device = device_of ram image; limits = limits }

@@ -7,7 +7,7 @@ ghost use Rattle.vsa_top.specs.Msp430.{msp430_reads, msp430_runner};
 
 use choosing::Choices;
 use disassembly::{Code, Line};
-use image::{Image, Rules};
+use image::Image;
 use msp430_chip::{ChipState, Device, Wild};
 use msp430_decode::{decode, encode, one_of_three};
 use msp430_emu::{Machine, Stepped};
@@ -60,7 +60,7 @@ impl<'a> Model for Msp430Run<'a> {
 
     ghost view = { λ run. (run.device.now, run.machine.state) };
 
-    ghost invariant = { λ run. (run.machine.lo ≡ run.device.now.lo) × (run.machine.hi ≡ run.device.now.hi) × (run.machine.mirror ≡ run.device.now.mirror) };
+    ghost invariant = { λ run. run.machine.ram ≡ run.device.now.ram };
 }
 
 impl<'a> Msp430Run<'a> {
@@ -69,12 +69,7 @@ impl<'a> Msp430Run<'a> {
         requires { HasRam device.now }
         ensures { IfOk result (λ run. run ≡ (device.now, first_state device.now)) }
     {
-        let rules = Rules::Msp430 {
-            lo: device.lo,
-            hi: device.hi,
-            mirror: device.mirror,
-        };
-        let machine = Machine::reset(alloc, &device.image, rules)?;
+        let machine = Machine::reset(alloc, &device.image, device.ram.rules())?;
         Ok(Msp430Run { device, machine })
     }
 }

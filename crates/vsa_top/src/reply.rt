@@ -276,12 +276,7 @@ fn chip_run_reply<S: Source>(
 {
     match target {
         Target::Msp430 { ram } => {
-            let device = Device {
-                image,
-                lo: ram.lo,
-                hi: ram.hi,
-                mirror: ram.mirror,
-            };
+            let device = Device { image, ram };
             let mut run = Msp430Run::reset(alloc, &device)?;
             run_reply(alloc, &mut run, &Msp430Text, steps, begun, source)
         }
