@@ -1,4 +1,4 @@
-//! Rows of texts: images, scripts, digits, lines of reports, and the streams that they go through.
+//! Rows of texts: images, scripts, digits, lines of reports, parts that come again, and the streams that they go through.
 #![tactic(auto)]
 
 #[cfg(test)]
@@ -13,6 +13,8 @@ mod images;
 mod lines;
 #[cfg(test)]
 mod making;
+#[cfg(test)]
+mod parts;
 #[cfg(test)]
 mod scripts;
 #[cfg(test)]
