@@ -1,6 +1,6 @@
 -- A run step by step: the text so far, followed by what the rest of the run tells, is that of the whole run.
-use Rattle.std.proofs.Common.{◌≡◌, ℕ, zero, suc, ◌+◌, List, [], ◌∷◌, ◌++◌, None, Some, refl, sym, ◌∙◌, ap, append_assoc}
-use Rattle.std.specs.Prelude.{codes, map}
+use Rattle.std.proofs.Common.{◌≡◌, ℕ, zero, suc, ◌+◌, List, [], ◌∷◌, ◌++◌, None, Some, Result, Ok, Err, refl, sym, ◌∙◌, ap, ap₂, append_assoc}
+use Rattle.std.specs.Prelude.{codes, map, IfOk}
 use Rattle.std.specs.List.{flat_map}
 use Rattle.chip_numbers.specs.Single.{Single}
 use Rattle.call_context.specs.declared.shown.Item.{Item}
@@ -8,7 +8,9 @@ use Rattle.chip_law.specs.Line.{item_line_of}
 use Rattle.choosing.specs.Outcome.Outcome.{Next, Wild as Leaves}
 use Rattle.run_trace.specs.Runner.{Runner}
 use Rattle.run_trace.specs.Trace.{Ended, after, ended_by, end_line, met_lines, need_line, run_from, wild_line}
+use Rattle.run_trace.specs.declared.trace.End.{End}
 use Rattle.run_trace.specs.declared.trace.End.TheVariants.{Ran, Wild, NeedChoice}
+use Rattle.run_trace.specs.declared.trace.Trace.{Trace}
 
 module _ {S W : Type 0} (runner : Runner S W) (text_of : ℕ → List ℕ → List ℕ) where
   run_more : (more steps : ℕ) (s : S) (choices : List ℕ)
@@ -67,3 +69,9 @@ module _ {S W : Type 0} (runner : Runner S W) (text_of : ℕ → List ℕ → Li
   ended left steps s choices text new whole none new_is so_far =
       let next = ap (λ n. run_from runner text_of n steps s choices) none ∙ run_end steps s choices in
       ap (λ l. (Ran, l)) new_is ∙ sym (ap (after text) next) ∙ so_far
+
+-- a trace by its two parts
+pub told : {F : Type 0} (r : Result Trace F) (end : End) (text : List ℕ) (whole : Ended) → (end, text) ≡ whole
+    → IfOk r (λ trace. trace.end ≡ end) → IfOk r (λ trace. trace.text ≡ text) → IfOk r (λ trace. (trace.end, trace.text) ≡ whole)
+told (Ok trace) end text whole is same_end same_text = ap₂ (λ e t. (e, t)) same_end same_text ∙ is
+told (Err error) end text whole is same_end same_text = tt

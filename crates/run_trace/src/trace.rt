@@ -10,6 +10,7 @@ use crate::emulator::{Emulator, Ran};
 use call_context::Item;
 use chip_law::{InstrText, put_item};
 use choosing::Choices;
+use dense_text::{Text, TextBuilder};
 use hex_digits::hex_word;
 use no_memory::Memory;
 use std::alloc::{AllocError, Global};
@@ -29,7 +30,7 @@ pub enum End {
 #[derive(Drop)]
 pub struct Trace {
     pub end: End,
-    pub text: Vec<u8>,
+    pub text: Text,
 }
 
 /// Adds the lines of what a step met.
@@ -41,6 +42,20 @@ fn push_items<T: InstrText>(text: &mut Vec<u8>, texts: &T, items: &[Item]) -> Re
         text.push(b'\n')?;
     }
     Ok(())
+}
+
+/// Adds the lines of what a step met, which are put together first.
+fn push_step<T: InstrText>(
+    text: &mut TextBuilder,
+    lines: &mut Vec<u8>,
+    texts: &T,
+    items: &[Item],
+) -> Result<(), Memory>
+    ensures { OnOk result (text.new ≡ text.old ++ flat_map (λ item. item_line_of (T.text_of texts.now) item ++ codes "\n") items.now) }
+{
+    lines.clear();
+    push_items(lines, texts, items)?;
+    text.push_part(lines.as_slice())
 }
 
 /// Adds a word and a number.
@@ -57,33 +72,51 @@ fn push_number(
     text.extend_from_slice(digits.as_str().as_bytes())
 }
 
-/// Adds the line of the steps that were done.
+/// The line of the steps that were done.
 #[tactic(auto, unfolding(crate::specs::Trace::end_line))]
-fn push_end(text: &mut Vec<u8>, alloc: Global, steps: u32) -> Result<(), AllocError>
-    ensures { OnOk result (text.new.items ≡ text.old.items ++ end_line steps) }
+fn end_of(alloc: Global, steps: u32) -> Result<Vec<u8>, AllocError>
+    ensures { IfOk result (λ line. line.items ≡ end_line steps) }
 {
-    push_number(text, alloc, b"END ", steps)?;
-    text.extend_from_slice(b"\n")
+    let mut line = Vec::new(alloc);
+    push_number(&mut line, alloc, b"END ", steps)?;
+    line.extend_from_slice(b"\n")?;
+    Ok(line)
 }
 
-/// Adds the line of the step that leaves the model.
+/// The line of the step that leaves the model.
 #[tactic(auto, unfolding(crate::specs::Trace::wild_line))]
-fn push_wild(text: &mut Vec<u8>, alloc: Global, step: u32, pc: u16) -> Result<(), AllocError>
-    ensures { OnOk result (text.new.items ≡ text.old.items ++ wild_line step pc) }
+fn wild_at(alloc: Global, step: u32, pc: u16) -> Result<Vec<u8>, AllocError>
+    ensures { IfOk result (λ line. line.items ≡ wild_line step pc) }
 {
-    push_number(text, alloc, b"WILD ", step)?;
-    text.extend_from_slice(b" ")?;
-    text.extend_from_slice(&hex_word(pc))?;
-    text.extend_from_slice(b"\n")
+    let mut line = Vec::new(alloc);
+    push_number(&mut line, alloc, b"WILD ", step)?;
+    line.extend_from_slice(b" ")?;
+    line.extend_from_slice(&hex_word(pc))?;
+    line.extend_from_slice(b"\n")?;
+    Ok(line)
 }
 
-/// Adds the line of the step that lacks a choice.
+/// The line of the step that lacks a choice.
 #[tactic(auto, unfolding(crate::specs::Trace::need_line))]
-fn push_need(text: &mut Vec<u8>, alloc: Global, step: u32) -> Result<(), AllocError>
-    ensures { OnOk result (text.new.items ≡ text.old.items ++ need_line step) }
+fn need_at(alloc: Global, step: u32) -> Result<Vec<u8>, AllocError>
+    ensures { IfOk result (λ line. line.items ≡ need_line step) }
 {
-    push_number(text, alloc, b"NEED ", step)?;
-    text.extend_from_slice(b"\n")
+    let mut line = Vec::new(alloc);
+    push_number(&mut line, alloc, b"NEED ", step)?;
+    line.extend_from_slice(b"\n")?;
+    Ok(line)
+}
+
+/// A run that ended, with its last line.
+fn ended(mut text: TextBuilder, line: Vec<u8>, end: End) -> Result<Trace, Memory>
+    ensures end { IfOk result (λ trace. trace.end ≡ end) }
+    ensures text { IfOk result (λ trace. trace.text ≡ text ++ line.items) }
+{
+    text.push_part(line.as_slice())?;
+    Ok(Trace {
+        end,
+        text: text.into_text(),
+    })
 }
 
 /// The trace of at most so many steps of a machine along a script.
@@ -94,33 +127,25 @@ pub fn trace_of<E: Emulator, T: InstrText>(
     script: Vec<u16>,
     steps: u32,
 ) -> Result<Trace, Memory>
-    ensures { IfOk result (λ trace. (trace.end, trace.text.items) ≡ run_of (E.runner machine.old) (T.text_of texts.now) steps (E.state machine.old) script.items) }
+    ensures { IfOk result (λ trace. (trace.end, trace.text) ≡ run_of (E.runner machine.old) (T.text_of texts.now) steps (E.state machine.old) script.items) }
 {
     let mut choices = Choices::new(script);
-    let mut text = Vec::new(alloc);
+    let mut text = TextBuilder::new(alloc)?;
+    let mut lines = Vec::new(alloc);
     for done in 0..steps {
         let pc = machine.pc();
         match machine.step(&mut choices) {
-            Ran::Met(items) => push_items(&mut text, texts, items.as_slice())?,
+            Ran::Met(items) => push_step(&mut text, &mut lines, texts, items.as_slice())?,
             Ran::Wild => {
-                push_wild(&mut text, alloc, done + 1, pc)?;
-                return Ok(Trace {
-                    end: End::Wild,
-                    text,
-                });
+                let line = wild_at(alloc, done + 1, pc)?;
+                return ended(text, line, End::Wild);
             }
             Ran::NeedChoice => {
-                push_need(&mut text, alloc, done + 1)?;
-                return Ok(Trace {
-                    end: End::NeedChoice,
-                    text,
-                });
+                let line = need_at(alloc, done + 1)?;
+                return ended(text, line, End::NeedChoice);
             }
         }
     }
-    push_end(&mut text, alloc, steps)?;
-    Ok(Trace {
-        end: End::Ran,
-        text,
-    })
+    let line = end_of(alloc, steps)?;
+    ended(text, line, End::Ran)
 }

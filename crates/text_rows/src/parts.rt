@@ -21,7 +21,11 @@ fn built(alloc: Global, parts: &[&[u8]], times: usize) -> Result<(Text, Vec<u8>)
 }
 
 /// Parts that come so many times are written as they came, in pieces of any length, and given as bytes.
-fn expect_parts(rt: &(impl Abort + AllocGlobal), parts: &[&[u8]], times: usize) -> Result<(), Fail> {
+fn expect_parts(
+    rt: &(impl Abort + AllocGlobal),
+    parts: &[&[u8]],
+    times: usize,
+) -> Result<(), Fail> {
     for piece in [1, 7, 100_000] {
         let (text, bytes) = built(rt.alloc(), parts, times)?;
         let mut sink = CleanSink::with_room(rt.alloc(), piece, bytes.len())?;
@@ -58,14 +62,21 @@ fn rows_of_numbers(rt: HostRuntime) -> Result<(), Fail> {
         builder.push_part(part.as_str().as_bytes())?;
         bytes.extend_from_slice(part.as_str().as_bytes())?;
     }
-    assert_eq!(rt; builder.into_text().into_bytes()?.as_slice(), bytes.as_slice());
+    assert_eq!(rt;
+        builder.into_text().into_bytes()?.as_slice(),
+        bytes.as_slice()
+    );
     Ok(())
 }
 
 /// Where a write fails, a front of the text was written.
 #[test]
 fn rows_of_faults(rt: HostRuntime) -> Result<(), Fail> {
-    let parts = [b"one, ".as_slice(), b"two; ".as_slice(), b"one, ".as_slice()];
+    let parts = [
+        b"one, ".as_slice(),
+        b"two; ".as_slice(),
+        b"one, ".as_slice(),
+    ];
     for fault in 1..4 {
         let (text, bytes) = built(rt.alloc(), &parts, 2_000)?;
         let failing = [fault].to_vec(rt.alloc())?;

@@ -32,7 +32,7 @@ pub(crate) fn answers<R: Abort + Threads + Wait + AllocGlobal + Sync>(
         let words = words_of(rt.alloc(), line)?;
         let bytes = Vec::from_slice(rt.alloc(), input.as_bytes())?;
         let mut source = CleanSource::new(bytes, piece);
-        let mut sink = CleanSink::with_room(rt.alloc(), piece, 4096)?;
+        let mut sink = CleanSink::with_room(rt.alloc(), piece, 16384)?;
         let outcome = vsa(
             rt,
             rt.alloc(),

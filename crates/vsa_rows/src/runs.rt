@@ -42,6 +42,26 @@ fn row_eight_bytes_run(rt: HostRuntime) -> Result<(), Fail> {
     )
 }
 
+const FIRST_STEP: &str = "S F000 0000\nI F000 31408002 MOV #0280h,SP\nE F000 F004\n";
+
+const LOOP_STEP: &str = "S F004 0280\nI F004 FF3F JMP F004h\nE F004 F004\n";
+
+#[test]
+fn row_of_a_loop(rt: HostRuntime) -> Result<(), Fail> {
+    let mut text = String::from_str(rt.alloc(), FIRST_STEP)?;
+    for _ in 1..300 {
+        text.push_str(LOOP_STEP)?;
+    }
+    text.push_str("END 300\n")?;
+    answers(
+        &rt,
+        "run msp430 --steps 300",
+        EIGHT_BYTES,
+        Status::Done,
+        text.as_str(),
+    )
+}
+
 #[test]
 fn row_a_line_refused(rt: HostRuntime) -> Result<(), Fail> {
     let eight = ":06F0000031408002FF3FD9";

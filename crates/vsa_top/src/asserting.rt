@@ -25,6 +25,7 @@ use assert_check::{Assertion, Broken, decide, unbroken_lists_hold};
 use chip_law::{ChipText, InstrText, LawfulChip, put_item};
 use chip_numbers::Space;
 use closing_law::{ClosedBook, closed_books_cover_runs, read_closed_with_journal};
+use dense_text::Text;
 use image::Image;
 use mcs51_flow::Mcs51Chip;
 use msp430_flow::Msp430Chip;
@@ -89,7 +90,7 @@ fn decision<C: LawfulChip + InstrText>(
 ) -> Result<Reply, Memory>
     ensures status { IfOk result (λ reply. reply.status ≡ status_of_broken (broken_of (item_line_of (C.text_of chip.now)) list.now
         (flat_map (λ work. work.items) (values_of book.now.works)))) }
-    ensures text { IfOk result (λ reply. reply.text.items ≡ broken_text (item_line_of (C.text_of chip.now))
+    ensures text { IfOk result (λ reply. reply.text ≡ broken_text (item_line_of (C.text_of chip.now))
         (broken_of (item_line_of (C.text_of chip.now)) list.now (flat_map (λ work. work.items) (values_of book.now.works)))) }
     ensures journal { IfOk result (λ reply. reply.journal.items ≡ journal.items) }
 {
@@ -97,7 +98,7 @@ fn decision<C: LawfulChip + InstrText>(
     let (status, text) = told(alloc, chip, broken.as_slice())?;
     Ok(Reply {
         status,
-        text,
+        text: Text::from_bytes(text),
         journal,
     })
 }
@@ -112,7 +113,7 @@ fn decided<C: ChipText + LawfulChip>(
     requires base { book.base ≡ C.base chip.now }
     requires program { C.program book.base }
     ensures { IfOk result (λ reply. (workers : ℕ) → IsAnalysis (C.analysis (C.base chip.now)) workers book.journal
-        → IsDecided (C.text_of chip.now) (C.analysis (C.base chip.now)) workers list.now reply.status reply.text.items reply.journal.items) }
+        → IsDecided (C.text_of chip.now) (C.analysis (C.base chip.now)) workers list.now reply.status reply.text reply.journal.items) }
 {
     closed_books_are_told::<C>();
     match read_closed_with_journal(book) {
@@ -122,7 +123,7 @@ fn decided<C: ChipText + LawfulChip>(
             let (_, _, journal) = book.into_parts();
             Ok(Reply {
                 status: Status::Open,
-                text: report.text,
+                text: Text::from_bytes(report.text),
                 journal,
             })
         }
@@ -145,7 +146,7 @@ fn chip_decision<
     requires some { 1 ≤ workers }
     requires few { workers ≤ 16 }
     ensures { IfOk result (λ reply.
-        IsDecided (C.text_of chip.now) (C.analysis (C.base chip.now)) workers list.now reply.status reply.text.items reply.journal.items) }
+        IsDecided (C.text_of chip.now) (C.analysis (C.base chip.now)) workers list.now reply.status reply.text reply.journal.items) }
 {
     chip.is_program();
     let book = book_of(rt, alloc, chip, workers, gate)?;
@@ -165,7 +166,7 @@ fn image_decision<R: Threads + Wait + Sync, G: Gate + Sync>(
     requires bounded { IsBounded (Assert task) }
     requires kept { IsReadUnder (rules_of (Assert task)) image }
     ensures { IfOk result (λ reply.
-        IsDecidedOn task.target task.limits task.workers image list.now reply.status reply.text.items reply.journal.items) }
+        IsDecidedOn task.target task.limits task.workers image list.now reply.status reply.text reply.journal.items) }
 {
     match task.target {
         Target::Msp430 { ram } => {
@@ -220,7 +221,7 @@ pub fn assertion_reply<R: Threads + Wait + Sync, S: Source, G: Gate + Sync>(
     requires kept { IsReadUnder (rules_of (Assert task)) image }
     ensures no_fault { IfOk result (λ reply. TellsNoFault reply.status) }
     ensures reply { IfOk result (λ reply.
-        IsAsserted task image (begun_with begun.now (S.left source.old)) reply.status reply.text.items reply.journal.items) }
+        IsAsserted task image (begun_with begun.now (S.left source.old)) reply.status reply.text reply.journal.items) }
     ensures cause { IfErr result (λ error. error ≡ NoReply.ReadFault → HasRisen (S.faults source.old) (S.faults source.new)) }
     ensures quiet { OnOk result (S.faults source.new ≡ S.faults source.old) }
     ensures quiet_refusal { IfErr result (λ error. error ≢ NoReply.ReadFault → S.faults source.new ≡ S.faults source.old) }

@@ -43,7 +43,7 @@ fn verdict_reply<S: Source, C: LawfulText + ChipText>(
 ) -> Result<Reply, NoReply>
     ensures no_fault { IfOk result (λ reply. TellsNoFault reply.status) }
     ensures reply { (let b = C.base chip.now in IfOk result (λ reply.
-        IsChecked (C.text_of chip.now) (C.analysis b) (C.texts b) (begun_with begun.now (S.left source.old)) reply.status reply.text.items)) }
+        IsChecked (C.text_of chip.now) (C.analysis b) (C.texts b) (begun_with begun.now (S.left source.old)) reply.status reply.text)) }
     ensures journal { IfOk result (λ reply. reply.journal.items ≡ []) }
     ensures cause { IfErr result (λ error. error ≡ NoReply.ReadFault → HasRisen (S.faults source.old) (S.faults source.new)) }
     ensures quiet { OnOk result (S.faults source.new ≡ S.faults source.old) }
@@ -76,7 +76,7 @@ pub fn check_reply<S: Source>(
     requires kept { IsReadUnder (rules_of (Check task)) image }
     ensures no_fault { IfOk result (λ reply. TellsNoFault reply.status) }
     ensures reply { IfOk result (λ reply.
-        IsCheckedOn task.target task.limits image (begun_with begun.now (S.left source.old)) reply.status reply.text.items) }
+        IsCheckedOn task.target task.limits image (begun_with begun.now (S.left source.old)) reply.status reply.text) }
     ensures journal { IfOk result (λ reply. reply.journal.items ≡ []) }
     ensures cause { IfErr result (λ error. error ≡ NoReply.ReadFault → HasRisen (S.faults source.old) (S.faults source.new)) }
     ensures quiet { OnOk result (S.faults source.new ≡ S.faults source.old) }

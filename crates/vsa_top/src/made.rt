@@ -31,7 +31,7 @@ fn made_reply<R: Threads + Wait + Sync, G: Gate + Sync>(
     requires least { 1 ≤ number }
     requires most { number ≤ MOST }
     ensures no_fault { IfOk result (λ reply. TellsNoFault reply.status) }
-    ensures reply { IfOk result (λ reply. IsReply (Gen chip number) (Some (made_image chip number)) reply.status reply.text.items reply.journal.items) }
+    ensures reply { IfOk result (λ reply. IsReply (Gen chip number) (Some (made_image chip number)) reply.status reply.text reply.journal.items) }
     ensures unread { IfErr result (λ error. error ≢ NoReply.ReadFault) }
 {
     let text = make(alloc, chip, number)?;
@@ -50,7 +50,7 @@ pub fn reply_to<R: Threads + Wait + Sync, S: Source, G: Gate + Sync>(
     requires range { IsRamRange (rules_of reading) }
     requires bounded { IsBounded reading }
     ensures no_fault { IfOk result (λ reply. TellsNoFault reply.status) }
-    ensures reply { IfOk result (λ reply. IsReply reading (input_of reading (S.left source.old)) reply.status reply.text.items reply.journal.items) }
+    ensures reply { IfOk result (λ reply. IsReply reading (input_of reading (S.left source.old)) reply.status reply.text reply.journal.items) }
     ensures cause { IfErr result (λ error. error ≡ NoReply.ReadFault → HasRisen (S.faults source.old) (S.faults source.new)) }
     ensures quiet { OnOk result (S.faults source.new ≡ S.faults source.old) }
     ensures quiet_refusal { IfErr result (λ error. error ≢ NoReply.ReadFault → S.faults source.new ≡ S.faults source.old) }

@@ -20,6 +20,7 @@ use crate::summary::summary_of;
 use cert_text::book_certificate;
 use chip_law::{Chip, ChipText, InstrText};
 use closing_law::books_are_bounded;
+use dense_text::Text;
 use disassembly::disassembly_of;
 use ihex_read::HexFault;
 use image::{ChipName, Image};
@@ -43,7 +44,7 @@ use worker_rounds::{Gate, watched_fixpoint};
 #[derive(Drop)]
 pub struct Reply {
     pub status: Status,
-    pub text: Vec<u8>,
+    pub text: Text,
     pub journal: Vec<Event>,
 }
 
@@ -76,10 +77,10 @@ impl From<AllocError> for NoReply {
     }
 }
 
-/// A reply without events.
-pub fn text_reply(alloc: Global, status: Status, text: Vec<u8>) -> Reply
+/// A reply without events, whose text was built.
+fn built_reply(alloc: Global, status: Status, text: Text) -> Reply
     ensures status { result.status ≡ status }
-    ensures text { result.text.items ≡ text.items }
+    ensures text { result.text ≡ text }
     ensures journal { result.journal.items ≡ [] }
 {
     Reply {
@@ -87,6 +88,15 @@ pub fn text_reply(alloc: Global, status: Status, text: Vec<u8>) -> Reply
         text,
         journal: Vec::new(alloc),
     }
+}
+
+/// A reply without events.
+pub fn text_reply(alloc: Global, status: Status, text: Vec<u8>) -> Reply
+    ensures status { result.status ≡ status }
+    ensures text { result.text ≡ text.items }
+    ensures journal { result.journal.items ≡ [] }
+{
+    built_reply(alloc, status, Text::from_bytes(text))
 }
 
 /// The status of a report.
@@ -169,7 +179,7 @@ fn analysed<C: ChipText + LawfulText>(
     requires base { book.base ≡ C.base chip.now }
     ensures no_fault { IfOk result (λ reply. TellsNoFault reply.status) }
     ensures reply { (let b = C.base chip.now in IfOk result (λ reply. (workers : ℕ) → IsAnalysis (C.analysis b) workers book.journal
-        → IsReported (C.text_of chip.now) (C.analysis b) (C.texts b) workers cert reply.status reply.text.items reply.journal.items)) }
+        → IsReported (C.text_of chip.now) (C.analysis b) (C.texts b) workers cert reply.status reply.text reply.journal.items)) }
 {
     books_are_bounded::<C>();
     chip.is_program();
@@ -179,7 +189,7 @@ fn analysed<C: ChipText + LawfulText>(
     let (_, _, journal) = book.into_parts();
     Ok(Reply {
         status: status_of(report.is_closed),
-        text,
+        text: Text::from_bytes(text),
         journal,
     })
 }
@@ -233,7 +243,7 @@ fn run_reply<S: Source, E: Emulator, T: InstrText>(
     source: &mut S,
 ) -> Result<Reply, NoReply>
     ensures no_fault { IfOk result (λ reply. TellsNoFault reply.status) }
-    ensures run { IfOk result (λ reply. IsRun (λ script. run_of (E.runner machine.old) (T.text_of texts.now) steps (E.state machine.old) script) (begun_with begun.now (S.left source.old)) reply.status reply.text.items) }
+    ensures run { IfOk result (λ reply. IsRun (λ script. run_of (E.runner machine.old) (T.text_of texts.now) steps (E.state machine.old) script) (begun_with begun.now (S.left source.old)) reply.status reply.text) }
     ensures journal { IfOk result (λ reply. reply.journal.items ≡ []) }
     ensures cause { IfErr result (λ error. error ≡ NoReply.ReadFault → HasRisen (S.faults source.old) (S.faults source.new)) }
     ensures quiet { OnOk result (S.faults source.new ≡ S.faults source.old) }
@@ -242,7 +252,7 @@ fn run_reply<S: Source, E: Emulator, T: InstrText>(
     match script_in(alloc, source, begun) {
         Ok(script) => {
             let trace = trace_of(alloc, machine, texts, script, steps)?;
-            Ok(text_reply(alloc, status_of_run(trace.end), trace.text))
+            Ok(built_reply(alloc, status_of_run(trace.end), trace.text))
         }
         Err(ScriptRefusal::Syntax { line }) => {
             let text = no_line(alloc, line)?;
@@ -268,7 +278,7 @@ fn chip_run_reply<S: Source>(
 ) -> Result<Reply, NoReply>
     requires { IsRamRange (target_rules target) }
     ensures no_fault { IfOk result (λ reply. TellsNoFault reply.status) }
-    ensures run { IfOk result (λ reply. IsRun (run_under target steps image) (begun_with begun.now (S.left source.old)) reply.status reply.text.items) }
+    ensures run { IfOk result (λ reply. IsRun (run_under target steps image) (begun_with begun.now (S.left source.old)) reply.status reply.text) }
     ensures journal { IfOk result (λ reply. reply.journal.items ≡ []) }
     ensures cause { IfErr result (λ error. error ≡ NoReply.ReadFault → HasRisen (S.faults source.old) (S.faults source.new)) }
     ensures quiet { OnOk result (S.faults source.new ≡ S.faults source.old) }
@@ -297,7 +307,7 @@ fn chip_reply<
     requires few { workers ≤ 16 }
     ensures no_fault { IfOk result (λ reply. TellsNoFault reply.status) }
     ensures reply { (let b = C.base chip.now in IfOk result (λ reply.
-        IsReported (C.text_of chip.now) (C.analysis b) (C.texts b) workers cert reply.status reply.text.items reply.journal.items)) }
+        IsReported (C.text_of chip.now) (C.analysis b) (C.texts b) workers cert reply.status reply.text reply.journal.items)) }
 {
     let book = book_of(rt, alloc, chip, workers, gate)?;
     analysed(alloc, chip, book, cert)
@@ -316,7 +326,7 @@ fn analysis_reply<R: Threads + Wait + Sync, G: Gate + Sync>(
     requires kept { IsReadUnder (rules_of (Analyse task)) image }
     ensures no_fault { IfOk result (λ reply. TellsNoFault reply.status) }
     ensures reply { IfOk result (λ reply.
-        IsReportedOn task.target task.limits task.workers task.cert image reply.status reply.text.items reply.journal.items) }
+        IsReportedOn task.target task.limits task.workers task.cert image reply.status reply.text reply.journal.items) }
 {
     match task.target {
         Target::Msp430 { ram } => {
@@ -342,13 +352,14 @@ fn made_image_reply<R: Threads + Wait + Sync, G: Gate + Sync>(
     requires range { IsRamRange (rules_of (Gen chip number)) }
     requires kept { IsReadUnder (rules_of (Gen chip number)) image }
     ensures no_fault { IfOk result (λ reply. TellsNoFault reply.status) }
-    ensures reply { IfOk result (λ reply. IsSummed chip number image reply.status reply.text.items reply.journal.items) }
+    ensures reply { IfOk result (λ reply. IsSummed chip number image reply.status reply.text reply.journal.items) }
 {
     let reply = analysis_reply(rt, alloc, Task::usual(chip), image, gate)?;
-    let text = summary_of(alloc, chip, number, reply.text.as_slice())?;
+    let report = reply.text.into_bytes()?;
+    let text = summary_of(alloc, chip, number, report.as_slice())?;
     Ok(Reply {
         status: reply.status,
-        text,
+        text: Text::from_bytes(text),
         journal: reply.journal,
     })
 }
@@ -367,7 +378,7 @@ fn image_reply<R: Threads + Wait + Sync, S: Source, G: Gate + Sync>(
     requires bounded { IsBounded reading }
     requires kept { IsReadUnder (rules_of reading) image }
     ensures no_fault { IfOk result (λ reply. TellsNoFault reply.status) }
-    ensures reply { IfOk result (λ reply. IsImageReply reading image (begun_with begun.now (S.left source.old)) reply.status reply.text.items reply.journal.items) }
+    ensures reply { IfOk result (λ reply. IsImageReply reading image (begun_with begun.now (S.left source.old)) reply.status reply.text reply.journal.items) }
     ensures cause { IfErr result (λ error. error ≡ NoReply.ReadFault → HasRisen (S.faults source.old) (S.faults source.new)) }
     ensures quiet { OnOk result (S.faults source.new ≡ S.faults source.old) }
     ensures quiet_refusal { IfErr result (λ error. error ≢ NoReply.ReadFault → S.faults source.new ≡ S.faults source.old) }
@@ -400,7 +411,7 @@ pub fn input_reply<R: Threads + Wait + Sync, S: Source, G: Gate + Sync>(
     requires range { IsRamRange (rules_of reading) }
     requires bounded { IsBounded reading }
     ensures no_fault { IfOk result (λ reply. TellsNoFault reply.status) }
-    ensures reply { IfOk result (λ reply. IsReply reading (S.left source.old) reply.status reply.text.items reply.journal.items) }
+    ensures reply { IfOk result (λ reply. IsReply reading (S.left source.old) reply.status reply.text reply.journal.items) }
     ensures cause { IfErr result (λ error. error ≡ NoReply.ReadFault → HasRisen (S.faults source.old) (S.faults source.new)) }
     ensures quiet { OnOk result (S.faults source.new ≡ S.faults source.old) }
     ensures quiet_refusal { IfErr result (λ error. error ≢ NoReply.ReadFault → S.faults source.new ≡ S.faults source.old) }

@@ -22,6 +22,7 @@ use crate::made::reply_to;
 use crate::outcome::{Outcome, Status};
 use crate::own::own_certificates_pass;
 use crate::reply::{NoReply, Reply};
+use dense_text::Text;
 use round_core::Event;
 use std::alloc::Global;
 use std::sync::Wait;
@@ -40,6 +41,22 @@ fn written<K: Sink>(sink: &mut K, text: &[u8], status: Status, journal: Vec<Even
     ensures cause { result.status ≡ Status.WriteFault → HasRisen (K.faults sink.old) (K.faults sink.new) }
 {
     let status = match write_all(sink, text) {
+        Ok(()) => status,
+        Err(_) => Status::WriteFault,
+    };
+    Outcome { status, journal }
+}
+
+/// Writes the text of a reply, and answers the status that goes with it, or the fault of the sink.
+fn reply_written<K: Sink>(sink: &mut K, text: &Text, status: Status, journal: Vec<Event>) -> Outcome
+    requires { status ≢ Status.WriteFault }
+    ensures written { IsWritten status text.now result.status (K.held sink.old) (K.held sink.new) }
+    ensures journal { result.journal.items ≡ journal.items }
+    ensures told { (result.status ≡ status) ⊎ (result.status ≡ Status.WriteFault) }
+    ensures quiet { result.status ≡ status → K.faults sink.new ≡ K.faults sink.old }
+    ensures cause { result.status ≡ Status.WriteFault → HasRisen (K.faults sink.old) (K.faults sink.new) }
+{
+    let status = match text.write_to(sink) {
         Ok(()) => status,
         Err(_) => Status::WriteFault,
     };
@@ -71,7 +88,7 @@ fn answer<R: Threads + Wait + Sync, S: Source, K: Sink, G: Gate + Sync>(
                 text,
                 journal,
             },
-        ) => return written(sink, text.as_slice(), status, journal),
+        ) => return reply_written(sink, &text, status, journal),
         Err(NoReply::ReadFault) => Status::ReadFault,
         Err(NoReply::Memory) => Status::Memory,
     };

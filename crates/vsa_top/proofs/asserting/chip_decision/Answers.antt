@@ -15,7 +15,7 @@ returns g c =
     let workers = c.args.workers in
     let list = c.args.list.now in
     let is : ℕ → Reply → Type 0
-    = λ n r. IsDecided (g.C.InstrText.text_of chip) m n list r.status r.text.items r.journal.items in
+    = λ n r. IsDecided (g.C.InstrText.text_of chip) m n list r.status r.text r.journal.items in
     if_ok c.decided.result (λ (r : Reply). (n : ℕ) → IsAnalysis m n book.journal → is n r) (is workers)
     (λ r all. all workers (subst (λ b. IsAnalysis (g.C.Chip.analysis b) workers book.journal) c.in_ok-book.ensures.base c.in_ok-book.ensures.analysis))
     c.decided.ensures

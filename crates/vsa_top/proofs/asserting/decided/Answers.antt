@@ -1,4 +1,4 @@
-use Rattle.std.proofs.Common.{ℕ, refl, ap, subst, ◌∙◌}
+use Rattle.std.proofs.Common.{ℕ, refl, sym, ap, subst, ◌∙◌}
 use Rattle.std.specs.Prelude.{◌≡◌, IfOk, flat_map}
 use Rattle.std.specs.Map.{values_of}
 use Rattle.assert_check.specs.Assertions.{broken_of}
@@ -25,11 +25,11 @@ returns-in-Ok g c =
     let broken = broken_of line_of list (flat_map (λ work. work.items) (values_of works)) in
     let m = g.C.Chip.analysis book.base in
     subst (λ b. IfOk c.decision.result (λ (r : Reply). (workers : ℕ) → IsAnalysis (g.C.Chip.analysis b) workers book.journal
-    → IsDecided text_of (g.C.Chip.analysis b) workers list r.status r.text.items r.journal.items)) c.requires.base
-    (if_all c.decision.result (λ (r : Reply). r.status ≡ status_of_broken broken) (λ (r : Reply). r.text.items ≡ broken_text line_of broken)
+    → IsDecided text_of (g.C.Chip.analysis b) workers list r.status r.text r.journal.items)) c.requires.base
+    (if_all c.decision.result (λ (r : Reply). r.status ≡ status_of_broken broken) (λ (r : Reply). r.text ≡ broken_text line_of broken)
     (λ (r : Reply). r.journal.items ≡ c.in-Ok.journal.items)
-    (λ (r : Reply). (workers : ℕ) → IsAnalysis m workers book.journal → IsDecided text_of m workers list r.status r.text.items r.journal.items)
-    (λ r status_is text_is journal_is workers is. decided_by text_of m workers list book.journal r.journal.items works r.status r.text.items is
+    (λ (r : Reply). (workers : ℕ) → IsAnalysis m workers book.journal → IsDecided text_of m workers list r.status r.text r.journal.items)
+    (λ r status_is text_is journal_is workers is. decided_by text_of m workers list book.journal r.journal.items works r.status r.text is
     ((c.closed_books_are_told.ensures book.base book.journal is.legal is.finished).1 (c.in-Ok.ensures.exact.0 refl))
     (ap (λ (k : Closed _ _). k.works) c.in-Ok.ensures.closed) status_is text_is (journal_is ∙ c.in-Ok.ensures.journal))
     c.decision.ensures.status c.decision.ensures.text c.decision.ensures.journal)
@@ -44,10 +44,11 @@ returns-in_ok-report-in-Err g c =
     let report = c.in_ok-report-in-Err.report in
     let journal = c.into_parts-journal.result.2.items in
     subst (λ b. (workers : ℕ) → IsAnalysis (g.C.Chip.analysis b) workers book.journal
-    → IsDecided text_of (g.C.Chip.analysis b) workers list status.Open report.text.items journal) c.requires.base
-    (λ workers is. reported_by text_of m workers list book.journal journal report.text.items report.is_closed is
+    → IsDecided text_of (g.C.Chip.analysis b) workers list status.Open c.from_bytes.result journal) c.requires.base
+    (λ workers is. subst (λ t. IsDecided text_of m workers list status.Open t journal) (sym c.from_bytes.ensures)
+    (reported_by text_of m workers list book.journal journal report.text.items report.is_closed is
     (λ closed. cc (c.in-Err.ensures.exact.1 closed))
     (c.closed_books_are_told.ensures book.base book.journal is.legal is.finished).0
     (subst (λ (k : Kept _). IsReportOf text_of (replay (g.C.Chip.analysis k.base) k.journal) report.text.items report.is_closed) same
     c.in_ok-report-in-Err.ensures)
-    (c.into_parts-journal.ensures.journal ∙ ap (λ (k : Kept _). k.journal) same))
+    (c.into_parts-journal.ensures.journal ∙ ap (λ (k : Kept _). k.journal) same)))

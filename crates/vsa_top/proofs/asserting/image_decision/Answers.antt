@@ -15,10 +15,10 @@ returns-in_ok-chip-in-Msp430 g c =
     let limits = c.args.task.limits in
     let workers = c.args.task.workers in
     let list = c.args.list.now in
-    subst (λ target. IfOk c.chip_decision.result (λ (r : Reply). IsDecidedOn target limits workers c.args.image list r.status r.text.items r.journal.items))
+    subst (λ target. IfOk c.chip_decision.result (λ (r : Reply). IsDecidedOn target limits workers c.args.image list r.status r.text r.journal.items))
     (sym c.in-Msp430.is)
     (subst (λ (setting : Msp430Setting). IfOk c.chip_decision.result
-    (λ (r : Reply). IsDecided msp430_text (msp430_analysis setting) workers list r.status r.text.items r.journal.items))
+    (λ (r : Reply). IsDecided msp430_text (msp430_analysis setting) workers list r.status r.text r.journal.items))
     c.in_ok-chip-in-Msp430.ensures c.chip_decision.ensures)
 
 pub returns-in_ok-chip-in-Mcs51 : goal.returns-in_ok-chip-in-Mcs51
@@ -27,7 +27,7 @@ returns-in_ok-chip-in-Mcs51 g c =
     let workers = c.args.task.workers in
     let list = c.args.list.now in
     subst (λ target. IfOk c.chip_decision-in-Mcs51.result
-    (λ (r : Reply). IsDecidedOn target limits workers c.args.image list r.status r.text.items r.journal.items)) (sym c.in-Mcs51.is)
+    (λ (r : Reply). IsDecidedOn target limits workers c.args.image list r.status r.text r.journal.items)) (sym c.in-Mcs51.is)
     (subst (λ (setting : Mcs51Setting). IfOk c.chip_decision-in-Mcs51.result
-    (λ (r : Reply). IsDecided mcs51_text (mcs51_analysis setting) workers list r.status r.text.items r.journal.items))
+    (λ (r : Reply). IsDecided mcs51_text (mcs51_analysis setting) workers list r.status r.text r.journal.items))
     c.in_ok-chip-in-Mcs51.ensures c.chip_decision-in-Mcs51.ensures)

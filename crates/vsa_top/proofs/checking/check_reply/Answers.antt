@@ -17,17 +17,17 @@ pub returns-in_ok-chip-in-Msp430-clause-reply : goal.returns-in_ok-chip-in-Msp43
 returns-in_ok-chip-in-Msp430-clause-reply g c =
     let limits = c.args.task.limits in
     let second = begun_with c.args.begun.now (g.S.Source.left c.args.source.now) in
-    subst (λ target. IfOk c.verdict_reply.result (λ (r : Reply). IsCheckedOn target limits c.args.image second r.status r.text.items)) (sym c.in-Msp430.is)
+    subst (λ target. IfOk c.verdict_reply.result (λ (r : Reply). IsCheckedOn target limits c.args.image second r.status r.text)) (sym c.in-Msp430.is)
     (subst (λ (setting : Msp430Setting). IfOk c.verdict_reply.result
-    (λ (r : Reply). IsChecked msp430_text (msp430_analysis setting) (msp430_texts setting.device) second r.status r.text.items))
+    (λ (r : Reply). IsChecked msp430_text (msp430_analysis setting) (msp430_texts setting.device) second r.status r.text))
     c.in_ok-chip-in-Msp430.ensures c.verdict_reply.ensures.reply)
 
 pub returns-in_ok-chip-in-Mcs51-clause-reply : goal.returns-in_ok-chip-in-Mcs51-clause-reply
 returns-in_ok-chip-in-Mcs51-clause-reply g c =
     let limits = c.args.task.limits in
     let second = begun_with c.args.begun.now (g.S.Source.left c.args.source.now) in
-    subst (λ target. IfOk c.verdict_reply-in-Mcs51.result (λ (r : Reply). IsCheckedOn target limits c.args.image second r.status r.text.items))
+    subst (λ target. IfOk c.verdict_reply-in-Mcs51.result (λ (r : Reply). IsCheckedOn target limits c.args.image second r.status r.text))
     (sym c.in-Mcs51.is)
     (subst (λ (setting : Mcs51Setting). IfOk c.verdict_reply-in-Mcs51.result
-    (λ (r : Reply). IsChecked mcs51_text (mcs51_analysis setting) mcs51_texts second r.status r.text.items))
+    (λ (r : Reply). IsChecked mcs51_text (mcs51_analysis setting) mcs51_texts second r.status r.text))
     c.in_ok-chip-in-Mcs51.ensures c.verdict_reply-in-Mcs51.ensures.reply)

@@ -17,15 +17,15 @@ returns-in_ok-chip-in-Msp430-clause-reply g c =
     let limits = c.args.task.limits in
     let workers = c.args.task.workers in
     let cert = c.args.task.cert in
-    subst (λ target. IfOk c.chip_reply.result (λ (r : Reply). IsReportedOn target limits workers cert c.args.image r.status r.text.items r.journal.items)) (sym c.in-Msp430.is)
+    subst (λ target. IfOk c.chip_reply.result (λ (r : Reply). IsReportedOn target limits workers cert c.args.image r.status r.text r.journal.items)) (sym c.in-Msp430.is)
     (subst (λ (setting : Msp430Setting). IfOk c.chip_reply.result
-    (λ (r : Reply). IsReported msp430_text (msp430_analysis setting) (msp430_texts setting.device) workers cert r.status r.text.items r.journal.items)) c.in_ok-chip-in-Msp430.ensures c.chip_reply.ensures.reply)
+    (λ (r : Reply). IsReported msp430_text (msp430_analysis setting) (msp430_texts setting.device) workers cert r.status r.text r.journal.items)) c.in_ok-chip-in-Msp430.ensures c.chip_reply.ensures.reply)
 
 pub returns-in_ok-chip-in-Mcs51-clause-reply : goal.returns-in_ok-chip-in-Mcs51-clause-reply
 returns-in_ok-chip-in-Mcs51-clause-reply g c =
     let limits = c.args.task.limits in
     let workers = c.args.task.workers in
     let cert = c.args.task.cert in
-    subst (λ target. IfOk c.chip_reply-in-Mcs51.result (λ (r : Reply). IsReportedOn target limits workers cert c.args.image r.status r.text.items r.journal.items)) (sym c.in-Mcs51.is)
+    subst (λ target. IfOk c.chip_reply-in-Mcs51.result (λ (r : Reply). IsReportedOn target limits workers cert c.args.image r.status r.text r.journal.items)) (sym c.in-Mcs51.is)
     (subst (λ (setting : Mcs51Setting). IfOk c.chip_reply-in-Mcs51.result
-    (λ (r : Reply). IsReported mcs51_text (mcs51_analysis setting) mcs51_texts workers cert r.status r.text.items r.journal.items)) c.in_ok-chip-in-Mcs51.ensures c.chip_reply-in-Mcs51.ensures.reply)
+    (λ (r : Reply). IsReported mcs51_text (mcs51_analysis setting) mcs51_texts workers cert r.status r.text r.journal.items)) c.in_ok-chip-in-Mcs51.ensures c.chip_reply-in-Mcs51.ensures.reply)

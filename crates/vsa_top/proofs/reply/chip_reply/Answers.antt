@@ -12,6 +12,6 @@ returns-clause-reply g c =
     let m = g.C.Chip.analysis in
     let workers = c.args.workers in
     let is : ℕ → Reply → Type 0
-    = λ n r. IsReported (g.C.InstrText.text_of chip) (m base) (g.C.StateText.texts base) n c.args.cert r.status r.text.items r.journal.items in
+    = λ n r. IsReported (g.C.InstrText.text_of chip) (m base) (g.C.StateText.texts base) n c.args.cert r.status r.text r.journal.items in
     if_ok c.analysed.result (λ (r : Reply). (n : ℕ) → IsAnalysis (m base) n book.journal → is n r) (is workers)
     (λ r all. all workers (subst (λ b. IsAnalysis (m b) workers book.journal) c.in_ok-book.ensures.base c.in_ok-book.ensures.analysis)) c.analysed.ensures.reply

@@ -17,14 +17,14 @@ pub returns-in_ok-run-in-Msp430-clause-run : goal.returns-in_ok-run-in-Msp430-cl
 returns-in_ok-run-in-Msp430-clause-run g c =
     let steps = c.args.steps in
     let second = begun_with c.args.begun.now (g.S.Source.left c.args.source.now) in
-    subst (λ target. IfOk c.run_reply.result (λ (r : Reply). IsRun (run_under target steps c.args.image) second r.status r.text.items)) (sym c.in-Msp430.is)
+    subst (λ target. IfOk c.run_reply.result (λ (r : Reply). IsRun (run_under target steps c.args.image) second r.status r.text)) (sym c.in-Msp430.is)
     (subst (λ (run : Device × Msp430State). IfOk c.run_reply.result
-    (λ (r : Reply). IsRun (run_of (msp430_runner run.0) msp430_text steps run.1) second r.status r.text.items)) c.in_ok-run-in-Msp430.ensures c.run_reply.ensures.run)
+    (λ (r : Reply). IsRun (run_of (msp430_runner run.0) msp430_text steps run.1) second r.status r.text)) c.in_ok-run-in-Msp430.ensures c.run_reply.ensures.run)
 
 pub returns-in-Mcs51-clause-run : goal.returns-in-Mcs51-clause-run
 returns-in-Mcs51-clause-run g c =
     let steps = c.args.steps in
     let second = begun_with c.args.begun.now (g.S.Source.left c.args.source.now) in
-    subst (λ target. IfOk c.run_reply-in-Mcs51.result (λ (r : Reply). IsRun (run_under target steps c.args.image) second r.status r.text.items)) (sym c.in-Mcs51.is)
+    subst (λ target. IfOk c.run_reply-in-Mcs51.result (λ (r : Reply). IsRun (run_under target steps c.args.image) second r.status r.text)) (sym c.in-Mcs51.is)
     (subst (λ (run : List (Option ℕ) × Mcs51State). IfOk c.run_reply-in-Mcs51.result
-    (λ (r : Reply). IsRun (run_of (mcs51_runner run.0) mcs51_text steps run.1) second r.status r.text.items)) c.reset-run.ensures c.run_reply-in-Mcs51.ensures.run)
+    (λ (r : Reply). IsRun (run_of (mcs51_runner run.0) mcs51_text steps run.1) second r.status r.text)) c.reset-run.ensures c.run_reply-in-Mcs51.ensures.run)

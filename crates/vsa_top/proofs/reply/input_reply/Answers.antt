@@ -21,8 +21,8 @@ returns-in-Ok-clause-reply g c =
     (subst (λ (rules : Rules). InputGives rules c.tail.result input (begun_with c.in-Ok.begun.items left) image) c.rules.ensures c.in-Ok.ensures.image) in
     let gives = subst (λ b. InputGives (rules_of reading) (tail_of reading) input (begun_with b left) image) (sym c.as_slice.ensures.value) told in
     if_ok c.image_reply.result
-    (λ (r : Reply). IsImageReply reading image second r.status r.text.items r.journal.items)
-    (λ (r : Reply). IsReply reading input r.status r.text.items r.journal.items) (λ r reply. of_image image second gives reply) c.image_reply.ensures.reply
+    (λ (r : Reply). IsImageReply reading image second r.status r.text r.journal.items)
+    (λ (r : Reply). IsReply reading input r.status r.text r.journal.items) (λ r reply. of_image image second gives reply) c.image_reply.ensures.reply
 
 pub returns-in_ok-text-in-Err-Bad-clause-reply : goal.returns-in_ok-text-in-Err-Bad-clause-reply
 returns-in_ok-text-in-Err-Bad-clause-reply g c =

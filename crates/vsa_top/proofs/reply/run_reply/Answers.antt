@@ -11,13 +11,13 @@ pub returns-in_ok-trace-in-Ok-clause-run : goal.returns-in_ok-trace-in-Ok-clause
 returns-in_ok-trace-in-Ok-clause-run g c =
     let script = c.in-Ok.script.items in
     let trace = c.in_ok-trace-in-Ok.trace in
-    let is : (trace.end, trace.text.items) ≡ run_of (g.E.Emulator.runner c.args.machine.now) (g.T.InstrText.text_of c.args.texts.now) c.args.steps
+    let is : (trace.end, trace.text) ≡ run_of (g.E.Emulator.runner c.args.machine.now) (g.T.InstrText.text_of c.args.texts.now) c.args.steps
     (g.E.Emulator.state c.args.machine.now) script = c.in_ok-trace-in-Ok.ensures in
-    ran script c.in-Ok.ensures.script (c.text_reply.ensures.status ∙ c.status_of_run.ensures.value ∙ ap (λ (e : Ended). status_of_end e.0) is)
-    (c.text_reply.ensures.text ∙ ap (λ (e : Ended). e.1) is)
+    ran script c.in-Ok.ensures.script (c.built_reply.ensures.status ∙ c.status_of_run.ensures.value ∙ ap (λ (e : Ended). status_of_end e.0) is)
+    (c.built_reply.ensures.text ∙ ap (λ (e : Ended). e.1) is)
 
 pub returns-in_ok-text-in-Err-Syntax-clause-run : goal.returns-in_ok-text-in-Err-Syntax-clause-run
 returns-in_ok-text-in-Err-Syntax-clause-run g c =
     let second = begun_with c.args.begun.now (g.S.Source.left c.args.source.now) in
     refused c.in-Err-Syntax.line (subst (λ e. IfSome second (λ text. LacksScript text e)) c.in-Err-Syntax.field-0-is c.in-Err-Syntax.ensures.refused)
-    c.text_reply-in-Err-Syntax.ensures.status (c.text_reply-in-Err-Syntax.ensures.text ∙ c.in_ok-text-in-Err-Syntax.ensures)
+    c.text_reply.ensures.status (c.text_reply.ensures.text ∙ c.in_ok-text-in-Err-Syntax.ensures)

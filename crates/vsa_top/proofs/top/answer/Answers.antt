@@ -8,9 +8,9 @@ returns-in-Ok-clause-answer g c =
     let reading = c.args.reading in
     let input = g.S.Source.left c.args.source.now in
     let before = g.K.Sink.held c.args.sink.now in
-    let after = g.K.Sink.held c.written.new.sink in
+    let after = g.K.Sink.held c.reply_written.new.sink in
     let reply = c.in-Ok.field-0 in
-    let answered = c.written.result.status in
-    subst (λ journal. Answers reading answered input before after journal) (sym c.written.ensures.journal)
-    (replied reply.status reply.text.items c.in-Ok.ensures.reply
-    (subst (λ text. IsWritten reply.status text answered before after) c.as_slice.ensures.value c.written.ensures.written))
+    let answered = c.reply_written.result.status in
+    subst (λ journal. Answers reading answered input before after journal) (sym c.reply_written.ensures.journal)
+    (replied reply.status reply.text c.in-Ok.ensures.reply
+    c.reply_written.ensures.written)
