@@ -1,4 +1,5 @@
 pub mod AcceptedLemmas
 pub mod ClosedLemmas
+pub mod ExitsLemmas
 pub mod TableLemmas
 pub mod WalkLemmas

@@ -1,3 +1,4 @@
 pub mod Accepted
+pub mod Exits
 pub mod Refusal
 pub mod Table

@@ -11,6 +11,7 @@
 //!   the book ([`own_certificates_give_the_report`]).
 #![tactic(auto)]
 
+mod exits;
 mod laws;
 mod refusal;
 mod table;

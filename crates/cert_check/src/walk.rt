@@ -1,18 +1,19 @@
 //! The walk over a table.
 
 ghost use Rattle.std.specs.Prelude.{◌≡◌, ◌+◌, ◌<◌, ◌^◌, ◌++◌, ◌∷◌, [], None, Some, if◌then◌else◌, map, length, IfOk, IfErr, OnOk};
-ghost use Rattle.std.specs.List.{flat_map, list_any};
+ghost use Rattle.std.specs.List.{flat_map};
 ghost use Rattle.std.specs.Option.{option_copied};
 ghost use Rattle.chip_law.specs.Line.{open_line_of};
 ghost use Rattle.closing_law.specs.ClosedBook.{table_in};
-ghost use Rattle.round_core.specs.Same.{same_frame};
 ghost use Rattle.cert_text.specs.Certificate.{is_below};
+ghost use Rattle.cert_check.specs.Exits.{returned};
 ghost use Rattle.cert_check.specs.Refusal as refusals;
 ghost use Rattle.cert_check.specs.Refusal.{Tells, first_of, least_from, open_refusal, post_refusal, refusal_of, return_from, rows_refusal, start_refusal, unit_refusal, units_of, work_refusal, worked, works_in};
 
+use crate::exits::{Exits, exits_in};
 use crate::refusal::{CheckError, Refusal};
 use crate::table::Table;
-use call_context::{Cause, Frame, Node, Unit, equal_nodes_are_one};
+use call_context::{Cause, Frame, Node, Unit};
 use cert_text::Cert;
 use chip_law::{Work, open_line};
 use closing_law::ClosedBook;
@@ -158,45 +159,27 @@ fn held_work<C: LawfulText>(
     Ok(work)
 }
 
-/// Whether a frame is one of some.
-fn is_among(frame: &Frame, frames: &[Frame]) -> bool
-    ensures { result ≡ list_any (same_frame frame.now) frames.now }
-{
-    equal_nodes_are_one();
-    tests_tell_which_are_one();
-    for other in frames {
-        if *frame == *other {
-            return true;
-        }
-    }
-    false
-}
-
-/// Adds the return to a location from an exit, if it waits for the frame of the exit.
+/// Adds the return to a location from an exit.
 fn add_return<C: LawfulText>(
     alloc: Global,
     chip: &C,
     table: &Table<C::Abs>,
     line: u32,
     row: &(Node, C::Abs),
-    waits: &[Frame],
     exit: &(Node, C::Abs),
     works: &mut Vec<(Unit, Work<C::Abs>)>,
 ) -> Result<(), CheckError>
-    ensures ok { (let a = C.analysis (C.base chip.now) in let inputs = return_from row.now.0 row.now.1 waits.now exit.now in
+    ensures ok { (let a = C.analysis (C.base chip.now) in let inputs = returned row.now.0 row.now.1 exit.now in
         OnOk result (first_of (unit_refusal a (C.texts (C.base chip.now)).outside table.now line) inputs ≡ None)) }
-    ensures refused { (let a = C.analysis (C.base chip.now) in let inputs = return_from row.now.0 row.now.1 waits.now exit.now in
+    ensures refused { (let a = C.analysis (C.base chip.now) in let inputs = returned row.now.0 row.now.1 exit.now in
         IfErr result (Tells (first_of (unit_refusal a (C.texts (C.base chip.now)).outside table.now line) inputs))) }
-    ensures works { (let a = C.analysis (C.base chip.now) in let inputs = return_from row.now.0 row.now.1 waits.now exit.now in
+    ensures works { (let a = C.analysis (C.base chip.now) in let inputs = returned row.now.0 row.now.1 exit.now in
         OnOk result (works.new.items ≡ works.old.items ++ map (worked a) inputs)) }
 {
     let (node, left) = exit;
-    let Node::Exit(_, frame) = node else {
+    let Node::Exit(_, _) = node else {
         return Ok(());
     };
-    if !is_among(frame, waits) {
-        return Ok(());
-    }
     let unit = Unit::Back(row.0, *node);
     let work = held_work(alloc, chip, table, line, &unit, &row.1, Some(left))?;
     works.push((unit, work))?;
@@ -211,7 +194,7 @@ fn returns_of<C: LawfulText>(
     line: u32,
     row: &(Node, C::Abs),
     waits: &[Frame],
-    exits: &[(Node, C::Abs)],
+    exits: &Exits<'_, C::Abs>,
 ) -> Result<Vec<(Unit, Work<C::Abs>)>, CheckError>
     ensures ok { (let a = C.analysis (C.base chip.now) in let inputs = flat_map (return_from row.now.0 row.now.1 waits.now) exits.now in
         OnOk result (first_of (unit_refusal a (C.texts (C.base chip.now)).outside table.now line) inputs ≡ None)) }
@@ -221,8 +204,9 @@ fn returns_of<C: LawfulText>(
         IfOk result (λ works. works.items ≡ map (worked a) inputs)) }
 {
     let mut works = Vec::new(alloc);
-    for exit in exits {
-        add_return(alloc, chip, table, line, row, waits, exit, &mut works)?;
+    let mut due = exits.of_frames(alloc, waits)?;
+    while let Some(exit) = due.next() {
+        add_return(alloc, chip, table, line, row, exit, &mut works)?;
     }
     Ok(works)
 }
@@ -250,7 +234,7 @@ fn add_units<C: LawfulText>(
     chip: &C,
     table: &Table<C::Abs>,
     line: u32,
-    exits: &[(Node, C::Abs)],
+    exits: &Exits<'_, C::Abs>,
     row: &(Node, C::Abs),
     works: &mut Vec<(Unit, Work<C::Abs>)>,
 ) -> Result<(), CheckError>
@@ -273,15 +257,37 @@ fn add_units<C: LawfulText>(
     Ok(())
 }
 
-/// The rows from the first exit on.
-fn exits_in<A>(rows: &[(Node, A)]) -> &[(Node, A)]
-    ensures { result.now ≡ refusals.exits_in rows.now }
+/// The units of a table with their works, by its exits.
+fn works_by<C: LawfulText>(
+    alloc: Global,
+    chip: &C,
+    table: &Table<C::Abs>,
+    first: u32,
+    exits: &Exits<'_, C::Abs>,
+) -> Result<Vec<(Unit, Work<C::Abs>)>, CheckError>
+    requires lines { first + length table.now < 2 ^ 32 }
+    requires exits { exits.now ≡ refusals.exits_in table.now }
+    ensures ok { (let a = C.analysis (C.base chip.now) in
+        OnOk result (rows_refusal a (C.texts (C.base chip.now)).outside table.now first table.now ≡ None)) }
+    ensures refused { (let a = C.analysis (C.base chip.now) in
+        IfErr result (Tells (rows_refusal a (C.texts (C.base chip.now)).outside table.now first table.now))) }
+    ensures works { (let a = C.analysis (C.base chip.now) in
+        IfOk result (λ works. works.items ≡ works_in a table.now)) }
 {
-    let mut rest = rows;
-    while let [(Node::At(_, _, _), _), behind @ ..] = rest {
-        rest = behind;
+    let rows = table.as_slice();
+    let mut works = Vec::new(alloc);
+    for (place, row) in rows.iter().enumerate() {
+        add_units(
+            alloc,
+            chip,
+            table,
+            first + place as u32,
+            exits,
+            row,
+            &mut works,
+        )?;
     }
-    rest
+    Ok(works)
 }
 
 /// The units of a table with their works.
@@ -299,21 +305,8 @@ fn works_of<C: LawfulText>(
     ensures works { (let a = C.analysis (C.base chip.now) in
         IfOk result (λ works. works.items ≡ works_in a table.now)) }
 {
-    let rows = table.as_slice();
-    let exits = exits_in(rows);
-    let mut works = Vec::new(alloc);
-    for (place, row) in rows.iter().enumerate() {
-        add_units(
-            alloc,
-            chip,
-            table,
-            first + place as u32,
-            exits,
-            row,
-            &mut works,
-        )?;
-    }
-    Ok(works)
+    let exits = Exits::new(alloc, exits_in(table.as_slice()))?;
+    works_by(alloc, chip, table, first, &exits)
 }
 
 /// The closed book of a certificate's table, or the first refusal.

@@ -1,7 +1,7 @@
 use Rattle.std.proofs.Common.{◌≡◌, ◌++◌, ◌+◌, drop, map}
 use Rattle.std.specs.List.{flat_map}
 use Rattle.cert_check.specs.Refusal.{exits_in, rows_refusal, units_of, worked, works_in}
-use Rattle.cert_check.proofs.walk.works_of.Given as goal
+use Rattle.cert_check.proofs.walk.works_by.Given as goal
 
 -- the refusal of the rows that are left is that of all, and the works so far and those of what is left are all works
 abbrev pub invariant-loop-place : goal.invariant-loop-place

@@ -1,6 +1,6 @@
 use Rattle.std.proofs.Common.{◌≡◌, length}
 use Rattle.cert_check.specs.Refusal.{exits_in}
-use Rattle.cert_check.proofs.walk.exits_in.Given as goal
+use Rattle.cert_check.proofs.exits.exits_in.Given as goal
 
 -- those of what is left are those of all
 abbrev pub invariant-loop-rest : goal.invariant-loop-rest
