@@ -1,5 +1,5 @@
 -- The small chip is lawful, and its texts are exact.
-use Rattle.std.proofs.Common.{◌≡◌, ℕ, zero, suc, ◌+◌, ◌-◌, ◌%◌, ◌<◌, refl, sym, ap, ◌∙◌, subst, true, false, inl, inr, arith, Option, None, Some, List, [], ◌∷◌, get_or, length, max}
+use Rattle.std.proofs.Common.{◌≡◌, ℕ, zero, suc, ◌+◌, ◌-◌, ◌%◌, ◌<◌, ◌≤◌, refl, sym, ap, ◌∙◌, subst, true, false, inl, inr, arith, Option, None, Some, List, [], ◌∷◌, get_or, length, max}
 use Rattle.std.specs.Prelude.{◌↔◌, ◌==◌, ◌&&◌, Contains, nat_le, nat_lt}
 use Rattle.std.proofs.lemmas.Bool.{cases_Bool, and_parts, false≢true, true≢false, le-leb, leb-true, lt-ltb, ltb-true, eqb-true}
 use Rattle.std.proofs.lemmas.Option.{none-some}
@@ -156,12 +156,12 @@ node_fits (Exit pc Base) mine = absurd (false≢true (and_parts (nat_lt pc 65536
 node_fits (Exit pc (Irq vector None level)) mine = absurd (false≢true (and_parts (nat_lt pc 65536) false mine).1)
 node_fits (Exit pc (Irq vector (Some sp) level)) mine =
     let parts = and_parts (nat_lt pc 65536) (is_handler (Irq vector (Some sp) level)) mine in
-    let entry = and_parts ((vector == 9) && (sp == 640)) (level == 0) parts.1 in
-    let first = and_parts (vector == 9) (sp == 640) entry.0 in
-    let nine : vector ≡ 9 = eqb-true vector 9 first.0 in
+    let entry = and_parts (nat_le 9 vector && nat_le vector 10 && (sp == 640)) (level == 0) parts.1 in
+    let first = and_parts (nat_le 9 vector && nat_le vector 10) (sp == 640) entry.0 in
+    let below : vector ≤ 10 = leb-true vector 10 (and_parts (nat_le 9 vector) (nat_le vector 10) first.0).1 in
     let at : sp ≡ 640 = eqb-true sp 640 first.1 in
     let zero : level ≡ 0 = eqb-true level 0 entry.1 in
-    (ltb-true pc 65536 parts.0, (omega (arith, nine), omega (arith, at), omega (arith, zero)))
+    (ltb-true pc 65536 parts.0, (omega (arith, below), omega (arith, at), omega (arith, zero)))
 
 pub exact : AreTexts countdown texts
 exact = record {

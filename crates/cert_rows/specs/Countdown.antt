@@ -1,6 +1,6 @@
 -- A small chip for rows of certificates: a state is one number below 65536. A location hands its number less one to the next
 -- address, in the base frame; at 0 nothing follows. At 7 its site is open, for two causes. At 4 it waits for a handler, whose
--- exit hands its own number to the address behind the next one. It never runs.
+-- exit hands its own number to the address behind the next one, and at 5 for two. It never runs.
 use Rattle.std.specs.Prelude.{◌≡◌, ℕ, ◌+◌, ◌-◌, ◌%◌, ◌<◌, ◌==◌, ◌&&◌, nat_le, nat_lt, max, Bool, true, false, if◌then◌else◌, Option, None, Some, List, [], ◌∷◌, codes}
 use Rattle.hex_digits.specs.Digits.{hex}
 use Rattle.call_context.specs.declared.node.Frame.{Frame}
@@ -26,20 +26,20 @@ is_frame Base = true
 is_frame (Irq vector None level) = nat_lt vector 100 && (level == 0)
 is_frame (Irq vector (Some sp) level) = false
 
--- the handler that is waited for
-abbrev pub handler : Frame
-handler = Irq 9 (Some 640) 0
+-- the handlers that are waited for
+abbrev pub handler : (vector : ℕ) → Frame
+handler vector = Irq vector (Some 640) 0
 
 abbrev pub is_handler : Frame → Bool
 is_handler Base = false
 is_handler (Irq vector None level) = false
-is_handler (Irq vector (Some sp) level) = (vector == 9) && (sp == 640) && (level == 0)
+is_handler (Irq vector (Some sp) level) = nat_le 9 vector && nat_le vector 10 && (sp == 640) && (level == 0)
 
 abbrev pub is_empty : List ℕ → Bool
 is_empty [] = true
 is_empty (site ∷ sites) = false
 
--- such locations, and exits of the handler
+-- such locations, and exits of the handlers
 abbrev pub is_mine : Node → Bool
 is_mine (At pc calls frame) = nat_lt pc 65536 && is_empty calls && is_frame frame
 is_mine (Exit pc frame) = nat_lt pc 65536 && is_handler frame
@@ -48,7 +48,9 @@ abbrev pub nothing : Work ℕ
 nothing = record { items = []; posts = []; waits = []; opens = [] }
 
 abbrev pub waits_of : ℕ → List Frame
-waits_of at = if at == 4 then handler ∷ [] else []
+waits_of at =
+    if at == 4 then handler 9 ∷ []
+    else (if at == 5 then handler 9 ∷ handler 10 ∷ [] else [])
 
 -- of the two the second one's line is the lesser
 abbrev pub opens_of : ℕ → ℕ → List (ℕ × Cause)

@@ -13,7 +13,7 @@ use std::alloc::Global;
 use text_fields::{number, push_number};
 use value_set::Vs16;
 
-/// Counts down from 2. Handlers are waited for at 4, and sites are open at 7.
+/// Counts down from 2. A handler is waited for at 4, two are at 5, and sites are open at 7.
 #[derive(Drop)]
 pub struct Countdown;
 
@@ -39,7 +39,7 @@ fn is_handler(frame: &Frame) -> bool
             vector,
             sp: Some(sp),
             level,
-        } => *vector == 9 && *sp == 0x0280 && *level == 0,
+        } => *vector >= 9 && *vector <= 10 && *sp == 0x0280 && *level == 0,
         _ => false,
     }
 }
@@ -63,16 +63,25 @@ fn is_mine(node: &Node) -> bool
     }
 }
 
+fn handler(vector: u8) -> Frame
+    ensures { result ≡ countdown.handler vector }
+{
+    Frame::Irq {
+        vector,
+        sp: Some(0x0280),
+        level: 0,
+    }
+}
+
 fn waits_of(alloc: Global, at: u16) -> Result<Sequence<Frame>, Memory>
     ensures { IfOk result (λ waits. waits ≡ countdown.waits_of at) }
 {
     let mut waits = Sequence::new(alloc);
-    if at == 4 {
-        waits.push(Frame::Irq {
-            vector: 9,
-            sp: Some(0x0280),
-            level: 0,
-        })?;
+    if at == 4 || at == 5 {
+        waits.push(handler(9))?;
+    }
+    if at == 5 {
+        waits.push(handler(10))?;
     }
     Ok(waits)
 }

@@ -139,6 +139,11 @@ fn closed_tables(rt: HostRuntime) -> Result<(), Fail> {
             "CERT 1\nN 0000::base 0003\nN 0001::base 0002\nN 0002::base 0001\nN 0003::base 0000\nX 0000:irq9@0280.0 0009\nEND\n",
             5,
         ),
+        // exits of two frames, which the first location waits for both, and the second one for the first frame alone
+        (
+            "CERT 1\nN 0000::base 0005\nN 0001::base 0004\nN 0002::base 0003\nN 0003::base 0002\nN 0004::base 0001\nN 0005::base 0000\nX 0000:irq10@0280.0 0003\nX 0000:irq9@0280.0 0002\nX 0001:irq10@0280.0 0003\nEND\n",
+            9,
+        ),
     ] {
         let bytes = text.as_bytes();
         assert!(rt; bytes.len() <= 200);
@@ -233,6 +238,21 @@ fn states_outside(rt: HostRuntime) -> Result<(), Fail> {
             2,
             "0008",
             "0002",
+        ),
+        // and not in the order of the frames that are waited for
+        (
+            "CERT 1\nN 0000::base 0005\nN 0001::base 0004\nN 0002::base 0003\nX 0000:irq9@0280.0 0003\nX 0001:irq10@0280.0 0009\nX 0002:irq9@0280.0 0008\nEND\n",
+            2,
+            2,
+            "0009",
+            "0003",
+        ),
+        (
+            "CERT 1\nN 0000::base 0005\nN 0001::base 0004\nN 0002::base 0003\nX 0000:irq10@0280.0 0003\nX 0001:irq9@0280.0 0008\nX 0002:irq10@0280.0 0009\nEND\n",
+            2,
+            2,
+            "0008",
+            "0003",
         ),
         // a location's own post before its returns
         (
