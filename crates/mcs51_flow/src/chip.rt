@@ -16,13 +16,12 @@ ghost use Rattle.mcs51_flow.specs.Marks.{stops};
 ghost use Rattle.mcs51_flow.specs.Standing.{fetched, instr_text as the_text};
 
 use crate::entries::entering;
-use crate::kept::Kept;
+use crate::kept::{Kept, RamCells};
 use crate::labels::effect_on_calls;
 use crate::marks::marks_of;
 use crate::setting::Setting;
 use crate::text::Mcs51Text;
 use crate::ways::{Site, add_all, leave};
-use abs_memory::CellList;
 use analysis_limits::Limits;
 use arrayvec::ArrayString;
 use call_context::{Calls, Cause, Frame, InstrBytes, Item, Node, Sequence, Unit};
@@ -39,8 +38,8 @@ use std::marker::Model;
 use unit_ways::Ways;
 use value_set::members_are_below;
 
-/// What is known of a state, with its RAM as a list of cells.
-type Abs = State<CellList>;
+/// What is known of a state, with the cells of its RAM.
+type Abs = State<RamCells>;
 
 /// The chip with a program, which contracts see as what its analysis is set to.
 #[derive(Drop)]
@@ -116,7 +115,7 @@ impl Mcs51Chip {
         frame: Frame,
         at: &Abs,
         instr: &Instr,
-        way: Way<State<CellList>>,
+        way: Way<State<RamCells>>,
     ) -> Result<(), Memory>
         ensures items { OnOk result (ways.new.items ≡ ways.old.items ++ (going_of self.now pc calls.now frame at.now instr.now way).edges) }
         ensures posts { OnOk result (ways.new.posts ≡ ways.old.posts ++ (going_of self.now pc calls.now frame at.now instr.now way).posts) }
@@ -147,7 +146,7 @@ impl Mcs51Chip {
         frame: Frame,
         at: &Abs,
         instr: &Instr,
-        ran: Ran<CellList>,
+        ran: Ran<RamCells>,
     ) -> Result<Work<Kept>, Memory>
         requires { IsInstr instr.now }
         ensures { IfOk result (λ work. work ≡ the_work self.now pc calls.now frame at.now instr.now ran) }

@@ -7,8 +7,7 @@ ghost use Rattle.call_context.specs.declared.shown.Set.TheVariants as sets;
 ghost use Rattle.mcs51_entry.specs.declared.coming.Coming.{Coming as AComing};
 ghost use Rattle.mcs51_flow.specs.Chip as chip;
 
-use crate::kept::Kept;
-use abs_memory::CellList;
+use crate::kept::{Kept, RamCells};
 use call_context::{Calls, Item, Node, Sequence, Set};
 use chip_law::Work;
 use mcs51_entry::{Coming, add_entry_items, comings, entered, entries_hold, frame_of, handler_of};
@@ -21,7 +20,7 @@ use unit_ways::add_wait;
 fn entry_post(
     alloc: Global,
     pc: u16,
-    at: &State<CellList>,
+    at: &State<RamCells>,
     coming: &Coming,
 ) -> Result<(Node, Kept), Memory>
     requires { coming.now.source < 6 }
@@ -37,7 +36,7 @@ fn add_entry(
     alloc: Global,
     work: &mut Work<Kept>,
     pc: u16,
-    at: &State<CellList>,
+    at: &State<RamCells>,
     coming: &Coming,
 ) -> Result<(), Memory>
     requires { coming.now.source < 6 }
@@ -56,7 +55,7 @@ fn add_entries(
     alloc: Global,
     work: &mut Work<Kept>,
     pc: u16,
-    at: &State<CellList>,
+    at: &State<RamCells>,
     all: &[Coming],
 ) -> Result<(), Memory>
     requires below { (coming : AComing) → Contains all.now coming → coming.source < 6 }
@@ -75,7 +74,7 @@ fn add_entries(
 pub fn entering(
     alloc: Global,
     pc: u16,
-    at: &State<CellList>,
+    at: &State<RamCells>,
     accesses: Sequence<Item>,
 ) -> Result<Work<Kept>, Memory>
     ensures { IfOk result (λ work. work ≡ chip.entering pc at.now accesses) }
@@ -94,7 +93,7 @@ pub fn entering(
 }
 
 /// What SP may be at an address.
-fn stack_item(pc: u16, at: &State<CellList>) -> Item
+fn stack_item(pc: u16, at: &State<RamCells>) -> Item
     ensures { result ≡ items.Stack pc (sets.B at.now.sp) }
 {
     Item::Stack {

@@ -4,9 +4,8 @@ ghost use Rattle.std.specs.Prelude.{◌≡◌, ◌++◌, IfOk, OnOk};
 ghost use Rattle.mcs51_flow.specs.Going as going;
 ghost use Rattle.mcs51_flow.specs.Labels as labels;
 
-use crate::kept::Kept;
+use crate::kept::{Kept, RamCells};
 use crate::labels::{CallEffect, calls_by};
-use abs_memory::CellList;
 use call_context::{Calls, Frame};
 use image::Image;
 use mcs51_running::Way;
@@ -75,7 +74,7 @@ impl<'a> unit_ways::Site for Site<'a> {
 }
 
 /// Keeps what is known, where that can be.
-fn kept(alloc: Global, known: Option<State<CellList>>) -> Result<Option<Kept>, Memory>
+fn kept(alloc: Global, known: Option<State<RamCells>>) -> Result<Option<Kept>, Memory>
     ensures { IfOk result (λ kept. kept ≡ known) }
 {
     match known {
@@ -91,7 +90,7 @@ pub fn add_all(
     site: &Site,
     limit: u32,
     behind: u16,
-    way: Way<State<CellList>>,
+    way: Way<State<RamCells>>,
 ) -> Result<(), Memory>
     ensures items { OnOk result (ways.new.items ≡ ways.old.items
         ++ (going.going_on limit (labels.calls_at site.now) site.now.pc behind site.now.frame way).edges) }
@@ -125,7 +124,7 @@ pub fn leave(
     ways: &mut Ways<Kept>,
     pc: u16,
     frame: Frame,
-    way: Way<State<CellList>>,
+    way: Way<State<RamCells>>,
 ) -> Result<(), Memory>
     ensures items { OnOk result (ways.new.items ≡ ways.old.items ++ (going.going_back pc frame way).edges) }
     ensures posts { OnOk result (ways.new.posts ≡ ways.old.posts ++ (going.going_back pc frame way).posts) }

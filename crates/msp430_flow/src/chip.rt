@@ -17,14 +17,13 @@ ghost use Rattle.msp430_flow.specs.Running.{followed as the_followed, gie_of as 
 ghost use Rattle.msp430_state.specs.Known.{is_interrupt as the_interrupt};
 
 use crate::entries::{add_store_opens, entering};
-use crate::kept::Kept;
+use crate::kept::{Kept, RamCells};
 use crate::labels::effect_of;
 use crate::marks::marks_of;
 use crate::running::{fact_of, leaves_frame, run, stored_width};
 use crate::setting::Setting;
 use crate::text::Msp430Text;
 use crate::ways::{Site, add_all};
-use abs_memory::CellList;
 use analysis_limits::Limits;
 use arrayvec::ArrayString;
 use call_context::{Calls, Cause, Frame, InstrBytes, Item, Node, Sequence, Unit};
@@ -42,8 +41,8 @@ use unit_ways::{Ways, are_too_many, leave, leave_open};
 use value_bits::Tri;
 use value_set::Vs16;
 
-/// What is known of a state, with its RAM as a list of cells.
-type Abs = State<CellList>;
+/// What is known of a state, with the cells of its RAM.
+type Abs = State<RamCells>;
 
 /// The chip of a device, which contracts see as what its analysis is set to.
 #[derive(Drop)]
@@ -204,7 +203,7 @@ impl Msp430Chip {
         frame: Frame,
         at: &Abs,
         instr: &Instr,
-        made: Worked<CellList>,
+        made: Worked<RamCells>,
     ) -> Result<Work<Kept>, Memory>
         requires { IsInstr instr.now }
         ensures { IfOk result (λ work. work ≡ the_work self.now pc calls.now frame at.now instr.now made) }

@@ -9,9 +9,8 @@ ghost use Rattle.msp430_entry.specs.Entry.{comings_of, entry_items};
 ghost use Rattle.msp430_chip.specs.Memory.{HasRam};
 ghost use Rattle.msp430_flow.specs.Chip as chip;
 
-use crate::kept::Kept;
+use crate::kept::{Kept, RamCells};
 use crate::meeting::may_hit;
-use abs_memory::CellList;
 use call_context::{Calls, Cause, Item, Node, Sequence, Set};
 use chip_law::Work;
 use msp430_chip::Device;
@@ -63,7 +62,7 @@ fn entry_post(
     alloc: Global,
     device: &Device,
     pc: u16,
-    at: &State<CellList>,
+    at: &State<RamCells>,
     coming: &Coming,
 ) -> Result<(Node, Kept), Memory>
     requires ram { HasRam device.now }
@@ -98,7 +97,7 @@ fn add_entry(
     work: &mut Work<Kept>,
     device: &Device,
     pc: u16,
-    at: &State<CellList>,
+    at: &State<RamCells>,
     coming: &Coming,
 ) -> Result<(), Memory>
     requires ram { HasRam device.now }
@@ -120,7 +119,7 @@ fn add_entries(
     work: &mut Work<Kept>,
     device: &Device,
     pc: u16,
-    at: &State<CellList>,
+    at: &State<RamCells>,
     all: &[Coming],
 ) -> Result<(), Memory>
     requires ram { HasRam device.now }
@@ -141,7 +140,7 @@ pub fn entering(
     alloc: Global,
     device: &Device,
     pc: u16,
-    at: &State<CellList>,
+    at: &State<RamCells>,
     accesses: Sequence<Item>,
 ) -> Result<Work<Kept>, Memory>
     requires { HasRam device.now }
@@ -161,7 +160,7 @@ pub fn entering(
 }
 
 /// What SP may be at an address.
-fn stack_item(pc: u16, at: &State<CellList>) -> Item
+fn stack_item(pc: u16, at: &State<RamCells>) -> Item
     ensures { result ≡ items.Stack pc (sets.W at.now.sp) }
 {
     Item::Stack {

@@ -9,10 +9,13 @@ use std::alloc::Global;
 use std::marker::Model;
 use std::sync::Arc;
 
+/// What is known of the cells of RAM, as the analysis keeps it.
+pub(crate) type RamCells = CellList;
+
 /// What is known of a state, behind a shared pointer: posts and tables move no more than that, and a copy costs a count.
 #[derive(Drop)]
 pub struct Kept {
-    state: Arc<State<CellList>>,
+    state: Arc<State<RamCells>>,
 }
 
 impl Model for Kept {
@@ -27,7 +30,7 @@ impl Model for Kept {
 
 impl Kept {
     /// Keeps what is known, or answers that memory lacks.
-    pub fn new(alloc: Global, state: State<CellList>) -> Result<Kept, Memory>
+    pub fn new(alloc: Global, state: State<RamCells>) -> Result<Kept, Memory>
         ensures { IfOk result (λ kept. kept ≡ state) }
     {
         let state = Arc::new(alloc, state)?;
@@ -43,7 +46,7 @@ impl Kept {
     }
 
     /// What is kept.
-    pub fn state(&self) -> &State<CellList>
+    pub fn state(&self) -> &State<RamCells>
         ensures { result.now ≡ self.now }
     {
         &self.state

@@ -6,7 +6,7 @@ ghost use Rattle.msp430_chip.specs.Memory.{HasRam};
 ghost use Rattle.msp430_flow.specs.Running as running;
 ghost use Rattle.msp430_results.specs.Results.{HasWidth};
 
-use abs_memory::CellList;
+use crate::kept::RamCells;
 use call_context::{Frame, Sequence};
 use msp430_alu::{Worked, double, push, single};
 use msp430_branch::fact_behind;
@@ -35,7 +35,7 @@ pub fn stored_width(instr: &Instr) -> Width
 }
 
 /// A jump changes PC alone, and shows no access; its ways are told apart.
-fn unchanged(alloc: Global, at: &State<CellList>, next: u16) -> Result<Worked<CellList>, Memory>
+fn unchanged(alloc: Global, at: &State<RamCells>, next: u16) -> Result<Worked<RamCells>, Memory>
     ensures { IfOk result (λ worked. worked ≡ running.unchanged at.now next) }
 {
     Ok(Worked {
@@ -51,13 +51,13 @@ fn plain_operand(
     alloc: Global,
     device: &Device,
     framed: bool,
-    at: &State<CellList>,
+    at: &State<RamCells>,
     pc: u16,
     len: u8,
     operation: SingleOperation,
     width: Width,
     operand: Source,
-) -> Result<Worked<CellList>, Memory>
+) -> Result<Worked<RamCells>, Memory>
     requires ram { HasRam device.now }
     requires width { HasWidth operation width }
     ensures { IfOk result (λ worked. worked ≡ running.single_or_status device.now framed at.now pc len operation width operand) }
@@ -77,13 +77,13 @@ fn one_operand(
     alloc: Global,
     device: &Device,
     framed: bool,
-    at: &State<CellList>,
+    at: &State<RamCells>,
     pc: u16,
     len: u8,
     operation: SingleOperation,
     width: Width,
     operand: Source,
-) -> Result<Worked<CellList>, Memory>
+) -> Result<Worked<RamCells>, Memory>
     requires ram { HasRam device.now }
     requires row { IsInstr (Instr.Single operation width operand) }
     ensures { IfOk result (λ worked. worked ≡ running.one_operand device.now framed at.now pc len operation width operand) }
@@ -105,14 +105,14 @@ fn two_operands(
     alloc: Global,
     device: &Device,
     framed: bool,
-    at: &State<CellList>,
+    at: &State<RamCells>,
     pc: u16,
     len: u8,
     operation: Operation,
     width: Width,
     source: Source,
     destination: Destination,
-) -> Result<Worked<CellList>, Memory>
+) -> Result<Worked<RamCells>, Memory>
     requires ram { HasRam device.now }
     requires long { 2 ≤ len }
     ensures { IfOk result (λ worked. worked ≡ running.double_or_status device.now framed at.now pc len operation width source destination) }
@@ -141,10 +141,10 @@ pub fn run(
     alloc: Global,
     device: &Device,
     framed: bool,
-    at: &State<CellList>,
+    at: &State<RamCells>,
     pc: u16,
     instr: &Instr,
-) -> Result<Worked<CellList>, Memory>
+) -> Result<Worked<RamCells>, Memory>
     requires ram { HasRam device.now }
     requires row { IsInstr instr.now }
     ensures { IfOk result (λ worked. worked ≡ running.worked device.now framed at.now pc instr.now) }
@@ -181,7 +181,7 @@ pub fn run(
 }
 
 /// Whether RETI goes back to where the interrupt of its frame came.
-pub fn leaves_frame(device: &Device, frame: &Frame, at: &State<CellList>, instr: &Instr) -> bool
+pub fn leaves_frame(device: &Device, frame: &Frame, at: &State<RamCells>, instr: &Instr) -> bool
     requires { HasRam device.now }
     ensures { result ≡ running.leaves_frame device.now frame.now at.now instr.now }
 {
@@ -192,7 +192,7 @@ pub fn leaves_frame(device: &Device, frame: &Frame, at: &State<CellList>, instr:
 }
 
 /// What the flags say of a register behind an instruction: CMP and SUB with a constant leave a fact.
-pub fn fact_of(instr: &Instr, after: &State<CellList>) -> Option<FlagFact>
+pub fn fact_of(instr: &Instr, after: &State<RamCells>) -> Option<FlagFact>
     ensures { result ≡ running.fact_of instr.now after.now }
 {
     match *instr {

@@ -8,9 +8,8 @@ ghost use Rattle.unit_ways.specs.Ways.{edges_of, posts_of, ways_of};
 ghost use Rattle.msp430_flow.specs.Labels as labels;
 ghost use Rattle.msp430_flow.specs.Running as running;
 
-use crate::kept::Kept;
+use crate::kept::{Kept, RamCells};
 use crate::labels::{CallEffect, calls_by};
-use abs_memory::CellList;
 use call_context::{Calls, Frame};
 use image::Image;
 use msp430_branch::cut;
@@ -81,7 +80,7 @@ impl<'a> unit_ways::Site for Site<'a> {
 }
 
 /// Keeps what is known, where that can be.
-fn kept(alloc: Global, known: Option<State<CellList>>) -> Result<Option<Kept>, Memory>
+fn kept(alloc: Global, known: Option<State<RamCells>>) -> Result<Option<Kept>, Memory>
     ensures { IfOk result (λ kept. kept ≡ known) }
 {
     match known {
@@ -96,8 +95,8 @@ fn add_jump(
     ways: &mut Ways<Kept>,
     site: &Site,
     offset: u16,
-    on: Option<State<CellList>>,
-    jumped: Option<State<CellList>>,
+    on: Option<State<RamCells>>,
+    jumped: Option<State<RamCells>>,
 ) -> Result<(), Memory>
     requires { offset < 1024 }
     ensures items { OnOk result (ways.new.items ≡ ways.old.items
@@ -114,7 +113,7 @@ fn add_jump(
 }
 
 /// What is known where a jump is taken, or isn't, if that can be.
-fn outcome(state: State<CellList>, condition: Condition, taken: bool) -> Option<State<CellList>>
+fn outcome(state: State<RamCells>, condition: Condition, taken: bool) -> Option<State<RamCells>>
     ensures { result ≡ known_cut condition taken state }
 {
     let mut state = state;
@@ -132,7 +131,7 @@ pub fn add_all(
     site: &Site,
     instr: &Instr,
     next: &Vs16,
-    behind: State<CellList>,
+    behind: State<RamCells>,
 ) -> Result<(), Memory>
     requires { IsInstr instr.now }
     ensures items { OnOk result (ways.new.items ≡ ways.old.items ++ edges_of site.now.pc (running.ways_behind site.now.pc instr.now next.now behind)) }
