@@ -10,8 +10,8 @@ use Rattle.entry_value.specs.declared.word.Word.{Word}
 use Rattle.entry_value.specs.CellLists.{Each, each_then}
 use Rattle.entry_value.specs.Words.{word_join, word_widen}
 use Rattle.entry_value.specs.Cells.{are_within, both_of, byte_widened, cell_at, cell_widened, join_cells, kept, next, widen_cells, with_both}
-use Rattle.abs_pages.specs.Paging.{Paged, EachPage, IsPage, Rise, cells_at, flat, has_page, pages_below}
-use Rattle.abs_pages.proofs.Lists.{each_append, cell_at_left, cell_at_right, kept_none, kept_same, next_before, within_same}
+use Rattle.abs_pages.specs.Paging.{Paged, EachPage, IsPage, Rise, begun_at, cells_at, flat, has_page, pages_below}
+use Rattle.abs_pages.proofs.Lists.{each_append, begun_at_left, begun_at_right, cell_at_left, cell_at_right, kept_none, kept_same, next_before, within_same}
 
 -- ORDER
 
@@ -86,6 +86,24 @@ looked from (page ∷ pages) place size number rise each e = elim (cases_Bool (p
       (each_then (λ cell. cell.place / 32 ≡ page.number) (λ cell. (cell.place == place) ≡ false) page.map.cells
       (λ cell h. other_place cell.place place page.number number h e (eqb-false page.number number other)) each.0.inside)
       ∙ looked (page.number + 1) pages place size number rise.1 each.1 e)
+]
+
+-- what begins at an address is looked up there too
+pub begun_looked : (from : ℕ) (pages : List Paged) (at number : ℕ) → Rise from pages → EachPage IsPage pages → at / 32 ≡ number
+    → begun_at (flat pages) at ≡ begun_at (cells_at pages number) at
+begun_looked from [] at number rise each e = refl
+begun_looked from (page ∷ pages) at number rise each e = elim (cases_Bool (page.number == number)) [
+  | inl same ↦
+      let is : page.number ≡ number = eqb-true page.number number same in
+      rw same (begun_at_left page.map.cells (flat pages) at
+      (each_then (λ cell. page.number + 1 ≤ cell.place / 32) (λ cell. (cell.place == at) ≡ false) (flat pages)
+      (λ cell h. other_place cell.place at (cell.place / 32) number refl e (λ clash. omega (arith, h, is, clash)))
+      (flat_behind (page.number + 1) pages rise.1 each.1)))
+  | inr other ↦
+      rw other (begun_at_right page.map.cells (flat pages) at
+      (each_then (λ cell. cell.place / 32 ≡ page.number) (λ cell. (cell.place == at) ≡ false) page.map.cells
+      (λ cell h. other_place cell.place at page.number number h e (eqb-false page.number number other)) each.0.inside)
+      ∙ begun_looked (page.number + 1) pages at number rise.1 each.1 e)
 ]
 
 -- no page in front has the next cell

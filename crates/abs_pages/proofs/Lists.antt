@@ -8,6 +8,7 @@ use Rattle.entry_value.specs.declared.cells.Cell.{Cell}
 use Rattle.entry_value.specs.declared.word.Word.{Word}
 use Rattle.entry_value.specs.CellLists.{Each}
 use Rattle.entry_value.specs.Cells.{cell_at, insert, is_found_within, are_within, kept, next, with_some}
+use Rattle.abs_pages.specs.Paging.{begun_at}
 
 pub each_append : (P : Cell → Type 0) (xs ys : List Cell) → Each P xs → Each P ys → Each P (xs ++ ys)
 each_append P [] ys h k = k
@@ -80,6 +81,21 @@ cell_at_left [] ys place size h = cell_at_none ys place size h
 cell_at_left (x ∷ xs) ys place size h = elim (cases_Bool ((x.place == place) && (x.size == size))) [
   | inl holds ↦ rw holds refl
   | inr fails ↦ rw fails (cell_at_left xs ys place size h)
+]
+
+pub begun_at_right : (xs ys : List Cell) (at : ℕ) → Each (λ x. (x.place == at) ≡ false) xs → begun_at (xs ++ ys) at ≡ begun_at ys at
+begun_at_right [] ys at h = refl
+begun_at_right (x ∷ xs) ys at h = rw h.0 (begun_at_right xs ys at h.1)
+
+begun_at_none : (ys : List Cell) (at : ℕ) → Each (λ y. (y.place == at) ≡ false) ys → begun_at ys at ≡ None
+begun_at_none [] at h = refl
+begun_at_none (y ∷ ys) at h = rw h.0 (begun_at_none ys at h.1)
+
+pub begun_at_left : (xs ys : List Cell) (at : ℕ) → Each (λ y. (y.place == at) ≡ false) ys → begun_at (xs ++ ys) at ≡ begun_at xs at
+begun_at_left [] ys at h = begun_at_none ys at h
+begun_at_left (x ∷ xs) ys at h = elim (cases_Bool (x.place == at)) [
+  | inl holds ↦ rw holds refl
+  | inr fails ↦ rw fails (begun_at_left xs ys at h)
 ]
 
 -- the cell that is next, as it is shown

@@ -6,7 +6,7 @@ ghost use Rattle.abs_pages.specs.Paging as paging;
 ghost use Rattle.abs_pages.specs.Paging.{MadeOf};
 
 use abs_memory::CellList;
-use entry_value::{Cell, Cells};
+use entry_value::{Cell, Cells, Word};
 use no_memory::Memory;
 use std::alloc::Global;
 use std::marker::Model;
@@ -76,6 +76,24 @@ impl Page {
         ensures { result ≡ paging.is_empty self.now.map.cells }
     {
         is_empty(&self.cells)
+    }
+
+    /// The size and the word of the page's cell that begins at an address.
+    pub(crate) fn begun_at(&self, at: u16) -> Option<(u8, Word)>
+        ensures { result ≡ paging.begun_at self.now.map.cells at }
+    {
+        let cells = self.cells();
+        cells.keep_form();
+        match cells.next(at as u32) {
+            Some((place, size, word)) => {
+                if place == at {
+                    Some((size, word))
+                } else {
+                    None
+                }
+            }
+            None => None,
+        }
     }
 
     /// Writes a cell among the page's. Where the page has other owners it is copied first. A refusal leaves it as it was.

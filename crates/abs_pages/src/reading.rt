@@ -5,7 +5,7 @@ ghost use Rattle.entry_value.specs.Cells as the_cells;
 ghost use Rattle.abs_pages.specs.Paging as paging;
 ghost use Rattle.abs_pages.specs.Paging.{AreRead, flat};
 
-use crate::finding::next;
+use crate::finding::page_at;
 use crate::page::Page;
 use entry_value::Word;
 use value_bits::w16;
@@ -16,14 +16,8 @@ pub(crate) fn begun_at(pages: &[Page], at: u16) -> Option<(u8, Word)>
     requires { AreRead pages.now }
     ensures { result ≡ paging.begun_at (flat pages.now) at }
 {
-    match next(pages, at as u32) {
-        Some((place, size, word)) => {
-            if place == at {
-                Some((size, word))
-            } else {
-                None
-            }
-        }
+    match page_at(pages, at / 32) {
+        Some(page) => page.begun_at(at),
         None => None,
     }
 }

@@ -1,20 +1,16 @@
-use Rattle.std.proofs.Common.{◌≡◌, None, Some, refl}
-use Rattle.std.proofs.lemmas.Bool.{eq-eqb, ne_eqb}
-use Rattle.abs_pages.specs.Paging.{flat}
-use Rattle.abs_pages.proofs.Begun.{begun_is, begun_shown}
+use Rattle.std.proofs.Common.{◌/◌, ◌∙◌, ap, refl, sym}
+use Rattle.abs_pages.specs.Paging.{begun_at}
+use Rattle.abs_pages.proofs.Flat.{begun_looked, cells_none}
 use Rattle.abs_pages.proofs.reading.begun_at.Goals as goal
 
-pub returns-then-place-at : goal.returns-then-place-at
-returns-then-place-at c =
-    let shown_as : begun_shown c.next.result c.args.at ≡ Some (c.in-Some.size, c.in-Some.word) = rw (c.in-Some.is, eq-eqb c.in-Some.place c.args.at c.if-place-at.true) refl in
-    begun_is c.requires.lo c.requires.hi c.requires.lo (flat c.args.pages.now) c.args.at c.next.result _ c.requires.are c.next.ensures shown_as
-
-pub returns-else-place-at : goal.returns-else-place-at
-returns-else-place-at c =
-    let shown_as : begun_shown c.next.result c.args.at ≡ None = rw (c.in-Some.is, ne_eqb c.in-Some.place c.args.at c.if-place-at.false) refl in
-    begun_is c.requires.lo c.requires.hi c.requires.lo (flat c.args.pages.now) c.args.at c.next.result _ c.requires.are c.next.ensures shown_as
+pub returns-in-Some : goal.returns-in-Some
+returns-in-Some c =
+    let at = c.args.at in
+    c.begun_at.ensures ∙ (ap (λ cells. begun_at cells at) c.in-Some.ensures.1
+    ∙ sym (begun_looked 0 c.args.pages.now at (at / 32) c.requires.rise c.requires.each refl))
 
 pub returns-in-None : goal.returns-in-None
 returns-in-None c =
-    let shown_as : begun_shown c.next.result c.args.at ≡ None = rw c.in-None.is refl in
-    begun_is c.requires.lo c.requires.hi c.requires.lo (flat c.args.pages.now) c.args.at c.next.result _ c.requires.are c.next.ensures shown_as
+    let pages = c.args.pages.now in
+    let at = c.args.at in
+    sym (begun_looked 0 pages at (at / 32) c.requires.rise c.requires.each refl ∙ ap (λ cells. begun_at cells at) (cells_none pages (at / 32) c.in-None.ensures))
