@@ -1,6 +1,7 @@
 mod Lists
 mod Flat
 mod Begun
+mod Inside
 mod Putting
 mod Passes
 mod Sharing

@@ -87,6 +87,11 @@ abbrev pub high_of : Option (ℕ × Word) → Option Form
 high_of None = None
 high_of (Some begun) = if begun.0 == 2 then Some (high_set begun.1.set) else None
 
+-- no cell of another page has a byte of what stands at an address: it is neither the first byte of its page, where the page in front may reach over it, nor goes on
+-- behind its last one
+abbrev pub is_inside : (at size : ℕ) → Bool
+is_inside at size = not (at % 32 == 0) && ((size == 1) || not (at % 32 == 31))
+
 -- CHANGING PAGES
 
 abbrev pub is_empty : List Cell → Bool

@@ -2,6 +2,8 @@
 
 ghost use Rattle.std.specs.Prelude.{◌≡◌, ◌⊎◌, ◌<◌, ℕ, IfOk, OnOk, OnErr};
 ghost use Rattle.value_set.specs.Form.{Has};
+ghost use Rattle.entry_value.specs.Cells as the_cells;
+ghost use Rattle.entry_value.specs.Cells.{AreCells};
 ghost use Rattle.abs_pages.specs.Paging as paging;
 ghost use Rattle.abs_pages.specs.Paging.{MadeOf};
 
@@ -94,6 +96,17 @@ impl Page {
             }
             None => None,
         }
+    }
+
+    /// What stands at an address in 1 or 2 bytes, by the page's cells.
+    pub(crate) fn read(&self, at: u16, size: u8) -> Word
+        requires { (size ≡ 1) ⊎ (size ≡ 2) }
+        ensures value { result ≡ the_cells.read self.now.map.cells at size }
+        ensures are { AreCells self.now.map.lo self.now.map.hi self.now.map.lo self.now.map.cells }
+    {
+        let cells = self.cells();
+        cells.keep_form();
+        cells.read(at, size)
     }
 
     /// Writes a cell among the page's. Where the page has other owners it is copied first. A refusal leaves it as it was.

@@ -1,6 +1,6 @@
 //! Reading cells, by those that begin at an address and in front of it.
 
-ghost use Rattle.std.specs.Prelude.{◌≡◌};
+ghost use Rattle.std.specs.Prelude.{◌≡◌, ◌⊎◌, true};
 ghost use Rattle.entry_value.specs.Cells as the_cells;
 ghost use Rattle.abs_pages.specs.Paging as paging;
 ghost use Rattle.abs_pages.specs.Paging.{AreRead, flat};
@@ -92,6 +92,13 @@ fn put_together(pages: &[Page], at: u16, size: u8) -> Word
     Word { set, entry: None }
 }
 
+/// Whether what stands at an address has no byte of a cell of another page.
+fn is_inside(at: u16, size: u8) -> bool
+    ensures { result ≡ paging.is_inside at size }
+{
+    at % 32 != 0 && (size == 1 || at % 32 != 31)
+}
+
 /// The word of the cell that begins at an address with a size.
 fn cell_at(pages: &[Page], at: u16, size: u8) -> Option<Word>
     requires { AreRead pages.now }
@@ -103,14 +110,50 @@ fn cell_at(pages: &[Page], at: u16, size: u8) -> Option<Word>
     }
 }
 
-/// The cell of that size, else what is put together.
+/// The cell of that size, else what is put together from the parts of cells of any pages.
 #[tactic(auto, unfolding(entry_value::specs::Cells::read))]
-pub(crate) fn read(pages: &[Page], at: u16, size: u8) -> Word
+fn read_across(pages: &[Page], at: u16, size: u8) -> Word
     requires { AreRead pages.now }
     ensures { result ≡ the_cells.read (flat pages.now) at size }
 {
     match cell_at(pages, at, size) {
         Some(word) => word,
         None => put_together(pages, at, size),
+    }
+}
+
+/// What is known where no cell says anything.
+fn nothing_known(size: u8) -> Word
+    ensures { result ≡ the_cells.unknown size }
+{
+    Word {
+        set: any_of(size),
+        entry: None,
+    }
+}
+
+/// The cell of that size, else what is put together. No cell of another page has a byte of it, so its own page gives it.
+fn read_inside(pages: &[Page], at: u16, size: u8) -> Word
+    requires read { AreRead pages.now }
+    requires size { (size ≡ 1) ⊎ (size ≡ 2) }
+    requires inside { paging.is_inside at size ≡ true }
+    ensures { result ≡ the_cells.read (flat pages.now) at size }
+{
+    match page_at(pages, at / 32) {
+        Some(page) => page.read(at, size),
+        None => nothing_known(size),
+    }
+}
+
+/// The cell of that size, else what is put together.
+pub(crate) fn read(pages: &[Page], at: u16, size: u8) -> Word
+    requires read { AreRead pages.now }
+    requires size { (size ≡ 1) ⊎ (size ≡ 2) }
+    ensures { result ≡ the_cells.read (flat pages.now) at size }
+{
+    if is_inside(at, size) {
+        read_inside(pages, at, size)
+    } else {
+        read_across(pages, at, size)
     }
 }
