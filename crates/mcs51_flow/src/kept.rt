@@ -2,7 +2,7 @@
 
 ghost use Rattle.std.specs.Prelude.{◌≡◌, IfOk};
 
-use abs_memory::CellList;
+use abs_pages::CellPages;
 use mcs51_state::State;
 use no_memory::Memory;
 use std::alloc::Global;
@@ -10,7 +10,7 @@ use std::marker::Model;
 use std::sync::Arc;
 
 /// What is known of the cells of RAM, as the analysis keeps it.
-pub(crate) type RamCells = CellList;
+pub(crate) type RamCells = CellPages;
 
 /// What is known of a state, behind a shared pointer: posts and tables move no more than that, and a copy costs a count.
 #[derive(Drop)]
