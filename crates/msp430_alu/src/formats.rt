@@ -8,6 +8,7 @@ ghost use Rattle.msp430_chip.specs.Memory.{HasRam};
 ghost use Rattle.msp430_chip.specs.Step as step;
 ghost use Rattle.msp430_alu.specs.Formats as formats;
 
+use crate::here::Here;
 use crate::operands::located;
 use crate::reach::Reach;
 use crate::reading::size_of;
@@ -40,16 +41,15 @@ pub(crate) fn writes_result(operation: Operation) -> bool
 
 /// Writes a word to a place. Behind an error the state is of no use.
 pub(crate) fn put<M: Cells>(
-    device: &Device,
-    framed: bool,
+    here: &Here<M>,
     state: &mut State<M>,
     width: Width,
     reach: &Reach,
     word: Word,
 ) -> Result<(), Memory>
-    requires ram { HasRam device.now }
+    requires ram { HasRam here.now.device.now }
     requires byte { chip.size_of width ≡ 1 → (v : ℕ) → Has 65536 word.set v → v < 256 }
-    ensures { OnOk result (state.new ≡ formats.put_known device.now framed state.old width reach.now word) }
+    ensures { OnOk result (state.new ≡ formats.put_known here.now.device.now here.now.framed state.old width reach.now word) }
 {
     match reach {
         Reach::InRegister(register) => {
@@ -57,8 +57,8 @@ pub(crate) fn put<M: Cells>(
             Ok(())
         }
         Reach::InMemory(set) => {
-            let at = located(device, width, set);
-            store(device, framed, state, width, &at, word)
+            let at = located(here.device, width, set);
+            store(here.device, here.framed, state, width, &at, word)
         }
         Reach::Fixed(_) => Ok(()),
     }
@@ -86,24 +86,23 @@ pub(crate) fn store_of(device: &Device, width: Width, reach: &Reach) -> Option<V
 }
 
 /// Adds the access to a place, if that is in memory.
-pub(crate) fn show(
+pub(crate) fn show<M: Cells>(
     accesses: &mut Sequence<Item>,
-    device: &Device,
-    pc: u16,
+    here: &Here<M>,
     write: bool,
     width: Width,
     reach: &Reach,
 ) -> Result<(), Memory>
-    requires { HasRam device.now }
-    ensures { OnOk result (accesses.new ≡ accesses.old ++ formats.access_of device.now pc write width reach.now) }
+    requires { HasRam here.now.device.now }
+    ensures { OnOk result (accesses.new ≡ accesses.old ++ formats.access_of here.now.device.now here.now.pc write width reach.now) }
 {
     if let Reach::InMemory(set) = reach {
         accesses.push(Item::Access {
-            pc,
+            pc: here.pc,
             space: Space::Mem,
             write,
             size: size_of(width),
-            at: Set::W(located(device, width, set)),
+            at: Set::W(located(here.device, width, set)),
         })?;
     }
     Ok(())

@@ -9,8 +9,8 @@
 //! - [`store`]: stores to memory.
 //!
 //! [`double`], [`single`] and [`push`] run them around the operations of `msp430_results`, as an instruction with two operands
-//! does, one with one operand, and PUSH and CALL: what they make of a state is [`Worked`], exact by `double_worked`,
-//! `single_worked` and `push_worked`. They copy the state once.
+//! does, one with one operand, and PUSH and CALL. [`Here`] is where it stands, with what is known of the state. What they make
+//! of it is [`Worked`], exact by `double_worked`, `single_worked` and `push_worked`. They copy the state once.
 //!
 //! [`doubles_hold`], [`singles_hold`] and [`pushes_hold`] say what holds of the formulas, for instructions with two operands,
 //! with one operand, and PUSH and CALL, but for those that write SR. What they leave stands under what the formula says, at
@@ -22,6 +22,7 @@
 
 mod counting;
 mod formats;
+mod here;
 mod laws;
 mod operands;
 mod reach;
@@ -32,6 +33,7 @@ mod worked;
 mod writing;
 
 pub use counting::counter_set;
+pub use here::Here;
 pub use laws::{doubles_hold, memory_laws, pushes_hold, singles_hold, words_in_memory};
 pub use operands::{destination_reach, located, source_reach};
 pub use reach::Reach;

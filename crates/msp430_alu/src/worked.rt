@@ -16,6 +16,7 @@ use crate::formats::{
     called_next, is_doubled, lower, next_by, pushed, put, reads_destination, relation_of,
     see_lowered, show, store_of, writes_result,
 };
+use crate::here::Here;
 use crate::laws::premises_hold;
 use crate::operands::{destination_reach, source_reach};
 use crate::reach::Reach;
@@ -123,20 +124,20 @@ fn single_result(
 
 /// Writes a result, if the operation does.
 fn put_result<M: Cells>(
-    device: &Device,
-    framed: bool,
+    here: &Here<M>,
     state: &mut State<M>,
     operation: Operation,
     width: Width,
     reach: &Reach,
     word: Word,
 ) -> Result<(), Memory>
-    requires ram { HasRam device.now }
+    requires ram { HasRam here.now.device.now }
     requires byte { chip.size_of width ≡ 1 → (v : ℕ) → Has 65536 word.set v → v < 256 }
-    ensures { OnOk result (state.new ≡ formats.put_known_if (arithmetic.writes_result operation) device.now framed state.old width reach.now word) }
+    ensures { OnOk result (state.new ≡ formats.put_known_if (arithmetic.writes_result operation)
+        here.now.device.now here.now.framed state.old width reach.now word) }
 {
     if writes_result(operation) {
-        return put(device, framed, state, width, reach, word);
+        return put(here, state, width, reach, word);
     }
     Ok(())
 }
@@ -163,65 +164,62 @@ fn double_store(device: &Device, operation: Operation, width: Width, reach: &Rea
 }
 
 /// Adds an access to a place, if there is one.
-fn show_if(
+fn show_if<M: Cells>(
     accesses: &mut Sequence<Item>,
     is_one: bool,
-    device: &Device,
-    pc: u16,
+    here: &Here<M>,
     write: bool,
     width: Width,
     reach: &Reach,
 ) -> Result<(), Memory>
-    requires { HasRam device.now }
-    ensures { OnOk result (accesses.new ≡ accesses.old ++ formats.access_if is_one device.now pc write width reach.now) }
+    requires { HasRam here.now.device.now }
+    ensures { OnOk result (accesses.new ≡ accesses.old ++ formats.access_if is_one here.now.device.now here.now.pc write width reach.now) }
 {
     if is_one {
-        return show(accesses, device, pc, write, width, reach);
+        return show(accesses, here, write, width, reach);
     }
     Ok(())
 }
 
 /// The accesses of an operation with two operands.
-fn double_accesses(
+fn double_accesses<M: Cells>(
     alloc: Global,
-    device: &Device,
-    pc: u16,
+    here: &Here<M>,
     operation: Operation,
     width: Width,
     from: &Reach,
     to: &Reach,
 ) -> Result<Sequence<Item>, Memory>
-    requires { HasRam device.now }
-    ensures { IfOk result (λ all. all ≡ formats.access_of device.now pc false width from.now
-        ++ formats.access_if (arithmetic.reads_destination operation) device.now pc false width to.now
-        ++ formats.access_if (arithmetic.writes_result operation) device.now pc true width to.now) }
+    requires { HasRam here.now.device.now }
+    ensures { IfOk result (λ all. all ≡ formats.access_of here.now.device.now here.now.pc false width from.now
+        ++ formats.access_if (arithmetic.reads_destination operation) here.now.device.now here.now.pc false width to.now
+        ++ formats.access_if (arithmetic.writes_result operation) here.now.device.now here.now.pc true width to.now) }
 {
     let mut all = Sequence::new(alloc);
-    show(&mut all, device, pc, false, width, from)?;
+    show(&mut all, here, false, width, from)?;
     let reads = reads_destination(operation);
-    show_if(&mut all, reads, device, pc, false, width, to)?;
+    show_if(&mut all, reads, here, false, width, to)?;
     let writes = writes_result(operation);
-    show_if(&mut all, writes, device, pc, true, width, to)?;
+    show_if(&mut all, writes, here, true, width, to)?;
     Ok(all)
 }
 
 /// The accesses of an instruction that reads at one place and writes at another.
-fn two_accesses(
+fn two_accesses<M: Cells>(
     alloc: Global,
-    device: &Device,
-    pc: u16,
+    here: &Here<M>,
     width: Width,
     from: &Reach,
     wide: Width,
     to: &Reach,
 ) -> Result<Sequence<Item>, Memory>
-    requires { HasRam device.now }
-    ensures { IfOk result (λ all. all ≡ formats.access_of device.now pc false width from.now
-        ++ formats.access_of device.now pc true wide to.now) }
+    requires { HasRam here.now.device.now }
+    ensures { IfOk result (λ all. all ≡ formats.access_of here.now.device.now here.now.pc false width from.now
+        ++ formats.access_of here.now.device.now here.now.pc true wide to.now) }
 {
     let mut all = Sequence::new(alloc);
-    show(&mut all, device, pc, false, width, from)?;
-    show(&mut all, device, pc, true, wide, to)?;
+    show(&mut all, here, false, width, from)?;
+    show(&mut all, here, true, wide, to)?;
     Ok(all)
 }
 
@@ -239,33 +237,30 @@ fn carry_of<M: Cells>(state: &State<M>) -> Tri
     lowest(&state.status.bits)
 }
 
-/// What an instruction with two operands makes of what is known of a state, for one of so many bytes at an address: at least
-/// 2, which are those of the first word. It fails where memory runs out.
+/// What an instruction with two operands makes of what is known of a state. It has at least 2 bytes, which are those of the
+/// first word. It fails where memory runs out.
 #[tactic(auto, unfolding(crate::specs::Formats::double_worked))]
 pub fn double<M: Cells>(
     alloc: Global,
-    device: &Device,
-    framed: bool,
-    state: &State<M>,
-    pc: u16,
-    len: u8,
+    here: &Here<M>,
     operation: Operation,
     width: Width,
     source: Source,
     destination: Destination,
 ) -> Result<Worked<M>, Memory>
-    requires ram { HasRam device.now }
-    requires long { 2 ≤ len }
-    ensures { IfOk result (λ worked. worked ≡ formats.double_worked device.now framed state.now pc len operation width source destination) }
+    requires ram { HasRam here.now.device.now }
+    requires long { 2 ≤ here.now.len }
+    ensures { IfOk result (λ worked. worked ≡ formats.double_worked here.now.device.now here.now.framed here.now.state.now here.now.pc here.now.len
+        operation width source destination) }
 {
-    let counted = counter_set(pc, len, source, destination);
-    let from = source_reach(pc, state, &counted, source);
-    let origin = known_operand(device, state, &counted, width, &from);
-    let mut after = state.copy(alloc)?;
+    let counted = counter_set(here.pc, here.len, source, destination);
+    let from = source_reach(here.pc, here.state, &counted, source);
+    let origin = known_operand(here.device, here.state, &counted, width, &from);
+    let mut after = here.state.copy(alloc)?;
     grow(&mut after, &counted, width, source);
-    let to = destination_reach(pc, len, &after, &counted, destination);
-    let target = destination_word(device, &after, &counted, operation, width, &to);
-    let carry = carry_of(state);
+    let to = destination_reach(here.pc, here.len, &after, &counted, destination);
+    let target = destination_word(here.device, &after, &counted, operation, width, &to);
+    let carry = carry_of(here.state);
     let (word, flags) = double_result(
         operation,
         width,
@@ -275,13 +270,13 @@ pub fn double<M: Cells>(
         &target,
         carry,
     );
-    put_result(device, framed, &mut after, operation, width, &to, word)?;
+    put_result(here, &mut after, operation, width, &to, word)?;
     set_flag_bits(&mut after, flags);
     Ok(Worked {
         after,
-        next: double_next(operation, &to, &word, pc.wrapping_add(len as u16)),
-        accesses: double_accesses(alloc, device, pc, operation, width, &from, &to)?,
-        store: double_store(device, operation, width, &to),
+        next: double_next(operation, &to, &word, here.behind()),
+        accesses: double_accesses(alloc, here, operation, width, &from, &to)?,
+        store: double_store(here.device, operation, width, &to),
     })
 }
 
@@ -290,33 +285,30 @@ pub fn double<M: Cells>(
 #[tactic(auto, unfolding(crate::specs::Formats::single_worked))]
 pub fn single<M: Cells>(
     alloc: Global,
-    device: &Device,
-    framed: bool,
-    state: &State<M>,
-    pc: u16,
-    len: u8,
+    here: &Here<M>,
     operation: SingleOperation,
     width: Width,
     operand: Source,
 ) -> Result<Worked<M>, Memory>
-    requires ram { HasRam device.now }
+    requires ram { HasRam here.now.device.now }
     requires width { results.HasWidth operation width }
-    ensures { IfOk result (λ worked. worked ≡ formats.single_worked device.now framed state.now pc len operation width operand) }
+    ensures { IfOk result (λ worked. worked ≡ formats.single_worked here.now.device.now here.now.framed here.now.state.now here.now.pc here.now.len
+        operation width operand) }
 {
-    let behind = pc.wrapping_add(len as u16);
+    let behind = here.behind();
     let counted = Vs16::one(behind);
-    let from = source_reach(pc, state, &counted, operand);
-    let held_so = known_operand(device, state, &counted, width, &from);
-    let (word, flags) = single_result(operation, width, &held_so, carry_of(state));
-    let mut after = state.copy(alloc)?;
+    let from = source_reach(here.pc, here.state, &counted, operand);
+    let held_so = known_operand(here.device, here.state, &counted, width, &from);
+    let (word, flags) = single_result(operation, width, &held_so, carry_of(here.state));
+    let mut after = here.state.copy(alloc)?;
     grow(&mut after, &counted, width, operand);
-    put(device, framed, &mut after, width, &from, word)?;
+    put(here, &mut after, width, &from, word)?;
     set_flag_bits(&mut after, flags);
     Ok(Worked {
         after,
         next: next_by(&from, &word, behind),
-        accesses: two_accesses(alloc, device, pc, width, &from, width, &from)?,
-        store: store_of(device, width, &from),
+        accesses: two_accesses(alloc, here, width, &from, width, &from)?,
+        store: store_of(here.device, width, &from),
     })
 }
 
@@ -346,37 +338,28 @@ fn formed<M: Cells>(
 #[tactic(auto, unfolding(crate::specs::Formats::push_worked))]
 pub fn push<M: Cells>(
     alloc: Global,
-    device: &Device,
-    framed: bool,
-    state: &State<M>,
-    pc: u16,
-    len: u8,
+    here: &Here<M>,
     operation: SingleOperation,
     width: Width,
     operand: Source,
 ) -> Result<Worked<M>, Memory>
-    requires ram { HasRam device.now }
-    ensures { IfOk result (λ worked. worked ≡ formats.push_worked device.now framed state.now pc len operation width operand) }
+    requires ram { HasRam here.now.device.now }
+    ensures { IfOk result (λ worked. worked ≡ formats.push_worked here.now.device.now here.now.framed here.now.state.now here.now.pc here.now.len
+        operation width operand) }
 {
-    let behind = pc.wrapping_add(len as u16);
+    let behind = here.behind();
     let counted = Vs16::one(behind);
-    let mut after = state.copy(alloc)?;
-    let (from, word) = formed(device, &mut after, pc, &counted, width, operand);
+    let mut after = here.state.copy(alloc)?;
+    let (from, word) = formed(here.device, &mut after, here.pc, &counted, width, operand);
     grow(&mut after, &counted, width, operand);
     lower(&mut after);
     let top = Reach::InMemory(after.sp);
-    put(
-        device,
-        framed,
-        &mut after,
-        Width::Word,
-        &top,
-        pushed(operation, width, word, behind),
-    )?;
+    let value = pushed(operation, width, word, behind);
+    put(here, &mut after, Width::Word, &top, value)?;
     Ok(Worked {
         after,
         next: called_next(operation, width, &word, behind),
-        accesses: two_accesses(alloc, device, pc, width, &from, Width::Word, &top)?,
-        store: store_of(device, Width::Word, &top),
+        accesses: two_accesses(alloc, here, width, &from, Width::Word, &top)?,
+        store: store_of(here.device, Width::Word, &top),
     })
 }

@@ -19,6 +19,7 @@ ghost use Rattle.msp430_state.specs.Known.{is_interrupt as the_interrupt};
 use crate::entries::{add_store_opens, entering};
 use crate::kept::{Kept, RamCells};
 use crate::labels::effect_of;
+use crate::location::Location;
 use crate::marks::marks_of;
 use crate::running::{fact_of, leaves_frame, run, stored_width};
 use crate::setting::Setting;
@@ -152,36 +153,36 @@ impl Msp430Chip {
         &self,
         alloc: Global,
         ways: &mut Ways<Kept>,
-        pc: u16,
-        calls: &Calls,
-        frame: Frame,
-        at: &Abs,
+        at: &Location,
         instr: &Instr,
         next: &Vs16,
         after: Abs,
     ) -> Result<(), Memory>
         requires { IsInstr instr.now }
-        ensures items { OnOk result (ways.new.items ≡ ways.old.items ++ (going_of self.now pc calls.now frame at.now instr.now (record { after = after; next = next.now; accesses = []; store = None })).edges) }
-        ensures posts { OnOk result (ways.new.posts ≡ ways.old.posts ++ (going_of self.now pc calls.now frame at.now instr.now (record { after = after; next = next.now; accesses = []; store = None })).posts) }
-        ensures opens { OnOk result (ways.new.opens ≡ ways.old.opens ++ (going_of self.now pc calls.now frame at.now instr.now (record { after = after; next = next.now; accesses = []; store = None })).opens) }
+        ensures items { OnOk result (ways.new.items ≡ ways.old.items ++ (going_of self.now at.now.pc at.now.calls.now at.now.frame at.now.state.now instr.now
+            (record { after = after; next = next.now; accesses = []; store = None })).edges) }
+        ensures posts { OnOk result (ways.new.posts ≡ ways.old.posts ++ (going_of self.now at.now.pc at.now.calls.now at.now.frame at.now.state.now instr.now
+            (record { after = after; next = next.now; accesses = []; store = None })).posts) }
+        ensures opens { OnOk result (ways.new.opens ≡ ways.old.opens ++ (going_of self.now at.now.pc at.now.calls.now at.now.frame at.now.state.now instr.now
+            (record { after = after; next = next.now; accesses = []; store = None })).opens) }
     {
         self.keeps_rules();
-        if leaves_frame(&self.setting.device, &frame, at, instr) {
-            let left = followed(after, gie_of(at), None);
+        if leaves_frame(&self.setting.device, &at.frame, at.state, instr) {
+            let left = followed(after, gie_of(at.state), None);
             let kept = Kept::new(alloc, left)?;
-            return leave(ways, pc, frame, kept);
+            return leave(ways, at.pc, at.frame, kept);
         }
         if are_too_many(self.setting.limits.targets, next) {
-            return leave_open(ways, pc, *next);
+            return leave_open(ways, at.pc, *next);
         }
         let fact = fact_of(instr, &after);
-        let behind = followed(after, gie_of(at), fact);
+        let behind = followed(after, gie_of(at.state), fact);
         let site = Site {
             limit: self.setting.limits.calls,
             image: &self.setting.device.image,
-            pc,
-            calls,
-            frame,
+            pc: at.pc,
+            calls: at.calls,
+            frame: at.frame,
             effect: effect_of(instr),
         };
         add_all(alloc, ways, &site, instr, next, behind)
@@ -198,15 +199,12 @@ impl Msp430Chip {
     fn work_by(
         &self,
         alloc: Global,
-        pc: u16,
-        calls: &Calls,
-        frame: Frame,
-        at: &Abs,
+        at: &Location,
         instr: &Instr,
         made: Worked<RamCells>,
     ) -> Result<Work<Kept>, Memory>
         requires { IsInstr instr.now }
-        ensures { IfOk result (λ work. work ≡ the_work self.now pc calls.now frame at.now instr.now made) }
+        ensures { IfOk result (λ work. work ≡ the_work self.now at.now.pc at.now.calls.now at.now.frame at.now.state.now instr.now made) }
     {
         self.keeps_rules();
         let device = self.device();
@@ -216,7 +214,7 @@ impl Msp430Chip {
             accesses,
             store,
         } = made;
-        let entered = entering(alloc, device, pc, at, accesses)?;
+        let entered = entering(alloc, device, at.pc, at.state, accesses)?;
         let Work {
             items,
             posts,
@@ -228,9 +226,9 @@ impl Msp430Chip {
             posts,
             opens,
         };
-        ways.items.push(instr_item(pc, instr))?;
-        self.go_on(alloc, &mut ways, pc, calls, frame, at, instr, &next, after)?;
-        add_store_opens(&mut ways.opens, device, pc, stored_width(instr), store)?;
+        ways.items.push(instr_item(at.pc, instr))?;
+        self.go_on(alloc, &mut ways, at, instr, &next, after)?;
+        add_store_opens(&mut ways.opens, device, at.pc, stored_width(instr), store)?;
         let Ways {
             items,
             posts,
@@ -248,35 +246,26 @@ impl Msp430Chip {
     fn followed_work(
         &self,
         alloc: Global,
-        pc: u16,
-        calls: &Calls,
-        frame: Frame,
-        at: &Abs,
+        at: &Location,
         instr: Instr,
     ) -> Result<Work<Kept>, Memory>
         requires { IsInstr instr }
-        ensures { IfOk result (λ work. work ≡ followed_work self.now pc calls.now frame at.now instr) }
+        ensures { IfOk result (λ work. work ≡ followed_work self.now at.now.pc at.now.calls.now at.now.frame at.now.state.now instr) }
     {
         self.keeps_rules();
-        let made = run(alloc, self.device(), is_interrupt(&frame), at, pc, &instr)?;
-        self.work_by(alloc, pc, calls, frame, at, &instr, made)
+        let framed = is_interrupt(&at.frame);
+        let made = run(alloc, self.device(), framed, at.state, at.pc, &instr)?;
+        self.work_by(alloc, at, &instr, made)
     }
 
     /// The work of a location.
-    fn one(
-        &self,
-        alloc: Global,
-        pc: u16,
-        calls: &Calls,
-        frame: Frame,
-        at: &Abs,
-    ) -> Result<Work<Kept>, Memory>
-        ensures { IfOk result (λ work. work ≡ work_at self.now pc calls.now frame at.now (fetched self.now.device.image pc)) }
+    fn one(&self, alloc: Global, at: &Location) -> Result<Work<Kept>, Memory>
+        ensures { IfOk result (λ work. work ≡ work_at self.now at.now.pc at.now.calls.now at.now.frame at.now.state.now (fetched self.now.device.image at.now.pc)) }
     {
         self.keeps_rules();
-        match self.fetch(pc) {
-            Some(instr) => self.followed_work(alloc, pc, calls, frame, at, instr),
-            None => stopped(alloc, &self.setting.device, pc, at),
+        match self.fetch(at.pc) {
+            Some(instr) => self.followed_work(alloc, at, instr),
+            None => stopped(alloc, &self.setting.device, at.pc, at.state),
         }
     }
 }
@@ -322,22 +311,20 @@ fn may_stand_at(at: &Abs, sp: u16) -> bool
 /// Where the handler of an interrupt goes on, at the stack pointer of its frame.
 fn resumed(
     alloc: Global,
-    pc: u16,
-    calls: &Calls,
-    frame: Frame,
+    at: &Location,
     from: u16,
     sp: u16,
-    at: &Abs,
     exit: &Abs,
 ) -> Result<Work<Kept>, Memory>
-    ensures { IfOk result (λ work. work ≡ resumption pc calls.now frame from sp at.now exit.now) }
+    ensures { IfOk result (λ work. work ≡ resumption at.now.pc at.now.calls.now at.now.frame from sp at.now.state.now exit.now) }
 {
     let mut work = empty_work(alloc);
-    if may_stand_at(at, sp) {
-        work.items.push(Item::Edge { from, to: pc })?;
-        let state = resume(alloc, is_interrupt(&frame), at, pc, sp, exit)?;
+    if may_stand_at(at.state, sp) {
+        work.items.push(Item::Edge { from, to: at.pc })?;
+        let state = resume(alloc, is_interrupt(&at.frame), at.state, at.pc, sp, exit)?;
         let kept = Kept::new(alloc, state)?;
-        work.posts.push((Node::At(pc, *calls, frame), kept))?;
+        work.posts
+            .push((Node::At(at.pc, *at.calls, at.frame), kept))?;
     }
     Ok(work)
 }
@@ -345,18 +332,16 @@ fn resumed(
 /// The work of a return to a location.
 fn back(
     alloc: Global,
-    pc: u16,
-    calls: &Calls,
-    frame: Frame,
+    at: &Location,
     exit_node: &Node,
-    at: &Abs,
     exit: Option<&Kept>,
 ) -> Result<Work<Kept>, Memory>
-    ensures { IfOk result (λ work. work ≡ return_work pc calls.now frame exit_node.now at.now (option_copied exit.entry)) }
+    ensures { IfOk result (λ work. work
+        ≡ return_work at.now.pc at.now.calls.now at.now.frame exit_node.now at.now.state.now (option_copied exit.entry)) }
 {
     match (exit_node, exit) {
         (Node::Exit(from, Frame::Irq { sp: Some(sp), .. }), Some(exit)) => {
-            resumed(alloc, pc, calls, frame, *from, *sp, at, exit.state())
+            resumed(alloc, at, *from, *sp, exit.state())
         }
         _ => Ok(empty_work(alloc)),
     }
@@ -436,10 +421,22 @@ impl Chip for Msp430Chip {
     ) -> Result<Work<Kept>, Memory> {
         match unit {
             Unit::One(Node::At(pc, calls, frame)) => {
-                self.one(alloc, *pc, calls, *frame, at.state())
-            },
+                let location = Location {
+                    pc: *pc,
+                    calls,
+                    frame: *frame,
+                    state: at.state(),
+                };
+                self.one(alloc, &location)
+            }
             Unit::Back(Node::At(pc, calls, frame), left) => {
-                back(alloc, *pc, calls, *frame, left, at.state(), exit)
+                let location = Location {
+                    pc: *pc,
+                    calls,
+                    frame: *frame,
+                    state: at.state(),
+                };
+                back(alloc, &location, left, exit)
             }
             _ => Ok(empty_work(alloc)),
         }

@@ -19,6 +19,7 @@ mod entries;
 mod kept;
 mod labels;
 mod laws;
+mod location;
 mod marks;
 mod meeting;
 mod running;

@@ -8,7 +8,7 @@ ghost use Rattle.msp430_results.specs.Results.{HasWidth};
 
 use crate::kept::RamCells;
 use call_context::{Frame, Sequence};
-use msp430_alu::{Worked, double, push, single};
+use msp430_alu::{Here, Worked, double, push, single};
 use msp430_branch::fact_behind;
 use msp430_chip::Device;
 use msp430_decode::{Destination, Instr, Operation, Register, SingleOperation, Source, Width};
@@ -49,90 +49,60 @@ fn unchanged(alloc: Global, at: &State<RamCells>, next: u16) -> Result<Worked<Ra
 /// An instruction with one operand, which pushes nothing.
 fn plain_operand(
     alloc: Global,
-    device: &Device,
-    framed: bool,
-    at: &State<RamCells>,
-    pc: u16,
-    len: u8,
+    here: &Here<RamCells>,
     operation: SingleOperation,
     width: Width,
     operand: Source,
 ) -> Result<Worked<RamCells>, Memory>
-    requires ram { HasRam device.now }
+    requires ram { HasRam here.now.device.now }
     requires width { HasWidth operation width }
-    ensures { IfOk result (λ worked. worked ≡ running.single_or_status device.now framed at.now pc len operation width operand) }
+    ensures { IfOk result (λ worked. worked ≡ running.single_or_status here.now.device.now here.now.framed here.now.state.now here.now.pc here.now.len
+        operation width operand) }
 {
     match operand {
-        Source::Register(Register::Sr) => single_status(
-            alloc, device, framed, at, pc, len, operation, width,
-        ),
-        _ => single(
-            alloc, device, framed, at, pc, len, operation, width, operand,
-        ),
+        Source::Register(Register::Sr) => single_status(alloc, here, operation, width),
+        _ => single(alloc, here, operation, width, operand),
     }
 }
 
 /// An instruction with one operand.
 fn one_operand(
     alloc: Global,
-    device: &Device,
-    framed: bool,
-    at: &State<RamCells>,
-    pc: u16,
-    len: u8,
+    here: &Here<RamCells>,
     operation: SingleOperation,
     width: Width,
     operand: Source,
 ) -> Result<Worked<RamCells>, Memory>
-    requires ram { HasRam device.now }
+    requires ram { HasRam here.now.device.now }
     requires row { IsInstr (Instr.Single operation width operand) }
-    ensures { IfOk result (λ worked. worked ≡ running.one_operand device.now framed at.now pc len operation width operand) }
+    ensures { IfOk result (λ worked. worked ≡ running.one_operand here.now.device.now here.now.framed here.now.state.now here.now.pc here.now.len
+        operation width operand) }
 {
     match operation {
         SingleOperation::Push | SingleOperation::Call => {
-            push(
-                alloc, device, framed, at, pc, len, operation, width, operand,
-            )
+            push(alloc, here, operation, width, operand)
         }
-        _ => plain_operand(
-            alloc, device, framed, at, pc, len, operation, width, operand,
-        ),
+        _ => plain_operand(alloc, here, operation, width, operand),
     }
 }
 
 /// An instruction with two operands.
 fn two_operands(
     alloc: Global,
-    device: &Device,
-    framed: bool,
-    at: &State<RamCells>,
-    pc: u16,
-    len: u8,
+    here: &Here<RamCells>,
     operation: Operation,
     width: Width,
     source: Source,
     destination: Destination,
 ) -> Result<Worked<RamCells>, Memory>
-    requires ram { HasRam device.now }
-    requires long { 2 ≤ len }
-    ensures { IfOk result (λ worked. worked ≡ running.double_or_status device.now framed at.now pc len operation width source destination) }
+    requires ram { HasRam here.now.device.now }
+    requires long { 2 ≤ here.now.len }
+    ensures { IfOk result (λ worked. worked ≡ running.double_or_status here.now.device.now here.now.framed here.now.state.now here.now.pc here.now.len
+        operation width source destination) }
 {
     match destination {
-        Destination::Register(Register::Sr) => {
-            status(alloc, device, framed, at, pc, len, operation, width, source)
-        }
-        _ => double(
-            alloc,
-            device,
-            framed,
-            at,
-            pc,
-            len,
-            operation,
-            width,
-            source,
-            destination,
-        ),
+        Destination::Register(Register::Sr) => status(alloc, here, operation, width, source),
+        _ => double(alloc, here, operation, width, source, destination),
     }
 }
 
@@ -149,34 +119,27 @@ pub fn run(
     requires row { IsInstr instr.now }
     ensures { IfOk result (λ worked. worked ≡ running.worked device.now framed at.now pc instr.now) }
 {
-    let len = instr.length();
+    let here = Here {
+        device,
+        framed,
+        state: at,
+        pc,
+        len: instr.length(),
+    };
     match *instr {
         Instr::Double {
             operation,
             width,
             source,
             destination,
-        } => two_operands(
-            alloc,
-            device,
-            framed,
-            at,
-            pc,
-            len,
-            operation,
-            width,
-            source,
-            destination,
-        ),
+        } => two_operands(alloc, &here, operation, width, source, destination),
         Instr::Single {
             operation,
             width,
             operand,
-        } => one_operand(
-            alloc, device, framed, at, pc, len, operation, width, operand,
-        ),
+        } => one_operand(alloc, &here, operation, width, operand),
         Instr::Jump { .. } => unchanged(alloc, at, pc.wrapping_add(2)),
-        Instr::ReturnFromInterrupt => return_from_interrupt(alloc, device, at, pc),
+        Instr::ReturnFromInterrupt => return_from_interrupt(alloc, &here),
     }
 }
 

@@ -12,7 +12,7 @@ ghost use Rattle.msp430_return.specs.Return as returning;
 
 use call_context::{Frame, Item, Sequence, Set, Space};
 use entry_value::{Cells, Entry, Word};
-use msp430_alu::{Worked, even_parts, located, read_known};
+use msp430_alu::{Here, Worked, even_parts, located, read_known};
 use msp430_chip::Device;
 use msp430_decode::Width;
 use msp430_state::{State, Status};
@@ -65,48 +65,40 @@ fn above(sp: &Vs16) -> Vs16
 }
 
 /// The read of a word at one of some addresses.
-fn read_of(device: &Device, pc: u16, at: &Vs16) -> Item
-    requires { HasRam device.now }
-    ensures { result ≡ the_item.Access pc Mem false 2 (W (memory.located device.now Words at.now)) }
+fn read_of<M: Cells>(here: &Here<M>, at: &Vs16) -> Item
+    requires { HasRam here.now.device.now }
+    ensures { result ≡ the_item.Access here.now.pc Mem false 2 (W (memory.located here.now.device.now Words at.now)) }
 {
     Item::Access {
-        pc,
+        pc: here.pc,
         space: Space::Mem,
         write: false,
         size: 2,
-        at: Set::W(located(device, Width::Word, at)),
+        at: Set::W(located(here.device, Width::Word, at)),
     }
 }
 
 /// The reads of SR and of PC.
-fn return_items(
-    alloc: Global,
-    device: &Device,
-    pc: u16,
-    sp: &Vs16,
-) -> Result<Sequence<Item>, Memory>
-    requires { HasRam device.now }
-    ensures { IfOk result (λ items. items ≡ returning.return_items device.now pc sp.now) }
+fn return_items<M: Cells>(alloc: Global, here: &Here<M>) -> Result<Sequence<Item>, Memory>
+    requires { HasRam here.now.device.now }
+    ensures { IfOk result (λ items. items ≡ returning.return_items here.now.device.now here.now.pc here.now.state.now.sp) }
 {
+    let state = here.state;
     let mut items = Sequence::new(alloc);
-    items.push(read_of(device, pc, sp))?;
-    items.push(read_of(device, pc, &above(sp)))?;
+    items.push(read_of(here, &state.sp))?;
+    items.push(read_of(here, &above(&state.sp)))?;
     Ok(items)
 }
 
-/// What RETI at an address makes of what is known of a state. It copies the state once, and fails where memory runs out.
+/// What RETI makes of what is known of a state. It copies the state once, and fails where memory runs out.
 #[tactic(auto, unfolding(crate::specs::Return::return_worked))]
-pub fn return_from_interrupt<M: Cells>(
-    alloc: Global,
-    device: &Device,
-    state: &State<M>,
-    pc: u16,
-) -> Result<Worked<M>, Memory>
-    requires { HasRam device.now }
-    ensures { IfOk result (λ worked. worked ≡ returning.return_worked device.now state.now pc) }
+pub fn return_from_interrupt<M: Cells>(alloc: Global, here: &Here<M>) -> Result<Worked<M>, Memory>
+    requires { HasRam here.now.device.now }
+    ensures { IfOk result (λ worked. worked ≡ returning.return_worked here.now.device.now here.now.state.now here.now.pc) }
 {
-    let status = word_at(device, state, &state.sp);
-    let counter = word_at(device, state, &above(&state.sp));
+    let state = here.state;
+    let status = word_at(here.device, state, &state.sp);
+    let counter = word_at(here.device, state, &above(&state.sp));
     let mut after = state.copy(alloc)?;
     after.sp = state.sp.add(&Vs16::one(4));
     after.status = status_from(&status);
@@ -114,7 +106,7 @@ pub fn return_from_interrupt<M: Cells>(
     Ok(Worked {
         after,
         next: even_parts(&counter.set),
-        accesses: return_items(alloc, device, pc, &state.sp)?,
+        accesses: return_items(alloc, here)?,
         store: None,
     })
 }

@@ -7,7 +7,7 @@ use abs_memory::CellList;
 use call_context::{Item, Sequence, Set, Space};
 use entry_value::{Cells, Word};
 use image::{Image, RamRange};
-use msp430_alu::{Worked, double, located, push, register_word};
+use msp430_alu::{Here, Worked, double, located, push, register_word};
 use msp430_chip::Device;
 use msp430_decode::{Destination, Operation, Register, SingleOperation, Source, Width};
 use msp430_entry::{Coming, add_entry_items, entered};
@@ -76,18 +76,14 @@ fn moved(
 ) -> Result<Worked<CellList>, Fail> {
     let (device, state) = (device(alloc)?, state(alloc, 0x0200)?);
     let operation = Operation::Mov;
-    Ok(double(
-        alloc,
-        &device,
-        false,
-        &state,
-        0xF000,
-        4,
-        operation,
-        width,
-        source,
-        destination,
-    )?)
+    let here = Here {
+        device: &device,
+        framed: false,
+        state: &state,
+        pc: 0xF000,
+        len: 4,
+    };
+    Ok(double(alloc, &here, operation, width, source, destination)?)
 }
 
 fn read(worked: &Worked<CellList>, at: u16) -> Vs16 {
@@ -192,16 +188,20 @@ fn pushes_to_the_mirror(rt: HostRuntime) -> Result<(), Fail> {
         (0x1102, 0x1100, 0x1100, one(0x2222)),
     ] {
         let state = state(rt.alloc(), sp)?;
+        let here = Here {
+            device: &device,
+            framed: false,
+            state: &state,
+            pc: 0xF000,
+            len: 4,
+        };
+        let operand = Source::Immediate(0x2222);
         let worked = push(
             rt.alloc(),
-            &device,
-            false,
-            &state,
-            0xF000,
-            4,
+            &here,
             SingleOperation::Push,
             Width::Word,
-            Source::Immediate(0x2222),
+            operand,
         )?;
         assert_eq!(rt; worked.after.sp, one(lowered));
         assert_eq!(rt; worked.store, Some(one(place)));

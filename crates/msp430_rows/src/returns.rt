@@ -7,6 +7,7 @@ use abs_memory::CellList;
 use call_context::{Frame, Item, Set, Space};
 use entry_value::{Cells, Entry, Word};
 use image::{Image, RamRange};
+use msp430_alu::Here;
 use msp430_chip::Device;
 use msp430_return::{goes_back, return_from_interrupt};
 use msp430_state::State;
@@ -113,7 +114,14 @@ fn status_words(rt: HostRuntime) -> Result<(), Fail> {
         (Vs16::any(), related(4, 0xFFFF, 0), "?????????", None),
     ] {
         let (device, state) = (device(rt.alloc())?, state(rt.alloc(), status, from, None)?);
-        let worked = return_from_interrupt(rt.alloc(), &device, &state, 0xF200)?;
+        let here = Here {
+            device: &device,
+            framed: true,
+            state: &state,
+            pc: 0xF200,
+            len: 2,
+        };
+        let worked = return_from_interrupt(rt.alloc(), &here)?;
         assert_eq!(rt; worked.after.status.bits, bits(found));
         assert_eq!(rt; worked.after.status.entry, relation);
         assert_eq!(rt; worked.after.late, Tri::One);
@@ -171,7 +179,14 @@ fn read(at: u16) -> Item {
 fn reads(rt: HostRuntime) -> Result<(), Fail> {
     let device = device(rt.alloc())?;
     let state = state(rt.alloc(), Vs16::any(), None, None)?;
-    let worked = return_from_interrupt(rt.alloc(), &device, &state, 0xF200)?;
+    let here = Here {
+        device: &device,
+        framed: true,
+        state: &state,
+        pc: 0xF200,
+        len: 2,
+    };
+    let worked = return_from_interrupt(rt.alloc(), &here)?;
     let expected = [read(0x027C), read(0x027E)];
     assert!(rt; worked.accesses.as_slice() == expected.as_slice());
     Ok(())

@@ -7,7 +7,7 @@ use abs_memory::CellList;
 use call_context::{Item, Set, Space};
 use entry_value::{Cells, Entry, Word};
 use image::{Image, RamRange};
-use msp430_alu::{Worked, register_word};
+use msp430_alu::{Here, Worked, register_word};
 use msp430_chip::Device;
 use msp430_decode::{Constant, Operation, Register, SingleOperation, Source, Width};
 use msp430_state::{FlagFact, State, Status};
@@ -92,9 +92,14 @@ fn behind(
     held: &str,
 ) -> Result<Worked<CellList>, Fail> {
     let (device, state) = (device(alloc)?, state(alloc, held)?);
-    Ok(status(
-        alloc, &device, true, &state, 0xF000, 2, operation, width, source,
-    )?)
+    let here = Here {
+        device: &device,
+        framed: true,
+        state: &state,
+        pc: 0xF000,
+        len: 2,
+    };
+    Ok(status(alloc, &here, operation, width, source)?)
 }
 
 fn in_register(worked: &Worked<CellList>, register: Register) -> Vs16 {
@@ -199,16 +204,14 @@ fn one_operand(rt: HostRuntime) -> Result<(), Fail> {
         (Sxt, Word, "111111111", "?????????"),
     ] {
         let (device, state) = (device(rt.alloc())?, state(rt.alloc(), held)?);
-        let worked = single_status(
-            rt.alloc(),
-            &device,
-            true,
-            &state,
-            0xF000,
-            2,
-            operation,
-            width,
-        )?;
+        let here = Here {
+            device: &device,
+            framed: true,
+            state: &state,
+            pc: 0xF000,
+            len: 2,
+        };
+        let worked = single_status(rt.alloc(), &here, operation, width)?;
         assert_eq!(rt; worked.after.status.bits, bits(found));
         assert_eq!(rt; worked.after.status.entry, None);
         assert_eq!(rt; worked.after.fact, None);

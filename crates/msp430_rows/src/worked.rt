@@ -8,7 +8,7 @@ use abs_memory::CellList;
 use call_context::{Item, Set, Space};
 use entry_value::{Cells, Word};
 use image::{Image, RamRange};
-use msp430_alu::{Worked, double, push, put_register, register_word, single};
+use msp430_alu::{Here, Worked, double, push, put_register, register_word, single};
 use msp430_chip::Device;
 use msp430_decode::{Destination, Operation, Register, SingleOperation, Source, Width};
 use msp430_state::State;
@@ -108,18 +108,14 @@ fn double_of(
     requires { 2 ≤ len }
 {
     let (device, state) = (device(alloc)?, small(alloc)?);
-    Ok(double(
-        alloc,
-        &device,
-        false,
-        &state,
-        0xF000,
+    let here = Here {
+        device: &device,
+        framed: false,
+        state: &state,
+        pc: 0xF000,
         len,
-        operation,
-        width,
-        source,
-        destination,
-    )?)
+    };
+    Ok(double(alloc, &here, operation, width, source, destination)?)
 }
 
 fn has_access(worked: &Worked<CellList>, write: bool, width: Width, at: Vs16) -> bool {
@@ -259,17 +255,14 @@ fn pushes(rt: HostRuntime) -> Result<(), Fail> {
         (Push, Word, popped, 0xF004, 0x0280, one(0x9ABC)),
         (Call, Word, Immediate(0xF101), 0xF100, 0x027E, one(0xF004)),
     ] {
-        let worked = push(
-            rt.alloc(),
-            &device,
-            false,
-            &state,
-            0xF000,
-            4,
-            operation,
-            width,
-            operand,
-        )?;
+        let here = Here {
+            device: &device,
+            framed: false,
+            state: &state,
+            pc: 0xF000,
+            len: 4,
+        };
+        let worked = push(rt.alloc(), &here, operation, width, operand)?;
         assert_eq!(rt; worked.after.sp, one(sp));
         assert_eq!(rt; worked.next, one(next));
         assert_eq!(rt; worked.store, Some(one(sp)));
@@ -290,9 +283,14 @@ fn assert_single(
     requires { HasWidth operation width }
 {
     let (device, state) = (device(alloc)?, small(alloc)?);
-    let worked = single(
-        alloc, &device, false, &state, 0xF000, 4, operation, width, operand,
-    )?;
+    let here = Here {
+        device: &device,
+        framed: false,
+        state: &state,
+        pc: 0xF000,
+        len: 4,
+    };
+    let worked = single(alloc, &here, operation, width, operand)?;
     assert_eq!(rt; read(&worked, 0x0200, Width::Word), word);
     Ok(())
 }

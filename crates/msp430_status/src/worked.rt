@@ -9,8 +9,7 @@ ghost use Rattle.msp430_status.specs.Status as the_status;
 use crate::bits::{single_bits, status_bits};
 use call_context::{Item, Sequence, Set, Space};
 use entry_value::{Cells, Word};
-use msp430_alu::{Reach, Worked, grow, known_operand, located, source_reach};
-use msp430_chip::Device;
+use msp430_alu::{Here, Reach, Worked, grow, known_operand, located, source_reach};
 use msp430_decode::{Operation, Register, SingleOperation, Source, Width};
 use msp430_results::kept_word;
 use msp430_state::{State, Status};
@@ -40,24 +39,23 @@ fn source_bits<M: Cells>(state: &State<M>, width: Width, source: Source, word: &
 }
 
 /// The read of a source, if that is in memory.
-fn read_access(
+fn read_access<M: Cells>(
     alloc: Global,
-    device: &Device,
-    pc: u16,
+    here: &Here<M>,
     width: Width,
     reach: &Reach,
 ) -> Result<Sequence<Item>, Memory>
-    requires { HasRam device.now }
-    ensures { IfOk result (λ all. all ≡ formats.access_of device.now pc false width reach.now) }
+    requires { HasRam here.now.device.now }
+    ensures { IfOk result (λ all. all ≡ formats.access_of here.now.device.now here.now.pc false width reach.now) }
 {
     let mut all = Sequence::new(alloc);
     if let Reach::InMemory(set) = reach {
         all.push(Item::Access {
-            pc,
+            pc: here.pc,
             space: Space::Mem,
             write: false,
             size: size_of(width),
-            at: Set::W(located(device, width, set)),
+            at: Set::W(located(here.device, width, set)),
         })?;
     }
     Ok(all)
@@ -81,26 +79,24 @@ fn put_status<M: Cells>(state: &mut State<M>, bits: [Tri; 9])
     state.fact = None;
 }
 
-/// What an instruction with two operands and the destination SR makes of what is known of a state, for one of so many bytes
-/// at an address. It copies the state once, and fails where memory runs out.
+/// What an instruction with two operands and the destination SR makes of what is known of a state. It copies the state once,
+/// and fails where memory runs out.
 #[tactic(auto, unfolding(crate::specs::Status::status_worked))]
 pub fn status<M: Cells>(
     alloc: Global,
-    device: &Device,
-    framed: bool,
-    state: &State<M>,
-    pc: u16,
-    len: u8,
+    here: &Here<M>,
     operation: Operation,
     width: Width,
     source: Source,
 ) -> Result<Worked<M>, Memory>
-    requires { HasRam device.now }
-    ensures { IfOk result (λ worked. worked ≡ the_status.status_worked device.now framed state.now pc len operation width source) }
+    requires { HasRam here.now.device.now }
+    ensures { IfOk result (λ worked. worked ≡ the_status.status_worked here.now.device.now here.now.framed here.now.state.now here.now.pc here.now.len
+        operation width source) }
 {
-    let counted = Vs16::one(pc.wrapping_add(len as u16));
-    let from = source_reach(pc, state, &counted, source);
-    let word = known_operand(device, state, &counted, width, &from);
+    let state = here.state;
+    let counted = Vs16::one(here.behind());
+    let from = source_reach(here.pc, state, &counted, source);
+    let word = known_operand(here.device, state, &counted, width, &from);
     let origin = source_bits(state, width, source, &word);
     let mut after = state.copy(alloc)?;
     grow(&mut after, &counted, width, source);
@@ -111,7 +107,7 @@ pub fn status<M: Cells>(
     Ok(Worked {
         after,
         next: counted,
-        accesses: read_access(alloc, device, pc, width, &from)?,
+        accesses: read_access(alloc, here, width, &from)?,
         store: None,
     })
 }
@@ -120,21 +116,19 @@ pub fn status<M: Cells>(
 #[tactic(auto, unfolding(crate::specs::Status::single_status_worked))]
 pub fn single_status<M: Cells>(
     alloc: Global,
-    device: &Device,
-    framed: bool,
-    state: &State<M>,
-    pc: u16,
-    len: u8,
+    here: &Here<M>,
     operation: SingleOperation,
     width: Width,
 ) -> Result<Worked<M>, Memory>
-    ensures { IfOk result (λ worked. worked ≡ the_status.single_status_worked device.now framed state.now pc len operation width) }
+    ensures { IfOk result (λ worked. worked
+        ≡ the_status.single_status_worked here.now.device.now here.now.framed here.now.state.now here.now.pc here.now.len operation width) }
 {
+    let state = here.state;
     let mut after = state.copy(alloc)?;
     put_status(&mut after, single_bits(operation, &state.status.bits));
     Ok(Worked {
         after,
-        next: Vs16::one(pc.wrapping_add(len as u16)),
+        next: Vs16::one(here.behind()),
         accesses: Sequence::new(alloc),
         store: None,
     })

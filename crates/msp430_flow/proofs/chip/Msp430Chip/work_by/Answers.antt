@@ -11,10 +11,10 @@ use Rattle.msp430_flow.proofs.chip.Msp430Chip.work_by.Goals as goal
 pub returns : goal.returns
 returns c =
     let setting = c.args.self.now in
-    let pc = c.args.pc in
-    let calls = c.args.calls.now in
-    let frame = c.args.frame in
-    let a = c.args.at.now in
+    let pc = c.args.at.now.pc in
+    let calls = c.args.at.now.calls.now in
+    let frame = c.args.at.now.frame in
+    let a = c.args.at.now.state.now in
     let instr_so = c.args.instr.now in
     let front = c.in_ok-entered.entered in
     let made_so : Worked = record { after = c.made.inside.after; next = c.made.inside.next; accesses = c.made.inside.accesses; store = c.made.inside.store } in
