@@ -1,23 +1,18 @@
 -- What is read inside of a page, by its own cells.
-use Rattle.std.proofs.Common.{◌≡◌, ℕ, ◌+◌, ◌-◌, ◌/◌, ◌%◌, ◌<◌, refl, sym, ap, ◌∙◌, true, false, Option, None, Some, List, [], ◌∷◌, inl, inr, arith}
-use Rattle.std.specs.Prelude.{◌≢◌, ◌⊎◌, ◌==◌, ◌||◌, not, if◌then◌else◌}
-use Rattle.std.proofs.lemmas.Bool.{cases_Bool, and_parts, eqb-true, eqb-false, eq-eqb}
+use Rattle.std.proofs.Common.{◌≡◌, ℕ, ◌+◌, ◌-◌, ◌/◌, ◌%◌, ◌<◌, refl, sym, ap, ◌∙◌, true, Option, None, List, [], inl, inr, arith}
+use Rattle.std.specs.Prelude.{◌⊎◌, ◌==◌, ◌||◌, not}
+use Rattle.std.proofs.lemmas.Bool.{and_parts, eq-eqb}
 use Rattle.value_set.specs.declared.form.Form.{Form}
 use Rattle.entry_value.specs.declared.cells.Cell.{Cell}
 use Rattle.entry_value.specs.declared.word.Word.{Word}
 use Rattle.entry_value.specs.Cells.{AreCells, byte_at, cell_at, found_or, put_together, read, unknown, word_of_byte, word_of_bytes}
-use Rattle.abs_pages.specs.Paging.{Paged, EachPage, IsPage, Rise, begun_at, cells_at, flat, is_inside}
+use Rattle.abs_pages.specs.Paging.{AreRead, Paged, begun_at, cells_at, flat, is_inside}
 use Rattle.abs_pages.proofs.Begun.{byte_begun, byte_of}
 use Rattle.abs_pages.proofs.Flat.{begun_looked, looked}
 
--- pages, and the cells of the one of a number
+-- pages that are read, and the cells of the one of a number
 pub record AreSeen (pages : List Paged) (number : ℕ) (cells : List Cell) : Type 0 where
-  pub lo : ℕ
-  pub hi : ℕ
-  pub from : ℕ
-  pub rise : Rise 0 pages
-  pub each : EachPage IsPage pages
-  pub all : AreCells lo hi from (flat pages)
+  pub read : AreRead pages
   pub low : ℕ
   pub high : ℕ
   pub first : ℕ
@@ -25,12 +20,12 @@ pub record AreSeen (pages : List Paged) (number : ℕ) (cells : List Cell) : Typ
   pub is : cells ≡ cells_at pages number
 
 begun_seen : (pages : List Paged) (number : ℕ) (cells : List Cell) (at : ℕ) → AreSeen pages number cells → at / 32 ≡ number → begun_at (flat pages) at ≡ begun_at cells at
-begun_seen pages number cells at seen e = begun_looked 0 pages at number seen.rise seen.each e ∙ ap (λ found. begun_at found at) (sym seen.is)
+begun_seen pages number cells at seen e = begun_looked 0 pages at number seen.read.rise seen.read.each e ∙ ap (λ found. begun_at found at) (sym seen.is)
 
 byte_seen : (pages : List Paged) (number : ℕ) (cells : List Cell) (at : ℕ) → AreSeen pages number cells → at / 32 ≡ number → (at % 32 ≡ 0 → ⊥)
     → byte_at (flat pages) at ≡ byte_at cells at
 byte_seen pages number cells at seen e behind =
-    sym (byte_begun seen.lo seen.hi seen.from (flat pages) at seen.all)
+    sym (byte_begun seen.read.lo seen.read.hi seen.read.lo (flat pages) at seen.read.are)
     ∙ (ap (λ here. byte_of here (begun_at (flat pages) (at - 1))) (begun_seen pages number cells at seen e)
     ∙ (ap (byte_of (begun_at cells at)) (begun_seen pages number cells (at - 1) seen (omega (arith, e, behind)))
     ∙ byte_begun seen.low seen.high seen.first cells at seen.own))
@@ -60,7 +55,7 @@ read_seen pages number cells at size seen below e sizes inside =
       | inl one ↦ inl one
       | inr two ↦ inr (two, λ last. (let clash = rw (two, eq-eqb (at % 32) 31 last) at parts.1 in cc))
     ] in
-    let cell : cell_at (flat pages) at size ≡ cell_at cells at size = looked 0 pages at size number seen.rise seen.each e ∙ ap (λ found. cell_at found at size) (sym seen.is) in
+    let cell : cell_at (flat pages) at size ≡ cell_at cells at size = looked 0 pages at size number seen.read.rise seen.read.each e ∙ ap (λ found. cell_at found at size) (sym seen.is) in
     ap (λ found. found_or found (put_together (flat pages) at size)) cell
     ∙ ap (found_or (cell_at cells at size)) (together_seen pages number cells at size seen below e behind fits)
 

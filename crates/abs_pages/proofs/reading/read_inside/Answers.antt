@@ -1,5 +1,4 @@
 use Rattle.std.proofs.Common.{◌≡◌, ◌/◌, ◌∙◌, ap, refl, sym, [], arith}
-use Rattle.entry_value.specs.Cells.{AreCells, read}
 use Rattle.abs_pages.specs.Paging.{cells_at}
 use Rattle.abs_pages.proofs.Flat.{cells_none}
 use Rattle.abs_pages.proofs.Inside.{AreSeen, read_none, read_seen}
@@ -11,14 +10,8 @@ returns-in-Some c =
     let at = c.args.at in
     let size = c.args.size in
     let page = c.in-Some.page.now in
-    let needs = c.requires.read in
     let seen : AreSeen pages (at / 32) page.map.cells = record {
-      lo = needs.lo;
-      hi = needs.hi;
-      from = needs.lo;
-      rise = needs.rise;
-      each = needs.each;
-      all = needs.are;
+      read = c.requires.read;
       low = page.map.lo;
       high = page.map.hi;
       first = page.map.lo;
@@ -32,15 +25,9 @@ returns-in-None c =
     let pages = c.args.pages.now in
     let at = c.args.at in
     let size = c.args.size in
-    let needs = c.requires.read in
     let none : [] ≡ cells_at pages (at / 32) = sym (cells_none pages (at / 32) c.in-None.ensures) in
     let seen : AreSeen pages (at / 32) [] = record {
-      lo = needs.lo;
-      hi = needs.hi;
-      from = needs.lo;
-      rise = needs.rise;
-      each = needs.each;
-      all = needs.are;
+      read = c.requires.read;
       low = 0;
       high = 0;
       first = 0;
