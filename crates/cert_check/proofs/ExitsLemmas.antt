@@ -1,7 +1,6 @@
 -- Exits are found by their frames, and none that is due is passed over.
 use Rattle.std.proofs.Common.{◌≡◌, ℕ, zero, suc, ◌+◌, ◌-◌, ◌<◌, ◌≤◌, refl, sym, ap, ap₂, ◌∙◌, subst, Bool, true, false, cond, inl, inr, Some, arith, List, [], ◌∷◌, ◌++◌, drop, get_or, length, map, min, set, length-drop, drop-drop, get_or-drop, Vec}
 use Rattle.std.specs.Prelude.{◌↔◌, ◌||◌, unwrap_or}
-use Rattle.std.specs.Bool.{Decides}
 use Rattle.std.specs.List.{AllByRecursion, flat_map, list_any}
 use Rattle.std.specs.Map.{lookup}
 use Rattle.std.specs.Vec.{with_items}
@@ -37,16 +36,6 @@ due_returns {A} node state waits ((Exit pc frame, left) ∷ rows) = elim (cases_
 ]
 
 -- THE INDEX
-
-module _ (eq : Frame → Frame → Bool) (tells : (a b : Frame) → Decides (eq a b) (a ≡ b)) (one : (a b : Frame) → (same_frame a b ≡ true) ↔ (a ≡ b)) where
-  pub same_frame_test : (a b : Frame) → eq a b ≡ same_frame a b
-  same_frame_test a b = elim (cases_Bool (eq a b)) [
-    | inl is ↦ is ∙ sym ((one a b).1 ((tells a b).0 is))
-    | inr other ↦ elim (cases_Bool (same_frame a b)) [
-      | inl is ↦ absurd (true≢false (sym ((tells a b).1 ((one a b).0 is)) ∙ other))
-      | inr other' ↦ other ∙ sym other'
-    ]
-  ]
 
 -- one more row in front
 pub firsts_added : {A : Type 0} (eq : Frame → Frame → Bool) → ((a b : Frame) → eq a b ≡ same_frame a b) → (old new : List (Frame × ℕ)) (end place : ℕ)

@@ -12,15 +12,12 @@ use Rattle.closing_law.specs.ClosedBook.{table_in}
 use Rattle.round_core.specs.Same.{same_node}
 use Rattle.cert_check.specs.Table.{placed}
 
--- the test of nodes that code makes
-abbrev pub AreOne : (Node → Node → Bool) → Type 0
-AreOne eq = (m n : Node) → Decides (eq m n) (m ≡ n)
-
-module _ (eq : Node → Node → Bool) (tells : AreOne eq) (one : (m n : Node) → (same_node m n ≡ true) ↔ (m ≡ n)) where
-  pub same_test : (m n : Node) → eq m n ≡ same_node m n
+-- two tests that tell equal ones are one test: that of code, and that of the definitions
+module _ {X : Type 0} (eq : X → X → Bool) {same : X → X → Bool} (tells : (m n : X) → Decides (eq m n) (m ≡ n)) (one : (m n : X) → (same m n ≡ true) ↔ (m ≡ n)) where
+  pub same_test : (m n : X) → eq m n ≡ same m n
   same_test m n = elim (cases_Bool (eq m n)) [
     | inl is ↦ is ∙ sym ((one m n).1 ((tells m n).0 is))
-    | inr other ↦ elim (cases_Bool (same_node m n)) [
+    | inr other ↦ elim (cases_Bool (same m n)) [
       | inl is ↦ absurd (true≢false (sym ((tells m n).1 ((one m n).0 is)) ∙ other))
       | inr other' ↦ other ∙ sym other'
     ]

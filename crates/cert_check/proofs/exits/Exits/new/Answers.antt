@@ -4,13 +4,14 @@ use Rattle.call_context.specs.Nodes.{frame_of}
 use Rattle.call_context.specs.contracts.node.FramePartialEq.TheImpl as frame_impl
 use Rattle.call_context.specs.declared.node.Frame.{Frame}
 use Rattle.cert_check.specs.Exits.{AreFirsts, nexts_of}
-use Rattle.cert_check.proofs.ExitsLemmas.{firsts_added, nexts_added, same_frame_test}
+use Rattle.cert_check.proofs.ExitsLemmas.{firsts_added, nexts_added}
+use Rattle.cert_check.proofs.TableLemmas.{same_test}
 use Rattle.cert_check.proofs.exits.Exits.new.Goals as goal
 
 pub loop-place-preserved : goal.loop-place-preserved
 loop-place-preserved g c =
     let eq = (frame_impl.ghosts).eq in
-    let same = same_frame_test eq c.equal_nodes_are_one.ensures.frames c.tests_tell_which_are_one.ensures.frames in
+    let same = same_test eq c.equal_nodes_are_one.ensures.frames c.tests_tell_which_are_one.ensures.frames in
     let rows = c.args.rows.now in
     let end = length rows in
     let old = c.loop-place.firsts.entries in
