@@ -1,6 +1,6 @@
 //! A text that is built part by part.
 
-ghost use Rattle.std.specs.Prelude.{◌≡◌, ◌++◌, [], IfOk, OnOk};
+ghost use Rattle.std.specs.Prelude.{◌≡◌, ◌<◌, ◌++◌, [], IfOk, OnOk};
 
 use crate::text::Text;
 use no_memory::Memory;
@@ -19,15 +19,19 @@ pub struct TextBuilder {
 }
 
 impl Model for TextBuilder {
-    ghost use Rattle.std.specs.Prelude.{ℕ, List};
+    ghost use Rattle.std.specs.Prelude.{◌≡◌, ℕ, List, length};
 
     ghost Value = { List ℕ };
 
     ghost view = { λ builder. builder.text };
+
+    ghost invariant = { λ builder. length builder.places.items ≡ 65536 };
 }
 
 /// A number of a part, which different parts seldom share.
-fn hash_of(part: &[u8]) -> usize {
+fn hash_of(part: &[u8]) -> usize
+    ensures { result < 65536 }
+{
     let mut hash = 0x811C_9DC5_u32;
     for byte in part {
         hash = (hash ^ u32::from(*byte)).wrapping_mul(0x0100_0193);
@@ -51,13 +55,13 @@ impl TextBuilder {
         ensures { OnOk result (self.new ≡ self.old ++ part.now) }
     {
         let slot = hash_of(part);
-        let guess = self.places.get(slot).map_or(0, |place| *place as usize);
-        if self.text.repeat(guess, part)? {
+        if self.text.repeat(self.places[slot] as usize, part)? {
             return Ok(());
         }
         let start = self.text.append(part)?;
-        if let (Some(place), Ok(start)) = (self.places.get_mut(slot), u32::try_from(start)) {
-            *place = start;
+        // Parts behind 4 GiB aren't found again.
+        if let Ok(place) = u32::try_from(start) {
+            self.places[slot] = place;
         }
         Ok(())
     }
