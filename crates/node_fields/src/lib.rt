@@ -7,6 +7,3 @@ mod writing;
 
 pub use reading::{read_exit, read_location, split_row};
 pub use writing::push_node;
-
-#[cfg(test)]
-mod tests;

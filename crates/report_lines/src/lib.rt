@@ -15,6 +15,3 @@ pub use line::{Access, Cause, Edge, Instr, Kind, Line, Open, Space, Stack};
 pub use refusal::{ReadError, Refusal, Why};
 pub use report::{Report, Summary, read};
 pub use set::{Form, Set, Width};
-
-#[cfg(test)]
-mod tests;

@@ -25,6 +25,3 @@ pub use lists::{Field, push_list, push_list_or_mark, read_list, read_list_or_mar
 pub use names::{push_name, read_name};
 pub use reading::{behind, cut, has, number, short};
 pub use writing::push_number;
-
-#[cfg(test)]
-mod tests;

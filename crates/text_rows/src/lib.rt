@@ -1,4 +1,5 @@
-//! Rows of texts: images, scripts, digits, lines of reports, parts that come again, and the streams that they go through.
+//! Rows of texts: images, scripts, digits, lines of reports and their reader, parts that come again, and the streams that they go
+//! through; of call strings, choices and ways.
 #![tactic(auto)]
 
 #[cfg(test)]
@@ -16,6 +17,10 @@ mod making;
 #[cfg(test)]
 mod parts;
 #[cfg(test)]
+mod reports;
+#[cfg(test)]
 mod scripts;
 #[cfg(test)]
 mod streams;
+#[cfg(test)]
+mod ways;

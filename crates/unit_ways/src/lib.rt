@@ -12,8 +12,6 @@
 mod laws;
 mod site;
 mod targets;
-#[cfg(test)]
-mod tests;
 mod ways;
 
 pub use laws::ways_hold;

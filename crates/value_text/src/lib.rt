@@ -21,6 +21,3 @@ pub use ranges::{push_ranges, read_ranges};
 pub use sets::{read_byte_set, read_word_set};
 pub use words::{Places, push_byte, push_relation, push_word, read_byte, read_relation, read_word};
 pub use writing::{push_byte_set, push_word_set};
-
-#[cfg(test)]
-mod tests;

@@ -1,6 +1,6 @@
-//! Numbers, names and lists there and back.
+//! Fields: numbers, names and lists there and back.
 
-use crate::{behind, cut, has, number, push_name, push_number, read_name, short};
+use text_fields::{behind, cut, has, number, push_name, push_number, read_name, short};
 
 #[test]
 fn numbers(rt: HostRuntime) {

@@ -3,13 +3,12 @@
 ghost use Rattle.std.specs.Prelude.{◌≡◌, [], IfOk};
 ghost use Rattle.call_context.specs.declared.node.Frame.{Frame as AFrame};
 
-use crate::site::Site;
-use crate::ways::{Ways, add_each, add_either};
 use call_context::{Calls, Frame, Item, Node, Sequence};
 use no_memory::Memory;
 use std::alloc::Global;
 use std::process::Abort;
 use std::test::Fail;
+use unit_ways::{Site, Ways, add_each, add_either};
 use value_set::Vs16;
 
 /// A number that is known.

@@ -1,6 +1,6 @@
 //! Reports that are read, and reports that are refused.
 
-use crate::{Line, ReadError, Refusal, Why, read};
+use report_lines::{Line, ReadError, Refusal, Why, read};
 use std::alloc::Global;
 use std::process::Abort;
 use std::test::Fail;

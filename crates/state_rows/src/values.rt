@@ -3,15 +3,15 @@
 ghost use Rattle.std.specs.Prelude.{ℕ, Bool, true, false, List, [], ◌∷◌, codes};
 ghost use Rattle.text_fields.specs.Fields.{one_named};
 
-use crate::cells::listed_cells;
-use crate::{
-    Places, is_even_set, push_bits, push_ranges, push_word, read_bits, read_byte_set, read_ranges,
-    read_word, read_word_set,
-};
+use abs_memory::CellList;
 use entry_value::Cell;
 use std::alloc::AllocError;
 use text_fields::{push_name, read_name};
 use value_bits::Tri;
+use value_text::{
+    Places, is_even_set, push_bits, push_ranges, push_word, read_bits, read_byte_set, read_cells,
+    read_ranges, read_word, read_word_set,
+};
 
 /// Places of a chip with three of them, whose words have even places.
 #[derive(Clone, Copy)]
@@ -154,8 +154,8 @@ fn cells(rt: HostRuntime) {
         ("0200.2:0000;", false),
         ("0200:0000", false),
     ] {
-        let read = listed_cells(rt.alloc(), Three, true, 0x200, 0x3FF, text.as_bytes());
-        let found = read.expect(&rt, "memory");
+        let read = read_cells(rt.alloc(), Three, true, 0x200, 0x3FF, text.as_bytes());
+        let found: Option<CellList> = read.expect(&rt, "memory");
         assert_eq!(rt; found.is_some(), spells, "{text}");
     }
 }

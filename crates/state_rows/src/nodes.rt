@@ -1,6 +1,6 @@
 //! Nodes there and back.
 
-use crate::{push_node, read_exit, read_location};
+use node_fields::{push_node, read_exit, read_location};
 
 #[test]
 fn nodes(rt: HostRuntime) {
