@@ -11,6 +11,11 @@ index_of x (y ∷ ys) d h = elim h [
   | inr r ↦ let i = index_of x ys d r in (suc i.0, omega arith, i.2)
 ]
 
+pub index-in : {X : Type 0} → (xs : List X) (i : ℕ) (d : X) → i < length xs → IsIn (slice_index_or xs i d) xs
+index-in [] i d h = absurd (omega (arith, h))
+index-in (y ∷ xs) zero d h = inl refl
+index-in (y ∷ xs) (suc i) d h = inr (index-in xs i d (omega (arith, h)))
+
 pub IsIn-append : {X : Type 0} → (x : X) (xs ys : List X) → IsIn x xs → IsIn x (xs ++ ys)
 IsIn-append x [] ys h = absurd h
 IsIn-append x (y ∷ xs) ys h = elim h [ inl e ↦ inl e | inr r ↦ inr (IsIn-append x xs ys r) ]

@@ -32,7 +32,7 @@ nat_greater a b h = sym (nat_cmp_is a b Greater h)
 nat_same : (a b : ℕ) → a ≡ b → nat_cmp a b ≡ Equal
 nat_same a b h = sym (nat_cmp_is a b Equal h)
 
-nat_equal : (a b : ℕ) → nat_cmp a b ≡ Equal → a ≡ b
+pub nat_equal : (a b : ℕ) → nat_cmp a b ≡ Equal → a ≡ b
 nat_equal a b h = grind (arith, nat_tests)
 
 both_equal : (p q : Ordering) → ordering_then p q ≡ Equal → (p ≡ Equal) × (q ≡ Equal)

@@ -1,6 +1,6 @@
 //! Places of nodes, by frames.
 
-ghost use Rattle.std.specs.Prelude.{◌≡◌, [], OnOk, IsSome, None};
+ghost use Rattle.std.specs.Prelude.{◌≡◌, ℕ, [], OnOk, IsSome, None};
 ghost use Rattle.std.specs.Map.{lookup};
 ghost use Rattle.round_core.specs.Agenda.{IsIn, places_in, seen, KeepsPlaces};
 
@@ -10,7 +10,7 @@ use no_memory::Memory;
 use std::alloc::Global;
 use std::marker::Model;
 
-/// Places of nodes, kept for a frame.
+/// Places of nodes, kept for a frame: each once, and in ascending order.
 #[derive(Drop)]
 pub struct Places {
     by_frame: IndexMap<Frame, Vec<usize>>,
@@ -27,6 +27,17 @@ impl Model for Places {
     ghost view = { λ p. seen p.by_frame.entries };
 }
 
+/// Keeps a place among ascending ones, once.
+fn keep(places: &mut Vec<usize>, place: usize) -> Result<(), Memory>
+    ensures added { OnOk result (IsIn place places.new.items) }
+    ensures kept { (other : ℕ) → IsIn other places.old.items → IsIn other places.new.items }
+{
+    if let Err(at) = places.binary_search(&place) {
+        places.insert(at, place)?;
+    }
+    Ok(())
+}
+
 /// Keeps a place for a frame that has some.
 fn add_to_present(
     by_frame: &mut IndexMap<Frame, Vec<usize>>,
@@ -38,10 +49,7 @@ fn add_to_present(
 {
     equal_nodes_are_one();
     match by_frame.get_mut(frame) {
-        Some(places) => {
-            places.push(place)?;
-            Ok(())
-        }
+        Some(places) => keep(places, place),
         None => Ok(()),
     }
 }

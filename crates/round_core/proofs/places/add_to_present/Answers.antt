@@ -1,7 +1,7 @@
-use Rattle.std.proofs.Common.{◌≡◌, sym, subst, Vec, ℕ, Some, None, Option, option_map, unwrap_or, [], ◌∷◌, refl, inl, IsSome, true, false}
+use Rattle.std.proofs.Common.{◌≡◌, subst, Vec, ℕ, Some, None, Option, option_map, unwrap_or, [], refl, IsSome, true, false}
 use Rattle.std.specs.declared.alloc.Global.{Global}
 use Rattle.round_core.specs.Agenda.{IsIn}
-use Rattle.round_core.proofs.ListLemmas.{IsIn-append, IsIn-last}
+use Rattle.round_core.proofs.Cases.{on_ok_map}
 use Rattle.round_core.proofs.PlacesLemmas.{writes-added, writes-kept}
 use Rattle.round_core.proofs.places.add_to_present.Goals as goal
 
@@ -17,27 +17,20 @@ held_of : (o : Option (Vec ℕ Global)) (v : Vec ℕ Global) → Some v ≡ o �
 held_of None v e p h = absurd h
 held_of (Some w) v e p h = let same : w ≡ v = cc in subst (λ (u : Vec ℕ Global). IsIn p u.items) same h
 
-pub returns-in_err-push-in-Some-clause-kept : goal.returns-in_err-push-in-Some-clause-kept
-returns-in_err-push-in-Some-clause-kept c =
-    let w = c.get_mut.follows.holds c.push.new.self in
-    writes-kept c.equal_nodes_are_one.ensures.frames (λ (v : Vec ℕ Global). v.items) c.args.by_frame.now.entries _ c.args.frame.now c.push.new.self
-    ((w.3 (some_value _ _ c.in-Some.ensures.value)).0)
-    (λ p h. subst (λ xs. IsIn p xs) (sym c.in_err-push-in-Some.ensures.items) (held_of _ _ c.in-Some.ensures.value p h))
+pub returns-in-Some-clause-added : goal.returns-in-Some-clause-added
+returns-in-Some-clause-added c = on_ok_map _ _ c.keep.result
+    (λ added some.
+    let w = c.get_mut.follows.holds c.keep.new.places in
+    writes-added c.equal_nodes_are_one.ensures.frames (λ (v : Vec ℕ Global). v.items) c.args.by_frame.now.entries _ c.args.frame.now c.keep.new.places
+    ((w.3 (some_value _ _ c.in-Some.ensures.value)).0) c.args.place added)
+    c.keep.ensures.added
 
-pub returns-in_ok-push-in-Some-clause-added : goal.returns-in_ok-push-in-Some-clause-added
-returns-in_ok-push-in-Some-clause-added c = λ _.
-    let w = c.get_mut.follows.holds c.push.new.self in
-    writes-added c.equal_nodes_are_one.ensures.frames (λ (v : Vec ℕ Global). v.items) c.args.by_frame.now.entries _ c.args.frame.now c.push.new.self
-    ((w.3 (some_value _ _ c.in-Some.ensures.value)).0) c.args.place
-    (subst (λ xs. IsIn c.args.place xs) (sym c.in_ok-push-in-Some.ensures.items) (IsIn-last c.args.place c.in-Some.places.now.items (c.args.place ∷ []) (inl refl)))
-
-pub returns-in_ok-push-in-Some-clause-kept : goal.returns-in_ok-push-in-Some-clause-kept
-returns-in_ok-push-in-Some-clause-kept c =
-    let w = c.get_mut.follows.holds c.push.new.self in
-    writes-kept c.equal_nodes_are_one.ensures.frames (λ (v : Vec ℕ Global). v.items) c.args.by_frame.now.entries _ c.args.frame.now c.push.new.self
+pub returns-in-Some-clause-kept : goal.returns-in-Some-clause-kept
+returns-in-Some-clause-kept c =
+    let w = c.get_mut.follows.holds c.keep.new.places in
+    writes-kept c.equal_nodes_are_one.ensures.frames (λ (v : Vec ℕ Global). v.items) c.args.by_frame.now.entries _ c.args.frame.now c.keep.new.places
     ((w.3 (some_value _ _ c.in-Some.ensures.value)).0)
-    (λ p h. subst (λ xs. IsIn p xs) (sym c.in_ok-push-in-Some.ensures.items)
-    (IsIn-append p c.in-Some.places.now.items (c.args.place ∷ []) (held_of _ _ c.in-Some.ensures.value p h)))
+    (λ p h. c.keep.ensures.kept p (held_of _ _ c.in-Some.ensures.value p h))
 
 pub returns-in-None-clause-added : goal.returns-in-None-clause-added
 returns-in-None-clause-added c = λ h. absurd (none_value _ c.in-None.ensures.value h)
