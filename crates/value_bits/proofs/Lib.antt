@@ -17,3 +17,4 @@ pub mod LowPairs
 pub mod EndsOfSets
 pub mod Sharing
 pub mod OneWalk
+pub mod WholeBytes

@@ -3,7 +3,7 @@
 ghost use Rattle.std.specs.Prelude.{◌≡◌, ℕ, ◌+◌, ◌*◌, ◌<◌, ◌≤◌, ◌++◌, ◌&&◌, ◌==◌, nat_le, IsTrue, IsFalse, length, map, bit_and, bit_or, bit_xor};
 ghost use Rattle.value_set.specs.Form as forms;
 ghost use Rattle.value_set.specs.Form.{Has, IsNormal, members};
-ghost use Rattle.value_set.specs.Summing.{single};
+ghost use Rattle.value_set.specs.Summing.{single, whole};
 ghost use Rattle.value_bits.specs.Bits as known;
 ghost use Rattle.value_bits.specs.Bits.{Agrees, IsBit, logic_of};
 ghost use Rattle.chip_numbers.specs.Numbers.{shifted_right, exchanged, sign_extended, low_byte, high_byte, word_of, is_decimal, decimal_sum};
@@ -21,7 +21,7 @@ use crate::tri::{Logic, Top, Tri};
 use crate::words::{chosen, gathered, is_few, top_carry, with_bits};
 use crate::{all_flags, bytes, decimal, flags, order, words};
 use arrayvec::ArrayVec;
-use value_set::{Vs8, Vs16};
+use value_set::{Form, Progression, Vs8, Vs16, set_laws};
 
 /// How many bits a number has.
 const WIDTH: usize = 16;
@@ -158,6 +158,30 @@ fn low_of_several(a: &Vs16) -> Vs8
     bytes::with_bits(&known_bits(16, &a.form()).as_slice()[..8])
 }
 
+/// Whether a set has each word below 100h and no other.
+fn is_all_bytes(a: &Vs16) -> bool
+    ensures { IsTrue result → a.now ≡ whole 256 }
+{
+    matches!(
+        a.form(),
+        Form::Run(Progression {
+            base: 0,
+            stride: 1,
+            count: 256
+        })
+    )
+}
+
+/// The low bytes of all words below 100h.
+fn all_bytes(a: &Vs16) -> Vs8
+    requires { a.now ≡ whole 256 }
+    ensures value { result ≡ forms.gather 256 (map low_byte (members 65536 a.now)) }
+    ensures holds { (x : ℕ) → Has 65536 a.now x → Has 256 result (low_byte x) }
+{
+    set_laws();
+    Vs8::any()
+}
+
 /// The low byte of each of at most 256 members. A list below 100h stays as it is.
 fn low_of_few(a: &Vs16) -> Vs8
     requires some { 1 ≤ length (members 65536 a.now) }
@@ -166,6 +190,9 @@ fn low_of_few(a: &Vs16) -> Vs8
     ensures normal { IsNormal 256 result }
     ensures holds { (x : ℕ) → Has 65536 a.now x → Has 256 result (low_byte x) }
 {
+    if is_all_bytes(a) {
+        return all_bytes(a);
+    }
     match a.as_bytes() {
         Some(same) => same,
         None => bytes::gathered(low_bytes(a).as_slice()),

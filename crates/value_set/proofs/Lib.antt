@@ -21,3 +21,4 @@ pub mod Formulas
 pub mod Bounds
 pub mod Tests
 pub mod BytesAsWords
+pub mod Wholes

@@ -12,6 +12,10 @@ use Rattle.value_set.specs.declared.form.Form.TheVariants.{Values, Run}
 abbrev pub single : ℕ → Form
 single v = Values (v ∷ [])
 
+-- the set of all numbers below m, where these are at least 17
+abbrev pub whole : ℕ → Form
+whole m = Run (record { base = 0; stride = 1; count = m })
+
 -- the results of an operation on each x with each y and each carry
 abbrev pub results : (ℕ → ℕ → ℕ → ℕ) → (xs ys zs : List ℕ) → List ℕ
 results answer xs ys zs = flat_map (λ x. flat_map (λ y. map (λ z. answer x y z) zs) ys) xs

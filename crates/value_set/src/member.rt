@@ -2,6 +2,7 @@
 
 ghost use Rattle.std.specs.Prelude.{◌≡◌, ◌+◌, ◌-◌, ◌*◌, ◌/◌, ◌%◌, ◌<◌, ◌≤◌, ◌↔◌, IsTrue, length, slice_index};
 ghost use Rattle.value_set.specs.Form.{Has, Includes, IsNormal, IsNormalRun, members};
+ghost use Rattle.value_set.specs.Summing.{whole};
 
 use crate::circle::{above, divides, reach};
 use crate::form::{Form, Progression, same};
@@ -15,6 +16,17 @@ pub fn count(modulus: u32, set: &Form) -> u32
     match set {
         Form::Values(values) => values.len() as u32,
         Form::Run(run) => run.count,
+    }
+}
+
+/// Whether a set has all numbers below the modulus.
+pub fn is_whole(modulus: u32, set: &Form) -> bool
+    requires { IsNormal modulus set.now }
+    ensures { IsTrue result → set.now ≡ whole modulus }
+{
+    match set {
+        Form::Values(_) => false,
+        Form::Run(run) => run.count == modulus,
     }
 }
 

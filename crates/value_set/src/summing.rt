@@ -1,6 +1,6 @@
 //! Sums and differences of sets.
 
-ghost use Rattle.std.specs.Prelude.{◌≡◌, ℕ, ◌+◌, ◌-◌, ◌*◌, ◌%◌, ◌<◌, ◌≤◌, ◌↔◌, IsTrue, length, map};
+ghost use Rattle.std.specs.Prelude.{◌≡◌, ℕ, ◌+◌, ◌-◌, ◌*◌, ◌%◌, ◌<◌, ◌≤◌, ◌↔◌, IfSome, IsTrue, length, map};
 ghost use Rattle.value_set.specs.Form as forms;
 ghost use Rattle.value_set.specs.Form.{Ascends, IsNormal, IsNormalRun, IsSpan, members};
 ghost use Rattle.value_set.specs.Summing as sums;
@@ -12,7 +12,7 @@ use crate::few::{Few, LONGEST};
 use crate::form::{Form, Progression};
 use crate::gathering::{ROOM, make, put, set_of, steps_to};
 use crate::joining::{class, span};
-use crate::member::count;
+use crate::member::{count, is_whole};
 use arrayvec::ArrayVec;
 
 /// The sum of two numbers.
@@ -105,6 +105,22 @@ fn negated(modulus: u32, run: &Progression) -> Progression
     }
 }
 
+/// The set of all numbers, where one of two is that: it is that of their sums, and that of their differences.
+fn whole_of(modulus: u32, first: &Form, second: &Form) -> Option<Form>
+    requires first_normal { IsNormal modulus first.now }
+    requires second_normal { IsNormal modulus second.now }
+    ensures sums { IfSome result (λ set. set ≡ sums.add modulus first.now second.now) }
+    ensures differences { IfSome result (λ set. set ≡ sums.sub modulus first.now second.now) }
+{
+    if is_whole(modulus, first) {
+        return Some(*first);
+    }
+    if is_whole(modulus, second) {
+        return Some(*second);
+    }
+    None
+}
+
 /// The sums of the members of two sets.
 pub fn add(modulus: u32, first: &Form, second: &Form) -> Form
     requires small { modulus ≤ 65536 }
@@ -112,6 +128,9 @@ pub fn add(modulus: u32, first: &Form, second: &Form) -> Form
     requires second_normal { IsNormal modulus second.now }
     ensures { result ≡ sums.add modulus first.now second.now }
 {
+    if let Some(all) = whole_of(modulus, first, second) {
+        return all;
+    }
     if has_few_results(modulus, first, second) {
         return combine(modulus, &Sum { modulus }, first, second, &single(0));
     }
@@ -125,6 +144,9 @@ pub fn sub(modulus: u32, first: &Form, second: &Form) -> Form
     requires second_normal { IsNormal modulus second.now }
     ensures { result ≡ sums.sub modulus first.now second.now }
 {
+    if let Some(all) = whole_of(modulus, first, second) {
+        return all;
+    }
     if has_few_results(modulus, first, second) {
         return combine(modulus, &Difference { modulus }, first, second, &single(0));
     }

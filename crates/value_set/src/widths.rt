@@ -8,7 +8,7 @@ ghost use Rattle.value_set.specs.Widths.{IsByteList};
 
 use crate::form::Form;
 use crate::gathering::{put, set_of};
-use crate::member::{count, nth};
+use crate::member::{count, is_whole, nth};
 use arrayvec::ArrayVec;
 
 /// How many bytes there are.
@@ -27,8 +27,19 @@ pub fn as_words(bytes: &Form) -> Form
 {
     match bytes {
         Form::Values(few) => Form::Values(*few),
-        Form::Run(_) => gathered(bytes),
+        Form::Run(_) => run_as_words(bytes),
     }
+}
+
+/// The members of a run of bytes as words: all bytes are the same run.
+fn run_as_words(bytes: &Form) -> Form
+    requires { IsNormal 256 bytes.now }
+    ensures { result ≡ forms.gather 65536 (members 256 bytes.now) }
+{
+    if is_whole(BYTES, bytes) {
+        return *bytes;
+    }
+    gathered(bytes)
 }
 
 /// The members of a set of bytes are gathered as words.
