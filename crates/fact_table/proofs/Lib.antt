@@ -1,3 +1,4 @@
+pub mod AheadLemmas
 pub mod ExchangeLemmas
 pub mod Sent
 pub mod TurnLemmas

@@ -4,10 +4,12 @@ use Rattle.std.specs.List.{AllByRecursion, IsDistinct}
 use Rattle.chip_law.specs.Analysis.{Analysis}
 use Rattle.fact_table.specs.declared.exchange.Last.{Last}
 use Rattle.fact_table.specs.declared.exchange.Last.TheVariants.{Full, Shared, Idle, Finished, Memory}
+use Rattle.round_core.specs.Ahead.{IsAhead}
 use Rattle.round_core.specs.Claimable.{HasAtLeast}
 use Rattle.round_core.specs.Kept.{Kept, with_event, IsOutOf}
 use Rattle.round_core.specs.Machine.{BookState, Out, HasClaimable, IsFinished, IsFirst, NoneClaimable, replay}
 use Rattle.round_core.specs.Same.{same_unit}
+use Rattle.round_core.specs.declared.ahead.Looked.{Looked}
 use Rattle.round_core.specs.declared.event.Event.{Event}
 use Rattle.round_core.specs.declared.event.Event.TheVariants.{Claim, Post}
 use Rattle.round_core.specs.declared.ticket.Done.{Done}
@@ -18,6 +20,12 @@ with_events book events = record { base = book.base; journal = book.journal ++ e
 
 abbrev pub tickets_of : {C B A : Type 0} → List (Done C B A) → List (Out A)
 tickets_of done = map (λ d. d.ticket) done
+
+-- what was looked ahead of the first of these works
+abbrev pub AreAhead : {C B A : Type 0} → Analysis A → List (Done C B A) → List (List (Looked A)) → Type 0
+AreAhead m done [] = Unit {0}
+AreAhead m [] (rows ∷ ahead) = ⊥
+AreAhead m (first ∷ done) (rows ∷ ahead) = IsAhead m first rows × AreAhead m done ahead
 
 -- the work is that of its ticket
 abbrev pub IsWorked : {C B A : Type 0} → Analysis A → Done C B A → Type 0

@@ -8,7 +8,7 @@ ghost use Rattle.round_core.specs.Machine.{Out};
 ghost use Rattle.round_core.specs.declared.event.Event.TheVariants.{Post, GiveBack};
 ghost use Rattle.turn_table.specs.Named.{name_of};
 
-use crate::exchange::{Exchanged, Last, exchange_on, post_one};
+use crate::exchange::{Exchanged, Last, exchange_on, look_ahead, post_one};
 use crate::facts::{Seat, Turns};
 use chip_law::Chip;
 use no_memory::Memory;
@@ -96,6 +96,8 @@ pub fn exchange_at<R: Wait, C: Chip>(
             last: Last::Memory,
         };
     };
+    // Others wait no longer while states are compared and joined.
+    let ahead = look_ahead(alloc, chip, done.as_slice());
     let mut turn = turns.turn(rt, seat);
     turn.value.book.journal();
     let number = seat.number();
@@ -104,6 +106,7 @@ pub fn exchange_at<R: Wait, C: Chip>(
         chip,
         number,
         done,
+        ahead,
         tickets,
         want,
         share,

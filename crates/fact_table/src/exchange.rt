@@ -1,8 +1,8 @@
 //! What an exchange does to the book: it posts works, and then claims units.
 
-ghost use Rattle.std.specs.Prelude.{IfErr, OnErr, OnOk, ◌≡◌, ◌≤◌, ◌<◌, ◌++◌, ◌∷◌, [], false, true, not, IsTrue, vec_len, vec_capacity};
+ghost use Rattle.std.specs.Prelude.{IfErr, OnErr, OnOk, ◌≡◌, ◌≤◌, ◌<◌, ◌⊎◌, ◌++◌, ◌∷◌, [], false, true, not, IsTrue, vec_len, vec_capacity};
 ghost use Rattle.std.specs.List.{AllByRecursion};
-ghost use Rattle.fact_table.specs.Exchange.{AnswersFurther, AreOutOf, ClaimsSome, ExchangesOn, IsWorked, Posts, tickets_of};
+ghost use Rattle.fact_table.specs.Exchange.{AnswersFurther, AreAhead, AreOutOf, ClaimsSome, ExchangesOn, IsWorked, Posts, tickets_of};
 ghost use Rattle.round_core.specs.Claimable.{HasAtLeast};
 ghost use Rattle.round_core.specs.Kept.{with_event, IsOutOf};
 ghost use Rattle.round_core.specs.Machine.{replay};
@@ -10,7 +10,10 @@ ghost use Rattle.round_core.specs.declared.event.Event.TheVariants.{Post};
 
 use chip_law::Chip;
 use no_memory::Memory;
-use round_core::{Book, Claimed, Done, Spent, Ticket, outs_stay_beside, tests_tell_which_are_one};
+use round_core::{
+    Ahead, Book, Claimed, Done, Spent, Ticket, outs_stay_beside, tests_tell_which_are_one,
+};
+use std::alloc::Global;
 
 /// Why an exchange gave no further ticket.
 #[derive(Clone, Copy, Debug, PartialEq, Eq)]
@@ -77,19 +80,53 @@ pub(crate) fn post_one<C: Chip>(
     (posted, book.take_spent())
 }
 
+/// Works out ahead of the turn what the posts of works make of nodes that don't rise before, as far as memory lasts.
+pub(crate) fn look_ahead<C: Chip>(alloc: Global, chip: &C, done: &[Done<C>]) -> Vec<Ahead<C::Abs>>
+    ensures { AreAhead (C.analysis (C.base chip.now)) done.now result.items }
+{
+    let mut ahead = Vec::new(alloc);
+    for one in done {
+        match ahead.push(one.look_ahead(alloc, chip)) {
+            Ok(()) => {}
+            Err(_) => return ahead,
+        }
+    }
+    ahead
+}
+
+/// What was looked ahead of the next work.
+fn take_first<A: Drop>(alloc: Global, ahead: &mut Vec<Ahead<A>>) -> Ahead<A>
+    ensures { (ahead.old.items ≡ result ∷ ahead.new.items)
+        ⊎ ((ahead.old.items ≡ []) × (ahead.new.items ≡ []) × (result ≡ [])) }
+{
+    if ahead.is_empty() {
+        Ahead::none(alloc)
+    } else {
+        ahead.remove(0)
+    }
+}
+
 /// Posts works in their order, until memory runs out. Those that are left are handed back.
-fn post_all<C: Chip>(book: &mut Book<C>, chip: &C, done: Vec<Done<C>>) -> Vec<Done<C>>
+fn post_all<C: Chip>(
+    book: &mut Book<C>,
+    chip: &C,
+    done: Vec<Done<C>>,
+    ahead: Vec<Ahead<C::Abs>>,
+) -> Vec<Done<C>>
     requires chip { C.base chip.now ≡ book.old.base }
     requires out { AreOutOf (replay (C.analysis book.old.base) book.old.journal)
         (tickets_of done.items) }
     requires works { AllByRecursion (IsWorked (C.analysis book.old.base)) done.items }
+    requires ahead { AreAhead (C.analysis book.old.base) done.items ahead.items }
     ensures { Posts (C.analysis book.old.base) book.old done.items result.items book.new }
 {
     outs_stay_beside::<C>();
     let mut left = done;
+    let mut ahead = ahead;
     while !left.is_empty() {
         let first = left.remove(0);
-        if let Err((_, refused)) = book.post(chip, first) {
+        let looked = take_first(*left.allocator(), &mut ahead);
+        if let Err((_, refused)) = book.post_ahead(chip, first, looked) {
             put_first(&mut left, refused);
             return left;
         }
@@ -113,7 +150,7 @@ fn claim_first<C: Chip>(book: &mut Book<C>, chip: &C, seat: u32) -> Result<Ticke
     requires { C.base chip.now ≡ book.old.base }
     ensures { AnswersFurther (C.analysis book.old.base) seat book.old book.new 0 false result }
 {
-    match book.claim(chip, seat) {
+    match book.claim_to_look_ahead(chip, seat) {
         Ok(Claimed::Ticket(ticket)) => Ok(ticket),
         Ok(Claimed::Idle) => Err(Last::Idle),
         Ok(Claimed::Finished) => Err(Last::Finished),
@@ -175,6 +212,7 @@ pub(crate) fn exchange_on<C: Chip>(
     chip: &C,
     seat: u32,
     done: Vec<Done<C>>,
+    ahead: Vec<Ahead<C::Abs>>,
     tickets: Vec<Ticket<C>>,
     want: u32,
     share: u32,
@@ -183,12 +221,13 @@ pub(crate) fn exchange_on<C: Chip>(
     requires out { AreOutOf (replay (C.analysis book.old.base) book.old.journal)
         (tickets_of done.items) }
     requires works { AllByRecursion (IsWorked (C.analysis book.old.base)) done.items }
+    requires ahead { AreAhead (C.analysis book.old.base) done.items ahead.items }
     requires empty { tickets.items ≡ [] }
     requires room { want ≤ vec_capacity tickets }
     ensures { ExchangesOn (C.analysis book.old.base) seat book.old done.items want share
         result.unposted.items result.tickets.items result.last book.new }
 {
-    let unposted = post_all(book, chip, done);
+    let unposted = post_all(book, chip, done, ahead);
     if !unposted.is_empty() {
         return Exchanged {
             unposted,

@@ -4,6 +4,7 @@
 //! [`FactTable::new`] lays a book down, and [`FactTable::split`] gives a seat to each worker. [`FactTable::claim`] takes
 //! out a unit for the seat, [`FactTable::post`] takes in its work, and [`FactTable::give_back`] puts it back without.
 //! [`FactTable::exchange`] takes in several works and takes out the next units in one turn, and says why it takes out no more.
+//! It compares and joins states before that turn, as far as it knows the nodes that the works post to.
 //! [`FactTable::join`] takes in the seat of a worker that has ended, and [`FactTable::close`] gives the book back.
 //!
 //! Contracts see a seat as `turn_table` shows it: `seen` is the journal as far as the seat knows it. Each call is one

@@ -10,7 +10,7 @@ use Rattle.round_core.specs.declared.event.Event.TheVariants.{Claim, GiveBack}
 use Rattle.round_core.specs.declared.parts.Parts.{Parts}
 use Rattle.round_core.specs.declared.place.Place.{Place}
 use Rattle.round_core.specs.declared.versions.Versions.{Versions}
-use Rattle.round_core.specs.Machine.{BookState, Out, out_at, without, with_out, inputs_of, versions_of, replay, IsFirst, IsLegal, IsLegalJournal}
+use Rattle.round_core.specs.Machine.{BookState, Held, Out, out_at, without, with_out, inputs_of, versions_of, replay, IsFirst, IsLegal, IsLegalJournal}
 use Rattle.round_core.specs.Claims.{placed}
 use Rattle.round_core.specs.Kept.{Kept, with_event}
 use Rattle.round_core.specs.Shown.{Shows, IsBook, StaysShown}
@@ -24,14 +24,14 @@ module _ {A : Type 0} (m : Analysis A) where
   abbrev behind : BookState A → List (Out A) → BookState A
   behind b os = record b { out = os }
 
-  abbrev ticket : ℕ → WorkUnit → A → Option A → Versions → Out A
-  ticket seat u at exit versions = record { seat = seat; unit = u; at = at; exit = exit; versions = versions }
+  abbrev ticket : ℕ → WorkUnit → A → Option A → Versions → List (Held A) → Out A
+  ticket seat u at exit versions nodes = record { seat = seat; unit = u; at = at; exit = exit; versions = versions; nodes = nodes }
 
   out-is : (b : BookState A) (seat : ℕ) (u : WorkUnit) (t : Out A) → IsTicketOf b.nodes seat u t → with_out b seat u (inputs_of b.nodes u) ≡ b.out ++ t ∷ []
   out-is b seat u t k =
       ap (λ i. with_out b seat u i) k.inputs_are
-      ∙ ap₂ (λ s v. b.out ++ ticket s v t.at t.exit (versions_of b.nodes u) ∷ []) (sym k.seat_is) (sym k.unit_is)
-      ∙ ap (λ v. b.out ++ ticket t.seat t.unit t.at t.exit v ∷ []) (sym k.versions_are)
+      ∙ ap₂ (λ s v. b.out ++ ticket s v t.at t.exit (versions_of b.nodes u) b.nodes ∷ []) (sym k.seat_is) (sym k.unit_is)
+      ∙ ap₂ (λ v hs. b.out ++ ticket t.seat t.unit t.at t.exit v hs ∷ []) (sym k.versions_are) (sym k.nodes_are)
 
   claim-behind : (journal journal' : List Event) (seat : ℕ) (u : WorkUnit) (t : Out A) → journal' ≡ journal ++ Claim seat u ∷ []
       → IsTicketOf (replay m journal).nodes seat u t → replay m journal' ≡ behind (replay m journal) ((replay m journal).out ++ t ∷ [])

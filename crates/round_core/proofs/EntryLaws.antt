@@ -12,9 +12,10 @@ use Rattle.call_context.specs.declared.node.Unit.TheVariants.{One, Back}
 use Rattle.round_core.specs.Same.{same_unit}
 use Rattle.round_core.proofs.SameLaws.{same_unit-refl, same_unit-eq}
 use Rattle.round_core.specs.declared.versions.Versions.{Versions}
-use Rattle.round_core.proofs.HeldLaws.{AllStay, held_at-later, version_of-later, state-later, option_map-some}
+use Rattle.round_core.proofs.HeldLaws.{held_at-later, version_of-later, state-later, option_map-some}
 use Rattle.round_core.specs.Counts.{AreOutOnce}
 use Rattle.round_core.specs.Machine.{Held, Done, Out, held_at, done_at, out_at, with_done, without, versions_of, inputs_of, HasRisen}
+use Rattle.round_core.specs.Stays.{AllStay}
 
 pub same_unit-turned : (a b : WorkUnit) → same_unit a b ≡ false → same_unit b a ≡ false
 same_unit-turned a b e =

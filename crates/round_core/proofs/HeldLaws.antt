@@ -11,18 +11,7 @@ use Rattle.round_core.proofs.SameLaws.{same_node-refl, same_node-eq}
 use Rattle.chip_law.specs.Analysis.{Analysis}
 use Rattle.round_core.specs.Counts.{AreApart}
 use Rattle.round_core.specs.Machine.{Held, held_at, place_of, version_of, risen_state, risen, raised, all_raised}
-
--- A node stays: its rises don't fall, and its state is the same until it rises.
-pub record Stays {A : Type 0} (h later : Held A) : Type 0 where
-  pub node : later.node ≡ h.node
-  pub rises : h.rises ≤ later.rises
-  pub state : later.rises ≡ h.rises → later.state ≡ h.state
-
--- each node stays in its place; others may stand behind
-abbrev pub AllStay : {A : Type 0} → List (Held A) → List (Held A) → Type 0
-AllStay [] later = Unit {0}
-AllStay (h ∷ hs) [] = ⊥
-AllStay (h ∷ hs) (l ∷ ls) = Stays h l × AllStay hs ls
+use Rattle.round_core.specs.Stays.{Stays, AllStay}
 
 pub held_at-here : {A : Type 0} (h : Held A) (hs : List (Held A)) (node : Node) → same_node node h.node ≡ true → held_at (h ∷ hs) node ≡ Some h
 held_at-here h hs node e = cond-true _ _ _ e

@@ -1,3 +1,4 @@
+pub mod AheadLemmas
 pub mod Cases
 pub mod ClaimEvent
 pub mod ClaimLemmas

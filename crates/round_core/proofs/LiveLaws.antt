@@ -15,11 +15,12 @@ use Rattle.round_core.specs.declared.event.Event.{Event}
 use Rattle.round_core.specs.declared.event.Event.TheVariants.{Claim, Post, GiveBack}
 use Rattle.round_core.specs.Kept.{is_live, live_pairs, live_works}
 use Rattle.round_core.specs.Machine.{BookState, Held, Done, Out, done_at, after, all_raised, posted, opening, replay, IsUnit, IsLegal, IsLegalJournal}
+use Rattle.round_core.specs.Stays.{AllStay}
 use Rattle.round_core.specs.Table.{IsOfUnit}
 use Rattle.round_core.proofs.Cases.{truth, if_true, if_false}
 use Rattle.round_core.proofs.EntryLaws.{inputs_of-later, out_at-all, all-map, all-with_done}
 use Rattle.round_core.proofs.FormLaws.{IsInForm, IsInForm-opening, IsInForm-after}
-use Rattle.round_core.proofs.HeldLaws.{AllStay, AllStay-all_raised}
+use Rattle.round_core.proofs.HeldLaws.{AllStay-all_raised}
 use Rattle.round_core.proofs.ReplayLaws.{IsWellOut, IsSteady, IsSteady-opening, IsSteady-after, inputs_of-unit, replay_from-keeps, after-claim, after-post, after-give_back}
 
 -- the works of pairs whose unit passes, and of a pair that passes or doesn't in front of them

@@ -14,10 +14,11 @@ use Rattle.round_core.specs.Agenda.{IsIn}
 use Rattle.round_core.specs.Former.{is_no_unit}
 use Rattle.round_core.specs.Kept.{is_live, live_pairs}
 use Rattle.round_core.specs.Machine.{BookState, Held, Done, Out, done_at, with_done, after, all_raised, posted, opening, replay, inputs_of, IsUnit, IsLegal, IsLegalJournal}
+use Rattle.round_core.specs.Stays.{AllStay}
 use Rattle.round_core.specs.Same.{same_unit}
 use Rattle.round_core.proofs.Cases.{truth, if_true, if_false, map_some, then_some}
 use Rattle.round_core.proofs.EntryLaws.{inputs_of-later, out_at-all, all-map, all-push, all-with_done, all-without}
-use Rattle.round_core.proofs.HeldLaws.{AllStay, AllStay-all_raised}
+use Rattle.round_core.proofs.HeldLaws.{AllStay-all_raised}
 use Rattle.round_core.proofs.Members.{in_none, in_cons}
 use Rattle.round_core.proofs.ReplayLaws.{taken, inputs_of-unit, replay_from-keeps, after-claim, after-post, after-give_back}
 use Rattle.round_core.proofs.SameLaws.{same_unit-eq, same_unit-refl}

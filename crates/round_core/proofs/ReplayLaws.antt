@@ -12,10 +12,11 @@ use Rattle.round_core.specs.Same.{same_node}
 use Rattle.chip_law.specs.Analysis.{Analysis}
 use Rattle.round_core.specs.declared.event.Event.{Event}
 use Rattle.round_core.specs.declared.event.Event.TheVariants.{Claim, Post, GiveBack}
-use Rattle.round_core.proofs.HeldLaws.{AllStay, AllStay-refl, AllStay-trans, AllStay-all_raised, AreApart-all_raised, place_of-held, place_of-one, Stays-risen, raised-here, raised-there, held_at-all, version_of-held}
+use Rattle.round_core.proofs.HeldLaws.{AllStay-refl, AllStay-trans, AllStay-all_raised, AreApart-all_raised, place_of-held, place_of-one, Stays-risen, raised-here, raised-there, held_at-all, version_of-held}
 use Rattle.round_core.proofs.EntryLaws.{AreOutOnce-push, AreOutOnce-without, AreUpTo, AreUpTo-refl, AreUpTo-trans, versions-between, versions_of-later, inputs_of-found, inputs_of-later, inputs_of-same, out_at-all, all-map, all-push, all-with_done, all-without}
 use Rattle.round_core.specs.Counts.{AreApart, AreOutOnce}
 use Rattle.round_core.specs.Machine.{BookState, Held, Done, Out, out_at, held_at, place_of, version_of, versions_of, inputs_of, opening, posted, risen, raised, all_raised, with_out, without, after, replay_from, replay, IsUnit, IsFirst, IsBelow, ComesBefore, IsLegal, AllLegal, IsLegalJournal, IsFinished}
+use Rattle.round_core.specs.Stays.{AllStay}
 
 -- the replay of a journal in two parts
 pub replay_from-append : {A : Type 0} (m : Analysis A) (b : BookState A) (es fs : List Event)
@@ -82,7 +83,14 @@ replay_from-keeps m P step b (e ∷ es) l p = replay_from-keeps m P step (after 
 
 -- the entry of a unit that a claim puts out
 abbrev pub taken : {A : Type 0} → BookState A → ℕ → WorkUnit → A × Option A → Out A
-taken b seat unit inputs = record { seat = seat; unit = unit; at = inputs.0; exit = inputs.1; versions = versions_of b.nodes unit }
+taken b seat unit inputs = record {
+  seat = seat;
+  unit = unit;
+  at = inputs.0;
+  exit = inputs.1;
+  versions = versions_of b.nodes unit;
+  nodes = b.nodes;
+}
 
 -- what each event leaves
 pub after-claim : {A : Type 0} (m : Analysis A) (b : BookState A) (seat : ℕ) (unit : WorkUnit) (inputs : A × Option A) → inputs_of b.nodes unit ≡ Some inputs
@@ -126,11 +134,12 @@ inputs_of-unit b (Back (At pc calls frame) (Exit from left)) u =
 inputs_of-unit b (Back (At pc calls frame) (At from calls' frame')) u = absurd u
 inputs_of-unit b (Back (Exit pc frame) exit) u = absurd u
 
--- A unit that is out has its inputs, and what was copied is what they are until one rises.
+-- A unit that is out has its inputs, what was copied is what they are until one rises, and the nodes that were have stayed.
 pub record IsWellOut {A : Type 0} (nodes : List (Held A)) (o : Out A) : Type 0 where
   pub there : (inputs : A × Option A) × (inputs_of nodes o.unit ≡ Some inputs)
   pub known : AreUpTo o.versions (versions_of nodes o.unit)
   pub copied : versions_of nodes o.unit ≡ o.versions → inputs_of nodes o.unit ≡ Some (o.at, o.exit)
+  pub stay : AllStay o.nodes nodes
 
 -- the last work of a unit is that of its inputs, until one rises
 pub record IsWellDone {A : Type 0} (m : Analysis A) (nodes : List (Held A)) (d : Done A) : Type 0 where
@@ -152,6 +161,7 @@ IsWellOut-later hs ls o s w = record {
   copied = λ e. let same : versions_of hs o.unit ≡ o.versions =
       versions-between o.versions (versions_of hs o.unit) (versions_of ls o.unit) w.known (versions_of-later hs ls o.unit s) e in
       inputs_of-same hs ls o.unit (o.at, o.exit) s (w.copied same) (e ∙ sym same);
+  stay = AllStay-trans o.nodes hs ls w.stay s;
 }
 
 pub IsWellDone-later : {A : Type 0} (m : Analysis A) (hs ls : List (Held A)) (d : Done A) → AllStay hs ls → IsWellDone m hs d → IsWellDone m ls d
@@ -190,7 +200,7 @@ IsSteady-after m b (Claim seat unit) l s =
       apart = s.apart;
       once = AreOutOnce-push b.out (taken b seat unit i.0) s.once l.claimable.at_home;
       out = all-push (IsWellOut b.nodes) b.out (taken b seat unit i.0) s.out
-          (record { there = i; known = AreUpTo-refl (versions_of b.nodes unit); copied = λ e. i.1 });
+          (record { there = i; known = AreUpTo-refl (versions_of b.nodes unit); copied = λ e. i.1; stay = AllStay-refl b.nodes });
       done = s.done;
     })
 IsSteady-after m b (Post seat unit) l s =

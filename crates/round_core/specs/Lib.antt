@@ -1,4 +1,5 @@
 pub mod Agenda
+pub mod Ahead
 pub mod Answers
 pub mod Claimable
 pub mod Claims
@@ -16,6 +17,7 @@ pub mod Returns
 pub mod Rows
 pub mod Same
 pub mod Shown
+pub mod Stays
 pub mod Table
 pub mod Tickets
 pub mod Turns

@@ -28,13 +28,15 @@ pub record Done (A : Type 0) : Type 0 where
   pub work : Work A
   pub versions : Versions
 
--- a unit that is out, with its seat, and copies of its input states and their versions
+-- A unit that is out, with its seat, copies of its input states and their versions, and the nodes as they were when it was
+-- claimed. No event asks for those: whoever works on the unit may know what some of them held.
 pub record Out (A : Type 0) : Type 0 where
   pub seat : ℕ
   pub unit : WorkUnit
   pub at : A
   pub exit : Option A
   pub versions : Versions
+  pub nodes : List (Held A)
 
 pub record BookState (A : Type 0) : Type 0 where
   pub nodes : List (Held A)
@@ -181,6 +183,7 @@ with_out b seat unit (Some inputs) = b.out ++ record {
   at = inputs.0;
   exit = inputs.1;
   versions = versions_of b.nodes unit;
+  nodes = b.nodes;
 } ∷ []
 
 -- the book behind the work of a unit that was out

@@ -8,7 +8,9 @@ ghost use Rattle.round_core.specs.Tickets.{IsTicketOf};
 ghost use Rattle.round_core.specs.declared.event.Event.{Event};
 
 use crate::book::Book;
+use crate::met::{Met, met_by};
 use crate::nodes::Nodes;
+use crate::parts::Parts;
 use crate::place::Place;
 use crate::ticket::{Claimed, Ticket};
 use crate::versions::Versions;
@@ -33,6 +35,29 @@ fn copy_of<C: Chip>(
     }
 }
 
+/// What the nodes hold that the last work of the unit of a place posted to, or nothing of them.
+fn met_at<C: Chip>(
+    alloc: Global,
+    chip: &C,
+    parts: &Parts<C::Abs>,
+    unit: &Unit,
+    place: Place,
+    meets: bool,
+) -> Result<Met<C::Abs>, Memory>
+    ensures { IfOk result (λ met. met ≡ parts.now.nodes.rows) }
+{
+    if !meets {
+        return Ok(Met::none(alloc, &parts.nodes));
+    }
+    match parts.works.find(unit, place) {
+        Some((_, work, _)) => {
+            let guess = parts.works.posted(place);
+            met_by(alloc, chip, &parts.nodes, work.posts.as_slice(), guess)
+        }
+        None => Ok(Met::none(alloc, &parts.nodes)),
+    }
+}
+
 /// The ticket of the unit of a place, with copies of its input states.
 fn ticket_of<C: Chip>(
     alloc: Global,
@@ -41,7 +66,9 @@ fn ticket_of<C: Chip>(
     seat: u32,
     unit: &Unit,
     place: Place,
+    met: Met<C::Abs>,
 ) -> Result<Ticket<C>, Memory>
+    requires met { met ≡ nodes.now.rows }
     ensures { IfOk result (IsTicketOf nodes.now.rows seat unit.now) }
 {
     let (at_node, at_exit) = place.of_nodes();
@@ -49,20 +76,20 @@ fn ticket_of<C: Chip>(
         Unit::One(node) => {
             let (state, at) = copy_of(alloc, chip, nodes, node, at_node)?;
             let versions = Versions { at, exit: 0 };
-            Ok(Ticket::new(seat, *unit, place, state, None, versions))
+            Ok(Ticket::new(seat, *unit, place, state, None, versions, met))
         }
         Unit::Back(node, exit) => {
             let (state, at) = copy_of(alloc, chip, nodes, node, at_node)?;
             let (left, exit) = copy_of(alloc, chip, nodes, exit, at_exit)?;
             let versions = Versions { at, exit };
-            Ok(Ticket::new(seat, *unit, place, state, Some(left), versions))
+            Ok(Ticket::new(seat, *unit, place, state, Some(left), versions, met))
         }
     }
 }
 
 impl<C: Chip> Book<C> {
-    /// Takes out the first unit that can be claimed. A refusal leaves the book as it was.
-    pub fn claim(&mut self, chip: &C, seat: u32) -> Result<Claimed<C>, Memory>
+    /// Takes out the first unit that can be claimed, with what nodes hold or without.
+    fn claim_with(&mut self, chip: &C, seat: u32, meets: bool) -> Result<Claimed<C>, Memory>
         requires { C.base chip.now ≡ self.old.base }
         ensures answer { IfOk result (λ claimed. AnswersClaim (C.analysis self.old.base) self.old self.new seat claimed) }
         ensures refused { OnErr result (self.new ≡ self.old) }
@@ -75,9 +102,29 @@ impl<C: Chip> Book<C> {
             });
         };
         let alloc = self.parts.nodes.allocator();
-        let ticket = ticket_of(alloc, chip, &self.parts.nodes, seat, &unit, place)?;
+        let met = met_at(alloc, chip, &self.parts, &unit, place, meets)?;
+        let ticket = ticket_of(alloc, chip, &self.parts.nodes, seat, &unit, place, met)?;
         self.parts.take_out(seat, &unit, place)?;
         Ok(Claimed::Ticket(ticket))
+    }
+
+    /// Takes out the first unit that can be claimed. A refusal leaves the book as it was.
+    pub fn claim(&mut self, chip: &C, seat: u32) -> Result<Claimed<C>, Memory>
+        requires { C.base chip.now ≡ self.old.base }
+        ensures answer { IfOk result (λ claimed. AnswersClaim (C.analysis self.old.base) self.old self.new seat claimed) }
+        ensures refused { OnErr result (self.new ≡ self.old) }
+    {
+        self.claim_with(chip, seat, false)
+    }
+
+    /// The same, and the ticket takes along what those nodes hold that the unit's last work posted to, so that its worker can
+    /// look ahead.
+    pub fn claim_to_look_ahead(&mut self, chip: &C, seat: u32) -> Result<Claimed<C>, Memory>
+        requires { C.base chip.now ≡ self.old.base }
+        ensures answer { IfOk result (λ claimed. AnswersClaim (C.analysis self.old.base) self.old self.new seat claimed) }
+        ensures refused { OnErr result (self.new ≡ self.old) }
+    {
+        self.claim_with(chip, seat, true)
     }
 
     /// Puts a unit back without work.
@@ -85,7 +132,7 @@ impl<C: Chip> Book<C> {
         requires { IsOutOf (replay (C.analysis self.old.base) self.old.journal) ticket }
         ensures { self.new ≡ with_event self.old (Event.GiveBack ticket.seat ticket.unit) }
     {
-        let (seat, unit, _, _, _) = ticket.into_parts();
+        let (seat, unit, _, _) = ticket.into_parts();
         self.parts.give_back(seat, &unit);
     }
 }

@@ -2,6 +2,7 @@
 #![tactic(auto)]
 
 mod agenda;
+mod ahead;
 mod book;
 mod candidates;
 mod claim;
@@ -10,6 +11,7 @@ mod expect;
 mod former;
 mod key;
 mod laws;
+mod met;
 mod nodes;
 mod parts;
 mod place;
@@ -26,6 +28,7 @@ mod turns;
 mod versions;
 mod works;
 
+pub use ahead::Ahead;
 pub use book::Book;
 pub use event::Event;
 pub use laws::{

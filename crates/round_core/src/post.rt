@@ -1,6 +1,7 @@
 //! Posts.
 
 ghost use Rattle.std.specs.Prelude.{◌≡◌, OnOk, OnErr, IfOk, IfErr};
+ghost use Rattle.round_core.specs.Ahead.{AreBefore, IsAhead};
 ghost use Rattle.round_core.specs.Kept.{with_event, IsOutOf};
 ghost use Rattle.round_core.specs.Machine.{Out, all_raised, replay};
 ghost use Rattle.round_core.specs.Prepared.{IsPrepared};
@@ -8,6 +9,7 @@ ghost use Rattle.round_core.specs.Raise.{held_rows, with_all, ArePlaced};
 ghost use Rattle.round_core.specs.Shown.{StaysShown};
 ghost use Rattle.round_core.specs.declared.event.Event.{Event};
 
+use crate::ahead::Ahead;
 use crate::book::Book;
 use crate::parts::Parts;
 use crate::raise::all_raised;
@@ -22,7 +24,9 @@ fn prepare<C: Chip>(
     chip: &C,
     parts: &mut Parts<C::Abs>,
     done: &Done<C>,
+    ahead: Ahead<C::Abs>,
 ) -> Result<Raised<C::Abs>, Memory>
+    requires ahead { AreBefore (C.analysis (C.base chip.now)) parts.old.nodes.rows done.now.work.posts ahead }
     ensures shown { StaysShown parts.old parts.new }
     ensures journal { parts.new.turns.journal ≡ parts.old.turns.journal }
     ensures raised { IfOk result (λ raised. with_all parts.old.nodes.rows (held_rows raised.rows.items) ≡ all_raised (C.analysis (C.base chip.now)) parts.old.nodes.rows done.now.work.posts) }
@@ -32,7 +36,8 @@ fn prepare<C: Chip>(
     let alloc = parts.nodes.allocator();
     let (unit, place) = (done.ticket.unit(), done.ticket.place());
     let guess = parts.works.posted(place);
-    let raised = all_raised(alloc, chip, &parts.nodes, done.work.posts.as_slice(), guess)?;
+    let posts = done.work.posts.as_slice();
+    let raised = all_raised(alloc, chip, &parts.nodes, posts, guess, ahead)?;
     let claimed = done.ticket.versions();
     parts.prepare(unit, place, claimed, done.work.waits.as_slice(), &raised)?;
     Ok(raised)
@@ -48,12 +53,31 @@ impl<C: Chip> Book<C> {
         ensures refused { OnErr result (self.new ≡ self.old) }
         ensures handed_back { IfErr result (λ refused. refused.1 ≡ done) }
     {
-        match prepare(chip, &mut self.parts, &done) {
+        let alloc = self.parts.nodes.allocator();
+        self.post_ahead(chip, done, Ahead::none(alloc))
+    }
+
+    /// The same, with what was looked ahead of the work's posts: that is taken where nodes haven't risen since the unit was
+    /// claimed, and is worked out anew where they have.
+    pub fn post_ahead(
+        &mut self,
+        chip: &C,
+        done: Done<C>,
+        ahead: Ahead<C::Abs>,
+    ) -> Result<(), (Memory, Done<C>)>
+        requires chip { C.base chip.now ≡ self.old.base }
+        requires out { IsOutOf (replay (C.analysis self.old.base) self.old.journal) done.ticket }
+        requires work { done.work ≡ (C.analysis self.old.base).work done.ticket.unit done.ticket.at done.ticket.exit }
+        requires ahead { IsAhead (C.analysis self.old.base) done ahead }
+        ensures posted { OnOk result (self.new ≡ with_event self.old (Event.Post done.ticket.seat done.ticket.unit)) }
+        ensures refused { OnErr result (self.new ≡ self.old) }
+        ensures handed_back { IfErr result (λ refused. refused.1 ≡ done) }
+    {
+        match prepare(chip, &mut self.parts, &done, ahead) {
             Ok(raised) => {
                 let Done { ticket, work } = done;
-                let (seat, unit, versions, at, exit) = ticket.into_parts();
-                self.spent.keep_state(Some(at));
-                self.spent.keep_state(exit);
+                let (seat, unit, versions, rest) = ticket.into_parts();
+                self.spent.keep_rest(rest);
                 let spent = &mut self.spent;
                 self.parts.post(raised, seat, &unit, work, versions, spent);
                 Ok(())

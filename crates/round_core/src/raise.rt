@@ -1,10 +1,12 @@
 //! What posts make of nodes.
 
 ghost use Rattle.std.specs.Option.{option_map};
-ghost use Rattle.std.specs.Prelude.{◌≡◌, ◌+◌, IfOk, OnOk, MatchOption, Some, None, true, false};
+ghost use Rattle.std.specs.Prelude.{◌≡◌, IfOk, IfSome, OnOk, MatchOption, Some, None};
+ghost use Rattle.round_core.specs.Ahead.{AreBefore, IsRow, IsStill};
 ghost use Rattle.round_core.specs.Machine.{held_at, place_of, risen_state, raised, all_raised};
 ghost use Rattle.round_core.specs.Raise.{held_rows, with_all, RisesOver};
 
+use crate::ahead::{Ahead, Looked};
 use crate::nodes::Nodes;
 use crate::raised::{Raised, Risen, index_of};
 use call_context::Node;
@@ -63,7 +65,7 @@ fn held_in<'a, A>(
 }
 
 /// What a post makes of a held state, unless it is within that. Rises that no number counts are refused.
-fn risen_row<C: Chip>(
+pub fn risen_row<C: Chip>(
     alloc: Global,
     chip: &C,
     node: &Node,
@@ -71,7 +73,7 @@ fn risen_row<C: Chip>(
     rises: u32,
     posted: &C::Abs,
 ) -> Result<Option<(C::Abs, u32)>, Memory>
-    ensures { IfOk result (λ row. MatchOption row ((C.analysis (C.base chip.now)).within posted.now held.now ≡ true) (λ risen. ((C.analysis (C.base chip.now)).within posted.now held.now ≡ false) × (risen.1 ≡ rises + 1) × (risen.0 ≡ risen_state (C.analysis (C.base chip.now)) node.now held.now posted.now (rises + 1)))) }
+    ensures { IfOk result (IsRow (C.analysis (C.base chip.now)) node.now held.now rises posted.now) }
 {
     if chip.within(posted, held) {
         return Ok(None);
@@ -83,6 +85,27 @@ fn risen_row<C: Chip>(
     Ok(Some((state, rises)))
 }
 
+/// The same, as it was looked ahead where the node has risen no more since.
+fn row_of<C: Chip>(
+    alloc: Global,
+    chip: &C,
+    node: &Node,
+    held: &C::Abs,
+    rises: u32,
+    posted: &C::Abs,
+    looked: Option<Looked<C::Abs>>,
+) -> Result<Option<(C::Abs, u32)>, Memory>
+    requires looked { IfSome looked (λ l. l.rises ≡ rises → IsRow (C.analysis (C.base chip.now)) node.now held.now rises posted.now l.row) }
+    ensures { IfOk result (IsRow (C.analysis (C.base chip.now)) node.now held.now rises posted.now) }
+{
+    if let Some(looked) = looked {
+        if looked.rises == rises {
+            return Ok(looked.row);
+        }
+    }
+    risen_row(alloc, chip, node, held, rises, posted)
+}
+
 /// Raises a node to a post, beside what earlier posts raised, and answers its place.
 fn raise_one<C: Chip>(
     alloc: Global,
@@ -92,14 +115,16 @@ fn raise_one<C: Chip>(
     node: &Node,
     posted: &C::Abs,
     guess: usize,
+    looked: Option<Looked<C::Abs>>,
 ) -> Result<usize, Memory>
-    requires { RisesOver nodes.now.rows all.old }
+    requires over { RisesOver nodes.now.rows all.old }
+    requires looked { IfSome looked (IsStill (C.analysis (C.base chip.now)) (with_all nodes.now.rows (held_rows all.old.rows.items)) (node.now, posted.now)) }
     ensures over { OnOk result (RisesOver nodes.now.rows all.new) }
     ensures raised { OnOk result (with_all nodes.now.rows (held_rows all.new.rows.items) ≡ raised (C.analysis (C.base chip.now)) (with_all nodes.now.rows (held_rows all.old.rows.items)) (node.now, posted.now)) }
 {
     match held_in(nodes, all, node, guess) {
         Some((place, held, rises)) => {
-            match risen_row(alloc, chip, node, held, rises, posted)? {
+            match row_of(alloc, chip, node, held, rises, posted, looked)? {
                 Some((state, rises)) => all.put(Risen {
                     place,
                     node: *node,
@@ -123,21 +148,26 @@ fn raise_one<C: Chip>(
 }
 
 /// The nodes that posts raise, with what each has after the last of them. The node of the first post may stand at `guess`,
-/// and those of further ones behind it, as they do where they were first posted together.
+/// and those of further ones behind it, as they do where they were first posted together. What was looked ahead is taken where
+/// it still holds.
 pub fn all_raised<C: Chip>(
     alloc: Global,
     chip: &C,
     nodes: &Nodes<C::Abs>,
     posts: &[(Node, C::Abs)],
     guess: usize,
+    ahead: Ahead<C::Abs>,
 ) -> Result<Raised<C::Abs>, Memory>
+    requires ahead { AreBefore (C.analysis (C.base chip.now)) nodes.now.rows posts.now ahead }
     ensures over { IfOk result (RisesOver nodes.now.rows) }
     ensures raised { IfOk result (λ all. with_all nodes.now.rows (held_rows all.rows.items) ≡ all_raised (C.analysis (C.base chip.now)) nodes.now.rows posts.now) }
 {
     let mut all = Raised::new(alloc, nodes.len());
     let mut near = guess;
+    let mut ahead = ahead;
     for (node, posted) in posts {
-        near = raise_one(alloc, chip, nodes, &mut all, node, posted, near)?.wrapping_add(1);
+        let looked = ahead.take_first();
+        near = raise_one(alloc, chip, nodes, &mut all, node, posted, near, looked)?.wrapping_add(1);
     }
     all.guess = near.wrapping_sub(posts.len());
     Ok(all)

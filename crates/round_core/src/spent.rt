@@ -1,15 +1,25 @@
 //! What posts have replaced.
 
+use crate::met::MetNode;
 use chip_law::Work;
 use std::alloc::Global;
 use std::mem;
 
-/// States and works that posts have replaced. To free them takes as long as much of a post, so who shares a book frees them once
-/// its turn is passed. No contract speaks of them.
+/// The copies of states that a ticket had.
+#[derive(Drop)]
+pub struct Rest<A> {
+    pub at: A,
+    pub exit: Option<A>,
+    pub met: Vec<MetNode<A>>,
+}
+
+/// States and works that posts have replaced, and what is left of tickets. To free them takes as long as much of a post, so who
+/// shares a book frees them once its turn is passed. No contract speaks of them.
 #[derive(Drop)]
 pub struct Spent<A> {
     states: Vec<A>,
     works: Vec<Work<A>>,
+    rests: Vec<Rest<A>>,
 }
 
 /// How many are kept of each. Where no one takes them they are freed together.
@@ -20,6 +30,7 @@ impl<A: Drop> Spent<A> {
         Spent {
             states: Vec::new(alloc),
             works: Vec::new(alloc),
+            rests: Vec::new(alloc),
         }
     }
 
@@ -41,6 +52,14 @@ impl<A: Drop> Spent<A> {
         if let Some(work) = work {
             let _kept = self.works.push(work);
         }
+    }
+
+    /// Keeps what is left of a ticket, or frees it at once where there is no memory.
+    pub(crate) fn keep_rest(&mut self, rest: Rest<A>) {
+        if MOST <= self.rests.len() {
+            self.rests.clear();
+        }
+        let _kept = self.rests.push(rest);
     }
 
     /// Hands out all, and keeps nothing.

@@ -3,7 +3,9 @@
 ghost use Rattle.std.specs.Prelude.{◌≡◌};
 ghost use Rattle.std.specs.Option.{option_copied};
 
+use crate::met::Met;
 use crate::place::Place;
+use crate::spent::Rest;
 use crate::versions::Versions;
 use call_context::Unit;
 use chip_law::{Chip, Work};
@@ -19,6 +21,8 @@ pub struct Ticket<C: Chip> {
     at: C::Abs,
     exit: Option<C::Abs>,
     versions: Versions,
+    /// What those nodes held that the unit's last work posted to.
+    met: Met<C::Abs>,
 }
 
 impl<C: Chip> Model for Ticket<C> {
@@ -26,7 +30,7 @@ impl<C: Chip> Model for Ticket<C> {
 
     ghost Value = { Out C.Abs };
 
-    ghost view = { λ t. record { seat = t.seat; unit = t.unit; at = t.at; exit = t.exit; versions = t.versions } };
+    ghost view = { λ t. record { seat = t.seat; unit = t.unit; at = t.at; exit = t.exit; versions = t.versions; nodes = t.met } };
 }
 
 impl<C: Chip> Ticket<C> {
@@ -38,8 +42,9 @@ impl<C: Chip> Ticket<C> {
         at: C::Abs,
         exit: Option<C::Abs>,
         versions: Versions,
+        met: Met<C::Abs>,
     ) -> Self
-        ensures { result ≡ record { seat = seat; unit = unit; at = at; exit = exit; versions = versions } }
+        ensures { result ≡ record { seat = seat; unit = unit; at = at; exit = exit; versions = versions; nodes = met } }
     {
         Ticket {
             seat,
@@ -48,14 +53,32 @@ impl<C: Chip> Ticket<C> {
             at,
             exit,
             versions,
+            met,
         }
     }
 
-    /// The seat, the unit, the versions of its inputs, and the copies of them.
-    pub(crate) fn into_parts(self) -> (u32, Unit, Versions, C::Abs, Option<C::Abs>)
+    /// The seat, the unit, the versions of its inputs, and the copies of states.
+    pub(crate) fn into_parts(self) -> (u32, Unit, Versions, Rest<C::Abs>)
         ensures { (result.0 ≡ self.seat) × (result.1 ≡ self.unit) × (result.2 ≡ self.versions) }
     {
-        (self.seat, self.unit, self.versions, self.at, self.exit)
+        let Ticket {
+            seat,
+            unit,
+            place: _,
+            at,
+            exit,
+            versions,
+            met,
+        } = self;
+        let met = met.into_rows();
+        (seat, unit, versions, Rest { at, exit, met })
+    }
+
+    /// What nodes held when the unit was claimed.
+    pub(crate) fn met(&self) -> &Met<C::Abs>
+        ensures { result.now ≡ self.now.nodes }
+    {
+        &self.met
     }
 
     /// Where the unit's nodes stood when it was claimed.

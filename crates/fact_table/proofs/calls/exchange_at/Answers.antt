@@ -1,7 +1,7 @@
 use Rattle.std.proofs.Common.{◌≡◌, List, ◌++◌, refl, ap, sym, ◌∙◌, subst}
 use Rattle.std.specs.List.{AllByRecursion}
 use Rattle.std.proofs.lemmas.Option.{same_Some}
-use Rattle.fact_table.specs.Exchange.{ExchangesOn, IsWorked, tickets_of}
+use Rattle.fact_table.specs.Exchange.{AreAhead, ExchangesOn, IsWorked, tickets_of}
 use Rattle.fact_table.specs.declared.exchange.Last.TheVariants.{Memory}
 use Rattle.fact_table.proofs.TurnLemmas.{exchange_none, exchange_turn, grows_exchange, pass_adds, IsTurn, outs_at_turn}
 use Rattle.round_core.specs.Counts.{seat_of}
@@ -20,6 +20,12 @@ pub exchange_on-exchanged-requires-clause-works : goal.exchange_on-exchanged-req
 exchange_on-exchanged-requires-clause-works g c κs within =
     subst (λ base. AllByRecursion (IsWorked (g.C.Chip.analysis base)) c.args.done.items)
     (same_Some (g.C.Chip.base c.args.chip.now) c.turn-turn.result.value.book.base (c.requires.chip ∙ sym c.turn-turn.ensures.base)) c.requires.works
+
+pub exchange_on-exchanged-requires-clause-ahead : goal.exchange_on-exchanged-requires-clause-ahead
+exchange_on-exchanged-requires-clause-ahead g c κs within =
+    subst (λ base. AreAhead (g.C.Chip.analysis base) c.args.done.items c.look_ahead-ahead.result.items)
+    (same_Some (g.C.Chip.base c.args.chip.now) c.turn-turn.result.value.book.base (c.requires.chip ∙ sym c.turn-turn.ensures.base))
+    (subst (λ done. AreAhead (g.C.Chip.analysis (g.C.Chip.base c.args.chip.now)) done c.look_ahead-ahead.result.items) c.as_slice.ensures.value c.look_ahead-ahead.ensures)
 
 pub pass-requires-clause-adds : goal.pass-requires-clause-adds
 pass-requires-clause-adds g c =

@@ -1,5 +1,5 @@
-use Rattle.std.proofs.Common.{refl}
-use Rattle.fact_table.proofs.TurnLemmas.{IsTurn, ends, out_at_turn, outs_behind}
+use Rattle.std.proofs.Common.{refl, ap, sym, ◌∙◌}
+use Rattle.fact_table.proofs.TurnLemmas.{IsTurn, ends, grows_by, out_at_turn, outs_behind, pass_adds}
 use Rattle.round_core.specs.declared.event.Event.TheVariants.{GiveBack}
 use Rattle.fact_table.proofs.calls.give_back_at.Goals as goal
 
@@ -28,3 +28,12 @@ returns g c =
       others_out = λ others h. outs_behind g.C.Chip.analysis c.args.seat.now c.turn-turn.new.seat c.pass.new.seat k k' ticket (GiveBack ticket.seat ticket.unit) others
           c.outs_stay.ensures c.outs_stay_beside.ensures refl turn c.number.ensures.own c.turn-turn.ensures.own c.journal.ensures.legal c.give_back.ensures h;
     }
+
+pub pass-requires-clause-adds : goal.pass-requires-clause-adds
+pass-requires-clause-adds g c =
+    let begun = c.turn-turn.new.seat in
+    let k = c.turn-turn.result.value.book in
+    let ticket = c.args.ticket in
+    pass_adds c.args.seat.now begun k c.give_back.new.self c.turn-turn.ensures.seat
+    (grows_by begun.number k c.give_back.new.self (GiveBack ticket.seat ticket.unit) c.give_back.ensures
+    (c.requires.ticket.seat ∙ sym (ap (λ s. s.number) c.turn-turn.ensures.seat)))

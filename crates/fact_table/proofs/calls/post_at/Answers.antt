@@ -1,5 +1,5 @@
 use Rattle.std.proofs.Common.{ap, sym, ◌∙◌}
-use Rattle.fact_table.proofs.TurnLemmas.{grows_post, pass_adds, IsTurn, ends, still_out, out_at_turn, on_ok, on_err}
+use Rattle.fact_table.proofs.TurnLemmas.{grows_post, looks, pass_adds, IsTurn, ends, still_out, out_at_turn, on_ok, on_err}
 use Rattle.round_core.specs.declared.event.Event.TheVariants.{Post}
 use Rattle.fact_table.proofs.calls.post_at.Goals as goal
 
@@ -34,6 +34,19 @@ returns-clause-posted g c =
     let out = out_at_turn g.C.Chip.analysis c.args.seat.now c.turn-turn.new.seat k ticket c.outs_stay.ensures turn.base turn.begun_is turn.begins
     c.number.ensures.own c.turn-turn.ensures.own c.journal.ensures.legal c.requires.ticket in
     on_ok c.post_one-posted.result.0 c.post_one-posted.ensures.posted (ends g.C.Chip.analysis c.args.seat.now c.turn-turn.new.seat c.pass.new.seat k k' ticket (Post ticket.seat ticket.unit) turn out)
+
+pub returns-clause-refused : goal.returns-clause-refused
+returns-clause-refused g c =
+    let k = c.turn-turn.result.value.book in
+    let k' = c.post_one-posted.new.book in
+    let turn : IsTurn c.args.seat.now c.turn-turn.new.seat c.pass.new.seat k k' = record {
+      base = c.turn-turn.ensures.base;
+      idle = c.requires.idle;
+      begun_is = c.turn-turn.ensures.seat;
+      new_is = c.pass.ensures.seat;
+      begins = c.turn-turn.ensures.begins;
+    } in
+    on_err c.post_one-posted.result.0 c.post_one-posted.ensures.refused (looks g.C.Chip.analysis c.args.seat.now c.turn-turn.new.seat c.pass.new.seat k k' turn)
 
 pub returns-clause-still_out : goal.returns-clause-still_out
 returns-clause-still_out g c =

@@ -1,8 +1,9 @@
 use Rattle.std.proofs.Common.{sym, ◌∙◌, ap, subst}
 use Rattle.std.proofs.lemmas.Option.{same_Some}
-use Rattle.round_core.proofs.HeldLaws.{AllStay, place_of-later, version_of-later, held_at-later}
+use Rattle.round_core.proofs.HeldLaws.{place_of-later, version_of-later, held_at-later}
 use Rattle.round_core.proofs.ReplayLaws.{AllStay-replay, IsSteady-replay, replay-append}
 use Rattle.round_core.specs.Machine.{replay}
+use Rattle.round_core.specs.Stays.{AllStay}
 use Rattle.round_core.specs.declared.event.Event.{Event}
 use Rattle.chip_law.specs.Analysis.{Analysis}
 use Rattle.std.specs.Prelude.{List, ◌++◌}

@@ -2,6 +2,7 @@ use Rattle.std.proofs.Common.{◌≡◌, ◌∙◌, ◌+◌, ap, sym, true, fals
 use Rattle.std.proofs.Math.Path.{ap₂}
 use Rattle.round_core.specs.Machine.{with_held, risen_state}
 use Rattle.round_core.specs.Raise.{held_rows, with_all}
+use Rattle.round_core.proofs.AheadLemmas.{still-row}
 use Rattle.round_core.proofs.Cases.{on_ok_map, match_some, match_none, if_false}
 use Rattle.round_core.proofs.RaiseLemmas.{with_all-with_held, raised-new, raised-there, raised-within}
 use Rattle.round_core.proofs.raise.raise_one.Goals as goal
@@ -18,7 +19,7 @@ returns-in-Some-2-clause-raised g c =
     c.in_ok-state-in-Some.field-0 (c.in-Some-2.state, c.in-Some-2.rises) c.in-Some-2.is c.in_ok-state-in-Some.ensures in
     on_ok_map _ _ c.put.result
     (λ e. ap (λ t. with_all ns t) e
-    ∙ with_all-with_held es ns (record { node = n; state = c.in-Some-2.state; rises = c.in-Some-2.rises }) c.requires.distinct
+    ∙ with_all-with_held es ns (record { node = n; state = c.in-Some-2.state; rises = c.in-Some-2.rises }) c.requires.over.distinct
     ∙ sym (raised-there m (with_all ns es) n s (record { node = n; state = held; rises = c.in-Some.rises }) c.in-Some.ensures.held
     ∙ ap (λ r. with_held (with_all ns es) r) (if_false _ _ _ f.0)
     ∙ ap₂ (λ t r. with_held (with_all ns es) (record { node = n; state = t; rises = r })) (sym f.2) (sym f.1)))
@@ -42,7 +43,13 @@ returns-in_ok-state-in-None-clause-raised g c =
     let n = c.args.node.now in
     on_ok_map _ _ c.put-in-None.result
     (λ e. ap (λ t. with_all ns t) e
-    ∙ with_all-with_held es ns (record { node = n; state = c.in_ok-state-in-None.state; rises = 1 }) c.requires.distinct
+    ∙ with_all-with_held es ns (record { node = n; state = c.in_ok-state-in-None.state; rises = 1 }) c.requires.over.distinct
     ∙ ap (λ t. with_held (with_all ns es) (record { node = n; state = t; rises = 1 })) c.in_ok-state-in-None.ensures
     ∙ sym (raised-new m (with_all ns es) n c.args.posted.now c.in-None.ensures.held))
     c.put-in-None.ensures.rows
+
+pub row_of-requires-clause-looked : goal.row_of-requires-clause-looked
+row_of-requires-clause-looked g c κs within =
+    let m = g.C.Chip.analysis (g.C.Chip.base c.args.chip.now) in
+    still-row m (with_all c.args.nodes.now.rows (held_rows c.args.all.now.rows.items)) c.args.node.now c.in-Some.held.now c.in-Some.rises c.args.posted.now c.args.looked
+    c.in-Some.ensures.held c.requires.looked

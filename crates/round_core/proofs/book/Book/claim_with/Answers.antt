@@ -5,7 +5,7 @@ use Rattle.round_core.specs.Claims.{placed}
 use Rattle.round_core.specs.Shown.{IsBook}
 use Rattle.round_core.proofs.Cases.{match_some}
 use Rattle.round_core.proofs.ClaimEvent.{claimed, answer-is, book-stays, legal-more}
-use Rattle.round_core.proofs.book.Book.claim.Goals as goal
+use Rattle.round_core.proofs.book.Book.claim_with.Goals as goal
 
 pub invariant_of-self-2 : goal.invariant_of-self-2
 invariant_of-self-2 g c =
@@ -47,5 +47,15 @@ invariant_of-self-in_err-take_out g c =
 
 pub invariant_of-self-in_err-ticket : goal.invariant_of-self-in_err-ticket
 invariant_of-self-in_err-ticket g c =
+    let m = g.C.Chip.analysis (g.C.Chip.base c.self.inside.chip.value) in
+    book-stays m c.self.inside.parts c.take_first.new.self c.take_first.ensures.shown c.take_first.ensures.journal c.self.invariant
+
+pub invariant_of-self-in_err-met : goal.invariant_of-self-in_err-met
+invariant_of-self-in_err-met g c =
+    let m = g.C.Chip.analysis (g.C.Chip.base c.self.inside.chip.value) in
+    book-stays m c.self.inside.parts c.take_first.new.self c.take_first.ensures.shown c.take_first.ensures.journal c.self.invariant
+
+pub invariant_of-self-in_default : goal.invariant_of-self-in_default
+invariant_of-self-in_default g c =
     let m = g.C.Chip.analysis (g.C.Chip.base c.self.inside.chip.value) in
     book-stays m c.self.inside.parts c.take_first.new.self c.take_first.ensures.shown c.take_first.ensures.journal c.self.invariant
