@@ -1,7 +1,8 @@
 -- What a worker's calls make of its seat, put together.
-use Rattle.std.proofs.Common.{◌≡◌, ◌==◌, ◌≤◌, ◌<◌, ℕ, List, [], ◌∷◌, ◌++◌, length, refl, sym, ap, ◌∙◌, subst, append-nil, append_assoc, ◌+◌, arith, slice_index_or}
+use Rattle.std.proofs.Common.{◌≡◌, ◌==◌, true, ◌≤◌, ◌<◌, ℕ, List, [], ◌∷◌, ◌++◌, length, refl, sym, ap, ◌∙◌, subst, append-nil, append_assoc, ◌+◌, arith, slice_index_or}
 use Rattle.std.specs.List.{AllByRecursion, IsDistinct, remove}
 use Rattle.std.proofs.lemmas.Bool.{cond_both}
+use Rattle.std.proofs.lemmas.Bool.Decides.{nat_tests}
 use Rattle.std.proofs.lemmas.List.{map-append}
 use Rattle.atomic_table.specs.Seated.{TableId}
 use Rattle.call_context.specs.declared.node.Unit.{Unit as WorkUnit}
@@ -61,6 +62,12 @@ pub worked_more : {C B A : Type 0} (all : List (Out A)) (done : List (Done C B A
 worked_more all done one t left own e =
     e ∙ ap (λ s. tickets_of done ++ s ∷ left) (sym own) ∙ sym (append_assoc (tickets_of done) (one.ticket ∷ []) left)
     ∙ ap (λ l. l ++ left) (sym (map-append (λ d. d.ticket) done (one ∷ [])))
+
+-- where no ticket is left, all are those of works
+pub none_left : {C B A : Type 0} (tickets : List (Out A)) (done : List (Done C B A)) (left : List (Out A)) (n : ℕ) → n ≡ length left
+    → (n == 0) ≡ true → tickets ≡ tickets_of done ++ left → tickets_of done ≡ tickets
+none_left tickets done [] n len test whole = sym (whole ∙ append-nil (tickets_of done))
+none_left tickets done (x ∷ left) n len test whole = let none : n ≡ 0 = grind (arith, nat_tests) in absurd (omega arith)
 
 none_out : {A : Type 0} (b : BookState A) → AreOutOf b []
 unfolding IsDistinct

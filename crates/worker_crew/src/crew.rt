@@ -8,7 +8,7 @@ ghost use Rattle.turn_table.specs.Events.{AllBelow, events_of};
 ghost use Rattle.turn_table.specs.Named.{name_of};
 ghost use Rattle.worker_crew.specs.Turns.{AreAnswered, IsReady, StaysAnswered, TakesIn, Works};
 
-use crate::worker::work;
+use crate::worker::{share_for, work};
 use chip_law::Chip;
 use crossbeam_utils::sync::EventCount;
 use fact_table::{FactTable, Seat, Turns};
@@ -143,7 +143,7 @@ pub fn fixpoint<R: Threads + Wait + Sync, C: Chip<Base: Send> + Send + Sync, G: 
         chip,
         gate,
         &answers,
-        workers,
+        share_for(workers),
         seat,
         threads - 1,
         workers - threads,

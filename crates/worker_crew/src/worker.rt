@@ -16,8 +16,24 @@ use std::alloc::Global;
 use std::sync::Wait;
 use worker_rounds::Gate;
 
-/// For how many units a worker asks in one turn.
+/// For how many units a worker asks in one turn: at most four.
 const WANT: u32 = 4;
+
+/// How many units for each worker have to be claimable for it to get a second one in a turn.
+const SHARE: u32 = 1;
+
+/// For how many units a worker asks in one turn. Proofs know no more of it, so that the number is free.
+fn wanted() -> u32
+    ensures some { 1 ≤ result }
+    ensures few { result ≤ 4 }
+{
+    WANT
+}
+
+/// How many units have to be claimable, among so many workers, for one to get a second one in a turn.
+pub(crate) fn share_for(workers: u32) -> u32 {
+    workers.saturating_mul(SHARE)
+}
 
 /// Puts a ticket before all others, for which there is room.
 fn put_first<C: Chip>(tickets: &mut Vec<Ticket<C>>, ticket: Ticket<C>)
@@ -195,7 +211,7 @@ fn go_on<R: Wait, C: Chip, G: Gate>(
 {
     let done = work_all(rt, alloc, turns, chip, gate, seat, tickets)?;
     let works = done.len();
-    let exchanged = exchange_at(rt, alloc, turns, chip, seat, done, WANT, share);
+    let exchanged = exchange_at(rt, alloc, turns, chip, seat, done, wanted(), share);
     let Exchanged {
         unposted,
         tickets,
