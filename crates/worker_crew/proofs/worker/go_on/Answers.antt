@@ -1,4 +1,4 @@
-use Rattle.std.proofs.Common.{◌≤◌, ◌++◌, [], ap, not, arith, subst}
+use Rattle.std.proofs.Common.{◌++◌, [], ap, not, subst}
 use Rattle.fact_table.specs.Exchange.{tickets_of}
 use Rattle.worker_crew.specs.Turns.{GoesOn, Serves, units_of}
 use Rattle.worker_crew.proofs.Turns.{exchange_goes_on, exchange_serves, serves_then}
