@@ -1,33 +1,8 @@
 //! Shows a report as a page of HTML, or as a graph for Graphviz.
 #![tactic(auto)]
 
-mod ask;
-mod call_graph;
-mod counts;
-mod depth;
-mod diff;
-mod functions;
-mod given;
-mod graph;
-mod map;
-mod markup;
-mod memory;
-mod page;
-mod page_map;
-mod page_tables;
-mod program;
-mod sets;
-mod style;
-#[cfg(test)]
-mod tests;
-mod view;
-mod ways;
-
-use crate::ask::{Ask, ask_of};
-use crate::given::given_instead;
-use crate::view::{ViewError, view};
-use no_memory::Memory;
-use report_lines::{Refusal, Why};
+use report_lines::Refusal;
+use report_page::{Ask, ViewError, ask_of, given_instead, view};
 use std::alloc::Global;
 use std::process::ExitCode;
 use std::{env, io};
@@ -71,10 +46,8 @@ fn input<S: Source>(alloc: Global, source: &mut S) -> Result<Vec<u8>, InputError
 
 /// Tells which line of a report is refused, or what the input is in place of one.
 fn tell_refusal(rt: &impl Eprint, which: &str, refusal: Refusal, text: &[u8]) -> io::Result<()> {
-    let is_first = refusal.why == Why::NoVerdict || refusal.why == Why::Empty;
-    if is_first
-        && which.is_empty()
-        && let Some(sentence) = given_instead(text)
+    if which.is_empty()
+        && let Some(sentence) = given_instead(refusal, text)
     {
         return eprintln!(rt; "view: {sentence}");
     }
@@ -125,7 +98,7 @@ fn run(rt: &HostRuntime, ask: Ask<'_>) -> Status {
         Err(InputError::Memory) => return Status::Memory,
     };
     match view(rt.alloc(), ask, &text) {
-        Ok(shown) => match write_all(&mut StdoutSink::new(rt), shown.text.as_bytes()) {
+        Ok(shown) => match write_all(&mut StdoutSink::new(rt), shown.text.as_slice()) {
             Ok(()) if shown.differs => Status::Differs,
             Ok(()) => Status::Done,
             Err(_) => Status::WriteFault,

@@ -1,7 +1,0 @@
-use Rattle.std.proofs.Common.{◌≡◌, ◌++◌, take}
-use Rattle.report_view.specs.Escape.{escape}
-use Rattle.report_view.proofs.markup.Markup.escaped.Given as goal
-
--- the bytes so far are escaped behind what stood there
-abbrev pub invariant-loop-byte : goal.invariant-loop-byte
-invariant-loop-byte l = l.self.text.items ≡ l.initial.self.text.items ++ escape (take l.byte-index l.text)

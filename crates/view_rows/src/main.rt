@@ -1,0 +1,113 @@
+//! Rows of pages, graphs and differences of reports: the standard output says how many lines of the standard input hold, and
+//! which don't.
+//!
+//! `new` begins a text, `+ LINE` adds a line to it, and `edges` an edge from each of a hundred addresses to each. `$ WORDS`
+//! asks what the words ask of the text, as `./view WORDS` does. Behind it `N PART` holds where the answer has the part so
+//! often, `begins PART` where it begins so, and `ends PART` where it ends so; `~` is a line feed. `front N` holds where so many
+//! bytes of the text are its first report.
+#![tactic(auto)]
+
+use report_page::{ViewError, ask_of, front_of, given_instead, view};
+use std::alloc::{AllocError, Global};
+use std::io::{self, BufRead, BufReader};
+use std::str;
+
+/// A text, and the answer to what was asked of it last.
+#[derive(Drop)]
+struct Bench {
+    text: String,
+    answer: String,
+}
+
+/// What is said of a text that isn't shown.
+fn said(alloc: Global, error: ViewError, text: &[u8]) -> Result<String, AllocError> {
+    match error {
+        ViewError::Refused(refusal) => match given_instead(refusal, text) {
+            Some(sentence) => String::from_str(alloc, sentence),
+            None => format!(in alloc; "line {}", refusal.line),
+        },
+        ViewError::RefusedSecond(refusal) => format!(in alloc; "second line {}", refusal.line),
+        ViewError::BadImage(line) => format!(in alloc; "image line {line}"),
+        ViewError::Foreign(pc) => format!(in alloc; "foreign {pc:04X}"),
+        ViewError::NoFunction(pc) => format!(in alloc; "no function {pc:04X}"),
+        ViewError::Memory => Err(AllocError),
+    }
+}
+
+/// The answer to words about a text.
+fn answer_to(alloc: Global, words: &str, text: &[u8]) -> Result<String, AllocError> {
+    let mut list = Vec::new(alloc);
+    for word in words.split_ascii_whitespace() {
+        list.push(String::from_str(alloc, word)?)?;
+    }
+    let Some(ask) = ask_of(list.as_slice()) else {
+        return String::from_str(alloc, "other words");
+    };
+    match view(alloc, ask, text) {
+        Ok(shown) => String::from_str(
+            alloc,
+            str::from_utf8(shown.text.as_slice()).unwrap_or("no text"),
+        ),
+        Err(error) => said(alloc, error, text),
+    }
+}
+
+/// Adds an edge from each of a hundred addresses to each.
+fn add_edges(text: &mut String) -> Result<(), AllocError> {
+    for from in 4096..4196 {
+        for to in 4096..4196 {
+            write!(text, "E {from:04X} {to:04X}\n")?;
+        }
+    }
+    Ok(())
+}
+
+impl Bench {
+    /// Does what a line says, and tells whether it holds where it is a row.
+    fn take(&mut self, alloc: Global, line: &str) -> Result<Option<bool>, AllocError> {
+        let (sign, rest) = line.split_once(' ').unwrap_or((line, ""));
+        match sign {
+            "" | "#" => return Ok(None),
+            "new" => self.text.clear(),
+            "+" => {
+                self.text.push_str(rest)?;
+                self.text.push('\n')?;
+            }
+            "edges" => add_edges(&mut self.text)?,
+            "$" => self.answer = answer_to(alloc, rest, self.text.as_bytes())?,
+            _ => return Ok(Some(self.holds(alloc, sign, rest)?)),
+        }
+        Ok(None)
+    }
+
+    /// Whether a row holds.
+    fn holds(&self, alloc: Global, sign: &str, part: &str) -> Result<bool, AllocError> {
+        let part = part.replace(alloc, "~", "\n")?;
+        let (part, answer) = (part.as_str(), self.answer.as_str());
+        Ok(match sign {
+            "begins" => answer.starts_with(part),
+            "ends" => answer.ends_with(part),
+            "front" => part.parse::<usize>() == Ok(front_of(self.text.as_bytes()).0.len()),
+            _ => sign.parse::<usize>() == Ok(answer.matches(part).count()),
+        })
+    }
+}
+
+fn main(rt: HostRuntime) -> io::Result<()> {
+    let alloc = rt.alloc();
+    let mut bench = Bench {
+        text: String::new(alloc),
+        answer: String::new(alloc),
+    };
+    let mut count = 0u32;
+    for line in BufReader::new(alloc, rt.reader())?.lines(alloc) {
+        let line = line?;
+        match bench.take(alloc, line.as_str())? {
+            Some(true) => count = count.wrapping_add(1),
+            Some(false) => println!(rt; "doesn't hold: {line}")?,
+            None => {}
+        }
+    }
+    println!(rt; "{count} rows hold")?;
+    Ok(())
+}
