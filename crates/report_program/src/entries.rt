@@ -23,11 +23,7 @@ pub struct Entries {
 
 impl Entries {
     /// The entries of a program that begins there, if it is known.
-    pub fn of(
-        alloc: Global,
-        program: &Program<'_>,
-        reset: Option<u16>,
-    ) -> Result<Entries, Memory> {
+    pub fn of(alloc: Global, program: &Program<'_>, reset: Option<u16>) -> Result<Entries, Memory> {
         let mut entries = Entries {
             all: BTreeSet::new(alloc),
             handlers: BTreeSet::new(alloc),

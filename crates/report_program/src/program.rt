@@ -7,8 +7,8 @@ use crate::ways::{Way, flow_of, told_way};
 use no_memory::Memory;
 use report_lines::{Cause, Edge, Line, Report};
 use std::alloc::Global;
-use std::collections::{BTreeMap, BTreeSet};
 use std::collections::btree_map::Entry;
+use std::collections::{BTreeMap, BTreeSet};
 
 /// The sites by address.
 #[derive(Drop)]

@@ -10,7 +10,12 @@ const RETURN_BYTES: u16 = 2;
 
 impl Functions {
     /// Works out the totals, from the functions that call none upward.
-    pub(crate) fn sum(&mut self, program: &Program<'_>, depths: Option<Depths>, recursive: &BTreeSet<u16>) {
+    pub(crate) fn sum(
+        &mut self,
+        program: &Program<'_>,
+        depths: Option<Depths>,
+        recursive: &BTreeSet<u16>,
+    ) {
         let rounds = self.by_entry.len();
         for _ in 0..rounds {
             if !self.sum_once(program, depths, recursive) {
