@@ -2,8 +2,8 @@
 //!
 //! [`fixpoint`] opens a book, lays it under the lock of `fact_table`, and gives each worker a seat at it. A worker claims units,
 //! works on them outside the lock, where it also works out what their posts make of nodes that don't rise before, and in one turn
-//! posts the works and claims the next units. It asks for four at a time, and gets a second one only where four can be claimed
-//! for each worker. A worker that is out of memory gives its units back and ends; the others go on. There are at most as many
+//! posts the works and claims the next units. It asks for four at a time, and gets a second one only where as many can be claimed
+//! as there are workers. A worker that is out of memory gives its units back and ends; the others go on. There are at most as many
 //! threads as processors, and at least two. The caller does the rest, and the work of threads that couldn't be started.
 //!
 //! An idle worker sleeps: where no unit can be claimed and some unit is out, nothing changes before that unit is posted

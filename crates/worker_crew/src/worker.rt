@@ -19,9 +19,8 @@ use worker_rounds::Gate;
 /// For how many units a worker asks in one turn: at most four.
 const WANT: u32 = 4;
 
-/// How many units for each worker have to be claimable for it to get a second one in a turn: who holds several works on inputs
-/// that rise meanwhile, so a worker takes more than one only where there are plenty.
-const SHARE: u32 = 4;
+/// How many units for each worker have to be claimable for it to get a second one in a turn.
+const SHARE: u32 = 1;
 
 /// For how many units a worker asks in one turn. Proofs know no more of it, so that the number is free.
 fn wanted() -> u32
