@@ -1,0 +1,4 @@
+pub mod AnyOf
+pub mod Cases
+pub mod Members
+pub mod Small

@@ -1,0 +1,14 @@
+-- Numbers that are small enough to stay as they are.
+use Prim.Native.Nat.{zero, suc}
+use Rattle.std.proofs.Common.{◌≡◌, ℕ, ◌<◌, ◌==◌, ◌%◌, false, refl, arith}
+
+pub byte_alone : (v : ℕ) → v < 256 → v % 256 ≡ v
+byte_alone v small = omega arith
+
+pub word_alone : (v : ℕ) → v < 65536 → v % 65536 ≡ v
+word_alone v small = omega arith
+
+pub not_one : (n : ℕ) → n < 2 → (n == 1) ≡ false → n ≡ 0
+not_one zero small other = refl
+not_one (suc zero) small other = absurd (cc)
+not_one (suc (suc n)) small other = absurd (omega (arith, small))
