@@ -7,3 +7,4 @@ pub mod Holding
 pub mod Forms
 pub mod Under
 pub mod Standing
+pub mod FormFacts

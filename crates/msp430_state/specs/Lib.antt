@@ -3,3 +3,4 @@ pub mod Facts
 pub mod Known
 pub mod Holding
 pub mod Forms
+pub mod FormFacts

@@ -10,42 +10,16 @@ use Rattle.value_bits.specs.declared.tri.Tri.TheVariants.{Zero, One, Either}
 use Rattle.value_bits.specs.declared.tri.Logic.{Logic}
 use Rattle.value_bits.specs.declared.tri.Logic.TheVariants.{And, Or, Xor}
 use Rattle.value_bits.specs.Bits.{IsBit, Agrees, known_bit, logic_of, tri_and, tri_or, tri_xor, tri_logic}
+use Rattle.value_bits.specs.BitFacts.{and_bit, or_bit, xor_bit}
 use Rattle.value_bits.specs.Sets.{logic_bits}
 use Rattle.value_bits.specs.Staying.{logic_stays}
 use Rattle.value_bits.proofs.Within.{member_below}
 use Rattle.value_bits.proofs.Known.{known_bit_is, agrees_by_places}
 
-pub and_bit : (a b : Tri) (x y : ℕ) → IsBit a x → IsBit b y → IsBit (tri_and a b) (min x y)
-and_bit Zero b x y h k = omega (arith, h)
-and_bit One Zero x y h k = omega (arith, h, k)
-and_bit One One x y h k = omega (arith, h, k)
-and_bit One Either x y h k = omega (arith, h, k)
-and_bit Either Zero x y h k = omega (arith, h, k)
-and_bit Either One x y h k = omega (arith, h, k)
-and_bit Either Either x y h k = omega (arith, h, k)
-
-pub or_bit : (a b : Tri) (x y : ℕ) → y < 2 → IsBit a x → IsBit b y → IsBit (tri_or a b) (max x y)
-or_bit Zero Zero x y l h k = omega (arith, h, k)
-or_bit Zero One x y l h k = omega (arith, h, k)
-or_bit Zero Either x y l h k = omega (arith, h, k)
-or_bit One b x y l h k = omega (arith, h, l)
-or_bit Either Zero x y l h k = omega (arith, h, k)
-or_bit Either One x y l h k = omega (arith, h, k)
-or_bit Either Either x y l h k = omega (arith, h, k)
-
-pub xor_bit : (a b : Tri) (x y : ℕ) → IsBit a x → IsBit b y → IsBit (tri_xor a b) ((x + y) % 2)
-xor_bit Zero Zero x y h k = omega (arith, h, k)
-xor_bit Zero One x y h k = omega (arith, h, k)
-xor_bit Zero Either x y h k = omega (arith, h, k)
-xor_bit One Zero x y h k = omega (arith, h, k)
-xor_bit One One x y h k = omega (arith, h, k)
-xor_bit One Either x y h k = omega (arith, h, k)
-xor_bit Either b x y h k = omega arith
-
 logic_bit : (logic : Logic) (a b : Tri) (x y place : ℕ) → IsBit a (bit_at x place) → IsBit b (bit_at y place)
     → IsBit (tri_logic logic a b) (bit_at (logic_of logic x y) place)
 logic_bit And a b x y place h k = subst (λ (bit : ℕ). IsBit (tri_and a b) bit) (sym (bit_at_and x y place)) (and_bit a b (bit_at x place) (bit_at y place) h k)
-logic_bit Or a b x y place h k = subst (λ (bit : ℕ). IsBit (tri_or a b) bit) (sym (bit_at_or x y place)) (or_bit a b (bit_at x place) (bit_at y place) (omega arith) h k)
+logic_bit Or a b x y place h k = subst (λ (bit : ℕ). IsBit (tri_or a b) bit) (sym (bit_at_or x y place)) (or_bit a b (bit_at x place) (bit_at y place) h k)
 logic_bit Xor a b x y place h k = subst (λ (bit : ℕ). IsBit (tri_xor a b) bit) (sym (bit_at_xor x y place)) (xor_bit a b (bit_at x place) (bit_at y place) h k)
 
 pub logic_agrees : (w : ℕ) (logic : Logic) (first second : Form) (x y : ℕ) → IsNormal (2 ^ w) first → IsNormal (2 ^ w) second

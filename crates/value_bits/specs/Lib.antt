@@ -7,3 +7,4 @@ pub mod Flags
 pub mod Lefts
 pub mod Order
 pub mod AllFlags
+pub mod BitFacts

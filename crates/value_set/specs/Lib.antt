@@ -12,3 +12,4 @@ pub mod Widening
 pub mod Cutting
 pub mod Summing
 pub mod Widths
+pub mod StepFacts

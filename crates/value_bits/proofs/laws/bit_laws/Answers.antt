@@ -1,9 +1,9 @@
 use Rattle.value_bits.proofs.Agreeing.{agreeing_below}
 use Rattle.value_bits.proofs.Choosing.{chosen_has}
 use Rattle.value_bits.proofs.Known.{agrees_by_places}
-use Rattle.value_bits.proofs.Logics.{and_bit, xor_bit}
 use Rattle.value_bits.proofs.LowPairs.{pair_byte}
-use Rattle.value_bits.proofs.Singly.{bit_below, bit_known, bit_may, bit_not, bit_or, bit_some, bits_any, bits_append, bits_at, bits_drop, bits_put, bits_take, bits_zero, chosen_normal, flag_bit, flag_known, flag_may, flag_not, known_long}
+use Rattle.value_bits.proofs.Singly.{chosen_normal, known_long}
+use Rattle.value_bits.specs.BitFacts.{and_bit, bit_below, bit_known, bit_may, bit_not, bit_some, bits_any, bits_append, bits_at, bits_drop, bits_put, bits_take, bits_zero, flag_bit, flag_known, flag_may, flag_not, or_bit, xor_bit}
 use Rattle.value_bits.proofs.laws.bit_laws.Goals as goal
 
 pub returns : goal.returns
@@ -62,7 +62,7 @@ returns c =
       bit_known = bit_known;
       bit_not = bit_not;
       bit_and = and_bit;
-      bit_or = bit_or;
+      bit_or = or_bit;
       bit_xor = xor_bit;
       bits_at = bits_at;
       bits_put = bits_put;
