@@ -27,7 +27,7 @@ use Rattle.mcs51_decode.specs.declared.instr.Instr.TheVariants.{Nop, AbsoluteJum
 use Rattle.mcs51_decode.specs.Table.{column_0, column_1, column_2, column_3, column_4, column_5, working_columns, row_in, row_at, is_excluded, operand, Row}
 use Rattle.mcs51_decode.specs.Encoding.{register_number, working_column, opcode_of, operand_bytes, bytes_of, length_of}
 use Rattle.mcs51_decode.specs.Fitting.{IsInstr}
-use Rattle.mcs51_decode.proofs.RowLemmas.{told}
+use Rattle.plain_lemmas.specs.Cases.{told}
 
 record IsPlaced (i : Instr) : Type 0 where
   pub code : opcode_of i < 256

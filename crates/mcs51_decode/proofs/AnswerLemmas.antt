@@ -9,7 +9,8 @@ use Rattle.mcs51_decode.specs.declared.refusal.NoInstr.TheVariants.{OffImage, Ex
 use Rattle.mcs51_decode.specs.Table.{row_at, length_at, is_excluded}
 use Rattle.mcs51_decode.specs.Standing.{upward, Stands, Lacks, Decodes}
 use Rattle.mcs51_decode.specs.Decoding.{byte_or_gap, byte_upward, operand_upward, decoded}
-use Rattle.mcs51_decode.proofs.RowLemmas.{row_made, told}
+use Rattle.plain_lemmas.specs.Cases.{told}
+use Rattle.mcs51_decode.proofs.RowLemmas.{row_made}
 
 byte_is : (at : ℕ) (found : Option ℕ) (byte : ℕ) → byte_or_gap at found ≡ Ok byte → found ≡ Some byte
 byte_is at None byte e = absurd (cc)

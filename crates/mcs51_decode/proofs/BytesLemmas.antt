@@ -6,7 +6,8 @@ use Rattle.mcs51_decode.specs.declared.instr.Instr.{Instr}
 use Rattle.mcs51_decode.specs.Table.{row_at, is_excluded, operand, IsRow, Row}
 use Rattle.mcs51_decode.specs.Encoding.{bytes_of, length_of}
 use Rattle.mcs51_decode.specs.Decoding.{instr_of_row, instr_of_opcode, instr_of_bytes}
-use Rattle.mcs51_decode.proofs.RowLemmas.{IsMade, row_made, told}
+use Rattle.plain_lemmas.specs.Cases.{told}
+use Rattle.mcs51_decode.proofs.RowLemmas.{IsMade, row_made}
 
 first_below : (opcode : ℕ) (operands : List ℕ) → All (λ byte. byte < 256) (opcode ∷ operands) → operand operands 0 < 256
 first_below opcode [] h = omega arith

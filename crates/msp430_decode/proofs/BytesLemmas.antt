@@ -3,6 +3,7 @@ use Rattle.std.proofs.Common.{◌≡◌, ℕ, ◌+◌, ◌*◌, ◌/◌, ◌%◌
 use Rattle.std.proofs.lemmas.Bool.Decides.{nat_tests}
 use Rattle.std.proofs.lemmas.List.{get_or_default}
 use Rattle.std.specs.List.{flat_map}
+use Rattle.plain_lemmas.specs.Cases.{told}
 use Rattle.msp430_decode.specs.declared.instr.Source.{Source}
 use Rattle.msp430_decode.specs.declared.instr.Source.TheVariants as source
 use Rattle.msp430_decode.specs.declared.instr.Destination.{Destination}
@@ -16,7 +17,7 @@ use Rattle.msp430_decode.specs.Fields.{instr_of}
 use Rattle.msp430_decode.specs.Decoding.{instr_of_words, instr_of_bytes}
 use Rattle.msp430_decode.proofs.OperandLemmas.{first_of, second_of}
 use Rattle.msp430_decode.proofs.AgainLemmas.{instr_again, allowed_again}
-use Rattle.msp430_decode.proofs.MadeLemmas.{IsMade, instr_made, told}
+use Rattle.msp430_decode.proofs.MadeLemmas.{IsMade, instr_made}
 use Rattle.msp430_decode.proofs.StandLemmas.{made_row}
 
 source_few : (s : Source) → length (source_words s) ≤ 1

@@ -1,5 +1,7 @@
 -- A code and what it stands for name each other.
-use Rattle.std.proofs.Common.{◌≡◌, ℕ, zero, suc, ◌<◌, ◌≤◌, refl, arith}
+use Rattle.std.proofs.Common.{◌≡◌, ℕ, ◌<◌, ◌≤◌, ◌==◌, ◌||◌, nat_lt, Bool, inl, inr, refl, arith}
+use Rattle.std.proofs.lemmas.Bool.{eqb-true, ltb-true, or_cases}
+use Rattle.plain_lemmas.specs.Below.{below_passes}
 use Rattle.msp430_decode.specs.declared.instr.Register.{Register}
 use Rattle.msp430_decode.specs.declared.instr.Register.TheVariants.{Pc, Sp, Sr, R3, R4, R5, R6, R7, R8, R9, R10, R11, R12, R13, R14, R15}
 use Rattle.msp430_decode.specs.declared.instr.Operation.{Operation}
@@ -49,23 +51,7 @@ number_below R14 = (omega arith, omega arith)
 number_below R15 = (omega arith, omega arith)
 
 pub number_of_at : (n : ℕ) → n < 16 → number (register_at n) ≡ n
-number_of_at zero high = refl
-number_of_at (suc zero) high = refl
-number_of_at (suc (suc zero)) high = refl
-number_of_at (suc (suc (suc zero))) high = refl
-number_of_at (suc (suc (suc (suc zero)))) high = refl
-number_of_at (suc (suc (suc (suc (suc zero))))) high = refl
-number_of_at (suc (suc (suc (suc (suc (suc zero)))))) high = refl
-number_of_at (suc (suc (suc (suc (suc (suc (suc zero))))))) high = refl
-number_of_at (suc (suc (suc (suc (suc (suc (suc (suc zero)))))))) high = refl
-number_of_at (suc (suc (suc (suc (suc (suc (suc (suc (suc zero))))))))) high = refl
-number_of_at (suc (suc (suc (suc (suc (suc (suc (suc (suc (suc zero)))))))))) high = refl
-number_of_at (suc (suc (suc (suc (suc (suc (suc (suc (suc (suc (suc zero))))))))))) high = refl
-number_of_at (suc (suc (suc (suc (suc (suc (suc (suc (suc (suc (suc (suc zero)))))))))))) high = refl
-number_of_at (suc (suc (suc (suc (suc (suc (suc (suc (suc (suc (suc (suc (suc zero))))))))))))) high = refl
-number_of_at (suc (suc (suc (suc (suc (suc (suc (suc (suc (suc (suc (suc (suc (suc zero)))))))))))))) high = refl
-number_of_at (suc (suc (suc (suc (suc (suc (suc (suc (suc (suc (suc (suc (suc (suc (suc zero))))))))))))))) high = refl
-number_of_at (suc (suc (suc (suc (suc (suc (suc (suc (suc (suc (suc (suc (suc (suc (suc (suc n)))))))))))))))) high = absurd (omega arith)
+number_of_at n high = eqb-true (number (register_at n)) n (below_passes (λ k. number (register_at k) == k) 16 n refl high)
 
 pub operation_again : (x : Operation) → operation_at (operation_code x) ≡ x
 operation_again Mov = refl
@@ -96,23 +82,12 @@ operation_below Xor = (omega arith, omega arith)
 operation_below And = (omega arith, omega arith)
 
 pub operation_of_at : (n : ℕ) → 4 ≤ n → n < 16 → operation_code (operation_at n) ≡ n
-operation_of_at zero low high = absurd (omega arith)
-operation_of_at (suc zero) low high = absurd (omega arith)
-operation_of_at (suc (suc zero)) low high = absurd (omega arith)
-operation_of_at (suc (suc (suc zero))) low high = absurd (omega arith)
-operation_of_at (suc (suc (suc (suc zero)))) low high = refl
-operation_of_at (suc (suc (suc (suc (suc zero))))) low high = refl
-operation_of_at (suc (suc (suc (suc (suc (suc zero)))))) low high = refl
-operation_of_at (suc (suc (suc (suc (suc (suc (suc zero))))))) low high = refl
-operation_of_at (suc (suc (suc (suc (suc (suc (suc (suc zero)))))))) low high = refl
-operation_of_at (suc (suc (suc (suc (suc (suc (suc (suc (suc zero))))))))) low high = refl
-operation_of_at (suc (suc (suc (suc (suc (suc (suc (suc (suc (suc zero)))))))))) low high = refl
-operation_of_at (suc (suc (suc (suc (suc (suc (suc (suc (suc (suc (suc zero))))))))))) low high = refl
-operation_of_at (suc (suc (suc (suc (suc (suc (suc (suc (suc (suc (suc (suc zero)))))))))))) low high = refl
-operation_of_at (suc (suc (suc (suc (suc (suc (suc (suc (suc (suc (suc (suc (suc zero))))))))))))) low high = refl
-operation_of_at (suc (suc (suc (suc (suc (suc (suc (suc (suc (suc (suc (suc (suc (suc zero)))))))))))))) low high = refl
-operation_of_at (suc (suc (suc (suc (suc (suc (suc (suc (suc (suc (suc (suc (suc (suc (suc zero))))))))))))))) low high = refl
-operation_of_at (suc (suc (suc (suc (suc (suc (suc (suc (suc (suc (suc (suc (suc (suc (suc (suc n)))))))))))))))) low high = absurd (omega arith)
+operation_of_at n low high =
+    let test : ℕ → Bool = λ k. nat_lt k 4 || (operation_code (operation_at k) == k) in
+    elim (or_cases (nat_lt n 4) (operation_code (operation_at n) == n) (below_passes test 16 n refl high)) [
+      | inl less ↦ absurd (omega (arith, ltb-true n 4 less))
+      | inr same ↦ eqb-true (operation_code (operation_at n)) n same
+    ]
 
 pub single_again : (x : SingleOperation) → single_at (single_code x) ≡ x
 single_again Rrc = refl
@@ -131,13 +106,7 @@ single_below Push = (omega arith, omega arith)
 single_below Call = (omega arith, omega arith)
 
 pub single_of_at : (n : ℕ) → n < 6 → single_code (single_at n) ≡ n
-single_of_at zero high = refl
-single_of_at (suc zero) high = refl
-single_of_at (suc (suc zero)) high = refl
-single_of_at (suc (suc (suc zero))) high = refl
-single_of_at (suc (suc (suc (suc zero)))) high = refl
-single_of_at (suc (suc (suc (suc (suc zero))))) high = refl
-single_of_at (suc (suc (suc (suc (suc (suc n)))))) high = absurd (omega arith)
+single_of_at n high = eqb-true (single_code (single_at n)) n (below_passes (λ k. single_code (single_at k) == k) 6 n refl high)
 
 pub condition_again : (x : Condition) → condition_at (condition_code x) ≡ x
 condition_again NotEqual = refl
@@ -160,15 +129,7 @@ condition_below Less = (omega arith, omega arith)
 condition_below Always = (omega arith, omega arith)
 
 pub condition_of_at : (n : ℕ) → n < 8 → condition_code (condition_at n) ≡ n
-condition_of_at zero high = refl
-condition_of_at (suc zero) high = refl
-condition_of_at (suc (suc zero)) high = refl
-condition_of_at (suc (suc (suc zero))) high = refl
-condition_of_at (suc (suc (suc (suc zero)))) high = refl
-condition_of_at (suc (suc (suc (suc (suc zero))))) high = refl
-condition_of_at (suc (suc (suc (suc (suc (suc zero)))))) high = refl
-condition_of_at (suc (suc (suc (suc (suc (suc (suc zero))))))) high = refl
-condition_of_at (suc (suc (suc (suc (suc (suc (suc (suc n)))))))) high = absurd (omega arith)
+condition_of_at n high = eqb-true (condition_code (condition_at n)) n (below_passes (λ k. condition_code (condition_at k) == k) 8 n refl high)
 
 pub width_again : (x : Width) → width_at (width_code x) ≡ x
 width_again Word = refl
@@ -179,6 +140,4 @@ width_below Word = (omega arith, omega arith)
 width_below Byte = (omega arith, omega arith)
 
 pub width_of_at : (n : ℕ) → n < 2 → width_code (width_at n) ≡ n
-width_of_at zero high = refl
-width_of_at (suc zero) high = refl
-width_of_at (suc (suc n)) high = absurd (omega arith)
+width_of_at n high = eqb-true (width_code (width_at n)) n (below_passes (λ k. width_code (width_at k) == k) 2 n refl high)

@@ -4,6 +4,7 @@ use Rattle.std.proofs.lemmas.Bool.Decides.{nat_tests}
 use Rattle.std.proofs.lemmas.List.Elements.{All-get_or}
 use Rattle.std.specs.List.{flat_map}
 use Rattle.image.specs.Image.{IsByte}
+use Rattle.plain_lemmas.specs.Cases.{told}
 use Rattle.msp430_decode.specs.declared.refusal.NoInstr.{NoInstr}
 use Rattle.msp430_decode.specs.declared.refusal.NoInstr.TheVariants.{OffImage}
 use Rattle.msp430_decode.specs.declared.instr.Instr.{Instr}
@@ -12,7 +13,7 @@ use Rattle.msp430_decode.specs.Excluded.{is_excluded}
 use Rattle.msp430_decode.specs.Fields.{instr_of}
 use Rattle.msp430_decode.specs.Standing.{upward, AreThere, Stands, Decodes}
 use Rattle.msp430_decode.specs.Reading.{HasWord, Misses}
-use Rattle.msp430_decode.proofs.MadeLemmas.{instr_made, told}
+use Rattle.msp430_decode.proofs.MadeLemmas.{instr_made}
 use Rattle.msp430_decode.specs.Decoding.{decoded}
 use Rattle.msp430_decode.proofs.UniqueLemmas.{length_row}
 use Rattle.msp430_decode.proofs.DecodedLemmas.{word_there, word_missing, needed_word, unneeded_word, decoded_missing, decoded_excluded, decoded_first, decoded_second, decoded_whole}

@@ -1,6 +1,7 @@
 -- A word that isn't excluded, with extension words, gives an instruction of the table with these words.
-use Rattle.std.proofs.Common.{◌≡◌, ℕ, zero, suc, ◌/◌, ◌%◌, ◌<◌, ◌≤◌, refl, length-append, arith, [], ◌∷◌, ◌++◌, length, take, Bool, true, false, ◌==◌, ◌&&◌, ◌||◌, nat_lt, not, if◌then◌else◌, ◌⊎◌, inl, inr}
+use Rattle.std.proofs.Common.{◌≡◌, ℕ, zero, suc, ◌/◌, ◌%◌, ◌<◌, ◌≤◌, refl, length-append, arith, [], ◌∷◌, ◌++◌, length, take, Bool, true, false, ◌==◌, ◌&&◌, ◌||◌, nat_lt, not, if◌then◌else◌, inl, inr}
 use Rattle.std.proofs.lemmas.Bool.Decides.{nat_tests}
+use Rattle.plain_lemmas.specs.Cases.{told}
 use Rattle.msp430_decode.specs.declared.instr.Register.{Register}
 use Rattle.msp430_decode.specs.declared.instr.Source.{Source}
 use Rattle.msp430_decode.specs.declared.instr.Instr.{Instr}
@@ -128,10 +129,6 @@ single_made w x y low high hx other allowed =
       word_is = rw (s.mode_is, s.register_is, nr, nc, nb) (single_parts w low high);
       words_are = rw (source_word m r x hm) (one_word (takes_word (source_of m r 0)) x y);
     })
-
-pub told : (b : Bool) → (b ≡ true) ⊎ (b ≡ false)
-told true = inl refl
-told false = inr refl
 
 jump_made : (w x y : ℕ) → 0x2000 ≤ w → w < 0x4000 → IsMade w x y (jump_of w)
 unfolding jump_of
