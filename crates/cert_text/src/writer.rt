@@ -15,11 +15,10 @@ use crate::laws::nodes_of_books_are_formed;
 use call_context::Node;
 use no_memory::Memory;
 use node_fields::push_node;
-use report_text::PrintError;
 use round_core::{Book, tests_tell_which_are_one};
 use state_text::LawfulText;
 use std::alloc::{AllocError, Global};
-use vsa_io::{Sink, write_all};
+use vsa_io::{PrintError, Sink, write_all};
 
 /// A node and its state as they are written.
 fn written<C: LawfulText>(

@@ -25,5 +25,6 @@ pub use laws::{
     closed_reports_are_of_tables, closed_reports_cover_runs, closed_works_cover_runs,
     open_reports_show_sites, reports_have_no_order, reports_show_tables,
 };
-pub use print::{PrintError, print_book, print_closed};
+pub use print::{print_book, print_closed};
 pub use report::{Report, closed_report_of, report_of};
+pub use vsa_io::PrintError;

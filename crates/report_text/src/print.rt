@@ -10,29 +10,9 @@ ghost use Rattle.vsa_io.specs.Stream.{AppendsPrefix, HasRisen, appended};
 use crate::report::{closed_report_of, report_of};
 use chip_law::{ChipText, LawfulChip};
 use closing_law::ClosedBook;
-use no_memory::Memory;
 use round_core::Book;
 use std::alloc::Global;
-use vsa_io::{Sink, write_all};
-
-/// Why a report isn't printed.
-#[derive(Clone, Copy, Debug, PartialEq, Eq)]
-pub enum PrintError {
-    /// The sink failed. A prefix of the report may stand there.
-    Write,
-    /// Memory was refused. Nothing was written.
-    Memory,
-}
-
-impl From<Memory> for PrintError {
-    ghost use Rattle.report_text.specs.declared.print.PrintError.TheVariants as print_error;
-
-    ghost from_gives = { λ _ e. e ≡ print_error.Memory };
-
-    fn from(_error: Memory) -> PrintError {
-        PrintError::Memory
-    }
-}
+use vsa_io::{PrintError, Sink, write_all};
 
 /// Writes a text, of which a prefix stands where the sink fails.
 fn put_text<K: Sink>(sink: &mut K, text: &[u8]) -> Result<(), PrintError>

@@ -32,6 +32,6 @@ mod stream;
 pub use memory_sinks::{CleanSink, MemSink};
 pub use memory_sources::{CleanSource, MemSource};
 pub use no_memory::Memory;
-pub use refusal::Failed;
+pub use refusal::{Failed, PrintError};
 pub use standard::{StdinSource, StdoutSink};
 pub use stream::{Sink, Source, write_all};
