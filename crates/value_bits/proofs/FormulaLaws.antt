@@ -1,7 +1,7 @@
 -- The sets of the formulas are in normal form, and have the result of each combination of members.
 use Rattle.std.proofs.Common.{◌≡◌, ℕ, ◌+◌, ◌-◌, ◌*◌, ◌^◌, ◌<◌, ◌≤◌, ◌++◌, ◌&&◌, Bool, true, false, cond, IsFalse, List, [], ◌∷◌, map, length, take, drop, replicate, get_or, refl, sym, ap, subst, inl, inr, arith}
 use Rattle.std.proofs.Math.Nat.{pow-suc, mod-lt}
-use Rattle.std.proofs.lemmas.Bool.{cases_lt}
+use Rattle.std.proofs.lemmas.Bool.{cases_lt, and_parts}
 use Rattle.std.proofs.lemmas.Nat.{pow_pos, pow-add}
 use Rattle.std.proofs.lemmas.List.{length-map, length-append, length-take-le, length-drop, length-replicate}
 use Rattle.std.proofs.lemmas.List.FromFn.{length-map-range_with_len}
@@ -22,16 +22,17 @@ use Rattle.value_bits.specs.Bits.{IsBit, Agrees, known_bit, known_bits, filled, 
 use Rattle.value_bits.specs.Sets.{chosen, any, combine_or, logic_bits, logic_set, IsTop, top_answer, shift_answer, top_carry, top_bit, shift_bits, shift_set, exchange_set, sign_extend_set, low_set, high_set, words, pair_set, are_decimal, decimal_add_set, decimal_adjust_set}
 use Rattle.value_bits.specs.Lefts.{IsLowest, lowest_answer, left_answer, lowest_carry, left_bits, left_set}
 use Rattle.value_bits.specs.Staying.{lowest_answer_below, left_below, logic_stays, top_answer_below, shifted_below, exchanged_below, sign_stays, digits_below, adjusted_below}
-use Rattle.value_bits.proofs.Within.{IsIn, in_from_Contains, Contains_from_in, in_map, in_mapped, in_flat}
 use Rattle.value_bits.proofs.Fillings.{AllBelow, numbers_below, few_numbers}
 use Rattle.value_bits.proofs.Agreeing.{numbers_have, run_has, few_value, many_value}
 use Rattle.value_bits.proofs.Known.{known_agrees}
 use Rattle.value_bits.proofs.Logics.{logic_agrees}
 use Rattle.value_bits.proofs.Moves.{left_agrees, shift_agrees, exchange_agrees, sign_agrees, low_agrees, high_agrees, pair_agrees}
 use Rattle.value_bits.proofs.Choosing.{combine_few, combine_many, single_has, chosen_has, lowest_choice, top_choice}
-use Rattle.value_bits.proofs.Halves.{low_few, low_many, high_few, high_many, pair_few, pair_many, words_have, words_some}
+use Rattle.value_bits.proofs.HalfSets.{low_few, low_many, high_few, high_many, pair_few, pair_many, words_have, words_some}
 use Rattle.value_bits.proofs.Decimals.{decimal_member}
+use Rattle.value_bits.proofs.Singly.{chosen_normal, known_long}
 use Rattle.value_set.specs.Laws.{SetLaws}
+use Rattle.value_set.specs.ListFacts.{IsIn, in_from_Contains, Contains_from_in, in_map, in_mapped, in_flat}
 
 -- ---- the set of some bits
 
@@ -70,8 +71,8 @@ bits_have laws w bits v long agrees = elim (cases_lt 4 (unknown_count bits)) [
       (run_has w bits v long agrees))
 ]
 
-known_long : (w : ℕ) (set : Form) → length (known_bits w set) ≡ w
-known_long w set = length-map-range_with_len (λ (place : ℕ). known_bit w place set) 0 w
+pub logic_long : (w : ℕ) (logic : Logic) (a b : Form) → length (logic_bits w logic a b) ≡ w
+logic_long w logic a b = length-map-range_with_len (λ (place : ℕ). tri_logic logic (known_bit w place a) (known_bit w place b)) 0 w
 
 -- ---- all results, or another set
 
@@ -110,14 +111,14 @@ pub logic_normal : SetLaws → (w : ℕ) (logic : Logic) (a b : Form) → IsNorm
 unfolding logic_set
 logic_normal laws w logic a b n k =
     choose_normal laws (2 ^ w) (λ x y z. logic_of logic x y) a b (single 0) (from_bits w (logic_bits w logic a b)) n k (omega arith) (logic_kept w logic)
-    (bits_normal laws w (logic_bits w logic a b) (length-map-range_with_len (λ (place : ℕ). tri_logic logic (known_bit w place a) (known_bit w place b)) 0 w))
+    (bits_normal laws w (logic_bits w logic a b) (logic_long w logic a b))
 
 pub logic_has : SetLaws → (w : ℕ) (logic : Logic) (a b : Form) (x y : ℕ) → IsNormal (2 ^ w) a → IsNormal (2 ^ w) b → Has (2 ^ w) a x → Has (2 ^ w) b y
     → Has (2 ^ w) (logic_set w logic a b) (logic_of logic x y)
 unfolding logic_set
 logic_has laws w logic a b x y n k h i =
     choose_has laws (2 ^ w) (λ x y z. logic_of logic x y) a b (single 0) (from_bits w (logic_bits w logic a b)) x y 0 n k (logic_kept w logic) h i (single_has (2 ^ w) 0)
-    (bits_have laws w (logic_bits w logic a b) (logic_of logic x y) (length-map-range_with_len (λ (place : ℕ). tri_logic logic (known_bit w place a) (known_bit w place b)) 0 w)
+    (bits_have laws w (logic_bits w logic a b) (logic_of logic x y) (logic_long w logic a b)
     (logic_agrees w logic a b x y n k h i))
 
 -- ---- halves
@@ -211,7 +212,7 @@ exchange_kept : (half : ℕ) → Stays (2 ^ (half + half)) (λ x y z. exchanged 
 exchange_kept half x y z h k = let square : 2 ^ (half + half) ≡ 2 ^ half * 2 ^ half = pow-add 2 half half in
     subst (λ (n : ℕ). exchanged (2 ^ half) x < n) (sym square) (exchanged_below (2 ^ half) x (subst (λ (n : ℕ). x < n) square h))
 
-exchange_long : (half : ℕ) (set : Form) → length (drop half (known_bits (half + half) set) ++ take half (known_bits (half + half) set)) ≡ half + half
+pub exchange_long : (half : ℕ) (set : Form) → length (drop half (known_bits (half + half) set) ++ take half (known_bits (half + half) set)) ≡ half + half
 exchange_long half set = let bits = known_bits (half + half) set in let long = known_long (half + half) set in
     omega (arith, long, length-append (drop half bits) (take half bits), length-drop half bits, length-take-le half bits (omega (arith, long)))
 
@@ -261,7 +262,7 @@ top_some m (Put given) = chosen_some m given
 shift_kept : (place : ℕ) (top : Top) → Stays (2 ^ (place + 1)) (shift_answer place top)
 shift_kept place top x y z h k = shifted_below place x (top_answer place top x z) h (top_answer_below place top x z)
 
-shift_long : (place : ℕ) (set : Form) (top : Top) → length (shift_bits place top (known_bits (place + 1) set)) ≡ place + 1
+pub shift_long : (place : ℕ) (set : Form) (top : Top) → length (shift_bits place top (known_bits (place + 1) set)) ≡ place + 1
 shift_long place set top = let bits = known_bits (place + 1) set in
     omega (arith, known_long (place + 1) set, length-append (drop 1 bits) (top_bit place top bits ∷ []), length-drop 1 bits)
 
@@ -289,7 +290,7 @@ lowest_some m (Given given) = chosen_some m given
 left_kept : (place : ℕ) (lowest : Lowest) → Stays (2 ^ (place + 1)) (left_answer place lowest)
 left_kept place lowest x y z h k = left_below place x (lowest_answer place lowest x z) (lowest_answer_below place lowest x z)
 
-left_long : (place : ℕ) (set : Form) (lowest : Lowest) → length (left_bits place lowest (known_bits (place + 1) set)) ≡ place + 1
+pub left_long : (place : ℕ) (set : Form) (lowest : Lowest) → length (left_bits place lowest (known_bits (place + 1) set)) ≡ place + 1
 left_long place set lowest = let bits = known_bits (place + 1) set in let long = known_long (place + 1) set in
     omega (arith, length-take-le place bits (omega (arith, long)))
 
@@ -338,25 +339,16 @@ decimal_add_has laws digits a b carry x y bit n k h i is = let m = 16 ^ digits i
     (λ _. choose_has laws m (decimal_sum digits) a b (chosen carry) (any m) x y bit n k (decimal_kept digits) h i (chosen_has m bit carry is) all)
     (λ _. all)
 
-both_true : (a b : Bool) → (a && b) ≡ true → (a ≡ true) × (b ≡ true)
-both_true true b h = (refl, h)
-both_true false b h = absurd (cc h)
-
 pub decimal_add_free : SetLaws → (digits : ℕ) (a b : Form) (carry : Tri) (x y v : ℕ) → Has (16 ^ digits) a x → Has (16 ^ digits) b y
     → IsFalse (is_decimal digits x && is_decimal digits y) → v < 16 ^ digits → Has (16 ^ digits) (decimal_add_set digits a b carry) v
 unfolding decimal_add_set
 decimal_add_free laws digits a b carry x y v h i unclear below = let m = 16 ^ digits in
     either_way (λ s. Has m s v) (are_decimal digits a && are_decimal digits b) (combine_or m (decimal_sum digits) a b (chosen carry) (any m)) (any m)
-    (λ all. let each = both_true (are_decimal digits a) (are_decimal digits b) all in
+    (λ all. let each = and_parts (are_decimal digits a) (are_decimal digits b) all in
     let first : is_decimal digits x ≡ true = decimal_member digits x a each.0 h in
     let second : is_decimal digits y ≡ true = decimal_member digits y b each.1 i in
     absurd (cc (first, second, unclear)))
     (λ _. laws.whole m v below)
-
-chosen_normal : (m : ℕ) (b : Tri) → 1 < m → IsNormal m (chosen b)
-chosen_normal m Zero h = (omega arith, omega arith, (omega arith, omega arith, tt))
-chosen_normal m One h = (omega arith, omega arith, (omega arith, h, tt))
-chosen_normal m Either h = (omega arith, omega arith, (omega arith, omega arith, (omega arith, h, tt)))
 
 adjust_kept : Stays 256 decimal_adjusted
 adjust_kept x y z h k = adjusted_below x y z

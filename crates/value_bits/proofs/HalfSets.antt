@@ -12,11 +12,11 @@ use Rattle.value_set.specs.declared.form.Form.TheVariants.{Values, Run}
 use Rattle.value_set.specs.Form.{Has, members, gather, set_of, put}
 use Rattle.value_set.specs.Widths.{IsByteList}
 use Rattle.value_set.specs.Summing.{single}
+use Rattle.value_set.specs.ListFacts.{IsIn, in_from_Contains, Contains_from_in, in_map, in_flat_map}
 use Rattle.value_bits.specs.declared.tri.Tri.{Tri}
 use Rattle.chip_numbers.specs.Numbers.{low_byte, high_byte, word_of}
 use Rattle.value_bits.specs.Bits.{known_bits, from_bits}
 use Rattle.value_bits.specs.Sets.{low_set, high_set, words, pair_set}
-use Rattle.value_bits.proofs.Within.{IsIn, in_from_Contains, Contains_from_in, in_map, in_flat_map}
 
 pub gathered_one : (m v : ℕ) → gather m (v ∷ []) ≡ single v
 unfolding set_of put

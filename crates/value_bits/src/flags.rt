@@ -2,14 +2,16 @@
 
 ghost use Rattle.std.specs.Prelude.{◌≡◌, ℕ, ◌+◌, ◌-◌, ◌*◌, ◌<◌, ◌≤◌, ◌↔◌, IsTrue, Bool, All, length};
 ghost use Rattle.std.specs.List.{list_all};
-ghost use Rattle.value_set.specs.Form.{IsNormal, IsNormalRun, members, steps};
+ghost use Rattle.value_set.specs.Form.{Has, IsNormal, IsNormalRun, members, steps};
 ghost use Rattle.value_set.specs.Summing.{count_of};
-ghost use Rattle.value_bits.specs.Bits.{choices};
+ghost use Rattle.value_bits.specs.Bits.{IsBit, choices};
 ghost use Rattle.value_bits.specs.Sets.{chosen};
 ghost use Rattle.value_bits.specs.Flags as flags;
+ghost use Rattle.value_bits.specs.Flags.{IsFlag};
 
 use crate::tri::Tri;
 use arrayvec::ArrayVec;
+use value_set::sets::count;
 use value_set::{Form, Progression};
 
 /// How many combinations are looked at.
@@ -27,6 +29,23 @@ pub trait Flag {
         requires y_below { y < modulus self.now }
         requires carry_below { carry < modulus self.now }
         ensures { result ≡ value self.now x y carry };
+}
+
+/// What is known of a flag over each member of a set with each of another and a carry: known where at most 256
+/// combinations agree. An unknown carry counts as two.
+pub fn agreed<F: Flag>(modulus: u32, flag: &F, first: &Form, second: &Form, carry: Tri) -> Tri
+    requires small { modulus ≤ 65536 }
+    requires wide { 2 ≤ modulus }
+    requires first_normal { IsNormal modulus first.now }
+    requires second_normal { IsNormal modulus second.now }
+    requires width { F.modulus flag.now ≡ modulus }
+    ensures value { result ≡ flags.agreed modulus (F.value flag.now) first.now second.now (chosen carry) }
+    ensures holds { (x y bit : ℕ) → Has modulus first.now x → Has modulus second.now y → IsBit carry bit → IsFlag result (F.value flag.now x y bit) }
+{
+    if !are_few(count(modulus, first), count(modulus, second), carry) {
+        return Tri::Either;
+    }
+    agreed_few(modulus, flag, first, second, carry)
 }
 
 /// Whether there are at most 256 combinations of so many members with a carry.
