@@ -129,6 +129,13 @@ unfolding steps
 some_of m (Values xs) n = n.0
 some_of m (Run p) n = let long = n.long in omega (arith, long, length-map-range_with_len (λ (i : ℕ). (p.base + i * p.stride) % m) 0 p.count)
 
+-- where there are few combinations with some carries, each of two sets has few members
+pub few_of_each : (m carries : ℕ) (first second : Form) → IsNormal m first → IsNormal m second → 1 ≤ carries
+    → count_of m first * (count_of m second * carries) ≤ 256 → (count_of m first ≤ 256) × (count_of m second ≤ 256)
+few_of_each m carries first second n k some few =
+    let each = few_each (count_of m first) (count_of m second) carries few (some_of m first n) (some_of m second k) some in
+    (each.0, each.1)
+
 pub run_count : (m : ℕ) (set : Form) (p : Progression) → set ≡ Run p → count_of m set ≡ p.count
 unfolding steps
 run_count m set p is = rw is (length-map-range_with_len (λ (i : ℕ). (p.base + i * p.stride) % m) 0 p.count)
@@ -140,15 +147,6 @@ positive m (Run p) n = let low = n.below in omega (arith, low)
 
 pub members_below : (m : ℕ) (set : Form) → IsNormal m set → All (λ n. n < m) (members m set)
 members_below m set n = λ k d short. member_below m (get_or (members m set) k d) set (positive m set n) n (Contains-get_or (members m set) k d short)
-
-pub listed_values : (m : ℕ) (set : Form) (xs items : List ℕ) → IsNormal m set → set ≡ Values xs → items ≡ xs → (1 ≤ length items) × All (λ n. n < m) items
-listed_values m set xs items n is same =
-    subst (λ (ys : List ℕ). (1 ≤ length ys) × All (λ n. n < m) ys) (sym (same ∙ ap (members m) (sym is))) (some_of m set n, members_below m set n)
-
-pub listed_run : (m : ℕ) (set : Form) (p : Progression) (items : List ℕ) → IsNormal m set → set ≡ Run p → items ≡ steps m p.base p.stride p.count
-    → (1 ≤ length items) × All (λ n. n < m) items
-listed_run m set p items n is same =
-    subst (λ (ys : List ℕ). (1 ≤ length ys) × All (λ n. n < m) ys) (sym (same ∙ ap (members m) (sym is))) (some_of m set n, members_below m set n)
 
 pub agreed_chosen : (m : ℕ) (flag : ℕ → ℕ → ℕ → Bool) (a b : Form) (carry bit : Tri) (zs : List ℕ) → count_of m a * (count_of m b * length (choices carry)) ≤ 256
     → carry ≡ bit → zs ≡ choices bit → agreed_of flag (members m a) (members m b) zs ≡ agreed m flag a b (chosen carry)

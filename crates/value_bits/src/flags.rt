@@ -79,14 +79,14 @@ pub fn agreed_few<F: Flag>(modulus: u32, flag: &F, first: &Form, second: &Form, 
     ensures { result ≡ flags.agreed modulus (F.value flag.now) first.now second.now (chosen carry) }
 {
     match carry {
-        Tri::Zero => agreed_first(modulus, flag, first, second, [0].as_slice()),
-        Tri::One => agreed_first(modulus, flag, first, second, [1].as_slice()),
-        Tri::Either => agreed_first(modulus, flag, first, second, [0, 1].as_slice()),
+        Tri::Zero => agreed_listed(modulus, flag, first, second, [0].as_slice()),
+        Tri::One => agreed_listed(modulus, flag, first, second, [1].as_slice()),
+        Tri::Either => agreed_listed(modulus, flag, first, second, [0, 1].as_slice()),
     }
 }
 
-/// Lists the members of the first set.
-fn agreed_first<F: Flag>(
+/// Lists the members once.
+fn agreed_listed<F: Flag>(
     modulus: u32,
     flag: &F,
     first: &Form,
@@ -102,34 +102,9 @@ fn agreed_first<F: Flag>(
     requires few { count_of modulus first.now * (count_of modulus second.now * length carries.now) ≤ 256 }
     ensures { result ≡ flags.agreed_of (F.value flag.now) (members modulus first.now) (members modulus second.now) carries.now }
 {
-    match first {
-        Form::Values(values) => agreed_second(modulus, flag, values.as_slice(), second, carries),
-        Form::Run(run) => {
-            let values = stepped(modulus, run);
-            agreed_second(modulus, flag, values.as_slice(), second, carries)
-        }
-    }
-}
-
-/// Lists the members of the second set.
-fn agreed_second<F: Flag>(modulus: u32, flag: &F, xs: &[u16], second: &Form, carries: &[u16]) -> Tri
-    requires small { modulus ≤ 65536 }
-    requires second_normal { IsNormal modulus second.now }
-    requires second_few { count_of modulus second.now ≤ 256 }
-    requires width { F.modulus flag.now ≡ modulus }
-    requires xs_below { All (λ n. n < modulus) xs.now }
-    requires xs_some { 1 ≤ length xs.now }
-    requires carries_below { All (λ n. n < modulus) carries.now }
-    requires carries_some { 1 ≤ length carries.now }
-    ensures { result ≡ flags.agreed_of (F.value flag.now) xs.now (members modulus second.now) carries.now }
-{
-    match second {
-        Form::Values(values) => agreed_of(modulus, flag, xs, values.as_slice(), carries),
-        Form::Run(run) => {
-            let values = stepped(modulus, run);
-            agreed_of(modulus, flag, xs, values.as_slice(), carries)
-        }
-    }
+    let xs = listed(modulus, first);
+    let ys = listed(modulus, second);
+    agreed_of(modulus, flag, xs.as_slice(), ys.as_slice(), carries)
 }
 
 /// The members of a set of at most 256, in order.
