@@ -124,14 +124,11 @@ pub fn decimal_add_set(digits: u32, a: &Form, b: &Form, carry: Tri) -> Form
     ensures { result ≡ sets.decimal_add_set digits a.now b.now carry }
 {
     let modulus = power_of_sixteen(digits);
+    if !both_decimal(modulus, digits, a, b) {
+        return any(modulus);
+    }
     match combined(modulus, &DecimalSum { digits }, a, b, &chosen(carry)) {
-        Some(sums) => {
-            if both_decimal(modulus, digits, a, b) {
-                sums
-            } else {
-                any(modulus)
-            }
-        }
+        Some(sums) => sums,
         None => any(modulus),
     }
 }
