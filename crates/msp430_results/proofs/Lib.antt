@@ -1,6 +1,6 @@
 pub mod FlagLemmas
 pub mod Carries
 pub mod Rows
-pub mod DecimalLemmas
 pub mod Differences
 pub mod Twice
+pub mod Twos

@@ -18,10 +18,10 @@ ghost use Rattle.value_bits.specs.Pointwise.{each_with};
 ghost use Rattle.msp430_results.specs.FlagSets as flag_sets;
 ghost use Rattle.msp430_results.specs.Results as results;
 
-use crate::decimal::is_decimal;
 use msp430_decode::Width;
+use value_bits::decimal::are_decimal;
 use value_bits::{AllFlags, FourKnown, Top, Tri, w8, w16};
-use value_set::{Form, Operation, Vs8, Vs16, set_laws};
+use value_set::{Few, Form, Operation, Vs8, Vs16, set_laws};
 
 /// Sets of words, or sets of bytes.
 pub(crate) trait Sets: Copy {
@@ -150,52 +150,14 @@ fn clear(held: &mut [Tri], others: &[Tri])
     }
 }
 
-/// The set of two words.
-fn two_words(low: u16, high: u16) -> Vs16
+/// The set of two numbers.
+#[tactic(auto, using(crate::proofs::Twos::two_normal))]
+fn two(low: u16, high: u16) -> Form
     requires { low < high }
-    ensures { result ≡ the_form.Values (low ∷ high ∷ []) }
+    ensures value { result ≡ the_form.Values (low ∷ high ∷ []) }
+    ensures normal { (m : ℕ) → high < m → IsNormal m result }
 {
-    set_laws();
-    match Vs16::gather(&[low, high]) {
-        Some(set) => set,
-        None => unreachable!(),
-    }
-}
-
-/// The set of two bytes.
-fn two_bytes(low: u8, high: u8) -> Vs8
-    requires { low < high }
-    ensures { result ≡ the_form.Values (low ∷ high ∷ []) }
-{
-    set_laws();
-    match Vs8::gather(&[low, high]) {
-        Some(set) => set,
-        None => unreachable!(),
-    }
-}
-
-/// Whether each digit of each word is at most 9.
-fn are_decimal_words(words: &Vs16) -> bool
-    ensures { result ≡ sets.are_decimal 4 words.now }
-{
-    for place in 0..words.count() {
-        if !is_decimal(4, words.nth(place)) {
-            return false;
-        }
-    }
-    true
-}
-
-/// Whether each digit of each byte is at most 9.
-fn are_decimal_bytes(bytes: &Vs8) -> bool
-    ensures { result ≡ sets.are_decimal 2 bytes.now }
-{
-    for place in 0..bytes.count() {
-        if !is_decimal(2, bytes.nth(place) as u16) {
-            return false;
-        }
-    }
-    true
+    Form::Values(Few::from_slice([low, high].as_slice()))
 }
 
 impl Sets for Vs16 {
@@ -213,7 +175,7 @@ impl Sets for Vs16 {
         match bit {
             Tri::Zero => Vs16::one(0),
             Tri::One => Vs16::one(1),
-            Tri::Either => two_words(0, 1),
+            Tri::Either => Vs16::from_form(two(0, 1)),
         }
     }
 
@@ -221,7 +183,7 @@ impl Sets for Vs16 {
         match carry {
             Tri::Zero => Vs16::one(0xFFFF),
             Tri::One => Vs16::one(0),
-            Tri::Either => two_words(0, 0xFFFF),
+            Tri::Either => Vs16::from_form(two(0, 0xFFFF)),
         }
     }
 
@@ -272,7 +234,7 @@ impl Sets for Vs16 {
     }
 
     fn are_decimal(&self) -> bool {
-        are_decimal_words(self)
+        are_decimal(65536, 4, &self.form())
     }
 
     fn is_few(first: &Self, second: &Self, carry: &Self) -> bool {
@@ -329,7 +291,7 @@ impl Sets for Vs8 {
         match bit {
             Tri::Zero => Vs8::one(0),
             Tri::One => Vs8::one(1),
-            Tri::Either => two_bytes(0, 1),
+            Tri::Either => Vs8::from_form(two(0, 1)),
         }
     }
 
@@ -337,7 +299,7 @@ impl Sets for Vs8 {
         match carry {
             Tri::Zero => Vs8::one(0xFF),
             Tri::One => Vs8::one(0),
-            Tri::Either => two_bytes(0, 0xFF),
+            Tri::Either => Vs8::from_form(two(0, 0xFF)),
         }
     }
 
@@ -388,7 +350,7 @@ impl Sets for Vs8 {
     }
 
     fn are_decimal(&self) -> bool {
-        are_decimal_bytes(self)
+        are_decimal(256, 2, &self.form())
     }
 
     fn is_few(first: &Self, second: &Self, carry: &Self) -> bool {

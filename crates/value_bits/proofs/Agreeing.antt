@@ -8,10 +8,11 @@ use Rattle.std.proofs.lemmas.Nat.{pow_pos, le-div}
 use Rattle.std.proofs.lemmas.List.Sums.{sum_by-cons}
 use Rattle.value_set.specs.declared.form.Form.{Form}
 use Rattle.value_set.specs.Form.{steps, make, gather}
+use Rattle.value_set.specs.ListFacts.{IsIn, Contains_from_in}
 use Rattle.value_bits.specs.declared.tri.Tri.{Tri}
 use Rattle.value_bits.specs.declared.tri.Tri.TheVariants.{Zero, One, Either}
 use Rattle.value_bits.specs.Bits.{IsBit, Agrees, filled, least, greatest, choices, numbers, unknown_count, is_unknown, lowest_unknown, from_bits}
-use Rattle.value_bits.proofs.Within.{IsIn, Contains_from_in, steps_has}
+use Rattle.value_bits.proofs.Within.{steps_has}
 
 -- ---- few bits are unknown
 

@@ -1,9 +1,9 @@
 -- What is known of a flag over all combinations of members.
-use Rattle.std.proofs.Common.{◌≡◌, ℕ, ◌+◌, ◌*◌, ◌%◌, ◌<◌, ◌≤◌, ◌++◌, get_or, Bool, true, false, cond, List, [], ◌∷◌, length, refl, sym, ◌∙◌, ap, subst, inl, inr, arith}
+use Rattle.std.proofs.Common.{◌≡◌, ℕ, ◌+◌, ◌*◌, ◌%◌, ◌<◌, ◌≤◌, get_or, Bool, true, false, cond, List, [], ◌∷◌, length, refl, sym, ◌∙◌, ap, subst, inl, inr, arith}
 use Rattle.std.specs.List.{All, list_all}
 use Rattle.std.proofs.lemmas.Nat.{mul-le}
 use Rattle.std.proofs.lemmas.List.Elements.{Contains-get_or}
-use Rattle.std.proofs.lemmas.List.FromFn.{length-map-range_with_len, map-range_with_len_more}
+use Rattle.std.proofs.lemmas.List.FromFn.{length-map-range_with_len}
 use Rattle.std.proofs.lemmas.Bool.{cases_lt, cases_Bool, le-leb, lt-leb}
 use Rattle.value_set.specs.declared.form.Progression.{Progression}
 use Rattle.value_set.specs.declared.form.Form.{Form}
@@ -16,7 +16,8 @@ use Rattle.value_bits.specs.Bits.{choices}
 use Rattle.value_bits.specs.Sets.{chosen}
 use Rattle.value_bits.specs.Flags.{IsFlag, has_value, each_has, agreed_of, agreed}
 use Rattle.value_set.specs.Laws.{SetLaws}
-use Rattle.value_bits.proofs.Within.{IsIn, in_from_Contains, Contains_from_in, list_all_in, member_below}
+use Rattle.value_set.specs.ListFacts.{IsIn, in_from_Contains, Contains_from_in, list_all_in, all_in}
+use Rattle.value_bits.proofs.Within.{member_below}
 
 value_had : (wanted flag : Bool) → has_value wanted flag ≡ true → flag ≡ wanted
 value_had true flag h = h
@@ -27,10 +28,6 @@ had_value : (wanted flag : Bool) → flag ≡ wanted → has_value wanted flag �
 had_value true flag h = h
 had_value false true h = sym h
 had_value false false h = refl
-
-all_in : (p : ℕ → Bool) (xs : List ℕ) → ((v : ℕ) → IsIn v xs → p v ≡ true) → list_all p xs ≡ true
-all_in p [] each = refl
-all_in p (x ∷ xs) each = let here = each x (inl refl) in rw here (all_in p xs (λ v i. each v (inr i)))
 
 pub each_has_in : (wanted : Bool) (flag : ℕ → ℕ → ℕ → Bool) (xs ys zs : List ℕ) (x y z : ℕ) → each_has wanted flag xs ys zs ≡ true → IsIn x xs → IsIn y ys → IsIn z zs → flag x y z ≡ wanted
 each_has_in wanted flag xs ys zs x y z h i j k =
@@ -132,6 +129,13 @@ unfolding steps
 some_of m (Values xs) n = n.0
 some_of m (Run p) n = let long = n.long in omega (arith, long, length-map-range_with_len (λ (i : ℕ). (p.base + i * p.stride) % m) 0 p.count)
 
+-- where there are few combinations with some carries, each of two sets has few members
+pub few_of_each : (m carries : ℕ) (first second : Form) → IsNormal m first → IsNormal m second → 1 ≤ carries
+    → count_of m first * (count_of m second * carries) ≤ 256 → (count_of m first ≤ 256) × (count_of m second ≤ 256)
+few_of_each m carries first second n k some few =
+    let each = few_each (count_of m first) (count_of m second) carries few (some_of m first n) (some_of m second k) some in
+    (each.0, each.1)
+
 pub run_count : (m : ℕ) (set : Form) (p : Progression) → set ≡ Run p → count_of m set ≡ p.count
 unfolding steps
 run_count m set p is = rw is (length-map-range_with_len (λ (i : ℕ). (p.base + i * p.stride) % m) 0 p.count)
@@ -144,22 +148,9 @@ positive m (Run p) n = let low = n.below in omega (arith, low)
 pub members_below : (m : ℕ) (set : Form) → IsNormal m set → All (λ n. n < m) (members m set)
 members_below m set n = λ k d short. member_below m (get_or (members m set) k d) set (positive m set n) n (Contains-get_or (members m set) k d short)
 
-pub listed_values : (m : ℕ) (set : Form) (xs items : List ℕ) → IsNormal m set → set ≡ Values xs → items ≡ xs → (1 ≤ length items) × All (λ n. n < m) items
-listed_values m set xs items n is same =
-    subst (λ (ys : List ℕ). (1 ≤ length ys) × All (λ n. n < m) ys) (sym (same ∙ ap (members m) (sym is))) (some_of m set n, members_below m set n)
-
-pub listed_run : (m : ℕ) (set : Form) (p : Progression) (items : List ℕ) → IsNormal m set → set ≡ Run p → items ≡ steps m p.base p.stride p.count
-    → (1 ≤ length items) × All (λ n. n < m) items
-listed_run m set p items n is same =
-    subst (λ (ys : List ℕ). (1 ≤ length ys) × All (λ n. n < m) ys) (sym (same ∙ ap (members m) (sym is))) (some_of m set n, members_below m set n)
-
 pub agreed_chosen : (m : ℕ) (flag : ℕ → ℕ → ℕ → Bool) (a b : Form) (carry bit : Tri) (zs : List ℕ) → count_of m a * (count_of m b * length (choices carry)) ≤ 256
     → carry ≡ bit → zs ≡ choices bit → agreed_of flag (members m a) (members m b) zs ≡ agreed m flag a b (chosen carry)
 agreed_chosen m flag a b carry bit zs few is same = rw (same ∙ ap choices (sym is)) (sym (agreed-few m flag a b (chosen carry) few))
-
-pub steps_more : (m base stride count : ℕ) → steps m base stride (count + 1) ≡ steps m base stride count ++ (base + count * stride) % m ∷ []
-unfolding steps
-steps_more m base stride count = map-range_with_len_more (λ (i : ℕ). (base + i * stride) % m) 0 count count (omega arith)
 
 pub steps_none : (m base stride : ℕ) → [] ≡ steps m base stride 0
 unfolding steps

@@ -9,11 +9,13 @@ use Rattle.value_set.specs.declared.form.Form.{Form}
 use Rattle.value_set.specs.declared.form.Form.TheVariants.{Values, Run}
 use Rattle.value_set.specs.Form.{Ascends, Has, IsNormal, members}
 use Rattle.value_set.specs.Summing.{count_of, single}
+use Rattle.value_set.specs.ListFacts.{IsIn, in_from_Contains, Contains_from_in}
+use Rattle.value_set.specs.StepFacts.{steps_from}
 use Rattle.value_bits.specs.declared.tri.Tri.{Tri}
 use Rattle.value_bits.specs.declared.tri.Tri.TheVariants.{Zero, One, Either}
 use Rattle.value_bits.specs.Flags.{IsFlag, each_has, agreed}
 use Rattle.value_bits.specs.Order.{IsEnds}
-use Rattle.value_bits.proofs.Within.{IsIn, in_from_Contains, Contains_from_in, in_steps, steps_has}
+use Rattle.value_bits.proofs.Within.{steps_has}
 use Rattle.value_bits.proofs.Choosing.{single_has}
 use Rattle.value_bits.proofs.Combinations.{in_each_has, each_has_in, first_in, some_of, positive, agreed-few, agreed_is, agreed_set}
 
@@ -68,7 +70,7 @@ ends_straight m p n low =
       least_has = steps_has m p.base p.stride p.count p.base 0 (omega arith) (let is = mod-eq_of_lt {n = p.base + 0 * p.stride} {m = m} (omega arith) in omega (arith, is));
       greatest_has = steps_has m p.base p.stride p.count (p.base + (p.count - 1) * p.stride) (p.count - 1) (omega arith) (sym (mod-eq_of_lt low));
       between = λ v h.
-          let at = in_steps m p.base p.stride p.count v h in
+          let at = steps_from m p.base p.stride p.count v h in
           let most = up_to p.stride at.0 (p.count - 1) (omega (arith, at.1)) in
           let is = mod-eq_of_lt {n = p.base + at.0 * p.stride} {m = m} (omega (arith, most, low)) in
           (omega (arith, at.2, is), omega (arith, at.2, is, most));
@@ -93,7 +95,7 @@ ends_turned m p n high =
           (let is = mod_once (p.base + (t + 1) * p.stride) m (omega (arith, over, next, below)) (omega (arith, step, once, below)) in omega (arith, is, next));
       greatest_has = steps_has m p.base p.stride p.count (p.base + t * p.stride) t (omega (arith, inside)) (sym (mod-eq_of_lt (omega (arith, under, below))));
       between = λ v h.
-          let at = in_steps m p.base p.stride p.count v h in
+          let at = steps_from m p.base p.stride p.count v h in
           let most = up_to p.stride at.0 (p.count - 1) (omega (arith, at.1)) in
           elim (cases_lt t at.0) [
             | inl behind ↦

@@ -20,11 +20,12 @@ use Rattle.value_bits.specs.declared.tri.Logic.TheVariants.{And}
 use Rattle.value_bits.specs.Bits.{is_fixed, known_bit, known_bits, choices, numbers, filled, least, greatest, unknown_count, lowest_unknown, from_bits, logic_of, tri_and, tri_logic}
 use Rattle.value_bits.specs.Sets.{logic_bits, logic_set}
 use Rattle.value_set.specs.Laws.{SetLaws}
-use Rattle.value_bits.proofs.Within.{IsIn, in_from_Contains, Contains_from_in, in_mapped, in_flat, steps_has}
+use Rattle.value_set.specs.ListFacts.{IsIn, in_from_Contains, Contains_from_in, in_mapped, in_flat, all_in}
+use Rattle.value_bits.proofs.Within.{steps_has}
 use Rattle.value_bits.proofs.Fillings.{few_numbers}
 use Rattle.value_bits.proofs.Agreeing.{few_value, many_value}
 use Rattle.value_bits.proofs.Choosing.{combine_few, combine_many}
-use Rattle.value_bits.proofs.Formulas.{number_below, results_below, logic_kept}
+use Rattle.value_bits.proofs.FormulaLaws.{number_below, results_below, logic_kept}
 
 pub even_modulus : (w : ℕ) → 1 ≤ w → 2 ^ w % 2 ≡ 0
 even_modulus zero h = absurd (omega arith)
@@ -87,10 +88,6 @@ bits_remainder laws w bits bit long known =
 list_refused : (p : ℕ → Bool) (x : ℕ) (xs : List ℕ) → p x ≡ false → list_all p (x ∷ xs) ≡ false
 list_refused p x xs h = rw h refl
 
-list_passed : (p : ℕ → Bool) (xs : List ℕ) → ((v : ℕ) → IsIn v xs → p v ≡ true) → list_all p xs ≡ true
-list_passed p [] each = refl
-list_passed p (x ∷ xs) each = let here = each x (inl refl) in rw here (list_passed p xs (λ v i. each v (inr i)))
-
 list_known : (w : ℕ) (xs : List ℕ) → 1 ≤ length xs → ((v : ℕ) → IsIn v xs → v % 2 ≡ 0) → known_bit w 0 (Values xs) ≡ Zero
 unfolding known_bit
 list_known w [] some each = absurd (omega arith)
@@ -98,7 +95,7 @@ list_known w (x ∷ xs) some each =
     let low = each x (inl refl) in
     let zero_here : bit_at x 0 ≡ 1 → ⊥ = λ e. omega (arith, low, e) in
     let first = list_refused (λ v. eqb (bit_at v 0) 1) x xs (ne_eqb (bit_at x 0) 1 zero_here) in
-    let all = list_passed (λ v. eqb (bit_at v 0) 0) (x ∷ xs) (λ v i. let e = each v i in eq-eqb (bit_at v 0) 0 (omega (arith, e))) in
+    let all = all_in (λ v. eqb (bit_at v 0) 0) (x ∷ xs) (λ v i. let e = each v i in eq-eqb (bit_at v 0) 0 (omega (arith, e))) in
     rw (first, all) refl
 
 run_known : (w : ℕ) (p : Progression) → p.base % 2 ≡ 0 → p.stride % 2 ≡ 0 → known_bit w 0 (Run p) ≡ Zero

@@ -1,10 +1,9 @@
 -- Each member of a set has the bits that are known of it.
-use Rattle.std.proofs.Common.{◌≡◌, ℕ, ◌+◌, ◌-◌, ◌*◌, ◌/◌, ◌%◌, ◌^◌, ◌<◌, ◌≤◌, Bool, true, false, cond, ◌||◌, ◌&&◌, eqb, ltb, map, refl, sym, ◌∙◌, ap, subst, inl, inr, arith}
+use Rattle.std.proofs.Common.{◌≡◌, ℕ, ◌+◌, ◌-◌, ◌*◌, ◌/◌, ◌%◌, ◌^◌, ◌<◌, ◌≤◌, Bool, true, false, cond, ◌&&◌, eqb, ltb, map, refl, sym, ◌∙◌, ap, subst, inl, inr, arith}
 use Prim.Native.Nat.{zero, suc}
-use Rattle.std.specs.Prelude.{◌⊎◌}
 use Rattle.std.specs.List.{range_with_len, list_all}
 use Rattle.std.specs.Int.{bit_at}
-use Rattle.std.proofs.lemmas.Bool.{eqb-true, ltb-true}
+use Rattle.std.proofs.lemmas.Bool.{and_parts, eqb-true, ltb-true, or_cases}
 use Rattle.std.proofs.Math.Nat.{pow-suc, mod-eq_of_lt, add-mul-div_left, div-mul-le_self}
 use Rattle.std.proofs.lemmas.Nat.{pow_pos, pow-add, shr-shr, le-div}
 use Rattle.std.proofs.lemmas.Nat.Bits.{bit_at-lt}
@@ -13,10 +12,12 @@ use Rattle.value_set.specs.declared.form.Form.{Form}
 use Rattle.value_set.specs.declared.form.Form.TheVariants.{Values, Run}
 use Rattle.value_set.specs.Form.{Has, IsNormal}
 use Rattle.value_set.specs.Widening.{last_of}
+use Rattle.value_set.specs.ListFacts.{in_from_Contains, list_all_in}
+use Rattle.value_set.specs.StepFacts.{steps_from}
 use Rattle.value_bits.specs.declared.tri.Tri.{Tri}
 use Rattle.value_bits.specs.declared.tri.Tri.TheVariants.{Zero, One, Either}
 use Rattle.value_bits.specs.Bits.{IsBit, Agrees, tri, is_fixed, known_bit, known_bits}
-use Rattle.value_bits.proofs.Within.{in_from_Contains, list_all_in, in_steps, member_below}
+use Rattle.value_bits.proofs.Within.{member_below}
 
 -- ---- a number by its bits
 
@@ -84,19 +85,11 @@ high_bit w place base stride count i once same short =
     let between : (base + i * stride) / 2 ^ place ≡ base / 2 ^ place = omega (arith, high, low, same) in
     ap (λ (k : ℕ). bit_at k place) straight ∙ ap (λ (k : ℕ). k % 2) between
 
-either_true : (a b : Bool) → (a || b) ≡ true → (a ≡ true) ⊎ (b ≡ true)
-either_true true b h = inl refl
-either_true false b h = inr h
-
-both_true : (a b : Bool) → (a && b) ≡ true → (a ≡ true) × (b ≡ true)
-both_true true b h = (refl, h)
-both_true false b h = absurd (cc h)
-
 fixed_bit : (w place i : ℕ) (p : Progression) → place < w → i < p.count → is_fixed w place p ≡ true
     → bit_at ((p.base + i * p.stride) % 2 ^ w) place ≡ bit_at p.base place
-fixed_bit w place i p within short fixed = elim (either_true (eqb (p.stride % 2 ^ (place + 1)) 0) (ltb (last_of p) (2 ^ w) && eqb (p.base / 2 ^ place) (last_of p / 2 ^ place)) fixed) [
+fixed_bit w place i p within short fixed = elim (or_cases (eqb (p.stride % 2 ^ (place + 1)) 0) (ltb (last_of p) (2 ^ w) && eqb (p.base / 2 ^ place) (last_of p / 2 ^ place)) fixed) [
   | inl whole ↦ low_bit w place p.base p.stride i within (eqb-true (p.stride % 2 ^ (place + 1)) 0 whole)
-  | inr straight ↦ let parts = both_true (ltb (last_of p) (2 ^ w)) (eqb (p.base / 2 ^ place) (last_of p / 2 ^ place)) straight in
+  | inr straight ↦ let parts = and_parts (ltb (last_of p) (2 ^ w)) (eqb (p.base / 2 ^ place) (last_of p / 2 ^ place)) straight in
       high_bit w place p.base p.stride p.count i (ltb-true (last_of p) (2 ^ w) parts.0) (eqb-true (p.base / 2 ^ place) (last_of p / 2 ^ place) parts.1) short
 ]
 
@@ -119,7 +112,7 @@ known_bit_is w place v (Values xs) within h = let inside = in_from_Contains xs v
     known_of_list place v (list_all (λ n. eqb (bit_at n place) 1) xs) (list_all (λ n. eqb (bit_at n place) 0) xs)
     (λ all. eqb-true (bit_at v place) 1 (list_all_in (λ n. eqb (bit_at n place) 1) v xs all inside))
     (λ all. eqb-true (bit_at v place) 0 (list_all_in (λ n. eqb (bit_at n place) 0) v xs all inside))
-known_bit_is w place v (Run p) within h = let at = in_steps (2 ^ w) p.base p.stride p.count v h in
+known_bit_is w place v (Run p) within h = let at = steps_from (2 ^ w) p.base p.stride p.count v h in
     known_of_run w place v p (is_fixed w place p) refl (λ fixed. ap (λ (n : ℕ). bit_at n place) at.2 ∙ fixed_bit w place at.0 p within at.1 fixed)
 
 pub known_agrees : (w v : ℕ) (set : Form) → IsNormal (2 ^ w) set → Has (2 ^ w) set v → Agrees (known_bits w set) v

@@ -7,9 +7,10 @@ pub mod Known
 pub mod Logics
 pub mod Moves
 pub mod Choosing
-pub mod Halves
+pub mod Alone
+pub mod HalfSets
 mod Examples
-pub mod Formulas
+pub mod FormulaLaws
 pub mod Evens
 pub mod Combinations
 pub mod Singly

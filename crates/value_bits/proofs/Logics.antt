@@ -1,12 +1,11 @@
 -- Logic operations on known bits.
-use Rattle.std.proofs.Common.{ℕ, ◌+◌, ◌%◌, ◌^◌, ◌<◌, min, max, sym, subst, arith}
+use Rattle.std.proofs.Common.{ℕ, ◌^◌, sym, subst}
 use Rattle.std.specs.Int.{bit_at}
 use Rattle.std.proofs.lemmas.Nat.{pow_pos}
 use Rattle.std.proofs.lemmas.Nat.Bits.{bit_at_and, bit_at_or, bit_at_xor}
 use Rattle.value_set.specs.declared.form.Form.{Form}
 use Rattle.value_set.specs.Form.{Has, IsNormal}
 use Rattle.value_bits.specs.declared.tri.Tri.{Tri}
-use Rattle.value_bits.specs.declared.tri.Tri.TheVariants.{Zero, One, Either}
 use Rattle.value_bits.specs.declared.tri.Logic.{Logic}
 use Rattle.value_bits.specs.declared.tri.Logic.TheVariants.{And, Or, Xor}
 use Rattle.value_bits.specs.Bits.{IsBit, Agrees, known_bit, logic_of, tri_and, tri_or, tri_xor, tri_logic}

@@ -7,8 +7,8 @@ use Rattle.value_set.specs.declared.form.Form.TheVariants.{Values, Run}
 use Rattle.value_set.specs.Form.{Has, IsNormal, members}
 use Rattle.value_set.specs.Laws.{AreBelow, SetLaws}
 use Rattle.value_set.specs.Summing.{count_of, single}
+use Rattle.value_set.specs.ListFacts.{IsIn, in_from_Contains, Contains_from_in}
 use Rattle.value_bits.specs.Sets.{pair_set, words}
-use Rattle.value_bits.proofs.Within.{IsIn, in_from_Contains, Contains_from_in}
 
 few_steps : (m d c : ℕ) → 1 ≤ d → 17 ≤ c → (c - 1) * d < m → c * 1 ≤ m
 few_steps m d c some long once = let product = mul-le-mul_left {m = 1} {n = d} (c - 1) some in omega (arith, product, once)

@@ -10,10 +10,10 @@ use Rattle.std.proofs.lemmas.List.Folds.{list_all_more}
 use Rattle.value_bits.specs.declared.all_flags.FourFlags.{FourFlags}
 use Rattle.value_set.specs.declared.form.Form.{Form}
 use Rattle.value_set.specs.Form.{IsNormal, members}
+use Rattle.value_set.specs.ListFacts.{IsIn}
 use Rattle.value_bits.specs.AllFlags.{Place, flag_at}
 use Rattle.value_bits.specs.AllFlags.Place.{First, Second, Third, Fourth}
 use Rattle.value_bits.specs.Flags.{agreed_of, each_has, has_value, known_where}
-use Rattle.value_bits.proofs.Within.{IsIn}
 use Rattle.value_bits.proofs.Combinations.{carries_first, each_has_in, members_below, some_of}
 
 pub walk_start : (p : ℕ → Bool) (xs : List ℕ) (b : Bool) → b ≡ (b && list_all p (take 0 xs))

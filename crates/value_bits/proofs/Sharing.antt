@@ -8,13 +8,13 @@ use Rattle.std.proofs.Math.Seq.{take-length}
 use Rattle.value_set.specs.declared.form.Form.TheVariants.{Values}
 use Rattle.value_set.specs.Form.{Ascends, IsNormal}
 use Rattle.value_set.specs.Summing.{single}
+use Rattle.value_set.specs.ListFacts.{IsIn, in_from_Contains, Contains_from_in}
 use Rattle.value_bits.specs.declared.tri.Tri.TheVariants.{Zero, One, Either}
 use Rattle.value_bits.specs.Flags.{agreed}
 use Rattle.value_bits.specs.Order.{Share}
 use Rattle.value_bits.proofs.Choosing.{single_has}
 use Rattle.value_bits.proofs.Combinations.{agreed_set}
 use Rattle.value_bits.proofs.EndsOfSets.{ascends_from, agreed_none, agreed_mixed, few_too, zero_normal}
-use Rattle.value_bits.proofs.Within.{IsIn, in_from_Contains, Contains_from_in}
 
 -- ---- the walk
 

@@ -7,8 +7,8 @@ use Rattle.value_set.specs.declared.form.Form.{Form}
 use Rattle.value_set.specs.Form.{Has, IsNormal, gather, make, members}
 use Rattle.value_set.specs.Laws.{SetLaws}
 use Rattle.value_set.specs.Summing.{whole}
+use Rattle.value_set.specs.ListFacts.{in_from_Contains, Contains_from_in, in_map, in_mapped}
 use Rattle.chip_numbers.specs.Numbers.{low_byte}
-use Rattle.value_bits.proofs.Within.{in_from_Contains, Contains_from_in, in_map, in_mapped}
 
 -- each byte is the low byte of the word that it is
 in_lows : (v : ℕ) → SetLaws → v < 256 → Contains (map low_byte (members 65536 (whole 256))) v

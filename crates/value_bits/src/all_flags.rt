@@ -2,17 +2,19 @@
 
 ghost use Rattle.std.specs.Prelude.{◌≡◌, ℕ, ◌*◌, ◌<◌, ◌≤◌, ◌&&◌, IsTrue, Bool, false, All, length};
 ghost use Rattle.std.specs.List.{list_all};
-ghost use Rattle.value_set.specs.Form.{IsNormal, members};
+ghost use Rattle.value_set.specs.Form.{Has, IsNormal, members};
 ghost use Rattle.value_set.specs.Summing.{count_of};
 ghost use Rattle.value_bits.specs.AllFlags.{Place, flag_at, known_at};
 ghost use Rattle.value_bits.specs.AllFlags.Place.{First, Second, Third, Fourth};
-ghost use Rattle.value_bits.specs.Bits.{choices};
+ghost use Rattle.value_bits.specs.Bits.{IsBit, choices};
 ghost use Rattle.value_bits.specs.Sets.{chosen};
 ghost use Rattle.value_bits.specs.Flags as flags;
+ghost use Rattle.value_bits.specs.Flags.{IsFlag};
 
-use crate::flags::{is_alone, known, listed};
+use crate::flags::{are_few, is_alone, known, listed};
 use crate::tri::Tri;
 use value_set::Form;
+use value_set::sets::count;
 
 /// Four flags of one combination.
 #[derive(Clone, Copy, Debug, PartialEq, Eq)]
@@ -49,8 +51,31 @@ pub trait AllFlags {
         ensures fourth { result.fourth ≡ value self.now Fourth x y carry };
 }
 
+/// What is known of each of the flags over each member of a set with each of another and a carry. Each combination is
+/// worked out once.
+pub fn all_agreed<F: AllFlags>(
+    modulus: u32,
+    operation: &F,
+    first: &Form,
+    second: &Form,
+    carry: Tri,
+) -> FourKnown
+    requires small { modulus ≤ 65536 }
+    requires wide { 2 ≤ modulus }
+    requires first_normal { IsNormal modulus first.now }
+    requires second_normal { IsNormal modulus second.now }
+    requires width { F.modulus operation.now ≡ modulus }
+    ensures value { (place : Place) → known_at place result ≡ flags.agreed modulus (F.value operation.now place) first.now second.now (chosen carry) }
+    ensures holds { (place : Place) (x y bit : ℕ) → Has modulus first.now x → Has modulus second.now y → IsBit carry bit → IsFlag (known_at place result) (F.value operation.now place x y bit) }
+{
+    if !are_few(count(modulus, first), count(modulus, second), carry) {
+        return none_known();
+    }
+    all_agreed_few(modulus, operation, first, second, carry)
+}
+
 /// What is known of each flag over at most 256 combinations of members: known where all agree.
-pub fn all_agreed_few<F: AllFlags>(
+fn all_agreed_few<F: AllFlags>(
     modulus: u32,
     operation: &F,
     first: &Form,
@@ -73,7 +98,7 @@ pub fn all_agreed_few<F: AllFlags>(
 }
 
 /// None of the flags is known.
-pub fn none_known() -> FourKnown
+fn none_known() -> FourKnown
     ensures { (place : Place) → known_at place result ≡ Tri.Either }
 {
     FourKnown {

@@ -1,7 +1,12 @@
 //! Decimal numbers: each hexadecimal digit is read as a decimal one.
 
 ghost use Rattle.std.specs.Prelude.{◌≡◌, ◌^◌, ◌<◌, ◌≤◌};
+ghost use Rattle.std.specs.List.{list_all};
+ghost use Rattle.value_set.specs.Form.{IsNormal, members};
 ghost use Rattle.chip_numbers.specs.Numbers as numbers;
+
+use value_set::Form;
+use value_set::sets::{count, nth};
 
 /// Whether each of the digits is at most 9.
 pub fn is_decimal(digits: u32, x: u16) -> bool
@@ -13,8 +18,22 @@ pub fn is_decimal(digits: u32, x: u16) -> bool
     }
 }
 
+/// Whether each digit of each member of a set is at most 9.
+pub fn are_decimal(modulus: u32, digits: u32, set: &Form) -> bool
+    requires small { modulus ≤ 65536 }
+    requires normal { IsNormal modulus set.now }
+    ensures { result ≡ list_all (numbers.is_decimal digits) (members modulus set.now) }
+{
+    for place in 0..count(modulus, set) {
+        if !is_decimal(digits, nth(modulus, set, place)) {
+            return false;
+        }
+    }
+    true
+}
+
 /// The number that the digits write.
-fn value(digits: u32, x: u16) -> u32
+pub fn value(digits: u32, x: u16) -> u32
     ensures value { result ≡ numbers.decimal_value digits x }
     ensures most { result ≤ x }
 {
@@ -25,7 +44,7 @@ fn value(digits: u32, x: u16) -> u32
 }
 
 /// The last digits of a number.
-fn digits_of(digits: u32, number: u32) -> u32
+pub fn digits_of(digits: u32, number: u32) -> u32
     requires { 16 ^ digits ≤ 65536 }
     ensures value { result ≡ numbers.decimal_digits digits number }
     ensures below { result < 16 ^ digits }

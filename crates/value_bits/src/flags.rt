@@ -2,14 +2,16 @@
 
 ghost use Rattle.std.specs.Prelude.{◌≡◌, ℕ, ◌+◌, ◌-◌, ◌*◌, ◌<◌, ◌≤◌, ◌↔◌, IsTrue, Bool, All, length};
 ghost use Rattle.std.specs.List.{list_all};
-ghost use Rattle.value_set.specs.Form.{IsNormal, IsNormalRun, members, steps};
+ghost use Rattle.value_set.specs.Form.{Has, IsNormal, IsNormalRun, members, steps};
 ghost use Rattle.value_set.specs.Summing.{count_of};
-ghost use Rattle.value_bits.specs.Bits.{choices};
+ghost use Rattle.value_bits.specs.Bits.{IsBit, choices};
 ghost use Rattle.value_bits.specs.Sets.{chosen};
 ghost use Rattle.value_bits.specs.Flags as flags;
+ghost use Rattle.value_bits.specs.Flags.{IsFlag};
 
 use crate::tri::Tri;
 use arrayvec::ArrayVec;
+use value_set::sets::count;
 use value_set::{Form, Progression};
 
 /// How many combinations are looked at.
@@ -27,6 +29,23 @@ pub trait Flag {
         requires y_below { y < modulus self.now }
         requires carry_below { carry < modulus self.now }
         ensures { result ≡ value self.now x y carry };
+}
+
+/// What is known of a flag over each member of a set with each of another and a carry: known where at most 256
+/// combinations agree. An unknown carry counts as two.
+pub fn agreed<F: Flag>(modulus: u32, flag: &F, first: &Form, second: &Form, carry: Tri) -> Tri
+    requires small { modulus ≤ 65536 }
+    requires wide { 2 ≤ modulus }
+    requires first_normal { IsNormal modulus first.now }
+    requires second_normal { IsNormal modulus second.now }
+    requires width { F.modulus flag.now ≡ modulus }
+    ensures value { result ≡ flags.agreed modulus (F.value flag.now) first.now second.now (chosen carry) }
+    ensures holds { (x y bit : ℕ) → Has modulus first.now x → Has modulus second.now y → IsBit carry bit → IsFlag result (F.value flag.now x y bit) }
+{
+    if !are_few(count(modulus, first), count(modulus, second), carry) {
+        return Tri::Either;
+    }
+    agreed_few(modulus, flag, first, second, carry)
 }
 
 /// Whether there are at most 256 combinations of so many members with a carry.
@@ -60,14 +79,14 @@ pub fn agreed_few<F: Flag>(modulus: u32, flag: &F, first: &Form, second: &Form, 
     ensures { result ≡ flags.agreed modulus (F.value flag.now) first.now second.now (chosen carry) }
 {
     match carry {
-        Tri::Zero => agreed_first(modulus, flag, first, second, [0].as_slice()),
-        Tri::One => agreed_first(modulus, flag, first, second, [1].as_slice()),
-        Tri::Either => agreed_first(modulus, flag, first, second, [0, 1].as_slice()),
+        Tri::Zero => agreed_listed(modulus, flag, first, second, [0].as_slice()),
+        Tri::One => agreed_listed(modulus, flag, first, second, [1].as_slice()),
+        Tri::Either => agreed_listed(modulus, flag, first, second, [0, 1].as_slice()),
     }
 }
 
-/// Lists the members of the first set.
-fn agreed_first<F: Flag>(
+/// Lists the members once.
+fn agreed_listed<F: Flag>(
     modulus: u32,
     flag: &F,
     first: &Form,
@@ -83,34 +102,9 @@ fn agreed_first<F: Flag>(
     requires few { count_of modulus first.now * (count_of modulus second.now * length carries.now) ≤ 256 }
     ensures { result ≡ flags.agreed_of (F.value flag.now) (members modulus first.now) (members modulus second.now) carries.now }
 {
-    match first {
-        Form::Values(values) => agreed_second(modulus, flag, values.as_slice(), second, carries),
-        Form::Run(run) => {
-            let values = stepped(modulus, run);
-            agreed_second(modulus, flag, values.as_slice(), second, carries)
-        }
-    }
-}
-
-/// Lists the members of the second set.
-fn agreed_second<F: Flag>(modulus: u32, flag: &F, xs: &[u16], second: &Form, carries: &[u16]) -> Tri
-    requires small { modulus ≤ 65536 }
-    requires second_normal { IsNormal modulus second.now }
-    requires second_few { count_of modulus second.now ≤ 256 }
-    requires width { F.modulus flag.now ≡ modulus }
-    requires xs_below { All (λ n. n < modulus) xs.now }
-    requires xs_some { 1 ≤ length xs.now }
-    requires carries_below { All (λ n. n < modulus) carries.now }
-    requires carries_some { 1 ≤ length carries.now }
-    ensures { result ≡ flags.agreed_of (F.value flag.now) xs.now (members modulus second.now) carries.now }
-{
-    match second {
-        Form::Values(values) => agreed_of(modulus, flag, xs, values.as_slice(), carries),
-        Form::Run(run) => {
-            let values = stepped(modulus, run);
-            agreed_of(modulus, flag, xs, values.as_slice(), carries)
-        }
-    }
+    let xs = listed(modulus, first);
+    let ys = listed(modulus, second);
+    agreed_of(modulus, flag, xs.as_slice(), ys.as_slice(), carries)
 }
 
 /// The members of a set of at most 256, in order.

@@ -19,18 +19,20 @@
 #![tactic(auto)]
 
 mod all_flags;
-mod bytes;
-mod decimal;
+pub mod decimal;
 mod flags;
+mod forming;
+mod formulas;
+mod halves;
 mod knowing;
 mod laws;
 mod making;
 mod operations;
 mod order;
+mod results;
 mod tri;
 pub mod w16;
 pub mod w8;
-mod words;
 
 pub use all_flags::{AllFlags, FourFlags, FourKnown};
 pub use flags::Flag;

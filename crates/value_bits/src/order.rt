@@ -1,13 +1,15 @@
 //! Which numbers are at least others, and which are equal, over the members of two sets.
 
 ghost use Rattle.std.specs.Prelude.{◌≡◌, ℕ, ◌+◌, ◌-◌, ◌*◌, ◌<◌, ◌≤◌, length, slice_index_or, nat_le, ◌==◌, ◌↔◌, IsTrue};
-ghost use Rattle.value_set.specs.Form.{Ascends, IsNormal, IsNormalRun};
+ghost use Rattle.value_set.specs.Form.{Ascends, Has, IsNormal, IsNormalRun};
 ghost use Rattle.value_set.specs.Summing.{count_of, single};
 ghost use Rattle.value_bits.specs.Flags as flags;
+ghost use Rattle.value_bits.specs.Flags.{IsFlag};
 ghost use Rattle.value_bits.specs.Order.{IsEnds, Share};
 
-use crate::flags::{Flag, agreed_few};
+use crate::flags::{Flag, agreed_few, are_few};
 use crate::tri::Tri;
+use value_set::sets::count;
 use value_set::{Form, Progression};
 
 /// The least and the greatest of some numbers.
@@ -17,9 +19,22 @@ pub struct Bounds {
     pub greatest: u16,
 }
 
-/// What is known, over the members of two sets with at most 256 combinations, of whether the first is at least the
-/// second. The ends of the sets decide it.
+/// What is known of whether a number of a set is at least one of another: known where at most 256 combinations agree.
 pub fn at_least(modulus: u32, first: &Form, second: &Form) -> Tri
+    requires small { modulus ≤ 65536 }
+    requires first_normal { IsNormal modulus first.now }
+    requires second_normal { IsNormal modulus second.now }
+    ensures value { result ≡ flags.agreed modulus (λ x y z. nat_le y x) first.now second.now (single 0) }
+    ensures holds { (x y : ℕ) → Has modulus first.now x → Has modulus second.now y → IsFlag result (nat_le y x) }
+{
+    if !are_few(count(modulus, first), count(modulus, second), Tri::Zero) {
+        return Tri::Either;
+    }
+    at_least_few(modulus, first, second)
+}
+
+/// The same, of at most 256 combinations. The ends of the sets decide it.
+fn at_least_few(modulus: u32, first: &Form, second: &Form) -> Tri
     requires small { modulus ≤ 65536 }
     requires first_normal { IsNormal modulus first.now }
     requires second_normal { IsNormal modulus second.now }
@@ -100,8 +115,23 @@ impl Flag for Equality {
     }
 }
 
-/// What is known, over the members of two sets with at most 256 combinations, of whether they are equal.
+/// What is known of whether a number of a set is one of another: known where at most 256 combinations agree.
 pub fn equal(modulus: u32, first: &Form, second: &Form) -> Tri
+    requires small { modulus ≤ 65536 }
+    requires wide { 2 ≤ modulus }
+    requires first_normal { IsNormal modulus first.now }
+    requires second_normal { IsNormal modulus second.now }
+    ensures value { result ≡ flags.agreed modulus (λ x y z. x == y) first.now second.now (single 0) }
+    ensures holds { (x y : ℕ) → Has modulus first.now x → Has modulus second.now y → IsFlag result (x == y) }
+{
+    if !are_few(count(modulus, first), count(modulus, second), Tri::Zero) {
+        return Tri::Either;
+    }
+    equal_few(modulus, first, second)
+}
+
+/// The same, of at most 256 combinations.
+fn equal_few(modulus: u32, first: &Form, second: &Form) -> Tri
     requires small { modulus ≤ 65536 }
     requires wide { 2 ≤ modulus }
     requires first_normal { IsNormal modulus first.now }

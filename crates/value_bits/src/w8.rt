@@ -15,12 +15,12 @@ ghost use Rattle.value_bits.specs.Lefts.{IsLowest, IsOneLowest};
 ghost use Rattle.value_bits.specs.Lefts as lefts;
 
 use crate::all_flags::{AllFlags, FourKnown};
-use crate::bytes::{chosen, is_few, lowest_carry, top_carry, with_bits};
 use crate::flags::Flag;
-use crate::knowing::{exchanged_bits, known_bits, left_bits, logic_bits, shift_bits};
-use crate::operations::{Bitwise, DecimalAdjustment, DecimalSum, Exchange, LeftShift, Shift};
+use crate::formulas::decimal_adjust_set;
+use crate::knowing::known_bits;
+use crate::laws::decimals_hold;
 use crate::tri::{Logic, Lowest, Top, Tri};
-use crate::{all_flags, decimal, flags, order};
+use crate::{all_flags, flags, order, results};
 use value_set::Vs8;
 
 /// How many bits a number has.
@@ -42,7 +42,7 @@ pub fn from_bits(bits: &[Tri; 8]) -> Vs8
     ensures normal { IsNormal 256 result }
     ensures holds { (v : ℕ) → Agrees bits.now v → Has 256 result v }
 {
-    with_bits(bits)
+    Vs8::from_form(results::from_bits(8, bits))
 }
 
 /// The bitwise AND of each member of a set with each of another.
@@ -82,11 +82,7 @@ fn logic(logic: Logic, a: &Vs8, b: &Vs8) -> Vs8
     ensures holds { (x y : ℕ) → Has 256 a.now x → Has 256 b.now y → Has 256 result (logic_of logic x y) }
     ensures alone { (x y : ℕ) → a.now ≡ single x → b.now ≡ single y → result ≡ single (logic_of logic x y) }
 {
-    let none = Vs8::one(0);
-    if is_few(a, b, &none) {
-        return Vs8::combine(&Bitwise { width: 8, logic }, a, b, &none);
-    }
-    with_bits(logic_bits(8, logic, &a.form(), &b.form()).as_slice())
+    Vs8::from_form(results::logic(8, logic, &a.form(), &b.form()))
 }
 
 /// Each member shifted to the right by one place. An unknown bit at the top counts as an unknown carry.
@@ -96,12 +92,7 @@ pub fn shift_right(a: &Vs8, top: Top) -> Vs8
     ensures holds { (x bit : ℕ) → Has 256 a.now x → IsTop 7 top x bit → Has 256 result (shifted_right 7 x bit) }
     ensures alone { (x bit : ℕ) → a.now ≡ single x → IsOneTop top → IsTop 7 top x bit → result ≡ single (shifted_right 7 x bit) }
 {
-    let none = Vs8::one(0);
-    let carry = top_carry(top);
-    if is_few(a, &none, &carry) {
-        return Vs8::combine(&Shift { place: 7, top }, a, &none, &carry);
-    }
-    with_bits(shift_bits(7, top, known_bits(8, &a.form()).as_slice()).as_slice())
+    Vs8::from_form(results::shift_right(7, &a.form(), top))
 }
 
 /// Each member shifted to the left by one place. An unknown bit at the lowest place counts as an unknown carry.
@@ -111,12 +102,7 @@ pub fn shift_left(a: &Vs8, lowest: Lowest) -> Vs8
     ensures holds { (x bit : ℕ) → Has 256 a.now x → IsLowest 7 lowest x bit → Has 256 result (shifted_left 7 x bit) }
     ensures alone { (x bit : ℕ) → a.now ≡ single x → IsOneLowest lowest → IsLowest 7 lowest x bit → result ≡ single (shifted_left 7 x bit) }
 {
-    let none = Vs8::one(0);
-    let carry = lowest_carry(lowest);
-    if is_few(a, &none, &carry) {
-        return Vs8::combine(&LeftShift { place: 7, lowest }, a, &none, &carry);
-    }
-    with_bits(left_bits(7, lowest, known_bits(8, &a.form()).as_slice()).as_slice())
+    Vs8::from_form(results::shift_left(7, &a.form(), lowest))
 }
 
 /// Each member with its two digits exchanged.
@@ -126,11 +112,7 @@ pub fn swap_digits(a: &Vs8) -> Vs8
     ensures holds { (x : ℕ) → Has 256 a.now x → Has 256 result (exchanged 16 x) }
     ensures alone { (x : ℕ) → a.now ≡ single x → result ≡ single (exchanged 16 x) }
 {
-    let none = Vs8::one(0);
-    if is_few(a, &none, &none) {
-        return Vs8::combine(&Exchange { n: 16 }, a, &none, &none);
-    }
-    with_bits(exchanged_bits(4, known_bits(8, &a.form()).as_slice()).as_slice())
+    Vs8::from_form(results::exchange(4, &a.form()))
 }
 
 /// What is known of a flag over each member of a set with each of another and a carry. It is known where at most 256
@@ -140,10 +122,7 @@ pub fn agreed<F: Flag>(flag: &F, a: &Vs8, b: &Vs8, carry: Tri) -> Tri
     ensures value { result ≡ flag_sets.agreed 256 (F.value flag.now) a.now b.now (sets.chosen carry) }
     ensures holds { (x y bit : ℕ) → Has 256 a.now x → Has 256 b.now y → IsBit carry bit → IsFlag result (F.value flag.now x y bit) }
 {
-    if !flags::are_few(a.count(), b.count(), carry) {
-        return Tri::Either;
-    }
-    flags::agreed_few(256, flag, &a.form(), &b.form(), carry)
+    flags::agreed(256, flag, &a.form(), &b.form(), carry)
 }
 
 /// What is known of each of the flags, up to four, that an operation sets over each member of a set with each of another
@@ -153,10 +132,7 @@ pub fn all_agreed<F: AllFlags>(operation: &F, a: &Vs8, b: &Vs8, carry: Tri) -> F
     ensures value { (place : Place) → known_at place result ≡ flag_sets.agreed 256 (F.value operation.now place) a.now b.now (sets.chosen carry) }
     ensures holds { (place : Place) (x y bit : ℕ) → Has 256 a.now x → Has 256 b.now y → IsBit carry bit → IsFlag (known_at place result) (F.value operation.now place x y bit) }
 {
-    if !flags::are_few(a.count(), b.count(), carry) {
-        return all_flags::none_known();
-    }
-    all_flags::all_agreed_few(256, operation, &a.form(), &b.form(), carry)
+    all_flags::all_agreed(256, operation, &a.form(), &b.form(), carry)
 }
 
 /// What is known of whether a number of a set is at least one of another, as the carry of a comparison tells. It is known
@@ -165,9 +141,6 @@ pub fn at_least(a: &Vs8, b: &Vs8) -> Tri
     ensures value { result ≡ flag_sets.agreed 256 (λ x y carry. nat_le y x) a.now b.now (single 0) }
     ensures holds { (x y : ℕ) → Has 256 a.now x → Has 256 b.now y → IsFlag result (nat_le y x) }
 {
-    if !flags::are_few(a.count(), b.count(), Tri::Zero) {
-        return Tri::Either;
-    }
     order::at_least(256, &a.form(), &b.form())
 }
 
@@ -177,9 +150,6 @@ pub fn equal(a: &Vs8, b: &Vs8) -> Tri
     ensures value { result ≡ flag_sets.agreed 256 (λ x y carry. x == y) a.now b.now (single 0) }
     ensures holds { (x y : ℕ) → Has 256 a.now x → Has 256 b.now y → IsFlag result (x == y) }
 {
-    if !flags::are_few(a.count(), b.count(), Tri::Zero) {
-        return Tri::Either;
-    }
     order::equal(256, &a.form(), &b.form())
 }
 
@@ -192,29 +162,7 @@ pub fn decimal_add(a: &Vs8, b: &Vs8, carry: Tri) -> Vs8
     ensures free { (x y v : ℕ) → Has 256 a.now x → Has 256 b.now y → IsFalse (is_decimal 2 x && is_decimal 2 y) → v < 256 → Has 256 result v }
     ensures alone { (x y bit : ℕ) → a.now ≡ single x → b.now ≡ single y → carry ≡ known.tri bit → bit < 2 → IsTrue (is_decimal 2 x) → IsTrue (is_decimal 2 y) → result ≡ single (decimal_sum 2 x y bit) }
 {
-    let carries = chosen(carry);
-    if !is_few(a, b, &carries) {
-        return Vs8::any();
-    }
-    if !are_decimal(a) {
-        return Vs8::any();
-    }
-    if !are_decimal(b) {
-        return Vs8::any();
-    }
-    Vs8::combine(&DecimalSum { digits: 2 }, a, b, &carries)
-}
-
-/// Whether each digit of each member is at most 9.
-fn are_decimal(a: &Vs8) -> bool
-    ensures { result ≡ sets.are_decimal 2 a.now }
-{
-    for place in 0..a.count() {
-        if !decimal::is_decimal(2, a.nth(place) as u16) {
-            return false;
-        }
-    }
-    true
+    Vs8::from_form(results::decimal_add(2, &a.form(), &b.form(), carry))
 }
 
 /// The decimal adjustment of each member behind an addition, with CY and AC. Each of the two that is unknown counts as
@@ -225,10 +173,6 @@ pub fn decimal_adjust(a: &Vs8, carry: Tri, half: Tri) -> Vs8
     ensures holds { (x y z : ℕ) → Has 256 a.now x → IsBit carry y → IsBit half z → Has 256 result (decimal_adjusted x y z) }
     ensures alone { (x y z : ℕ) → a.now ≡ single x → carry ≡ known.tri y → y < 2 → half ≡ known.tri z → z < 2 → result ≡ single (decimal_adjusted x y z) }
 {
-    let carries = chosen(carry);
-    let halves = chosen(half);
-    if is_few(a, &carries, &halves) {
-        return Vs8::combine(&DecimalAdjustment, a, &carries, &halves);
-    }
-    Vs8::any()
+    decimals_hold();
+    Vs8::from_form(decimal_adjust_set(&a.form(), carry, half))
 }

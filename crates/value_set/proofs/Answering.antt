@@ -9,7 +9,9 @@ use Rattle.value_set.specs.declared.form.Progression.{Progression}
 use Rattle.value_set.specs.declared.form.Form.{Form}
 use Rattle.value_set.specs.declared.form.Form.TheVariants.{Values, Run}
 use Rattle.value_set.specs.Form.{members, Has, Includes, IsNormal, IsNormalRun, above}
-use Rattle.value_set.proofs.Members.{InRun, in_from_Contains, Ascends-in, length-steps, get_or-steps, in_steps, steps_has}
+use Rattle.value_set.specs.ListFacts.{in_from_Contains}
+use Rattle.value_set.specs.StepFacts.{length-steps, steps_from}
+use Rattle.value_set.proofs.Members.{InRun, Ascends-in, get_or-steps, steps_has}
 use Rattle.value_set.proofs.Rounds.{above_below, above_back, run_test, run_tested, run_below}
 use Rattle.value_set.proofs.Inclusion.{Fitting, included, fitting}
 
@@ -17,7 +19,7 @@ use Rattle.value_set.proofs.Inclusion.{Fitting, included, fitting}
 
 pub member_below : (m v : ℕ) (set : Form) → IsNormal m set → Has m set v → v < m
 member_below m v (Values xs) n h = (Ascends-in 0 m v xs n.2 (in_from_Contains xs v h)).1
-member_below m v (Run p) n h = run_below m p.base p.stride p.count v (let b = n.below in omega (arith, b)) (in_steps m p.base p.stride p.count v h)
+member_below m v (Run p) n h = run_below m p.base p.stride p.count v (let b = n.below in omega (arith, b)) (steps_from m p.base p.stride p.count v h)
 
 pub count_of_run : (m : ℕ) (set : Form) (p : Progression) → set ≡ Run p → length (members m set) ≡ p.count
 count_of_run m set p is = rw is (length-steps m p.base p.stride p.count)
@@ -28,7 +30,7 @@ nth_in_run m i set p is short = rw is (sym (get_or-steps m p.base p.stride p.cou
 pub not_in_run : (m v far : ℕ) (p : Progression) → IsNormalRun m p.base p.stride p.count → v < m → far ≡ above m p.base v
     → (p.stride ∣ far → ⊥) → Has m (Run p) v → ⊥
 not_in_run m v far p n low is apart h =
-    let found = run_test m p.base p.stride p.count v n.below n.strides n.once (in_steps m p.base p.stride p.count v h) in
+    let found = run_test m p.base p.stride p.count v n.below n.strides n.once (steps_from m p.base p.stride p.count v h) in
     apart (subst (λ (w : ℕ). p.stride ∣ w) (sym is) (dvd_of_mod-eq-zero p.stride found.0))
 
 pub in_run : (m v far : ℕ) (p : Progression) → IsNormalRun m p.base p.stride p.count → v < m → far ≡ above m p.base v
@@ -36,7 +38,7 @@ pub in_run : (m v far : ℕ) (p : Progression) → IsNormalRun m p.base p.stride
 in_run m v far p n low is whole = (
   λ t. steps_has m p.base p.stride p.count v (run_tested m p.base p.stride p.count v n.below low n.strides
       (let none = mod-eq-zero_of_dvd p.stride whole in rw (← is) none) (let short = ltb-true (far / p.stride) p.count t in rw (← is) short)),
-  λ h. let found = run_test m p.base p.stride p.count v n.below n.strides n.once (in_steps m p.base p.stride p.count v h) in
+  λ h. let found = run_test m p.base p.stride p.count v n.below n.strides n.once (steps_from m p.base p.stride p.count v h) in
       lt-ltb (far / p.stride) p.count (rw is found.1),
 )
 
@@ -53,14 +55,14 @@ pub runs_fit : (m : ℕ) (p q : Progression) (o : ℕ) → IsNormalRun m p.base 
     → o ≡ above m q.base p.base → Includes m (Run q) (Run p) → Fitting m o p.stride p.count q.stride ((q.count - 1) * q.stride)
 runs_fit m p q o n k is inside = let at = rebased m p q o n k is in
     fitting m q.base o p.stride p.count q.stride q.count k.below at.1 n.strides (let l = n.long in omega (arith, l)) n.once k.once
-    (λ v run. in_steps m q.base q.stride q.count v (inside v (steps_has m p.base p.stride p.count v (subst (λ (b : ℕ). InRun m b p.stride p.count v) at.0 run))))
+    (λ v run. steps_from m q.base q.stride q.count v (inside v (steps_has m p.base p.stride p.count v (subst (λ (b : ℕ). InRun m b p.stride p.count v) at.0 run))))
 
 pub fit_includes : (m : ℕ) (p q : Progression) (o : ℕ) → IsNormalRun m p.base p.stride p.count → IsNormalRun m q.base q.stride q.count
     → o ≡ above m q.base p.base → Fitting m o p.stride p.count q.stride ((q.count - 1) * q.stride) → Includes m (Run q) (Run p)
 fit_includes m p q o n k is fits v h = let at = rebased m p q o n k is in
     steps_has m q.base q.stride q.count v
     (included m q.base o p.stride p.count q.stride q.count v k.below at.1 n.strides k.strides (let l = k.long in omega (arith, l)) n.once fits
-    (subst (λ (b : ℕ). InRun m b p.stride p.count v) (sym at.0) (in_steps m p.base p.stride p.count v h)))
+    (subst (λ (b : ℕ). InRun m b p.stride p.count v) (sym at.0) (steps_from m p.base p.stride p.count v h)))
 
 -- ---- answers
 

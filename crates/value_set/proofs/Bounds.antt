@@ -12,8 +12,9 @@ use Rattle.value_set.specs.declared.form.Form.TheVariants.{Values, Run}
 use Rattle.value_set.specs.Form.{steps, Has, Ascends, IsNormal, put, ascending, make, above, behind_widest, hull_base, common_stride, greater, farthest, hull, span, set_of, gather}
 use Rattle.value_set.specs.Joining.{is_within, reach, candidate, stretched, is_second, choose, join_spans, join_apart, join}
 use Rattle.value_set.specs.Laws.{AreBelow, IsBelow}
-use Rattle.value_set.proofs.Joins.{in_one_of}
-use Rattle.value_set.proofs.Members.{IsIn, in_from_Contains, Contains_from_in, in_put, in_ascending, Ascends-put_all, in_steps, steps_has}
+use Rattle.value_set.specs.ListFacts.{in_either, IsIn, in_from_Contains, Contains_from_in}
+use Rattle.value_set.specs.StepFacts.{steps_from}
+use Rattle.value_set.proofs.Members.{in_put, in_ascending, Ascends-put_all, steps_has}
 
 -- ---- lists
 
@@ -36,7 +37,7 @@ put_below n v xs here below w there = elim (in_put v w xs (in_from_Contains (put
 
 low_steps : (n m b d c v : ℕ) → b + (c - 1) * d < n → n ≤ m → Contains (steps m b d c) v → v < n
 low_steps n m b d c v low h k =
-    let s = in_steps m b d c v k in
+    let s = steps_from m b d c v k in
     let product = mul-le-mul_right {m = s.0} {n = c - 1} d (omega (arith, s.1)) in
     let small : b + s.0 * d < n = omega (arith, product, low) in
     subst (λ (w : ℕ). w < n) (sym (s.2 ∙ mod-eq_of_lt (omega (arith, small, h)))) small
@@ -209,7 +210,7 @@ apart_low : (n m v : ℕ) (a b : Form) → n + n ≤ m → IsNormal m a → IsNo
     → Has m (join_apart m a b) v → v < n
 unfolding join_apart
 apart_low n m v (Values xs) (Values ys) half k l low other = elim (cases_Bool (nat_le (length (ascending (xs ++ ys))) 16)) [
-  | inl few ↦ rw few (ascending_low n v (xs ++ ys) (λ w there. elim (in_one_of w xs ys there) [ inl one ↦ all_low n xs low w one | inr two ↦ all_low n ys other w two ]))
+  | inl few ↦ rw few (ascending_low n v (xs ++ ys) (λ w there. elim (in_either w xs ys there) [ inl one ↦ all_low n xs low w one | inr two ↦ all_low n ys other w two ]))
   | inr many ↦ rw many (spans_low n m v (hull m xs) (hull m ys) half (span_low n m (Values xs) half k low) (span_low n m (Values ys) half l other))
 ]
 apart_low n m v (Values xs) (Run q) half k l low other = spans_low n m v (hull m xs) q half (span_low n m (Values xs) half k low) (span_low n m (Run q) half l other)

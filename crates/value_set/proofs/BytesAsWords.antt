@@ -9,7 +9,8 @@ use Rattle.value_set.specs.declared.form.Form.TheVariants.{Values, Run}
 use Rattle.value_set.specs.declared.form.Progression.{Progression}
 use Rattle.value_set.specs.Form.{Ascends, Has, IsNormal, ascending, gather, members}
 use Rattle.value_set.specs.Widths.{IsByteList}
-use Rattle.value_set.proofs.Members.{IsIn, Contains_from_in, Ascends-put_all, Ascends-order, ascending_some}
+use Rattle.value_set.specs.ListFacts.{IsIn, Contains_from_in}
+use Rattle.value_set.proofs.Members.{Ascends-put_all, Ascends-order, ascending_some}
 use Rattle.value_set.proofs.Gathers.{Ascends-wider}
 use Rattle.value_set.proofs.Answering.{member_below, count_of_run}
 use Rattle.value_set.proofs.Formulas.{gathers_normal, gathers_have}

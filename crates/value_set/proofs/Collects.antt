@@ -3,7 +3,8 @@ use Rattle.std.proofs.Common.{◌≡◌, ℕ, ◌<◌, ◌≤◌, List, [], ◌�
 use Rattle.std.specs.List.{All}
 use Rattle.std.proofs.lemmas.List.{take_all, length-map}
 use Rattle.value_set.specs.Form.{ascending, Ascends}
-use Rattle.value_set.proofs.Members.{IsIn, Ascends-put_all, ascending_some}
+use Rattle.value_set.specs.ListFacts.{IsIn}
+use Rattle.value_set.proofs.Members.{Ascends-put_all, ascending_some}
 use Rattle.value_set.proofs.Widens.{AllBelow, AllBelow_from}
 
 pub all_below_in : (m v : ℕ) (xs : List ℕ) → AllBelow m xs → IsIn v xs → v < m

@@ -10,7 +10,9 @@ use Rattle.value_set.specs.Form.{make, Has, IsNormal, IsNormalRun, Ascends, Fits
 use Rattle.value_set.specs.Joining.{join}
 use Rattle.value_set.specs.Widening.{lesser}
 use Rattle.value_set.specs.Cutting.{IfThere, list_or_none, count_below, part, join_parts, front_count, behind_base, cut_run, cut}
-use Rattle.value_set.proofs.Members.{IsIn, InRun, in_from_Contains, Contains_from_in, Ascends-lower, in_steps, steps_has}
+use Rattle.value_set.specs.ListFacts.{IsIn, in_from_Contains, Contains_from_in}
+use Rattle.value_set.specs.StepFacts.{steps_from}
+use Rattle.value_set.proofs.Members.{InRun, Ascends-lower, steps_has}
 use Rattle.value_set.proofs.Rounds.{mod_low, mod_once, mod_cases, above_back, above_below, product_below, base_mod}
 use Rattle.value_set.proofs.Making.{make_has, make_normal}
 use Rattle.value_set.proofs.Inclusion.{seen}
@@ -228,7 +230,7 @@ behind_has m low len i v p (n, h) short vm over at inside =
 cut_run_has : (m : ℕ) (p : Progression) (low len v : ℕ) → Low m p low → Has m (Run p) v → above m low v < len → HasPart m v (cut_run m p low len)
 cut_run_has m p low len v l has inside =
     let n = l.0 in
-    let run = in_steps m p.base p.stride p.count v has in
+    let run = steps_from m p.base p.stride p.count v has in
     let i = run.0 in
     let pos : 0 < m = omega (arith, l.1) in
     let vm : v < m = let r = mod-lt (p.base + run.0 * p.stride) {m = m} pos in omega (arith, r, run.2) in

@@ -8,7 +8,8 @@ use Rattle.value_set.specs.declared.form.Progression.{Progression}
 use Rattle.value_set.specs.declared.form.Form.{Form}
 use Rattle.value_set.specs.declared.form.Form.TheVariants.{Values, Run}
 use Rattle.value_set.specs.Form.{Includes, IsNormal, IsNormalRun, above}
-use Rattle.value_set.proofs.Members.{IsIn, in_from_Contains, Contains_from_in, same_ascending, steps_has}
+use Rattle.value_set.specs.ListFacts.{IsIn, in_from_Contains, Contains_from_in}
+use Rattle.value_set.proofs.Members.{same_ascending, steps_has}
 use Rattle.value_set.proofs.Rounds.{mod_low, above_below, above_back, above_sum, product_below}
 use Rattle.value_set.proofs.Inclusion.{Fitting}
 use Rattle.value_set.proofs.Answering.{runs_fit}

@@ -6,7 +6,9 @@ use Rattle.value_set.specs.declared.form.Form.{Form}
 use Rattle.value_set.specs.Form.{make, steps, members, Has, IsNormal, Fits, gather}
 use Rattle.value_set.specs.Summing.{results, combine}
 use Rattle.value_set.specs.Operations.{HasResultsBelow}
-use Rattle.value_set.proofs.Members.{IsIn, in_from_Contains, Contains_from_in, in_steps, steps_has}
+use Rattle.value_set.specs.ListFacts.{IsIn, in_from_Contains, Contains_from_in}
+use Rattle.value_set.specs.StepFacts.{steps_from}
+use Rattle.value_set.proofs.Members.{steps_has}
 use Rattle.value_set.proofs.Making.{in_make, make_has}
 use Rattle.value_set.proofs.Spans.{gather_normal, gather_has}
 use Rattle.value_set.proofs.Sums.{results_have, results_some, results_are, some_from_in}
@@ -14,7 +16,7 @@ use Rattle.value_set.proofs.Sums.{results_have, results_some, results_are, some_
 pub make_exact : (m base stride count v : ℕ) → Fits m stride count → Has m (make m base stride count) v ↔ Contains (steps m base stride count) v
 make_exact m base stride count v fits = (
   λ h. steps_has m base stride count v (in_make m base stride count v fits h),
-  λ h. make_has m base stride count v fits (in_steps m base stride count v h),
+  λ h. make_has m base stride count v fits (steps_from m base stride count v h),
 )
 
 pub gathers_normal : (m : ℕ) (xs : List ℕ) → 1 ≤ length xs → ((v : ℕ) → Contains xs v → v < m) → IsNormal m (gather m xs)

@@ -12,13 +12,14 @@ use Rattle.std.proofs.Math.Nat.{le_of_dvd}
 use Rattle.value_set.specs.Form.{Ascends, put, put_all, ascending, behind_widest, hull_base, greater, above, common_stride, farthest, hull, make, gather, Fits, IsSpan}
 use Rattle.value_set.specs.Gaps.{decided, onward, lesser, HasMarks}
 use Rattle.value_set.specs.declared.gap.Gap.{Gap}
-use Rattle.value_set.proofs.Members.{IsIn, in_from_Contains, Contains_from_in, Ascends-in, put_all_has, in_ascending, put-same, put-below, put-above, put_all-append, put_all-push}
-use Rattle.value_set.proofs.Spans.{widest-wider, widest-narrow, widest-nil, greater_left, greater_right, stride_divides, farthest_has, hull_is, span_fits, set_of-many, divisor_positive}
+use Rattle.value_set.proofs.Members.{Ascends-in, put_all_has, in_ascending, put-same, put-below, put-above, put_all-append, put_all-push}
 use Rattle.value_set.proofs.Gathers.{hull_base-from, hull_made}
 use Rattle.value_set.proofs.Divisors.{gcd_is, gcd_left, gcd-zero}
+use Rattle.value_set.proofs.Spans.{widest-wider, widest-narrow, widest-nil, greater_left, greater_right, stride_divides, farthest_has, hull_is, span_fits, set_of-many, divisor_positive}
 use Rattle.std.proofs.lemmas.Nat.Gcd.{dvd-zero, dvd_antisymm}
 use Rattle.value_set.specs.Gcd.{gcd}
 use Rattle.value_set.specs.declared.form.Progression.{Progression}
+use Rattle.value_set.specs.ListFacts.{IsIn, in_from_Contains, Contains_from_in}
 
 pub wider : (gap : Gap) (value width : ℕ) (xs : List ℕ) → width ≡ value - gap.previous → gap.width < width
     → decided (record { base = value; width = width; previous = value }) xs ≡ decided gap (value ∷ xs)

@@ -14,9 +14,11 @@ use Rattle.value_set.specs.Gcd.{gcd}
 use Rattle.value_set.specs.Form.{put, ascending, steps, Ascends, IsSpan, above, behind_widest, hull_base, common_stride, farthest, hull, make}
 use Rattle.value_set.specs.declared.form.Progression.{Progression}
 use Rattle.value_set.specs.declared.form.Form.TheVariants.{Run}
+use Rattle.value_set.specs.ListFacts.{Contains_from_in}
+use Rattle.value_set.specs.StepFacts.{length-steps, steps_from, steps_more}
 use Rattle.value_set.proofs.Making.{make-whole, make-open}
 use Rattle.value_set.proofs.Divisors.{gcd_right, gcd-zero, gcd-step}
-use Rattle.value_set.proofs.Members.{Contains_from_in, Ascends-in, Ascends-order, Ascends-lower, Ascends-put, length-put, Ascends-put_all, length-put_all, length-steps, in_steps, put_found, put_insert, put_above_all, put_all-push, steps_more}
+use Rattle.value_set.proofs.Members.{Ascends-in, Ascends-order, Ascends-lower, Ascends-put, length-put, Ascends-put_all, length-put_all, put_found, put_insert, put_above_all, put_all-push}
 use Rattle.value_set.proofs.Rounds.{above_below, run_below, mod_low}
 use Rattle.value_set.proofs.Spans.{hull_base_in, hull_is, widest-wider, widest-narrow, widest-nil}
 
@@ -74,7 +76,7 @@ put_longer v xs ys is = omega (arith, ap length is, length-put v xs)
 
 pub steps_ascend : (m base stride count : ℕ) → 0 < m → Ascends 0 m (ascending (steps m base stride count))
 steps_ascend m base stride count pos = Ascends-put_all m [] (steps m base stride count)
-    (λ v i. run_below m base stride count v pos (in_steps m base stride count v (Contains_from_in (steps m base stride count) v i))) tt
+    (λ v i. run_below m base stride count v pos (steps_from m base stride count v (Contains_from_in (steps m base stride count) v i))) tt
 
 pub Ascends-wider : (low m n : ℕ) (xs : List ℕ) → m ≤ n → Ascends low m xs → Ascends low n xs
 Ascends-wider low m n [] h a = tt

@@ -2,8 +2,8 @@
 use Rattle.std.proofs.Common.{◌≡◌, ℕ, ◌+◌, ◌-◌, ◌*◌, ◌%◌, ◌/◌, ◌<◌, ◌≤◌, ◌++◌, Bool, true, false, List, [], ◌∷◌, length, refl, sym, ◌∙◌, ap, subst, inl, inr, arith, eqb, Option, Some, None, length-append}
 use Prim.Native.Nat.{◌∣◌}
 use Rattle.std.specs.Prelude.{◌⊎◌, ◌↔◌, IsTrue}
-use Rattle.std.specs.List.{list_any, list_all}
-use Rattle.std.proofs.lemmas.Bool.{cases_lt, cases_Bool, eqb-true, eq-eqb, or_cases, or_left, or_right, and_parts, and_from, lt-leb, le-leb, lt-ltb, le-ltb}
+use Rattle.std.specs.List.{list_any}
+use Rattle.std.proofs.lemmas.Bool.{cases_lt, cases_Bool, eqb-true, eq-eqb, or_cases, or_left, or_right, lt-leb, le-leb, lt-ltb, le-ltb}
 use Rattle.std.proofs.Math.Nat.{mod-lt, le_of_dvd, dvd_trans, dvd-add, dvd-mul_left_of_dvd, mul-le-mul_right}
 use Rattle.value_set.specs.Gcd.{gcd}
 use Rattle.value_set.specs.declared.form.Progression.{Progression}
@@ -12,11 +12,12 @@ use Rattle.value_set.specs.declared.form.Form.{Form}
 use Rattle.value_set.specs.declared.form.Form.TheVariants.{Values, Run}
 use Rattle.value_set.specs.Form.{make, members, Has, Includes, ascending, Ascends, IsNormal, IsSpan, above, greater, hull, span, class}
 use Rattle.value_set.specs.Joining.{is_in, is_within, reach, candidate, stretched, is_second, choose, join_spans, few_together, values_or, join_apart, join}
+use Rattle.value_set.specs.ListFacts.{IsIn, in_from_Contains, Contains_from_in, in_front, in_behind, in_either, list_all_in, all_in}
 use Rattle.value_set.proofs.Divisors.{gcd_left, gcd_right}
-use Rattle.value_set.proofs.Members.{IsIn, InRun, in_from_Contains, Contains_from_in, put_all_has, Ascends-put_all, Ascends-in, ascending_some}
+use Rattle.value_set.proofs.Members.{InRun, put_all_has, Ascends-put_all, Ascends-in, ascending_some}
 use Rattle.value_set.proofs.Rounds.{above_back, above_sum, base_mod}
 use Rattle.value_set.proofs.Making.{fits_to, make_has, make_normal}
-use Rattle.value_set.proofs.Spans.{greater_left, greater_right, reached, span_is, span_has, class_normal, class_reached}
+use Rattle.value_set.proofs.Spans.{greater_left, greater_right, reached, span_is, span_has, class_normal, class_reached, modulus_positive}
 
 -- ---- the test of inclusion
 
@@ -29,23 +30,14 @@ in_any v [] h = absurd h
 in_any v (x ∷ xs) (inl e) = or_left (eqb x v) (list_any (λ x. eqb x v) xs) (eq-eqb x v e)
 in_any v (x ∷ xs) (inr h) = or_right (eqb x v) (list_any (λ x. eqb x v) xs) (in_any v xs h)
 
-all_pass : (p : ℕ → Bool) (xs : List ℕ) → list_all p xs ≡ true → (v : ℕ) → IsIn v xs → p v ≡ true
-all_pass p [] h v i = absurd i
-all_pass p (x ∷ xs) h v (inl e) = subst (λ (w : ℕ). p w ≡ true) e (and_parts (p x) (list_all p xs) h).0
-all_pass p (x ∷ xs) h v (inr i) = all_pass p xs (and_parts (p x) (list_all p xs) h).1 v i
-
-pass_all : (p : ℕ → Bool) (xs : List ℕ) → ((v : ℕ) → IsIn v xs → p v ≡ true) → list_all p xs ≡ true
-pass_all p [] h = refl
-pass_all p (x ∷ xs) h = and_from (p x) (list_all p xs) (h x (inl refl)) (pass_all p xs (λ v i. h v (inr i)))
-
 pub includes_from_test : (m : ℕ) (smaller larger : Form) → is_within m smaller larger ≡ true → Includes m larger smaller
 unfolding is_within
 includes_from_test m smaller larger h v i = Contains_from_in (members m larger) v
-    (any_in v (members m larger) (all_pass (λ v. is_in m larger v) (members m smaller) h v (in_from_Contains (members m smaller) v i)))
+    (any_in v (members m larger) (list_all_in (λ v. is_in m larger v) v (members m smaller) h (in_from_Contains (members m smaller) v i)))
 
 pub test_from_includes : (m : ℕ) (smaller larger : Form) → Includes m larger smaller → is_within m smaller larger ≡ true
 unfolding is_within
-test_from_includes m smaller larger h = pass_all (λ v. is_in m larger v) (members m smaller)
+test_from_includes m smaller larger h = all_in (λ v. is_in m larger v) (members m smaller)
     (λ v i. in_any v (members m larger) (in_from_Contains (members m larger) v (h v (Contains_from_in (members m smaller) v i))))
 
 pub test_fails : (m : ℕ) (smaller larger : Form) → (Includes m larger smaller → ⊥) → is_within m smaller larger ≡ false
@@ -177,20 +169,6 @@ join_spans_normal m p q pos = choose_cases m (candidate m p q) (candidate m q p)
 
 -- ---- the join
 
-pub in_left : (v : ℕ) (xs ys : List ℕ) → IsIn v xs → IsIn v (xs ++ ys)
-in_left v [] ys h = absurd h
-in_left v (x ∷ xs) ys (inl e) = inl e
-in_left v (x ∷ xs) ys (inr h) = inr (in_left v xs ys h)
-
-pub in_right : (v : ℕ) (xs ys : List ℕ) → IsIn v ys → IsIn v (xs ++ ys)
-in_right v [] ys h = h
-in_right v (x ∷ xs) ys h = inr (in_right v xs ys h)
-
-pub in_one_of : (v : ℕ) (xs ys : List ℕ) → IsIn v (xs ++ ys) → IsIn v xs ⊎ IsIn v ys
-in_one_of v [] ys h = inr h
-in_one_of v (x ∷ xs) ys (inl e) = inl (inl e)
-in_one_of v (x ∷ xs) ys (inr h) = elim (in_one_of v xs ys h) [ inl a ↦ inl (inr a) | inr b ↦ inr b ]
-
 pub few_cases : (xs ys : List ℕ) → ((length (ascending (xs ++ ys)) ≤ 16) × (few_together xs ys ≡ Some (ascending (xs ++ ys)))) ⊎ (few_together xs ys ≡ None)
 few_cases xs ys = elim (cases_lt 16 (length (ascending (xs ++ ys)))) [
   | inr few ↦ inl (few, rw (le-leb (length (ascending (xs ++ ys))) 16 few) refl)
@@ -218,21 +196,18 @@ apart_cases m (Values xs) (Values ys) P few spans = elim (few_cases xs ys) [
 apart_cases m (Values xs) (Run q) P few spans = rw (apart-list_run m xs q) spans
 apart_cases m (Run p) second P few spans = rw (apart-run m p second) spans
 
-positive : (m : ℕ) (set : Form) → IsNormal m set → 0 < m
-positive m set n = let low = (span_is m set n).below in omega (arith, low)
-
 apart_first : (m : ℕ) (first second : Form) → IsNormal m first → IsNormal m second → Includes m (join_apart m first second) first
 apart_first m first second n k v h = apart_cases m first second (λ set. Has m set v)
-    (λ xs ys a b short. Contains_from_in (ascending (xs ++ ys)) v (put_all_has v [] (xs ++ ys) (in_left v xs ys (in_from_Contains xs v (subst (λ (set : Form). Has m set v) a h)))))
+    (λ xs ys a b short. Contains_from_in (ascending (xs ++ ys)) v (put_all_has v [] (xs ++ ys) (in_front v xs ys (in_from_Contains xs v (subst (λ (set : Form). Has m set v) a h)))))
     (join_spans_first m (span m first) (span m second) v (span_is m first n) (span_is m second k) (span_has m v first n h))
 
 apart_second : (m : ℕ) (first second : Form) → IsNormal m first → IsNormal m second → Includes m (join_apart m first second) second
 apart_second m first second n k v h = apart_cases m first second (λ set. Has m set v)
-    (λ xs ys a b short. Contains_from_in (ascending (xs ++ ys)) v (put_all_has v [] (xs ++ ys) (in_right v xs ys (in_from_Contains ys v (subst (λ (set : Form). Has m set v) b h)))))
+    (λ xs ys a b short. Contains_from_in (ascending (xs ++ ys)) v (put_all_has v [] (xs ++ ys) (in_behind v xs ys (in_from_Contains ys v (subst (λ (set : Form). Has m set v) b h)))))
     (join_spans_second m (span m first) (span m second) v (span_is m first n) (span_is m second k) (span_has m v second k h))
 
 pub lists_below : (m : ℕ) (xs ys : List ℕ) → Ascends 0 m xs → Ascends 0 m ys → (v : ℕ) → IsIn v (xs ++ ys) → v < m
-lists_below m xs ys a b v h = elim (in_one_of v xs ys h) [ inl i ↦ (Ascends-in 0 m v xs a i).1 | inr i ↦ (Ascends-in 0 m v ys b i).1 ]
+lists_below m xs ys a b v h = elim (in_either v xs ys h) [ inl i ↦ (Ascends-in 0 m v xs a i).1 | inr i ↦ (Ascends-in 0 m v ys b i).1 ]
 
 apart_normal : (m : ℕ) (first second : Form) → IsNormal m first → IsNormal m second → IsNormal m (join_apart m first second)
 apart_normal m first second n k = apart_cases m first second (λ set. IsNormal m set)
@@ -240,7 +215,7 @@ apart_normal m first second n k = apart_cases m first second (λ set. IsNormal m
     let n' : IsNormal m (Values xs) = subst (λ (set : Form). IsNormal m set) a n in
     let k' : IsNormal m (Values ys) = subst (λ (set : Form). IsNormal m set) b k in
     (ascending_some (xs ++ ys) (omega (arith, n'.0, length-append xs ys)), short, Ascends-put_all m [] (xs ++ ys) (lists_below m xs ys n'.2 k'.2) tt))
-    (join_spans_normal m (span m first) (span m second) (positive m first n))
+    (join_spans_normal m (span m first) (span m second) (modulus_positive m first n))
 
 pub join_cases : (m : ℕ) (first second : Form) (P : Form → Type 0) → (Includes m first second → P first) → (Includes m second first → P second)
     → P (join_apart m first second) → P (join m first second)

@@ -5,7 +5,9 @@ use Rattle.std.proofs.lemmas.Bool.{cases_lt, cases_eq, lt-leb, le-leb, eq-eqb, n
 use Rattle.std.proofs.Math.Nat.{mod-lt, div-zero, mul-le-mul_right, div-mul-le_self, mod-mod}
 use Rattle.value_set.specs.declared.form.Form.TheVariants.{Values, Run}
 use Rattle.value_set.specs.Form.{make, steps, Has, ascending, IsNormal, Fits}
-use Rattle.value_set.proofs.Members.{IsIn, InRun, in_from_Contains, Contains_from_in, in_ascending, put_all_has, Ascends-put_all, length-put_all, ascending_some, length-steps, in_steps, steps_has}
+use Rattle.value_set.specs.ListFacts.{IsIn, in_from_Contains, Contains_from_in}
+use Rattle.value_set.specs.StepFacts.{length-steps, steps_from}
+use Rattle.value_set.proofs.Members.{InRun, in_ascending, put_all_has, Ascends-put_all, length-put_all, ascending_some, steps_has}
 use Rattle.value_set.proofs.Rounds.{run_base_mod, run_base_plain, whole_remainder, whole_has, run_below}
 
 pub make-few : (m b d c : ℕ) → c ≤ 16 → make m b d c ≡ Values (ascending (steps m b d c))
@@ -22,12 +24,12 @@ make-open m b d c h e = rw (lt-leb c 16 h, ne_eqb (c * d) m e) refl
 
 pub in_make : (m b d c v : ℕ) → Fits m d c → Has m (make m b d c) v → InRun m b d c v
 in_make m b d c v fits h = elim (cases_lt 16 c) [
-  | inr few ↦ in_steps m b d c v (Contains_from_in _ v (in_ascending v _ (in_from_Contains _ v (rw (make-few m b d c few) at h))))
+  | inr few ↦ steps_from m b d c v (Contains_from_in _ v (in_ascending v _ (in_from_Contains _ v (rw (make-few m b d c few) at h))))
   | inl many ↦ elim (cases_eq (c * d) m) [
     | inl whole ↦
-        let run = in_steps m (b % d) d c v (rw (make-whole m b d c many whole) at h) in
+        let run = steps_from m (b % d) d c v (rw (make-whole m b d c many whole) at h) in
         whole_has m b d c v (fits.strides (omega arith)) whole (run_below m (b % d) d c v fits.positive run) (whole_remainder m (b % d) d c v whole run ∙ mod-mod b d)
-    | inr apart ↦ run_base_plain m b d c v (in_steps m (b % m) d c v (rw (make-open m b d c many apart) at h))
+    | inr apart ↦ run_base_plain m b d c v (steps_from m (b % m) d c v (rw (make-open m b d c many apart) at h))
   ]
 ]
 
@@ -42,7 +44,7 @@ make_has m b d c v fits run = elim (cases_lt 16 c) [
 ]
 
 steps_below : (m b d c v : ℕ) → 0 < m → IsIn v (steps m b d c) → v < m
-steps_below m b d c v h i = run_below m b d c v h (in_steps m b d c v (Contains_from_in _ v i))
+steps_below m b d c v h i = run_below m b d c v h (steps_from m b d c v (Contains_from_in _ v i))
 
 pub make_normal : (m b d c : ℕ) → Fits m d c → IsNormal m (make m b d c)
 make_normal m b d c fits = elim (cases_lt 16 c) [

@@ -5,22 +5,10 @@ use Rattle.std.specs.Prelude.{◌⊎◌}
 use Rattle.std.specs.List.{Contains, insert}
 use Rattle.std.proofs.lemmas.Bool.{cases_order, lt-ltb, le-ltb, eq-eqb, ne_eqb}
 use Rattle.std.proofs.lemmas.List.{take_more}
-use Rattle.std.proofs.lemmas.List.FromFn.{length-map-range_with_len, get_or-map-range_with_len, map-range_with_len_more}
+use Rattle.std.proofs.lemmas.List.FromFn.{get_or-map-range_with_len}
 use Rattle.value_set.specs.Form.{put, put_all, ascending, Ascends, steps}
-
-abbrev pub IsIn : ℕ → List ℕ → Type 0
-IsIn v [] = ⊥
-IsIn v (x ∷ xs) = (x ≡ v) ⊎ IsIn v xs
-
-pub in_from_Contains : (xs : List ℕ) (v : ℕ) → Contains xs v → IsIn v xs
-in_from_Contains [] v h = absurd (omega (arith, h.1))
-in_from_Contains (x ∷ xs) v (zero, below, is) = inl is
-in_from_Contains (x ∷ xs) v (suc k, below, is) = inr (in_from_Contains xs v (k, omega arith, is))
-
-pub Contains_from_in : (xs : List ℕ) (v : ℕ) → IsIn v xs → Contains xs v
-Contains_from_in [] v h = absurd h
-Contains_from_in (x ∷ xs) v (inl e) = (0, omega arith, e)
-Contains_from_in (x ∷ xs) v (inr h) = let rest = Contains_from_in xs v h in (suc rest.0, omega (arith, rest.1), rest.2)
+use Rattle.value_set.specs.ListFacts.{IsIn}
+use Rattle.value_set.specs.StepFacts.{length-steps}
 
 -- ---- put
 
@@ -192,21 +180,12 @@ same_ascending low m (x ∷ xs) (y ∷ ys) a b to back =
 
 -- ---- the numbers of a run
 
-pub length-steps : (m base stride count : ℕ) → length (steps m base stride count) ≡ count
-unfolding steps
-length-steps m base stride count = length-map-range_with_len (λ (i : ℕ). (base + i * stride) % m) 0 count
-
 pub get_or-steps : (m base stride count i d : ℕ) → i < count → get_or (steps m base stride count) i d ≡ (base + i * stride) % m
 unfolding steps
 get_or-steps m base stride count i d h = get_or-map-range_with_len (λ (i : ℕ). (base + i * stride) % m) 0 count i i d h (omega arith)
 
 abbrev pub InRun : (m base stride count v : ℕ) → Type 0
 InRun m base stride count v = (i : ℕ) × (i < count) × (v ≡ (base + i * stride) % m)
-
-pub in_steps : (m base stride count v : ℕ) → Contains (steps m base stride count) v → InRun m base stride count v
-in_steps m base stride count v (i, below, is) =
-    let short : i < count = omega (arith, length-steps m base stride count, below) in
-    (i, short, sym is ∙ get_or-steps m base stride count i v short)
 
 pub steps_has : (m base stride count v : ℕ) → InRun m base stride count v → Contains (steps m base stride count) v
 steps_has m base stride count v (i, below, is) =
@@ -258,6 +237,3 @@ put_all_ascending low m held (x ∷ xs) below rises a =
 pub ascending_same : (m : ℕ) (xs : List ℕ) → Ascends 0 m xs → ascending xs ≡ xs
 ascending_same m xs a = put_all_ascending 0 m [] xs (λ v i. absurd i) tt a
 
-pub steps_more : (m base stride count : ℕ) → steps m base stride (count + 1) ≡ steps m base stride count ++ (base + count * stride) % m ∷ []
-unfolding steps
-steps_more m base stride count = map-range_with_len_more (λ (i : ℕ). (base + i * stride) % m) 0 count count (omega arith)

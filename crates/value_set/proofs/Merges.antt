@@ -10,10 +10,11 @@ use Rattle.value_set.specs.declared.form.Form.TheVariants.{Values, Run}
 use Rattle.value_set.specs.Form.{Has, Includes, IsNormal, IsNormalRun, ascending, Ascends, hull, span}
 use Rattle.value_set.specs.Joining.{few_together, is_within, join_spans, join_apart, join}
 use Rattle.value_set.specs.Merging.{merge, is_sublist, if_few, HasRun}
-use Rattle.value_set.proofs.Members.{IsIn, in_from_Contains, Contains_from_in, in_ascending, put_all_has, Ascends-put_all, Ascends-in, Ascends-lower, same_ascending}
+use Rattle.value_set.specs.ListFacts.{IsIn, in_from_Contains, Contains_from_in, in_front, in_behind, in_either}
+use Rattle.value_set.proofs.Members.{in_ascending, put_all_has, Ascends-put_all, Ascends-in, Ascends-lower, same_ascending}
 use Rattle.value_set.proofs.Gathers.{drop_at, Ascends-wider}
 use Rattle.value_set.proofs.Equal.{run_over_list}
-use Rattle.value_set.proofs.Joins.{in_left, in_right, in_one_of, lists_below, few_cases, values_found, values_missing, apart-list_run, apart-run, test_from_includes, join-first, join_cases, join_includes_second, join_normal}
+use Rattle.value_set.proofs.Joins.{lists_below, few_cases, values_found, values_missing, apart-list_run, apart-run, test_from_includes, join-first, join_cases, join_includes_second, join_normal}
 
 -- ---- two lists together
 
@@ -94,8 +95,8 @@ Ascends-merge low m (x ∷ xs) (y ∷ ys) a b = elim (cases_order x y) [
 pub merge_is : (m : ℕ) (xs ys : List ℕ) → Ascends 0 m xs → Ascends 0 m ys → merge xs ys ≡ ascending (xs ++ ys)
 merge_is m xs ys a b = same_ascending 0 m (merge xs ys) (ascending (xs ++ ys)) (Ascends-merge 0 m xs ys a b)
     (Ascends-put_all m [] (xs ++ ys) (lists_below m xs ys a b) tt)
-    (λ v h. put_all_has v [] (xs ++ ys) (elim (in_merge v xs ys h) [ inl i ↦ in_left v xs ys i | inr i ↦ in_right v xs ys i ]))
-    (λ v h. elim (in_one_of v xs ys (in_ascending v (xs ++ ys) h)) [ inl i ↦ merge_has_first v xs ys i | inr i ↦ merge_has_second v xs ys i ])
+    (λ v h. put_all_has v [] (xs ++ ys) (elim (in_merge v xs ys h) [ inl i ↦ in_front v xs ys i | inr i ↦ in_behind v xs ys i ]))
+    (λ v h. elim (in_either v xs ys (in_ascending v (xs ++ ys) h)) [ inl i ↦ merge_has_first v xs ys i | inr i ↦ merge_has_second v xs ys i ])
 
 -- ---- the walk that puts them together
 
@@ -235,13 +236,13 @@ ended xs ys i j h k = elim (cases_eq i (length xs)) [
 
 pub second_within : (m : ℕ) (xs ys : List ℕ) → Ascends 0 m xs → Ascends 0 m ys → Includes m (Values xs) (Values ys) → ascending (xs ++ ys) ≡ xs
 second_within m xs ys a b inside = same_ascending 0 m (ascending (xs ++ ys)) xs (Ascends-put_all m [] (xs ++ ys) (lists_below m xs ys a b) tt) a
-    (λ v h. elim (in_one_of v xs ys (in_ascending v (xs ++ ys) h)) [ inl i ↦ i | inr i ↦ in_from_Contains xs v (inside v (Contains_from_in ys v i)) ])
-    (λ v h. put_all_has v [] (xs ++ ys) (in_left v xs ys h))
+    (λ v h. elim (in_either v xs ys (in_ascending v (xs ++ ys) h)) [ inl i ↦ i | inr i ↦ in_from_Contains xs v (inside v (Contains_from_in ys v i)) ])
+    (λ v h. put_all_has v [] (xs ++ ys) (in_front v xs ys h))
 
 pub first_within : (m : ℕ) (xs ys : List ℕ) → Ascends 0 m xs → Ascends 0 m ys → Includes m (Values ys) (Values xs) → ascending (xs ++ ys) ≡ ys
 first_within m xs ys a b inside = same_ascending 0 m (ascending (xs ++ ys)) ys (Ascends-put_all m [] (xs ++ ys) (lists_below m xs ys a b) tt) b
-    (λ v h. elim (in_one_of v xs ys (in_ascending v (xs ++ ys) h)) [ inl i ↦ in_from_Contains ys v (inside v (Contains_from_in xs v i)) | inr i ↦ i ])
-    (λ v h. put_all_has v [] (xs ++ ys) (in_right v xs ys h))
+    (λ v h. elim (in_either v xs ys (in_ascending v (xs ++ ys) h)) [ inl i ↦ in_from_Contains ys v (inside v (Contains_from_in xs v i)) | inr i ↦ i ])
+    (λ v h. put_all_has v [] (xs ++ ys) (in_behind v xs ys h))
 
 few_values : (xs ys values : List ℕ) → Some values ≡ few_together xs ys → values ≡ ascending (xs ++ ys)
 few_values xs ys values is = elim (few_cases xs ys) [

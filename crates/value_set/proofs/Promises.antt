@@ -11,7 +11,9 @@ use Rattle.value_set.specs.declared.form.Form.TheVariants.{Values, Run}
 use Rattle.value_set.specs.Form.{make, steps, members, Has, gather, Ascends, IsNormal, Fits, above}
 use Rattle.value_set.specs.Collecting.{IsNoRun}
 use Rattle.value_set.specs.Cutting.{IfThere, cut}
-use Rattle.value_set.proofs.Members.{IsIn, in_steps, steps_has, length-steps}
+use Rattle.value_set.specs.ListFacts.{IsIn}
+use Rattle.value_set.specs.StepFacts.{steps_from, length-steps}
+use Rattle.value_set.proofs.Members.{steps_has}
 use Rattle.value_set.proofs.Rounds.{mod_low}
 use Rattle.value_set.proofs.Making.{in_make, make_has}
 use Rattle.value_set.proofs.Spans.{gather_normal, gather_has}
@@ -36,7 +38,7 @@ run_fits m stride count pos not_none = record {
 pub run_exact : (m base stride count v : ℕ) (set : Form) → set ≡ make m base stride count → Fits m stride count → Has m set v ↔ Contains (steps m base stride count) v
 run_exact m base stride count v set is fits = (
   λ h. steps_has m base stride count v (in_make m base stride count v fits (subst (λ (s : Form). Has m s v) is h)),
-  λ h. subst (λ (s : Form). Has m s v) (sym is) (make_has m base stride count v fits (in_steps m base stride count v h)),
+  λ h. subst (λ (s : Form). Has m s v) (sym is) (make_has m base stride count v fits (steps_from m base stride count v h)),
 )
 
 in_map : {X : Type 0} (f : X → ℕ) (xs : List X) (k : ℕ) (d : X) → k < length xs → IsIn (f (get_or xs k d)) (map f xs)

@@ -16,14 +16,16 @@ use Rattle.value_set.specs.Joining.{candidate, reach, join_spans, join}
 use Rattle.value_set.specs.Widening.{widened_between, first_widened, last_widened, widen_span, widen, last_of}
 use Rattle.value_set.specs.Summing.{single, results, combine, count_of, sum_answer, difference_answer, add_spans, negated, add, sub, twice}
 use Rattle.value_set.specs.Cutting.{IfThere, count_below, part, join_parts, front_count, behind_base, cut}
+use Rattle.value_set.specs.ListFacts.{IsIn, in_from_Contains, Contains_from_in, in_either, in_mapped}
+use Rattle.value_set.specs.StepFacts.{steps_from}
 use Rattle.value_set.proofs.Divisors.{gcd_is}
-use Rattle.value_set.proofs.Members.{IsIn, InRun, in_from_Contains, Contains_from_in, in_ascending, in_steps, steps_has, Ascends-in, Ascends-put_all, ascending_some}
+use Rattle.value_set.proofs.Members.{InRun, in_ascending, steps_has, Ascends-in, Ascends-put_all, ascending_some}
 use Rattle.value_set.proofs.Rounds.{above_back, differ}
 use Rattle.value_set.proofs.Making.{make-few, make-whole, make-open}
-use Rattle.value_set.proofs.Spans.{hull_base_in, span_is, set_of-few, set_of-many}
-use Rattle.value_set.proofs.Joins.{IsRun, choose_cases, candidate_base, in_one_of, apart_cases, join_cases, join_normal}
+use Rattle.value_set.proofs.Spans.{hull_base_in, span_is, set_of-few, set_of-many, modulus_positive}
+use Rattle.value_set.proofs.Joins.{IsRun, choose_cases, candidate_base, apart_cases, join_cases, join_normal}
 use Rattle.value_set.proofs.Answering.{member_below}
-use Rattle.value_set.proofs.Sums.{in_mapped, results_some, results_are, some_members, modulus_positive, add_spans_cases, add-few, add-many, sub-few, sub-many, twice-list, twice-once, twice-round, doubled_below, doubled_some}
+use Rattle.value_set.proofs.Sums.{results_some, results_are, some_members, add_spans_cases, add-few, add-many, sub-few, sub-many, twice-list, twice-once, twice-round, doubled_below, doubled_some}
 use Rattle.value_set.proofs.Cuts.{Low, part-none, part-some, count_less, base_seen, behind_starts, front_part, behind_part, front_normal, behind_normal, cut_run-is, in_filtered, list_there}
 use Rattle.value_set.proofs.Widens.{widen_span-class, widen_span-between, first_cases, widen_cases}
 
@@ -47,10 +49,10 @@ run_remainder m n b d c v whole part (i, short, is) = ap (λ (w : ℕ). w % n) i
 
 pub make_remainder : (m n b d c : ℕ) → n ∣ m → n ∣ d → HasRemainder m n (b % n) (make m b d c)
 make_remainder m n b d c whole part v h = elim (cases_lt 16 c) [
-  | inr few ↦ run_remainder m n b d c v whole part (in_steps m b d c v (Contains_from_in _ v (in_ascending v _ (in_from_Contains _ v (rw (make-few m b d c few) at h)))))
+  | inr few ↦ run_remainder m n b d c v whole part (steps_from m b d c v (Contains_from_in _ v (in_ascending v _ (in_from_Contains _ v (rw (make-few m b d c few) at h)))))
   | inl many ↦ elim (cases_eq (c * d) m) [
-    | inl round ↦ run_remainder m n (b % d) d c v whole part (in_steps m (b % d) d c v (rw (make-whole m b d c many round) at h)) ∙ mod-mod_of_dvd n b part
-    | inr apart ↦ run_remainder m n (b % m) d c v whole part (in_steps m (b % m) d c v (rw (make-open m b d c many apart) at h)) ∙ mod-mod_of_dvd n b whole
+    | inl round ↦ run_remainder m n (b % d) d c v whole part (steps_from m (b % d) d c v (rw (make-whole m b d c many round) at h)) ∙ mod-mod_of_dvd n b part
+    | inr apart ↦ run_remainder m n (b % m) d c v whole part (steps_from m (b % m) d c v (rw (make-open m b d c many apart) at h)) ∙ mod-mod_of_dvd n b whole
   ]
 ]
 
@@ -129,7 +131,7 @@ join_remainder m n r a b whole k l first second = join_cases m a b (λ set. HasR
     (λ xs ys is are short v h.
     let first_list : HasRemainder m n r (Values xs) = subst (λ (set : Form). HasRemainder m n r set) is first in
     let second_list : HasRemainder m n r (Values ys) = subst (λ (set : Form). HasRemainder m n r set) are second in
-    elim (in_one_of v xs ys (in_ascending v (xs ++ ys) (in_from_Contains (ascending (xs ++ ys)) v h))) [
+    elim (in_either v xs ys (in_ascending v (xs ++ ys) (in_from_Contains (ascending (xs ++ ys)) v h))) [
       | inl i ↦ first_list v (Contains_from_in xs v i)
       | inr i ↦ second_list v (Contains_from_in ys v i)
     ])

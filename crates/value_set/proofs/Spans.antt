@@ -9,8 +9,10 @@ use Rattle.value_set.specs.Gcd.{gcd}
 use Rattle.value_set.specs.declared.form.Form.{Form}
 use Rattle.value_set.specs.declared.form.Form.TheVariants.{Values, Run}
 use Rattle.value_set.specs.Form.{make, Has, ascending, Ascends, IsNormal, above, behind_widest, hull_base, common_stride, greater, farthest, hull, span, Fits, IsSpan, set_of, gather, class}
+use Rattle.value_set.specs.ListFacts.{IsIn, in_from_Contains, Contains_from_in}
+use Rattle.value_set.specs.StepFacts.{steps_from}
 use Rattle.value_set.proofs.Divisors.{gcd_left, gcd_right}
-use Rattle.value_set.proofs.Members.{IsIn, InRun, in_from_Contains, Contains_from_in, put_all_has, Ascends-put_all, Ascends-in, ascending_some, in_steps}
+use Rattle.value_set.proofs.Members.{InRun, put_all_has, Ascends-put_all, Ascends-in, ascending_some}
 use Rattle.value_set.proofs.Rounds.{above_below, run_from_offset, whole_has}
 use Rattle.value_set.proofs.Making.{fits_to, make_has, make_normal}
 
@@ -109,9 +111,12 @@ pub span_is : (m : ℕ) (set : Form) → IsNormal m set → IsSpan m (span m set
 span_is m (Values xs) n = hull_is m xs n.0 n.2
 span_is m (Run p) n = record { below = n.below; some = omega (arith, n.long); once = n.once; strides = λ _. n.strides }
 
+pub modulus_positive : (m : ℕ) (set : Form) → IsNormal m set → 0 < m
+modulus_positive m set n = let low = (span_is m set n).below in omega (arith, low)
+
 pub span_has : (m v : ℕ) (set : Form) → IsNormal m set → Has m set v → InRun m (span m set).base (span m set).stride (span m set).count v
 span_has m v (Values xs) n h = hull_has m v xs n.0 n.2 (in_from_Contains xs v h)
-span_has m v (Run p) n h = in_steps m p.base p.stride p.count v h
+span_has m v (Run p) n h = steps_from m p.base p.stride p.count v h
 
 pub span_fits : (m base stride count : ℕ) → IsSpan m base stride count → Fits m stride count
 span_fits m base stride count s = record { positive = omega (arith, s.below); some = s.some; once = s.once; strides = s.strides }

@@ -3,7 +3,7 @@ use Rattle.std.proofs.Common.{◌≡◌, ℕ, ◌+◌, ◌-◌, ◌*◌, ◌%◌
 use Rattle.std.proofs.lemmas.List.{take_more, take_all, map-append}
 use Rattle.std.proofs.lemmas.Grind.{flat_map-append}
 use Prim.Native.Nat.{◌∣◌}
-use Rattle.std.specs.Prelude.{◌⊎◌, map}
+use Rattle.std.specs.Prelude.{map}
 use Rattle.std.specs.List.{flat_map}
 use Rattle.std.proofs.lemmas.Bool.{cases_lt, lt-ltb, le-ltb, lt-leb, le-leb}
 use Rattle.std.proofs.Math.Nat.{mod-lt, dvd-add, dvd-mul_left, dvd-mul_left_of_dvd, mul-le-mul_right, add-mod-mod, add-mod_right}
@@ -15,55 +15,21 @@ use Rattle.value_set.specs.Form.{make, members, Has, gather, set_of, put, put_al
 use Rattle.value_set.specs.Joining.{reach}
 use Rattle.value_set.specs.Summing.{single, results, combine, count_of, sum_answer, difference_answer, add_spans, negated, add, sub, twice}
 use Rattle.value_set.specs.Operations.{StaysBelow, sum_stays, difference_stays}
+use Rattle.value_set.specs.ListFacts.{IsIn, in_from_Contains, Contains_from_in, in_map, in_mapped, in_flat_map, in_flat}
+use Rattle.value_set.specs.StepFacts.{steps_from, length-steps}
 use Rattle.value_set.proofs.Divisors.{gcd_left, gcd_right}
-use Rattle.value_set.proofs.Members.{IsIn, in_from_Contains, Contains_from_in, in_steps, length-steps, put_all-append, put_all-push, Ascends-put_all, ascending_some}
+use Rattle.value_set.proofs.Members.{put_all-append, put_all-push, Ascends-put_all, ascending_some}
 use Rattle.value_set.proofs.Rounds.{mod_cases, base_mod, run_below, product_below}
 use Rattle.value_set.proofs.Making.{fits_to, make_has, make_normal}
-use Rattle.value_set.proofs.Spans.{multiple, span_is, span_has, gather_normal, gather_has, class_normal, class_reached}
+use Rattle.value_set.proofs.Spans.{multiple, span_is, span_has, gather_normal, gather_has, class_normal, class_reached, modulus_positive}
 use Rattle.value_set.proofs.Joins.{IsRun, InSpan}
 use Rattle.value_set.proofs.Answering.{member_below}
 
 -- ---- results of an operation
 
-in_append_left : (v : ℕ) (xs ys : List ℕ) → IsIn v xs → IsIn v (xs ++ ys)
-in_append_left v [] ys h = absurd h
-in_append_left v (x ∷ xs) ys (inl e) = inl e
-in_append_left v (x ∷ xs) ys (inr h) = inr (in_append_left v xs ys h)
-
-in_append_right : (v : ℕ) (xs ys : List ℕ) → IsIn v ys → IsIn v (xs ++ ys)
-in_append_right v [] ys h = h
-in_append_right v (x ∷ xs) ys h = inr (in_append_right v xs ys h)
-
-in_append : (v : ℕ) (xs ys : List ℕ) → IsIn v (xs ++ ys) → IsIn v xs ⊎ IsIn v ys
-in_append v [] ys h = inr h
-in_append v (x ∷ xs) ys (inl e) = inl (inl e)
-in_append v (x ∷ xs) ys (inr h) = elim (in_append v xs ys h) [ inl a ↦ inl (inr a) | inr b ↦ inr b ]
-
-pub mapped_in : (f : ℕ → ℕ) (v : ℕ) (xs : List ℕ) → IsIn v xs → IsIn (f v) (map f xs)
-mapped_in f v [] h = absurd h
-mapped_in f v (x ∷ xs) (inl e) = inl (ap f e)
-mapped_in f v (x ∷ xs) (inr h) = inr (mapped_in f v xs h)
-
-pub in_mapped : (f : ℕ → ℕ) (v : ℕ) (xs : List ℕ) → IsIn v (map f xs) → (x : ℕ) × IsIn x xs × (f x ≡ v)
-in_mapped f v [] h = absurd h
-in_mapped f v (x ∷ xs) (inl e) = (x, inl refl, e)
-in_mapped f v (x ∷ xs) (inr h) = let rest = in_mapped f v xs h in (rest.0, inr rest.1, rest.2)
-
-flat_in : (f : ℕ → List ℕ) (x v : ℕ) (xs : List ℕ) → IsIn x xs → IsIn v (f x) → IsIn v (flat_map f xs)
-flat_in f x v [] h i = absurd h
-flat_in f x v (y ∷ ys) (inl e) i = in_append_left v (f y) (flat_map f ys) (subst (λ (z : ℕ). IsIn v (f z)) (sym e) i)
-flat_in f x v (y ∷ ys) (inr h) i = in_append_right v (f y) (flat_map f ys) (flat_in f x v ys h i)
-
-pub in_flat : (f : ℕ → List ℕ) (v : ℕ) (xs : List ℕ) → IsIn v (flat_map f xs) → (x : ℕ) × IsIn x xs × IsIn v (f x)
-in_flat f v [] h = absurd h
-in_flat f v (y ∷ ys) h = elim (in_append v (f y) (flat_map f ys) h) [
-  | inl here ↦ (y, inl refl, here)
-  | inr later ↦ let rest = in_flat f v ys later in (rest.0, inr rest.1, rest.2)
-]
-
 pub results_have : (f : ℕ → ℕ → ℕ → ℕ) (x y z : ℕ) (xs ys zs : List ℕ) → IsIn x xs → IsIn y ys → IsIn z zs → IsIn (f x y z) (results f xs ys zs)
-results_have f x y z xs ys zs i j k = flat_in (λ x. flat_map (λ y. map (λ z. f x y z) zs) ys) x (f x y z) xs i
-    (flat_in (λ y. map (λ z. f x y z) zs) y (f x y z) ys j (mapped_in (λ z. f x y z) z zs k))
+results_have f x y z xs ys zs i j k = in_flat_map (λ x. flat_map (λ y. map (λ z. f x y z) zs) ys) x (f x y z) xs i
+    (in_flat_map (λ y. map (λ z. f x y z) zs) y (f x y z) ys j (in_map (λ z. f x y z) z zs k))
 
 pub results_are : (f : ℕ → ℕ → ℕ → ℕ) (v : ℕ) (xs ys zs : List ℕ) → IsIn v (results f xs ys zs)
     → (x : ℕ) × (y : ℕ) × (z : ℕ) × IsIn x xs × IsIn y ys × IsIn z zs × (f x y z ≡ v)
@@ -202,30 +168,27 @@ sub-many m a b h = rw (lt-leb (count_of m a * count_of m b) 256 h) refl
 pub single_normal : (m v : ℕ) → v < m → IsNormal m (single v)
 single_normal m v h = (omega arith, omega arith, (omega arith, h, tt))
 
-positive : (m : ℕ) (set : Form) → IsNormal m set → 0 < m
-positive m set n = let low = (span_is m set n).below in omega (arith, low)
-
 pub add_normal : (m : ℕ) (a b : Form) → IsNormal m a → IsNormal m b → IsNormal m (add m a b)
 add_normal m a b n k = elim (cases_lt 256 (count_of m a * count_of m b)) [
-  | inr few ↦ rw (add-few m a b few) (combine_normal m (sum_answer m) a b (single 0) n k (single_normal m 0 (positive m a n)) (sum_stays m))
-  | inl many ↦ rw (add-many m a b many) (add_spans_normal m (span m a) (span m b) (positive m a n))
+  | inr few ↦ rw (add-few m a b few) (combine_normal m (sum_answer m) a b (single 0) n k (single_normal m 0 (modulus_positive m a n)) (sum_stays m))
+  | inl many ↦ rw (add-many m a b many) (add_spans_normal m (span m a) (span m b) (modulus_positive m a n))
 ]
 
 pub add_has : (m : ℕ) (a b : Form) (x y : ℕ) → IsNormal m a → IsNormal m b → Has m a x → Has m b y → Has m (add m a b) ((x + y) % m)
 add_has m a b x y n k h i = elim (cases_lt 256 (count_of m a * count_of m b)) [
-  | inr few ↦ rw (add-few m a b few) (combine_has m (sum_answer m) a b (single 0) x y 0 n k (single_normal m 0 (positive m a n)) (sum_stays m) h i (0, omega arith, refl))
+  | inr few ↦ rw (add-few m a b few) (combine_has m (sum_answer m) a b (single 0) x y 0 n k (single_normal m 0 (modulus_positive m a n)) (sum_stays m) h i (0, omega arith, refl))
   | inl many ↦ rw (add-many m a b many) (add_spans_has m (span m a) (span m b) x y (span_is m a n) (span_is m b k) (span_has m x a n h) (span_has m y b k i))
 ]
 
 pub sub_normal : (m : ℕ) (a b : Form) → IsNormal m a → IsNormal m b → IsNormal m (sub m a b)
 sub_normal m a b n k = elim (cases_lt 256 (count_of m a * count_of m b)) [
-  | inr few ↦ rw (sub-few m a b few) (combine_normal m (difference_answer m) a b (single 0) n k (single_normal m 0 (positive m a n)) (difference_stays m))
-  | inl many ↦ rw (sub-many m a b many) (add_spans_normal m (span m a) (negated m (span m b)) (positive m a n))
+  | inr few ↦ rw (sub-few m a b few) (combine_normal m (difference_answer m) a b (single 0) n k (single_normal m 0 (modulus_positive m a n)) (difference_stays m))
+  | inl many ↦ rw (sub-many m a b many) (add_spans_normal m (span m a) (negated m (span m b)) (modulus_positive m a n))
 ]
 
 pub sub_has : (m : ℕ) (a b : Form) (x y : ℕ) → IsNormal m a → IsNormal m b → Has m a x → Has m b y → Has m (sub m a b) ((x + m - y) % m)
 sub_has m a b x y n k h i = elim (cases_lt 256 (count_of m a * count_of m b)) [
-  | inr few ↦ rw (sub-few m a b few) (combine_has m (difference_answer m) a b (single 0) x y 0 n k (single_normal m 0 (positive m a n)) (difference_stays m) h i (0, omega arith, refl))
+  | inr few ↦ rw (sub-few m a b few) (combine_has m (difference_answer m) a b (single 0) x y 0 n k (single_normal m 0 (modulus_positive m a n)) (difference_stays m) h i (0, omega arith, refl))
   | inl many ↦ rw (sub-many m a b many) (subst (λ (v : ℕ). Has m (add_spans m (span m a) (negated m (span m b))) v) (minus_mod m x y (member_below m y b k i))
       (add_spans_has m (span m a) (negated m (span m b)) x ((m - y) % m) (span_is m a n) (negated_is m (span m b) (span_is m b k)) (span_has m x a n h)
       (negated_has m (span m b) y (span_is m b k) (span_has m y b k i))))
@@ -257,22 +220,22 @@ twice_fits m p n low =
 
 pub twice_normal : (m : ℕ) (set : Form) → IsNormal m set → IsNormal m (twice m set)
 twice_normal m (Values xs) n = rw (twice-list m xs) (gather_normal m (map (λ v. (v + v) % m) xs) (doubled_some (λ v. (v + v) % m) xs n.0)
-    (λ v h. doubled_below m v xs (positive m (Values xs) n) h))
+    (λ v h. doubled_below m v xs (modulus_positive m (Values xs) n) h))
 twice_normal m (Run p) n = elim (cases_lt (2 * reach p) m) [
   | inl low ↦ rw (twice-once m p low) (make_normal m (2 * p.base) (2 * p.stride) p.count (twice_fits m p n low))
-  | inr high ↦ rw (twice-round m p high) (class_normal m (2 * p.base) (2 * p.stride) (positive m (Run p) n))
+  | inr high ↦ rw (twice-round m p high) (class_normal m (2 * p.base) (2 * p.stride) (modulus_positive m (Run p) n))
 ]
 
 pub twice_has : (m : ℕ) (set : Form) (v : ℕ) → IsNormal m set → Has m set v → Has m (twice m set) ((v + v) % m)
 twice_has m (Values xs) v n h = rw (twice-list m xs) (gather_has m ((v + v) % m) (map (λ v. (v + v) % m) xs) (doubled_some (λ v. (v + v) % m) xs n.0)
-    (λ w i. doubled_below m w xs (positive m (Values xs) n) i) (mapped_in (λ v. (v + v) % m) v xs (in_from_Contains xs v h)))
+    (λ w i. doubled_below m w xs (modulus_positive m (Values xs) n) i) (in_map (λ v. (v + v) % m) v xs (in_from_Contains xs v h)))
 twice_has m (Run p) v n h =
-    let run = in_steps m p.base p.stride p.count v h in
+    let run = steps_from m p.base p.stride p.count v h in
     let regroup : p.base + run.0 * p.stride + (p.base + run.0 * p.stride) ≡ 2 * p.base + run.0 * (2 * p.stride) = omega arith in
     let sum : (v + v) % m ≡ (2 * p.base + run.0 * (2 * p.stride)) % m = sum_mod m (p.base + run.0 * p.stride) (p.base + run.0 * p.stride) v v run.2 run.2 ∙ ap (λ (k : ℕ). k % m) regroup in
     elim (cases_lt (2 * reach p) m) [
       | inl low ↦ rw (twice-once m p low) (make_has m (2 * p.base) (2 * p.stride) p.count ((v + v) % m) (twice_fits m p n low) (run.0, run.1, sum))
-      | inr high ↦ rw (twice-round m p high) (class_reached m (2 * p.base) (2 * p.stride) ((v + v) % m) (run.0 * (2 * p.stride)) (positive m (Run p) n) sum (dvd-mul_left (2 * p.stride) run.0))
+      | inr high ↦ rw (twice-round m p high) (class_reached m (2 * p.base) (2 * p.stride) ((v + v) % m) (run.0 * (2 * p.stride)) (modulus_positive m (Run p) n) sum (dvd-mul_left (2 * p.stride) run.0))
     ]
 
 -- ---- as the code finds them
@@ -347,9 +310,6 @@ few_with_one m n a b carry few is =
 pub carry_normal : (m n : ℕ) (carry : Form) → n < m → carry ≡ single n → IsNormal m carry
 carry_normal m n carry h is = subst (λ (set : Form). IsNormal m set) (sym is) (single_normal m n h)
 
-pub modulus_positive : (m : ℕ) (set : Form) → IsNormal m set → 0 < m
-modulus_positive m set n = positive m set n
-
 pub twice_of_list : (m i : ℕ) (values given list xs : List ℕ) → values ≡ ascending (map (λ v. (v + v) % m) (take i list)) → length list ≤ i → given ≡ values → list ≡ xs
     → given ≡ ascending (map (λ v. (v + v) % m) xs)
 twice_of_list m i values given list xs is h same are =
@@ -360,7 +320,7 @@ twice_set m given xs is = ap (λ (ys : List ℕ). set_of m ys) is ∙ sym (twice
 
 pub twice_ascends : (m : ℕ) (xs : List ℕ) → IsNormal m (Values xs) → Ascends 0 m (ascending (map (λ v. (v + v) % m) xs)) × (1 ≤ length (ascending (map (λ v. (v + v) % m) xs)))
 twice_ascends m xs n = (
-  Ascends-put_all m [] (map (λ v. (v + v) % m) xs) (λ v h. doubled_below m v xs (positive m (Values xs) n) h) tt,
+  Ascends-put_all m [] (map (λ v. (v + v) % m) xs) (λ v h. doubled_below m v xs (modulus_positive m (Values xs) n) h) tt,
   ascending_some (map (λ v. (v + v) % m) xs) (doubled_some (λ v. (v + v) % m) xs n.0),
 )
 

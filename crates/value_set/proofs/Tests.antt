@@ -1,17 +1,18 @@
 -- Whether a number is a member, the numbers of lists and runs by their places, and short lists.
 use Prim.Native.Nat.{zero, suc}
-use Rattle.std.proofs.Common.{◌≡◌, ℕ, ◌+◌, ◌*◌, ◌%◌, ◌<◌, ◌==◌, Bool, true, List, [], ◌∷◌, length, get_or, refl, sym, ap, ◌∙◌, inl, inr, subst, arith}
+use Rattle.std.proofs.Common.{◌≡◌, ℕ, ◌+◌, ◌%◌, ◌<◌, ◌==◌, Bool, true, List, [], ◌∷◌, length, get_or, refl, sym, ap, ◌∙◌, inl, inr, subst, arith}
 use Rattle.std.specs.Prelude.{◌↔◌, IsTrue}
 use Rattle.std.specs.List.{Contains, list_any}
 use Rattle.std.proofs.lemmas.Bool.{cases_Bool, le-ltb, ne_eqb}
 use Rattle.value_set.specs.declared.form.Form.{Form}
 use Rattle.value_set.specs.declared.form.Form.TheVariants.{Values}
-use Rattle.value_set.specs.Form.{Ascends, Has, IsNormal, ascending, gather, members, put, set_of, steps}
+use Rattle.value_set.specs.Form.{Ascends, Has, IsNormal, ascending, gather, members, put, set_of}
 use Rattle.value_set.specs.Joining.{is_in}
 use Rattle.value_set.specs.Summing.{single}
 use Rattle.value_set.proofs.Joins.{any_in, in_any}
 use Rattle.value_set.specs.Remainders.{HasRemainder}
-use Rattle.value_set.proofs.Members.{in_from_Contains, Contains_from_in, ascending_same, steps_has}
+use Rattle.value_set.specs.ListFacts.{in_from_Contains, Contains_from_in}
+use Rattle.value_set.proofs.Members.{ascending_same}
 use Rattle.value_set.proofs.Spans.{set_of-few}
 
 pub member_found : (m v : ℕ) (set : Form) → Has m set v → is_in m set v ≡ true
@@ -37,9 +38,6 @@ listed m k d xs normal = at_below 0 m k d xs normal.2
 pub only_number : (m n v : ℕ) → Has m (single n) v → n ≡ v
 only_number m n v (zero, short, is) = is
 only_number m n v (suc k, short, is) = absurd (omega (arith, short))
-
-pub step_there : (m base stride count i : ℕ) → i < count → Contains (steps m base stride count) ((base + i * stride) % m)
-step_there m base stride count i short = steps_has m base stride count ((base + i * stride) % m) (i, short, refl)
 
 pub single_rest : (m n r v : ℕ) → v % n ≡ r → HasRemainder m n r (single v)
 single_rest m n r v is w there = subst (λ (x : ℕ). x % n ≡ r) (only_number m v w there) is

@@ -13,3 +13,4 @@ pub mod Cutting
 pub mod Summing
 pub mod Widths
 pub mod StepFacts
+pub mod ListFacts

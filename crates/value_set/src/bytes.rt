@@ -13,7 +13,7 @@ ghost use Rattle.value_set.specs.Summing.{single};
 
 use crate::combining::Operation;
 use crate::form::Form;
-use crate::{member, sets, summing};
+use crate::{member, sets};
 use std::marker::Model;
 
 /// How many 8-bit numbers there are.
@@ -41,7 +41,7 @@ impl Model for Vs8 {
 
 impl Vs8 {
     /// The set that is written in a form.
-    pub(crate) fn from_form(form: Form) -> Self
+    pub fn from_form(form: Form) -> Self
         requires { IsNormal 256 form }
         ensures { result ≡ form }
     {
@@ -54,7 +54,7 @@ impl Vs8 {
         ensures normal { IsNormal 256 result }
     {
         Vs8 {
-            form: summing::single(value as u16),
+            form: sets::single(value as u16),
         }
     }
 
@@ -125,7 +125,7 @@ impl Vs8 {
         requires { place < length (members 256 self.now) }
         ensures { result ≡ slice_index (members 256 self.now) place }
     {
-        member::nth(MODULUS, &self.form, place) as u8
+        sets::nth(MODULUS, &self.form, place) as u8
     }
 
     /// Whether each member is one of the other set.

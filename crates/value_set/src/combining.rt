@@ -53,7 +53,7 @@ pub fn combine<O: Operation>(
 }
 
 /// The number of a set of one.
-fn alone(set: &Form) -> Option<u16>
+pub fn alone(set: &Form) -> Option<u16>
     ensures { IfSome result (λ v. set.now ≡ sums.single v) }
 {
     match set {

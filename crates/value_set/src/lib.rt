@@ -17,7 +17,7 @@ mod long;
 mod member;
 mod merging;
 mod number;
-mod sets;
+pub mod sets;
 mod summing;
 mod widening;
 mod widths;
@@ -33,4 +33,5 @@ pub use laws::{
     sets_are_their_members, sets_have_members, single_and_whole_sets, sums_hold,
     widenings_include_both,
 };
+pub use number::Number;
 pub use words::Vs16;

@@ -11,10 +11,15 @@ ghost use Rattle.value_set.specs.Cutting as cuts;
 ghost use Rattle.value_set.specs.Summing as sums;
 ghost use Rattle.value_set.specs.Summing.{single};
 
+pub use crate::combining::alone;
+pub use crate::gathering::make;
+pub use crate::member::nth;
+pub use crate::summing::single;
+
 use crate::combining::Operation;
 use crate::form::Form;
 use crate::number::Number;
-use crate::{collecting, combining, cutting, gathering, joining, member, summing, widening};
+use crate::{collecting, combining, cutting, joining, member, summing, widening};
 
 /// The set of all numbers below the modulus.
 pub fn any(modulus: u32) -> Form
@@ -24,7 +29,7 @@ pub fn any(modulus: u32) -> Form
     ensures normal { IsNormal modulus result }
     ensures all { (v : ℕ) → v < modulus → Has modulus result v }
 {
-    gathering::make(modulus, 0, 1, modulus)
+    make(modulus, 0, 1, modulus)
 }
 
 /// A set with each number of a list.

@@ -15,7 +15,7 @@ ghost use Rattle.value_set.specs.Widths.{IsByteList};
 use crate::bytes::Vs8;
 use crate::combining::Operation;
 use crate::form::Form;
-use crate::{member, sets, summing, widths};
+use crate::{member, sets, widths};
 use std::marker::Model;
 
 /// How many 16-bit numbers there are.
@@ -42,13 +42,21 @@ impl Model for Vs16 {
 }
 
 impl Vs16 {
+    /// The set that is written in a form.
+    pub fn from_form(form: Form) -> Self
+        requires { IsNormal 65536 form }
+        ensures { result ≡ form }
+    {
+        Vs16 { form }
+    }
+
     /// The set of one number.
     pub fn one(value: u16) -> Self
         ensures value { result ≡ single value }
         ensures normal { IsNormal 65536 result }
     {
         Vs16 {
-            form: summing::single(value),
+            form: sets::single(value),
         }
     }
 
@@ -144,7 +152,7 @@ impl Vs16 {
         requires { place < length (members 65536 self.now) }
         ensures { result ≡ slice_index (members 65536 self.now) place }
     {
-        member::nth(MODULUS, &self.form, place)
+        sets::nth(MODULUS, &self.form, place)
     }
 
     /// Whether each member is one of the other set.

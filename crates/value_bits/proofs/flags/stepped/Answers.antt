@@ -1,5 +1,6 @@
 use Rattle.std.proofs.Common.{ℕ, ◌+◌, ◌*◌, ◌%◌, ◌++◌, ◌∙◌, List, [], ◌∷◌, length, length-append, sym, ap, arith}
-use Rattle.value_bits.proofs.Combinations.{steps_none, steps_more}
+use Rattle.value_set.specs.StepFacts.{steps_more}
+use Rattle.value_bits.proofs.Combinations.{steps_none}
 use Rattle.value_bits.proofs.flags.stepped.Goals as goal
 
 pub loop-place-init : goal.loop-place-init

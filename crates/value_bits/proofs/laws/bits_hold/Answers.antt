@@ -1,5 +1,5 @@
 use Rattle.value_bits.proofs.Known.{known_agrees}
-use Rattle.value_bits.proofs.Formulas.{bits_normal, bits_have}
+use Rattle.value_bits.proofs.FormulaLaws.{bits_normal, bits_have}
 use Rattle.value_bits.proofs.laws.bits_hold.Goals as goal
 
 pub returns-clause-known : goal.returns-clause-known

@@ -1,4 +1,4 @@
-use Rattle.value_bits.proofs.Formulas.{decimal_add_normal, decimal_add_has, decimal_add_free, adjust_normal, adjust_has}
+use Rattle.value_bits.proofs.FormulaLaws.{decimal_add_normal, decimal_add_has, decimal_add_free, adjust_normal, adjust_has}
 use Rattle.value_bits.proofs.laws.decimals_hold.Goals as goal
 
 pub returns-clause-add_normal : goal.returns-clause-add_normal

@@ -1,4 +1,4 @@
-use Rattle.value_bits.proofs.Formulas.{low_normal, low_has, high_normal, high_has, pair_normal, pair_has}
+use Rattle.value_bits.proofs.FormulaLaws.{low_normal, low_has, high_normal, high_has, pair_normal, pair_has}
 use Rattle.value_bits.proofs.laws.halves_hold.Goals as goal
 
 pub returns-clause-low_normal : goal.returns-clause-low_normal

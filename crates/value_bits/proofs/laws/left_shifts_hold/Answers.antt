@@ -1,4 +1,4 @@
-use Rattle.value_bits.proofs.Formulas.{left_normal, left_has}
+use Rattle.value_bits.proofs.FormulaLaws.{left_normal, left_has}
 use Rattle.value_bits.proofs.laws.left_shifts_hold.Goals as goal
 
 pub returns-clause-normal : goal.returns-clause-normal

@@ -1,4 +1,4 @@
-use Rattle.value_bits.proofs.Formulas.{logic_normal, logic_has}
+use Rattle.value_bits.proofs.FormulaLaws.{logic_normal, logic_has}
 use Rattle.value_bits.proofs.laws.logic_holds.Goals as goal
 
 pub returns-clause-normal : goal.returns-clause-normal

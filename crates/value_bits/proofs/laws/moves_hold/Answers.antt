@@ -1,4 +1,4 @@
-use Rattle.value_bits.proofs.Formulas.{exchange_normal, exchange_has, sign_normal, sign_has, shift_normal, shift_has}
+use Rattle.value_bits.proofs.FormulaLaws.{exchange_normal, exchange_has, sign_normal, sign_has, shift_normal, shift_has}
 use Rattle.value_bits.proofs.laws.moves_hold.Goals as goal
 
 pub returns-clause-exchange_normal : goal.returns-clause-exchange_normal

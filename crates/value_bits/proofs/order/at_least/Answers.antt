@@ -1,17 +1,19 @@
-use Rattle.value_bits.proofs.EndsOfSets.{order_set, order_clear, order_open}
+use Rattle.std.proofs.Common.{◌≡◌, ◌*◌, ◌<◌, nat_le, subst, sym}
+use Rattle.value_set.specs.Summing.{count_of, single}
+use Rattle.value_bits.specs.declared.tri.Tri.{Tri}
+use Rattle.value_bits.specs.Flags.{IsFlag, agreed}
+use Rattle.value_bits.proofs.Choosing.{not_few, single_has}
+use Rattle.value_bits.proofs.Combinations.{agreed-many, agreed_is}
+use Rattle.value_bits.proofs.EndsOfSets.{is_at_least}
 use Rattle.value_bits.proofs.order.at_least.Goals as goal
 
-pub returns-then-seconds-firsts : goal.returns-then-seconds-firsts
-returns-then-seconds-firsts c = order_set c.args.modulus c.args.first.now c.args.second.now
-    c.ends-firsts.result.least c.ends-firsts.result.greatest c.ends-seconds.result.least c.ends-seconds.result.greatest
-    c.requires.few c.ends-firsts.ensures c.ends-seconds.ensures c.if-seconds-firsts.true
+pub returns-then-not-are_few-clause-value : goal.returns-then-not-are_few-clause-value
+returns-then-not-are_few-clause-value c =
+    let more : 256 < c.count.result * (c.count-2.result * 1) = not_few c.are_few.result (c.count.result * (c.count-2.result * 1)) c.are_few.ensures c.if-not-are_few.true in
+    let many : 256 < count_of c.args.modulus c.args.first.now * (count_of c.args.modulus c.args.second.now * count_of c.args.modulus (single 0)) = rw (c.count.ensures.value, c.count-2.ensures.value) at more in
+    sym (agreed-many c.args.modulus is_at_least c.args.first.now c.args.second.now (single 0) many)
 
-pub returns-then-firsts-seconds : goal.returns-then-firsts-seconds
-returns-then-firsts-seconds c = order_clear c.args.modulus c.args.first.now c.args.second.now
-    c.ends-firsts.result.least c.ends-firsts.result.greatest c.ends-seconds.result.least c.ends-seconds.result.greatest
-    c.requires.first_normal c.requires.second_normal c.requires.few c.ends-firsts.ensures c.ends-seconds.ensures c.if-firsts-seconds.true
-
-pub returns-else-firsts-seconds : goal.returns-else-firsts-seconds
-returns-else-firsts-seconds c = order_open c.args.modulus c.args.first.now c.args.second.now
-    c.ends-firsts.result.least c.ends-firsts.result.greatest c.ends-seconds.result.least c.ends-seconds.result.greatest
-    c.ends-firsts.ensures c.ends-seconds.ensures c.if-seconds-firsts.false c.if-firsts-seconds.false
+pub returns-clause-holds : goal.returns-clause-holds
+returns-clause-holds c = λ x y h k.
+    let same : c.at_least_few.result ≡ agreed c.args.modulus is_at_least c.args.first.now c.args.second.now (single 0) = cc in
+    subst (λ (t : Tri). IsFlag t (nat_le y x)) (sym same) (agreed_is c.args.modulus is_at_least c.args.first.now c.args.second.now (single 0) x y 0 h k (single_has c.args.modulus 0))

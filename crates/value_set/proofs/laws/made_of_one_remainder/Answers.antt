@@ -1,5 +1,5 @@
 use Rattle.std.proofs.Math.Nat.{dvd_of_mod-eq-zero}
-use Rattle.value_set.proofs.Members.{Contains_from_in}
+use Rattle.value_set.specs.ListFacts.{Contains_from_in}
 use Rattle.value_set.proofs.Remainders.{make_remainder, gather_remainder, combine_remainder}
 use Rattle.value_set.proofs.laws.made_of_one_remainder.Goals as goal
 

@@ -1,6 +1,6 @@
+use Rattle.value_set.specs.StepFacts.{length-steps, steps_from, steps_have}
 use Rattle.value_set.proofs.Bounds.{gather_below, join_below, make_below, put_below}
-use Rattle.value_set.proofs.Members.{length-steps, in_steps}
-use Rattle.value_set.proofs.Tests.{asked, gather_same, gather_two, listed, member_found, only_number, single_rest, step_there}
+use Rattle.value_set.proofs.Tests.{asked, gather_same, gather_two, listed, member_found, only_number, single_rest}
 use Rattle.value_set.proofs.laws.set_laws.Goals as goal
 
 pub returns : goal.returns
@@ -34,8 +34,8 @@ returns c =
       run_remainder = made.run;
       run_below = make_below;
       steps_long = length-steps;
-      steps_have = step_there;
-      steps_from = in_steps;
+      steps_have = steps_have;
+      steps_from = steps_from;
       gather_normal = gathered.normal;
       gather_holds = gathered.holds;
       gather_remainder = made.gather;

@@ -1,7 +1,8 @@
 use Rattle.std.proofs.Common.{◌∙◌}
 use Rattle.value_set.proofs.Answering.{denied}
-use Rattle.value_set.proofs.Sums.{added_few, added_many, few_with_one, carry_normal, modulus_positive}
+use Rattle.value_set.proofs.Sums.{added_few, added_many, few_with_one, carry_normal}
 use Rattle.value_set.proofs.summing.add.Goals as goal
+use Rattle.value_set.proofs.Spans.{modulus_positive}
 
 pub combine-requires-clause-carry_normal : goal.combine-requires-clause-carry_normal
 combine-requires-clause-carry_normal c = carry_normal c.args.modulus 0 c.single.result (modulus_positive c.args.modulus c.args.first.now c.requires.first_normal) c.single.ensures

@@ -1,7 +1,0 @@
-use Rattle.std.proofs.Common.{◌≡◌, map, take}
-use Rattle.value_set.specs.Form.{members}
-use Rattle.chip_numbers.specs.Numbers.{high_byte}
-use Rattle.value_bits.proofs.w16.high_bytes.Given as goal
-
-abbrev pub invariant-loop-place : goal.invariant-loop-place
-invariant-loop-place l = l.all.items ≡ map (λ x. high_byte x) (take l.place (members 65536 l.a))
