@@ -1,4 +1,4 @@
 mod Lists
-mod Members
 mod Passes
 mod Places
+mod Seen

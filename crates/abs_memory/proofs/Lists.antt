@@ -1,15 +1,10 @@
 -- What the cells of a RAM are, as a list that is searched.
-use Rattle.std.proofs.lemmas.List.{get_or_default}
-use Rattle.std.proofs.Common.{ℕ, All, get_or, subst, ◌+◌, ◌<◌, ◌≤◌, ◌≡◌, List, [], ◌∷◌, inl, inr, arith}
-use Rattle.std.specs.Prelude.{◌⊎◌}
+use Rattle.std.proofs.Common.{ℕ, ◌+◌, ◌<◌, List, [], ◌∷◌, arith}
 use Rattle.entry_value.specs.declared.cells.Cell.{Cell}
+use Rattle.entry_value.specs.CellLists.{some_size}
 use Rattle.entry_value.specs.Cells.{AreCells}
 use Rattle.abs_memory.specs.Finding.{Ascend, EachEndsBelow}
 use Rattle.abs_memory.proofs.Places.{ascend_lower}
-
-some_size : (size : ℕ) → (size ≡ 1) ⊎ (size ≡ 2) → 1 ≤ size
-some_size size (inl one) = omega arith
-some_size size (inr two) = omega arith
 
 cells_ascend : (lo hi from : ℕ) (cells : List Cell) → AreCells lo hi from cells → Ascend from cells
 cells_ascend lo hi from [] are = tt
@@ -23,6 +18,3 @@ pub list_ends : (lo hi from : ℕ) (cells : List Cell) → hi < 65536 → AreCel
 list_ends lo hi from [] below are = tt
 list_ends lo hi from (cell ∷ cells) below (is, le, rest) =
     (omega (arith, is.high), list_ends lo hi (cell.place + cell.size) cells below rest)
-
-pub marks_below : (marks : List ℕ) → ((k : ℕ) → get_or marks k 0 < 65536) → All (λ mark. mark < 65536) marks
-marks_below marks below = λ k d lt. subst (λ mark. mark < 65536) (get_or_default marks k 0 d lt) (below k)

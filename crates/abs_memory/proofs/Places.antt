@@ -30,18 +30,6 @@ places_rise from (cell ∷ cells) h (suc i) zero d le lt = absurd (omega arith)
 places_rise from (cell ∷ cells) (at, some, rest) (suc i) (suc j) d le lt =
     places_rise (cell.place + cell.size) cells rest i j d (omega arith) (omega arith)
 
-pub below_is : (cells : List Cell) (at k : ℕ) → k ≤ length cells
-    → ((i : ℕ) (d : Cell) → i < k → (get_or cells i d).place < at)
-    → ((i : ℕ) (d : Cell) → k ≤ i → i < length cells → at ≤ (get_or cells i d).place)
-    → k ≡ places_below cells at
-below_is [] at k le low high = omega arith
-below_is (cell ∷ cells) at zero le low high =
-    let first : at ≤ cell.place = high 0 cell (omega arith) (omega arith) in grind (arith, nat_tests)
-below_is (cell ∷ cells) at (suc k) le low high =
-    let first : cell.place < at = low 0 cell (omega arith) in
-    let rest : k ≡ places_below cells at = below_is cells at k (omega arith) (λ i d h. low (suc i) d (omega arith)) (λ i d h l. high (suc i) d (omega arith) (omega arith)) in
-    grind (arith, nat_tests)
-
 -- the cells from a place on ascend from it
 pub ascend_from_place : (from at : ℕ) (cells : List Cell) → Ascend from cells → Ascend at (drop (places_below cells at) cells)
 ascend_from_place from at [] h = tt

@@ -3,10 +3,7 @@
 ghost use Rattle.std.specs.Prelude.{◌≡◌, ◌≤◌};
 
 use crate::{finding, joining, reading, writing};
-use entry_value::{
-    Cell, Cells, Word, inclusion_covers, reads_hold, reads_keep_form, unions_cover,
-    unions_keep_form, writes_are_at_one_or_several, writes_cover, writes_keep_form,
-};
+use entry_value::{Cell, Cells, Word, cell_laws};
 use no_memory::Memory;
 use std::alloc::Global;
 use std::marker::Model;
@@ -49,14 +46,12 @@ impl Cells for CellList {
     }
 
     fn read(&self, at: u16, size: u8) -> Word {
-        reads_hold();
-        reads_keep_form();
+        cell_laws();
         reading::read(&self.cells, at, size)
     }
 
     fn write_one(&mut self, at: u16, size: u8, value: Word) -> Result<(), Memory> {
-        writes_cover();
-        writes_keep_form();
+        cell_laws();
         let _normal = value.set.form();
         self.cells.reserve(1)?;
         let cell = Cell {
@@ -69,12 +64,10 @@ impl Cells for CellList {
     }
 
     fn write_any(&mut self, at: &Vs16, size: u8, value: Word) -> Result<(), Memory> {
-        writes_are_at_one_or_several();
+        cell_laws();
         if at.count() == 1 {
             return self.write_one(at.nth(0), size, value);
         }
-        writes_cover();
-        writes_keep_form();
         let _normal = (at.form(), value.set.form());
         writing::write_several(&mut self.cells, at, size, &value);
         Ok(())
@@ -85,8 +78,7 @@ impl Cells for CellList {
     }
 
     fn join(&self, alloc: Global, other: &Self) -> Result<Self, Memory> {
-        unions_cover();
-        unions_keep_form();
+        cell_laws();
         Ok(CellList {
             lo: self.lo,
             hi: self.hi,
@@ -95,8 +87,7 @@ impl Cells for CellList {
     }
 
     fn widen(&self, alloc: Global, new: &Self, marks: &[u16]) -> Result<Self, Memory> {
-        unions_cover();
-        unions_keep_form();
+        cell_laws();
         Ok(CellList {
             lo: self.lo,
             hi: self.hi,
@@ -105,7 +96,7 @@ impl Cells for CellList {
     }
 
     fn within(&self, other: &Self) -> bool {
-        inclusion_covers();
+        cell_laws();
         joining::are_within(&self.cells, &other.cells)
     }
 

@@ -5,29 +5,9 @@ ghost use Rattle.entry_value.specs.Cells as the_cells;
 ghost use Rattle.abs_memory.specs.Finding.{Ascend};
 
 use crate::finding::{cell_at, owner};
-use entry_value::{Cell, Word};
+use entry_value::{Cell, Word, word_of_byte, word_of_bytes};
 use value_bits::w16;
-use value_set::{Vs8, Vs16};
-
-/// What is known of a byte, or of a word, of which nothing is known.
-pub(crate) fn any_of(size: u8) -> Vs16
-    ensures { result ≡ the_cells.any_of size }
-{
-    if size != 1 {
-        return Vs16::any();
-    }
-    match Vs16::run(0, 1, 256) {
-        Some(bytes) => bytes,
-        None => unreachable!(),
-    }
-}
-
-/// Whether a word of a size says nothing.
-pub(crate) fn is_nothing(size: u8, word: &Word) -> bool
-    ensures { result ≡ the_cells.is_nothing size word.now }
-{
-    any_of(size).within(&word.set) && word.entry.is_none()
-}
+use value_set::Vs8;
 
 /// The byte at an address, as far as the cell that has it says.
 fn byte_at(cells: &[Cell], at: u16) -> Option<Vs8>
@@ -40,26 +20,6 @@ fn byte_at(cells: &[Cell], at: u16) -> Option<Vs8>
         Some(w16::low(&cell.word.set))
     } else {
         Some(w16::high(&cell.word.set))
-    }
-}
-
-/// The word of a byte.
-fn word_of_byte(byte: Option<Vs8>) -> Vs16
-    ensures { result ≡ the_cells.word_of_byte byte }
-{
-    match byte {
-        Some(byte) => w16::pair(&byte, &Vs8::one(0)),
-        None => any_of(1),
-    }
-}
-
-/// The word of two bytes.
-fn word_of_bytes(low: Option<Vs8>, high: Option<Vs8>) -> Vs16
-    ensures { result ≡ the_cells.word_of_bytes low high }
-{
-    match (low, high) {
-        (Some(low), Some(high)) => w16::pair(&low, &high),
-        _ => any_of(2),
     }
 }
 

@@ -7,8 +7,7 @@ ghost use Rattle.entry_value.specs.Cells as the_cells;
 ghost use Rattle.abs_memory.specs.Finding.{Ascend, EachEndsBelow};
 
 use crate::finding::{owner, places_below};
-use crate::reading::is_nothing;
-use entry_value::{Cell, Word};
+use entry_value::{Cell, Word, is_nothing};
 use value_set::Vs16;
 
 /// Takes out the cell that has the byte of an address.

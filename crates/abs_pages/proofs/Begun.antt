@@ -6,7 +6,7 @@ use Rattle.value_bits.specs.Sets.{low_set, high_set}
 use Rattle.value_set.specs.declared.form.Form.{Form}
 use Rattle.entry_value.specs.declared.cells.Cell.{Cell}
 use Rattle.entry_value.specs.declared.word.Word.{Word}
-use Rattle.entry_value.specs.CellLists.{Each, each_both, each_then}
+use Rattle.entry_value.specs.CellLists.{Each, each_both, each_then, some_size}
 use Rattle.entry_value.specs.Cells.{AreCells, byte_at, cell_at, has_byte, next}
 use Rattle.std.specs.Option.{option_map}
 use Rattle.abs_pages.specs.Paging.{begun_at, high_of}
@@ -26,10 +26,6 @@ sized (Some begun) size = if begun.0 == size then Some begun.1 else None
 abbrev pub byte_of : (here front : Option (ℕ × Word)) → Option Form
 byte_of None front = high_of front
 byte_of (Some begun) front = Some (low_set begun.1.set)
-
-some_size : (size : ℕ) → (size ≡ 1) ⊎ (size ≡ 2) → 1 ≤ size
-some_size size (inl one) = omega arith
-some_size size (inr two) = omega arith
 
 -- a cell that begins neither at an address nor in front of it hasn't its byte
 far : (cell : Cell) (at : ℕ) → (cell.size ≡ 1) ⊎ (cell.size ≡ 2) → (cell.place ≡ at → ⊥) → (cell.place ≡ at - 1 → ⊥) → has_byte cell at ≡ false

@@ -1,10 +1,8 @@
 -- Pages, and the one list of their cells.
 use Prim.Native.Nat.{zero, suc}
-use Rattle.std.proofs.lemmas.List.{get_or_default}
-use Rattle.std.proofs.Common.{All, ◌≡◌, ℕ, ◌+◌, ◌/◌, ◌<◌, ◌≤◌, refl, sym, ap, ◌∙◌, subst, false, Option, None, List, [], ◌∷◌, length, get_or, drop, inl, inr, arith}
+use Rattle.std.proofs.Common.{◌≡◌, ℕ, ◌+◌, ◌/◌, ◌<◌, ◌≤◌, refl, sym, ap, ◌∙◌, subst, false, Option, None, List, [], ◌∷◌, length, get_or, drop, inl, inr, arith}
 use Rattle.std.specs.Prelude.{◌==◌, if◌then◌else◌}
 use Rattle.std.proofs.lemmas.Bool.{cases_Bool, cases_lt, lt-ltb, le-ltb, eqb-true, eqb-false, eq-eqb, ne_eqb}
-use Rattle.std.proofs.lemmas.Bool.Decides.{nat_tests}
 use Rattle.entry_value.specs.declared.cells.Cell.{Cell}
 use Rattle.entry_value.specs.declared.word.Word.{Word}
 use Rattle.entry_value.specs.CellLists.{Each, each_then}
@@ -33,19 +31,6 @@ numbers_rise from (page ∷ pages) h zero (suc j) d le lt =
     let least = number_least (page.number + 1) pages j d h.1 (omega arith) in omega (arith, least)
 numbers_rise from (page ∷ pages) h (suc i) zero d le lt = absurd (omega arith)
 numbers_rise from (page ∷ pages) h (suc i) (suc j) d le lt = numbers_rise (page.number + 1) pages h.1 i j d (omega arith) (omega arith)
-
-pub below_is : (pages : List Paged) (number k : ℕ) → k ≤ length pages
-    → ((i : ℕ) (d : Paged) → i < k → (get_or pages i d).number < number)
-    → ((i : ℕ) (d : Paged) → k ≤ i → i < length pages → number ≤ (get_or pages i d).number)
-    → k ≡ pages_below pages number
-below_is [] number k le low high = omega arith
-below_is (page ∷ pages) number zero le low high =
-    let first : number ≤ page.number = high 0 page (omega arith) (omega arith) in grind (arith, nat_tests)
-below_is (page ∷ pages) number (suc k) le low high =
-    let first : page.number < number = low 0 page (omega arith) in
-    let rest : k ≡ pages_below pages number =
-    below_is pages number k (omega arith) (λ i d h. low (suc i) d (omega arith)) (λ i d h l. high (suc i) d (omega arith) (omega arith)) in
-    grind (arith, nat_tests)
 
 pub each_page_drop : (P : Paged → Type 0) (n : ℕ) (pages : List Paged) → EachPage P pages → EachPage P (drop n pages)
 each_page_drop P zero pages h = h
@@ -225,6 +210,3 @@ widened_none marks cell = elim (cases_Bool (cell.size == 1)) [ inl one ↦ rw on
 pub widen_none : (cells : List Cell) (marks : List ℕ) → widen_cells cells [] marks ≡ []
 unfolding widen_cells
 widen_none cells marks = kept_none (cell_widened marks []) cells (each_of cells (λ cell. cell_widened marks [] cell ≡ None) (widened_none marks))
-
-pub marks_below : (marks : List ℕ) → ((k : ℕ) → get_or marks k 0 < 65536) → All (λ mark. mark < 65536) marks
-marks_below marks below = λ k d lt. subst (λ mark. mark < 65536) (get_or_default marks k 0 d lt) (below k)

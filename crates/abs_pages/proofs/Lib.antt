@@ -8,3 +8,4 @@ mod Sharing
 mod Edges
 mod Written
 mod Scattered
+mod Seen

@@ -2,7 +2,7 @@
 use Rattle.std.specs.Prelude.{◌≡◌, ◌≢◌, ℕ, ◌+◌, ◌*◌, ◌/◌, ◌%◌, ◌<◌, ◌≤◌, ◌==◌, ◌&&◌, ◌||◌, ◌-◌, nat_lt, not, if◌then◌else◌, Bool, true, false, Option, None, Some, List, [], ◌∷◌, ◌++◌, set}
 use Rattle.std.specs.Option.{is_some}
 use Rattle.std.specs.List.{filter, insert, remove}
-use Prim.Native.Nat.{suc}
+use Rattle.abs_memory.specs.Finding.{keys_below}
 use Rattle.entry_value.specs.declared.cells.Cell.{Cell}
 use Rattle.entry_value.specs.declared.word.Word.{Word}
 use Rattle.entry_value.specs.CellLists.{Each, OfSome}
@@ -22,8 +22,7 @@ flat (page ∷ pages) = page.map.cells ++ flat pages
 
 -- how many pages stand in front of the first one whose number is at least another
 abbrev pub pages_below : List Paged → (number : ℕ) → ℕ
-pages_below [] number = 0
-pages_below (page ∷ pages) number = if nat_lt page.number number then suc (pages_below pages number) else 0
+pages_below = keys_below (λ page. page.number)
 
 abbrev pub has_page : List Paged → (number : ℕ) → Bool
 has_page [] number = false

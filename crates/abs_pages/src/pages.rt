@@ -4,10 +4,7 @@ use crate::joining::{Joining, Widening};
 use crate::page::Page;
 use crate::scattering::Scattering;
 use crate::{finding, joining, passing, reading, writing};
-use entry_value::{
-    Cells, Word, inclusion_covers, reads_hold, reads_keep_form, unions_cover, unions_keep_form,
-    writes_are_at_one_or_several, writes_cover, writes_keep_form,
-};
+use entry_value::{Cells, Word, cell_laws};
 use no_memory::Memory;
 use std::alloc::Global;
 use std::marker::Model;
@@ -49,26 +46,22 @@ impl Cells for CellPages {
     }
 
     fn read(&self, at: u16, size: u8) -> Word {
-        reads_hold();
-        reads_keep_form();
+        cell_laws();
         reading::read(&self.pages, at, size)
     }
 
     fn write_one(&mut self, at: u16, size: u8, value: Word) -> Result<(), Memory> {
-        writes_cover();
-        writes_keep_form();
+        cell_laws();
         let _normal = value.set.form();
         let bounds = (self.lo, self.hi);
         writing::write_one(&mut self.pages, bounds, at, size, value)
     }
 
     fn write_any(&mut self, at: &Vs16, size: u8, value: Word) -> Result<(), Memory> {
-        writes_are_at_one_or_several();
+        cell_laws();
         if at.count() == 1 {
             return self.write_one(at.nth(0), size, value);
         }
-        writes_cover();
-        writes_keep_form();
         let _normal = (at.form(), value.set.form());
         let alloc = *self.pages.allocator();
         let scattering = Scattering {
@@ -85,8 +78,7 @@ impl Cells for CellPages {
     }
 
     fn join(&self, alloc: Global, other: &Self) -> Result<Self, Memory> {
-        unions_cover();
-        unions_keep_form();
+        cell_laws();
         let joining = Joining {
             others: &other.pages,
         };
@@ -98,8 +90,7 @@ impl Cells for CellPages {
     }
 
     fn widen(&self, alloc: Global, new: &Self, marks: &[u16]) -> Result<Self, Memory> {
-        unions_cover();
-        unions_keep_form();
+        cell_laws();
         let widening = Widening {
             others: &new.pages,
             marks,
@@ -112,7 +103,7 @@ impl Cells for CellPages {
     }
 
     fn within(&self, other: &Self) -> bool {
-        inclusion_covers();
+        cell_laws();
         joining::are_within(&self.pages, &other.pages)
     }
 

@@ -7,9 +7,9 @@ ghost use Rattle.abs_pages.specs.Paging.{AreRead, flat};
 
 use crate::finding::page_at;
 use crate::page::Page;
-use entry_value::Word;
+use entry_value::{Word, unknown, word_of_byte, word_of_bytes};
 use value_bits::w16;
-use value_set::{Vs8, Vs16};
+use value_set::Vs8;
 
 /// The size and the word of the cell that begins at an address.
 pub(crate) fn begun_at(pages: &[Page], at: u16) -> Option<(u8, Word)>
@@ -43,39 +43,6 @@ fn byte_at(pages: &[Page], at: u16) -> Option<Vs8>
     match begun_at(pages, at) {
         Some((_, word)) => Some(w16::low(&word.set)),
         None => high_byte(pages, at.saturating_sub(1)),
-    }
-}
-
-/// What is known of a byte, or of a word, of which nothing is known.
-pub(crate) fn any_of(size: u8) -> Vs16
-    ensures { result ≡ the_cells.any_of size }
-{
-    if size != 1 {
-        return Vs16::any();
-    }
-    match Vs16::run(0, 1, 256) {
-        Some(bytes) => bytes,
-        None => unreachable!(),
-    }
-}
-
-/// The word of a byte.
-fn word_of_byte(byte: Option<Vs8>) -> Vs16
-    ensures { result ≡ the_cells.word_of_byte byte }
-{
-    match byte {
-        Some(byte) => w16::pair(&byte, &Vs8::one(0)),
-        None => any_of(1),
-    }
-}
-
-/// The word of two bytes.
-fn word_of_bytes(low: Option<Vs8>, high: Option<Vs8>) -> Vs16
-    ensures { result ≡ the_cells.word_of_bytes low high }
-{
-    match (low, high) {
-        (Some(low), Some(high)) => w16::pair(&low, &high),
-        _ => any_of(2),
     }
 }
 
@@ -122,16 +89,6 @@ fn read_across(pages: &[Page], at: u16, size: u8) -> Word
     }
 }
 
-/// What is known where no cell says anything.
-fn nothing_known(size: u8) -> Word
-    ensures { result ≡ the_cells.unknown size }
-{
-    Word {
-        set: any_of(size),
-        entry: None,
-    }
-}
-
 /// The cell of that size, else what is put together. No cell of another page has a byte of it, so its own page gives it.
 fn read_inside(pages: &[Page], at: u16, size: u8) -> Word
     requires read { AreRead pages.now }
@@ -141,7 +98,7 @@ fn read_inside(pages: &[Page], at: u16, size: u8) -> Word
 {
     match page_at(pages, at / 32) {
         Some(page) => page.read(at, size),
-        None => nothing_known(size),
+        None => unknown(size),
     }
 }
 

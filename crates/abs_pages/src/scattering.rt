@@ -8,7 +8,7 @@ ghost use Rattle.abs_pages.specs.Paging.{before_page};
 
 use crate::page::Page;
 use crate::passing::Pass;
-use entry_value::{Cells, Word, writes_are_at_one_or_several};
+use entry_value::{Cells, Word, cell_laws};
 use no_memory::Memory;
 use std::alloc::Global;
 use value_set::{Vs16, set_laws};
@@ -44,7 +44,7 @@ impl Pass for Scattering<'_> {
             page.cells().keep_form();
             return Ok(Some(page.share()?));
         }
-        writes_are_at_one_or_several();
+        cell_laws();
         let mut cells = page.cells().copy(alloc)?;
         cells.write_any(self.at, self.size, self.word)?;
         Page::made(alloc, page.number(), cells)

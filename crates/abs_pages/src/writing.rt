@@ -10,12 +10,11 @@ ghost use Rattle.abs_pages.specs.Paging.{ArePages, AreRead, Paged, flat, is_left
 
 use crate::finding::place_of;
 use crate::page::Page;
-use crate::reading::{any_of, begun_at, high_byte};
+use crate::reading::{begun_at, high_byte};
 use abs_memory::CellList;
-use entry_value::{Cell, Cells, Word, bytes_stay_bytes};
+use entry_value::{Cell, Cells, Word, unknown};
 use no_memory::Memory;
 use std::alloc::Global;
-use value_set::set_laws;
 
 /// Writes a cell in the page at an index, which goes where no cell is left in it. A refusal leaves the pages as they were.
 fn write_held(alloc: Global, pages: &mut Vec<Page>, index: usize, cell: Cell) -> Result<(), Memory>
@@ -91,15 +90,10 @@ fn nothing_at(place: u16) -> Cell
     ensures byte { (v : ℕ) → Has 65536 result.word.set v → v < 256 }
     ensures nothing { the_cells.is_nothing result.size result.word ≡ true }
 {
-    set_laws();
-    bytes_stay_bytes();
     Cell {
         place,
         size: 1,
-        word: Word {
-            set: any_of(1),
-            entry: None,
-        },
+        word: unknown(1),
     }
 }
 

@@ -3,6 +3,7 @@ use Rattle.std.proofs.Common.{◌≡◌, ℕ, ◌+◌, ◌*◌, ◌/◌, ◌%◌
 use Rattle.std.specs.Prelude.{◌⊎◌, ◌==◌, ◌&&◌}
 use Rattle.std.proofs.lemmas.Bool.{cases_Bool, eqb-true, eq-eqb, ne_eqb, and_parts}
 use Rattle.entry_value.specs.Cells.{number_at, written}
+use Rattle.plain_lemmas.specs.Small.{byte_alone}
 
 abbrev pub IsSize : ℕ → Type 0
 IsSize size = (size ≡ 1) ⊎ (size ≡ 2)
@@ -16,14 +17,8 @@ low_of x y h = omega arith
 high_of : (x y : ℕ) → x < 256 → (x + 256 * y) / 256 ≡ y
 high_of x y h = omega arith
 
-low_alone : (x : ℕ) → x < 256 → x % 256 ≡ x
-low_alone x h = omega arith
-
-pub within_turn : (x : ℕ) → x < 65536 → x % 65536 ≡ x
-within_turn x h = omega arith
-
 pub low_part : (ram : ℕ → ℕ) → AreBytes ram → (place size : ℕ) → IsSize size → number_at ram place size % 256 ≡ ram place
-low_part ram bytes place size (inl one) = subst (λ (s : ℕ). number_at ram place s % 256 ≡ ram place) (sym one) (low_alone (ram place) (bytes place))
+low_part ram bytes place size (inl one) = subst (λ (s : ℕ). number_at ram place s % 256 ≡ ram place) (sym one) (byte_alone (ram place) (bytes place))
 low_part ram bytes place size (inr two) = subst (λ (s : ℕ). number_at ram place s % 256 ≡ ram place) (sym two)
     (low_of (ram place) (ram ((place + 1) % 65536)) (bytes place))
 
@@ -81,7 +76,7 @@ parts_of v = omega arith
 -- what was written stands there
 pub written_itself : (ram : ℕ → ℕ) (at size v : ℕ) → at < 65536 → IsSize size → (size ≡ 1 → v < 256) → number_at (written ram at size v) at size ≡ v
 written_itself ram at size v below (inl one) small = subst (λ (s : ℕ). number_at (written ram at size v) at s ≡ v) (sym one)
-    (written-first ram at size v ∙ low_alone v (small one))
+    (written-first ram at size v ∙ byte_alone v (small one))
 written_itself ram at size v below (inr two) small = subst (λ (s : ℕ). number_at (written ram at size v) at s ≡ v) (sym two)
     (ap (λ (b : ℕ). b + 256 * written ram at size v ((at + 1) % 65536)) (written-first ram at size v)
     ∙ ap (λ (b : ℕ). v % 256 + 256 * b) (written-second ram at size v ((at + 1) % 65536) (next_differs at below) two refl) ∙ parts_of v)

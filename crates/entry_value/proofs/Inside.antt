@@ -4,8 +4,8 @@ use Rattle.entry_value.specs.declared.cells.Cell.{Cell}
 use Rattle.entry_value.specs.Words.{Suspended, HoldsOfWord}
 use Rattle.entry_value.specs.Cells.{StandsUnder, IsCell, AreCells}
 use Rattle.entry_value.proofs.Bytes.{IsSize, AreBytes, same_number}
-use Rattle.entry_value.specs.CellLists.{each_from, each_in, each_both, each_then, each_cell}
-use Rattle.entry_value.proofs.Writing.{StandsAt, whole_turn}
+use Rattle.entry_value.specs.CellLists.{StandsAt, each_from, each_in, each_both, each_then, each_cell}
+use Rattle.entry_value.proofs.Writing.{whole_turn}
 
 abbrev Agree : (lo hi : ℕ) → (one other : ℕ → ℕ) → Type 0
 Agree lo hi one other = (at : ℕ) → lo ≤ at → at ≤ hi → one at ≡ other at

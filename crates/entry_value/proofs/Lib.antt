@@ -1,7 +1,6 @@
 pub mod Anywhere
 pub mod Bytes
 mod Examples
-pub mod Holding
 pub mod Inside
 pub mod Masks
 pub mod Ordering

@@ -1,11 +1,21 @@
--- Relations behind an AND and behind an OR.
-use Rattle.std.proofs.Common.{◌≡◌, ℕ, min, max, Option, None, Some, bit_and, bit_or, sym, ap, ◌∙◌, arith}
+-- Relations, and sets with relations, behind an AND and behind an OR.
+use Rattle.std.proofs.Common.{◌≡◌, ℕ, ◌<◌, ◌^◌, min, max, Option, None, Some, bit_and, bit_or, sym, ap, ◌∙◌, arith}
 use Rattle.std.specs.Int.{bit_at}
 use Rattle.std.specs.Option.{option_map}
 use Rattle.std.proofs.lemmas.Nat.{and_assoc}
 use Rattle.std.proofs.lemmas.Nat.Bits.{same_from_bits, bit_at_and, bit_at_or}
+use Rattle.value_set.specs.declared.form.Form.{Form}
+use Rattle.value_set.specs.Form.{Has, IsNormal}
+use Rattle.value_set.specs.Laws.{SetLaws}
+use Rattle.value_set.specs.Summing.{single}
+use Rattle.value_bits.specs.declared.tri.Logic.{Logic}
+use Rattle.value_bits.specs.declared.tri.Logic.TheVariants.{And, Or}
+use Rattle.value_bits.specs.Bits.{logic_of}
+use Rattle.value_bits.specs.Laws.{BitLaws}
+use Rattle.value_bits.specs.Sets.{logic_set}
 use Rattle.entry_value.specs.declared.word.Entry.{Entry}
 use Rattle.entry_value.specs.Words.{Suspended, IsFromEntry, entry_and, entry_or}
+use Rattle.entry_value.proofs.Values.{HoldsOf}
 
 bits_and_over_or : (a b c : ℕ) → min (max a b) c ≡ max (min a c) (min b c)
 bits_and_over_or a b c = omega arith
@@ -48,3 +58,23 @@ from_entry_or first None v m h = tt
 from_entry_or None (Some entry) v m h = absurd h
 from_entry_or (Some f) (Some entry) v m (word, reads, is) =
     (word, reads, ap (λ n. bit_or n m) is ∙ or_further (bit_and word entry.and) entry.or m)
+
+-- SETS WITH RELATIONS, OF WORDS AND OF BYTES ALIKE
+
+pub masked_normal : SetLaws → BitLaws → (width m : ℕ) (logic : Logic) (set : Form) → m < 2 ^ width → IsNormal (2 ^ width) set
+    → IsNormal (2 ^ width) (logic_set width logic set (single m))
+masked_normal sets bits width m logic set below n = bits.logic_normal width logic set (single m) n (sets.single (2 ^ width) m below).0
+
+masked_has : SetLaws → BitLaws → (width m v : ℕ) (logic : Logic) (set : Form) → m < 2 ^ width → IsNormal (2 ^ width) set → Has (2 ^ width) set v
+    → Has (2 ^ width) (logic_set width logic set (single m)) (logic_of logic v m)
+masked_has sets bits width m v logic set below n h =
+    let mask = sets.single (2 ^ width) m below in
+    bits.logic width v m logic set (single m) n mask.0 h mask.1
+
+pub and_holds : SetLaws → BitLaws → (width : ℕ) (first : Option Suspended) (m v : ℕ) (set : Form) (entry : Option Entry) → m < 2 ^ width → IsNormal (2 ^ width) set
+    → HoldsOf (2 ^ width) first set entry v → HoldsOf (2 ^ width) first (logic_set width And set (single m)) (option_map (entry_and m) entry) (bit_and v m)
+and_holds sets bits width first m v set entry below n h = (masked_has sets bits width m v And set below n h.0, from_entry_and first entry v m h.1)
+
+pub or_holds : SetLaws → BitLaws → (width : ℕ) (first : Option Suspended) (m v : ℕ) (set : Form) (entry : Option Entry) → m < 2 ^ width → IsNormal (2 ^ width) set
+    → HoldsOf (2 ^ width) first set entry v → HoldsOf (2 ^ width) first (logic_set width Or set (single m)) (option_map (entry_or m) entry) (bit_or v m)
+or_holds sets bits width first m v set entry below n h = (masked_has sets bits width m v Or set below n h.0, from_entry_or first entry v m h.1)

@@ -1,4 +1,4 @@
--- The order of words, bytes and cells: within itself, along two steps, and within joins and widenings.
+-- The order of relations, of sets with relations, and of cells: within itself, along two steps, and within joins and widenings.
 use Rattle.std.proofs.Common.{◌≡◌, ℕ, ◌+◌, ◌<◌, ◌≤◌, true, false, Option, None, Some, List, [], ◌∷◌, All, refl, sym, subst, inl, inr, arith}
 use Rattle.std.specs.Prelude.{◌==◌, ◌&&◌, ◌⊎◌}
 use Rattle.std.proofs.lemmas.Bool.{cases_Bool, and_from, and_parts, eq-eqb, ne_eqb}
@@ -8,13 +8,12 @@ use Rattle.value_set.specs.Joining.{is_within, join}
 use Rattle.value_set.specs.Widening.{widen}
 use Rattle.entry_value.specs.declared.word.Entry.{Entry}
 use Rattle.entry_value.specs.declared.word.Word.{Word}
-use Rattle.entry_value.specs.declared.byte.Byte.{Byte}
 use Rattle.entry_value.specs.declared.cells.Cell.{Cell}
-use Rattle.entry_value.specs.Words.{is_same_entry, common_entry, is_entry_within, word_join, word_widen, word_within, byte_join, byte_widen, byte_within}
-use Rattle.entry_value.specs.Cells.{IsCell, AreCells, is_nothing, unknown, cell_at, both_of, with_both, kept, join_cells, byte_widened, cell_widened, widen_cells, is_found_within, are_within}
-use Rattle.entry_value.specs.CellLists.{Each, OfSome, each_both, each_then, each_kept, each_cell, found_at}
+use Rattle.entry_value.specs.Words.{is_same_entry, common_entry, is_entry_within, word_join, word_widen, word_within}
+use Rattle.entry_value.specs.Cells.{IsCell, AreCells, is_nothing, cell_at, both_of, with_both, kept, join_cells, byte_widened, cell_widened, widen_cells, is_found_within, are_within}
+use Rattle.entry_value.specs.CellLists.{Each, OfSome, each_both, each_then, each_kept, each_cell, found_at, some_size}
 use Rattle.value_bits.specs.Laws.{BitLaws}
-use Rattle.value_set.specs.Laws.{SetLaws}
+use Rattle.value_set.specs.Laws.{AreMarks, SetLaws}
 use Rattle.entry_value.proofs.Uniting.{of_telling, of_both, of_some_then, of_size}
 use Rattle.entry_value.proofs.Values.{same_entry, byte_held, byte_new}
 
@@ -62,83 +61,44 @@ both_within : SetLaws → (m : ℕ) (a b : Form) (e f : Option Entry) → Includ
     → (is_within m a b && is_entry_within e f) ≡ true
 both_within sets m a b e f includes entries = and_from (is_within m a b) (is_entry_within e f) ((sets.tested m a b).1 includes) entries
 
-within_along : SetLaws → (m : ℕ) (a b c : Form) (e f g : Option Entry) → (is_within m a b && is_entry_within e f) ≡ true
+pub value_along : SetLaws → (m : ℕ) (a b c : Form) (e f g : Option Entry) → (is_within m a b && is_entry_within e f) ≡ true
     → (is_within m b c && is_entry_within f g) ≡ true
     → (is_within m a c && is_entry_within e g) ≡ true
-within_along sets m a b c e f g h k =
+value_along sets m a b c e f g h k =
     let one = and_parts (is_within m a b) (is_entry_within e f) h in
     let other = and_parts (is_within m b c) (is_entry_within f g) k in
     both_within sets m a c e g (λ v has. (sets.tested m b c).0 other.0 v ((sets.tested m a b).0 one.0 v has)) (entry_along e f g one.1 other.1)
 
--- ---- words
+pub value_itself : SetLaws → (m : ℕ) (a : Form) (e : Option Entry) → (is_within m a a && is_entry_within e e) ≡ true
+value_itself sets m a e = both_within sets m a a e e (λ v h. h) (entry_itself e)
 
-pub word_itself : SetLaws → (a : Word) → word_within a a ≡ true
-word_itself sets a = both_within sets 65536 a.set a.set a.entry a.entry (λ v h. h) (entry_itself a.entry)
+pub join_first : SetLaws → (m : ℕ) (a b : Form) (e f : Option Entry) → IsNormal m a → IsNormal m b
+    → (is_within m a (join m a b) && is_entry_within e (common_entry e f)) ≡ true
+join_first sets m a b e f n k = both_within sets m a (join m a b) e (common_entry e f) (sets.join_first m a b n k) (common_of_first e f)
 
-pub word_along : SetLaws → (a b c : Word) → word_within a b ≡ true → word_within b c ≡ true → word_within a c ≡ true
-word_along sets a b c h k = within_along sets 65536 a.set b.set c.set a.entry b.entry c.entry h k
+pub join_second : SetLaws → (m : ℕ) (a b : Form) (e f : Option Entry) → IsNormal m a → IsNormal m b
+    → (is_within m b (join m a b) && is_entry_within f (common_entry e f)) ≡ true
+join_second sets m a b e f n k = both_within sets m b (join m a b) f (common_entry e f) (sets.join_second m a b n k) (common_of_second e f)
 
-pub word_joined_first : SetLaws → (a b : Word) → IsNormal 65536 a.set → IsNormal 65536 b.set → word_within a (word_join a b) ≡ true
-word_joined_first sets a b n k =
-    both_within sets 65536 a.set (join 65536 a.set b.set) a.entry (common_entry a.entry b.entry) (sets.join_first 65536 a.set b.set n k) (common_of_first a.entry b.entry)
+pub widen_held : SetLaws → (m : ℕ) (a b : Form) (e f : Option Entry) (marks : List ℕ) → IsNormal m a → IsNormal m b → AreMarks m marks
+    → (is_within m a (widen m a b marks) && is_entry_within e (common_entry e f)) ≡ true
+widen_held sets m a b e f marks n k below =
+    both_within sets m a (widen m a b marks) e (common_entry e f) (sets.widen_held m a b marks n k below) (common_of_first e f)
 
-pub word_joined_second : SetLaws → (a b : Word) → IsNormal 65536 a.set → IsNormal 65536 b.set → word_within b (word_join a b) ≡ true
-word_joined_second sets a b n k =
-    both_within sets 65536 b.set (join 65536 a.set b.set) b.entry (common_entry a.entry b.entry) (sets.join_second 65536 a.set b.set n k) (common_of_second a.entry b.entry)
+pub widen_new : SetLaws → (m : ℕ) (a b : Form) (e f : Option Entry) (marks : List ℕ) → IsNormal m a → IsNormal m b → AreMarks m marks
+    → (is_within m b (widen m a b marks) && is_entry_within f (common_entry e f)) ≡ true
+widen_new sets m a b e f marks n k below =
+    both_within sets m b (widen m a b marks) f (common_entry e f) (sets.widen_new m a b marks n k below) (common_of_second e f)
 
-pub word_widened_held : SetLaws → (held new : Word) (marks : List ℕ) → IsNormal 65536 held.set → IsNormal 65536 new.set → All (λ mark. mark < 65536) marks
-    → word_within held (word_widen held new marks) ≡ true
-word_widened_held sets a b marks n k below =
-    both_within sets 65536 a.set (widen 65536 a.set b.set marks) a.entry (common_entry a.entry b.entry) (sets.widen_held 65536 a.set b.set marks n k below) (common_of_first a.entry b.entry)
-
-pub word_widened_new : SetLaws → (held new : Word) (marks : List ℕ) → IsNormal 65536 held.set → IsNormal 65536 new.set → All (λ mark. mark < 65536) marks
-    → word_within new (word_widen held new marks) ≡ true
-word_widened_new sets a b marks n k below =
-    both_within sets 65536 b.set (widen 65536 a.set b.set marks) b.entry (common_entry a.entry b.entry) (sets.widen_new 65536 a.set b.set marks n k below) (common_of_second a.entry b.entry)
-
-pub word_whole : SetLaws → (a : Word) → IsNormal 65536 a.set → word_within a (unknown 2) ≡ true
-word_whole sets a n =
-    both_within sets 65536 a.set (make 65536 0 1 65536) a.entry None (λ v h. sets.whole 65536 v (sets.below 65536 v a.set n h)) refl
-
--- ---- bytes
-
-pub byte_itself : SetLaws → (a : Byte) → byte_within a a ≡ true
-byte_itself sets a = both_within sets 256 a.set a.set a.entry a.entry (λ v h. h) (entry_itself a.entry)
-
-pub byte_along : SetLaws → (a b c : Byte) → byte_within a b ≡ true → byte_within b c ≡ true → byte_within a c ≡ true
-byte_along sets a b c h k = within_along sets 256 a.set b.set c.set a.entry b.entry c.entry h k
-
-pub byte_joined_first : SetLaws → (a b : Byte) → IsNormal 256 a.set → IsNormal 256 b.set → byte_within a (byte_join a b) ≡ true
-byte_joined_first sets a b n k =
-    both_within sets 256 a.set (join 256 a.set b.set) a.entry (common_entry a.entry b.entry) (sets.join_first 256 a.set b.set n k) (common_of_first a.entry b.entry)
-
-pub byte_joined_second : SetLaws → (a b : Byte) → IsNormal 256 a.set → IsNormal 256 b.set → byte_within b (byte_join a b) ≡ true
-byte_joined_second sets a b n k =
-    both_within sets 256 b.set (join 256 a.set b.set) b.entry (common_entry a.entry b.entry) (sets.join_second 256 a.set b.set n k) (common_of_second a.entry b.entry)
-
-pub byte_widened_held : SetLaws → (held new : Byte) (marks : List ℕ) → IsNormal 256 held.set → IsNormal 256 new.set → All (λ mark. mark < 256) marks
-    → byte_within held (byte_widen held new marks) ≡ true
-byte_widened_held sets a b marks n k below =
-    both_within sets 256 a.set (widen 256 a.set b.set marks) a.entry (common_entry a.entry b.entry) (sets.widen_held 256 a.set b.set marks n k below) (common_of_first a.entry b.entry)
-
-pub byte_widened_new : SetLaws → (held new : Byte) (marks : List ℕ) → IsNormal 256 held.set → IsNormal 256 new.set → All (λ mark. mark < 256) marks
-    → byte_within new (byte_widen held new marks) ≡ true
-byte_widened_new sets a b marks n k below =
-    both_within sets 256 b.set (widen 256 a.set b.set marks) b.entry (common_entry a.entry b.entry) (sets.widen_new 256 a.set b.set marks n k below) (common_of_second a.entry b.entry)
-
-pub byte_whole : SetLaws → (a : Byte) → IsNormal 256 a.set
-    → let whole : Byte = record { set = make 256 0 1 256; entry = None } in byte_within a whole ≡ true
-byte_whole sets a n =
-    both_within sets 256 a.set (make 256 0 1 256) a.entry None (λ v h. sets.whole 256 v (sets.below 256 v a.set n h)) refl
+-- within all numbers, without a relation
+pub value_whole : SetLaws → (m : ℕ) (a : Form) (e : Option Entry) → IsNormal m a → (is_within m a (make m 0 1 m) && is_entry_within e None) ≡ true
+value_whole sets m a e n = both_within sets m a (make m 0 1 m) e None (λ v h. sets.whole m v (sets.below m v a n h)) refl
 
 -- ---- cells that are found
 
 each_behind : (lo hi from low : ℕ) (cells : List Cell) → low ≤ from → AreCells lo hi from cells → Each (λ cell. low ≤ cell.place) cells
 each_behind lo hi from low [] h are = tt
 each_behind lo hi from low (cell ∷ cells) h are = (omega (arith, are.1), each_behind lo hi (cell.place + cell.size) low cells (omega (arith, are.1)) are.2)
-
-some_byte : (lo hi : ℕ) (cell : Cell) → IsCell lo hi cell → 0 < cell.size
-some_byte lo hi cell is = elim is.size [ inl one ↦ omega arith | inr two ↦ omega arith ]
 
 its_own : (cell : Cell) (cells : List Cell) → cell_at (cell ∷ cells) cell.place cell.size ≡ Some cell.word
 its_own cell cells = rw (eq-eqb cell.place cell.place refl, eq-eqb cell.size cell.size refl) refl
@@ -160,7 +120,7 @@ each_found lo hi from [] are = tt
 each_found lo hi from (cell ∷ cells) are = (
   its_own cell cells,
   each_then (λ other. (cell.place + cell.size ≤ other.place) × IsFoundIn cells other) (IsFoundIn (cell ∷ cells)) cells
-      (λ other h. anothers cell other cells (some_byte lo hi cell are.0) h.0 h.1)
+      (λ other h. anothers cell other cells (some_size cell.size are.0.size) h.0 h.1)
       (each_both (λ other. cell.place + cell.size ≤ other.place) (IsFoundIn cells) cells
       (each_behind lo hi (cell.place + cell.size) (cell.place + cell.size) cells (omega arith) are.2)
       (each_found lo hi (cell.place + cell.size) cells are.2)),
@@ -186,12 +146,13 @@ found_within found word other e h = rw e h
 
 pub cells_itself : SetLaws → (lo hi from : ℕ) (cells : List Cell) → AreCells lo hi from cells → are_within cells cells ≡ true
 cells_itself sets lo hi from cells are = within_from cells cells
-    (each_then (IsFoundIn cells) (IsWithin cells) cells (λ cell found. found_within (cell_at cells cell.place cell.size) cell.word cell.word found (word_itself sets cell.word)) (each_found lo hi from cells are))
+    (each_then (IsFoundIn cells) (IsWithin cells) cells (λ cell found. found_within (cell_at cells cell.place cell.size) cell.word cell.word found (value_itself sets 65536 cell.word.set cell.word.entry)) (each_found lo hi from cells are))
 
 some_along : SetLaws → (found : Option Word) (middle last : Word) → is_found_within found middle ≡ true → word_within middle last ≡ true
     → is_found_within found last ≡ true
 some_along sets None middle last h k = h
-some_along sets (Some word) middle last h k = word_along sets word middle last h k
+some_along sets (Some word) middle last h k =
+    value_along sets 65536 word.set middle.set last.set word.entry middle.entry last.entry h k
 
 found_along : SetLaws → (first second : Option Word) (last : Word) → OfSome (λ word. is_found_within first word ≡ true) second
     → is_found_within second last ≡ true
@@ -218,14 +179,14 @@ record Above (size : ℕ) (f : Word → Word → Word) : Type 0 where
 
 join_above : SetLaws → (size : ℕ) → Above size word_join
 join_above sets size = record {
-  one = λ a b n k low. word_joined_first sets a b n k;
-  other = λ a b n k low. word_joined_second sets a b n k;
+  one = λ a b n k low. join_first sets 65536 a.set b.set a.entry b.entry n k;
+  other = λ a b n k low. join_second sets 65536 a.set b.set a.entry b.entry n k;
 }
 
 widen_above : SetLaws → (size : ℕ) (marks : List ℕ) → All (λ mark. mark < 65536) marks → Above size (λ held new. word_widen held new marks)
 widen_above sets size marks below = record {
-  one = λ a b n k low. word_widened_held sets a b marks n k below;
-  other = λ a b n k low. word_widened_new sets a b marks n k below;
+  one = λ a b n k low. widen_held sets 65536 a.set b.set a.entry b.entry marks n k below;
+  other = λ a b n k low. widen_new sets 65536 a.set b.set a.entry b.entry marks n k below;
 }
 
 byte_above : SetLaws → BitLaws → (size : ℕ) (marks : List ℕ) → size ≡ 1 → Above size (λ held new. byte_widened held new marks)

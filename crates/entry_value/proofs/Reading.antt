@@ -5,16 +5,17 @@ use Rattle.std.specs.List.{Contains}
 use Rattle.std.proofs.lemmas.Bool.{cases_Bool, and_parts, eqb-true, eqb-false, leb-true, ltb-true}
 use Rattle.value_set.specs.declared.form.Form.{Form}
 use Rattle.value_set.specs.Form.{Fits, Has, IsNormal, make, steps}
-use Rattle.value_set.specs.Summing.{single}
 use Rattle.value_bits.specs.Sets.{low_set, high_set, pair_set}
 use Rattle.entry_value.specs.declared.word.Word.{Word}
 use Rattle.entry_value.specs.declared.cells.Cell.{Cell}
 use Rattle.entry_value.specs.Words.{Suspended, HoldsOfWord}
 use Rattle.entry_value.specs.Cells.{StandsUnder, IsCell, AreCells, number_at, cell_at, has_byte, byte_at, word_of_byte, word_of_bytes, put_together, found_or, read}
-use Rattle.entry_value.proofs.Bytes.{IsSize, AreBytes, low_part, high_part, within_turn}
+use Rattle.entry_value.proofs.Bytes.{IsSize, AreBytes, low_part, high_part}
 use Rattle.entry_value.specs.CellLists.{Each, OfSome, each_from, each_cell, found_at}
 use Rattle.value_bits.specs.Laws.{BitLaws}
 use Rattle.value_set.specs.Laws.{SetLaws}
+use Rattle.plain_lemmas.specs.Small.{word_alone}
+use Rattle.entry_value.proofs.Values.{put_back}
 
 -- ---- any number of a size
 
@@ -55,7 +56,7 @@ byte_of_cell bits first ram bytes at below cell size normal holds has =
         | inr two ↦ (
           bits.high_normal cell.word.set normal,
           (let next = next_place cell.place at cell.size two from to (eqb-false at cell.place other) in
-              let turn : (cell.place + 1) % 65536 ≡ at = ap (λ (n : ℕ). n % 65536) (sym next) ∙ within_turn at below in
+              let turn : (cell.place + 1) % 65536 ≡ at = ap (λ (n : ℕ). n % 65536) (sym next) ∙ word_alone at below in
               subst (λ (b : ℕ). Has 256 (high_set cell.word.set) b)
               (high_part ram bytes cell.place cell.size two ∙ ap ram turn)
               (bits.high (number_at ram cell.place cell.size) cell.word.set normal holds.0)),
@@ -79,9 +80,6 @@ byte_found bits first ram bytes at below (cell ∷ cells) h = elim (cases_Bool (
 
 -- ---- put together
 
-word_alone : (v : ℕ) → v + 0 * 256 ≡ v
-word_alone v = omega arith
-
 turned : (a b : ℕ) → a + b * 256 ≡ a + 256 * b
 turned a b = omega arith
 
@@ -91,10 +89,7 @@ below_word a b h k = omega arith
 of_byte : SetLaws → BitLaws → (ram : ℕ → ℕ) → AreBytes ram → (at : ℕ) (found : Option Form) → OfSome (IsByte ram at) found
     → Has 65536 (word_of_byte found) (ram at)
 of_byte sets bits ram bytes at None h = few_of sets (ram at) (bytes at)
-of_byte sets bits ram bytes at (Some byte) h =
-    let zero_set = sets.single 256 0 (omega arith) in
-    subst (λ (n : ℕ). Has 65536 (pair_set byte (single 0)) n) (word_alone (ram at))
-    (bits.pair (ram at) 0 byte (single 0) h.0 zero_set.0 h.1 zero_set.1)
+of_byte sets bits ram bytes at (Some byte) h = put_back sets bits byte (ram at) h.0 h.1
 
 of_bytes : SetLaws → BitLaws → (ram : ℕ → ℕ) → AreBytes ram → (at next : ℕ) (low high : Option Form) → OfSome (IsByte ram at) low
     → OfSome (IsByte ram next) high

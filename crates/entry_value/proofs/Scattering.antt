@@ -1,9 +1,7 @@
 -- What stands in a RAM behind a write at one of several addresses.
-use Rattle.std.proofs.Common.{◌≡◌, ℕ, ◌+◌, ◌%◌, ◌<◌, ◌≤◌, Bool, true, false, Option, List, [], ◌∷◌, refl, sym, ◌∙◌, subst, inl, inr, arith}
-use Prim.Native.Nat.{zero, suc}
+use Rattle.std.proofs.Common.{◌≡◌, ℕ, ◌+◌, ◌%◌, ◌<◌, ◌≤◌, Bool, true, false, Option, refl, sym, ◌∙◌, subst, inl, inr, arith}
 use Rattle.std.specs.Prelude.{◌==◌, ◌&&◌}
-use Rattle.std.specs.List.{Contains, list_any}
-use Rattle.std.proofs.lemmas.Bool.{cases_Bool, and_from, or_parts, or_left, or_right, eq-eqb, eqb-true, eqb-false}
+use Rattle.std.proofs.lemmas.Bool.{cases_Bool, and_from, or_parts, eq-eqb, eqb-true, eqb-false}
 use Rattle.value_set.specs.declared.form.Form.{Form}
 use Rattle.value_set.specs.Form.{Has, IsNormal, members}
 use Rattle.value_set.specs.Joining.{is_in}
@@ -12,21 +10,15 @@ use Rattle.entry_value.specs.declared.cells.Cell.{Cell}
 use Rattle.entry_value.specs.Words.{Suspended, HoldsOfWord, word_join}
 use Rattle.entry_value.specs.Cells.{CellMap, StandsUnder, IsCell, AreCells, number_at, written, meets_beside, is_nothing, cell_behind, kept, write_several}
 use Rattle.entry_value.proofs.Bytes.{IsSize, AreBytes, written_bytes, written_itself}
-use Rattle.entry_value.specs.CellLists.{OfSome, each_from, each_in, each_both, each_kept, each_cell}
+use Rattle.entry_value.specs.CellLists.{IsAlike, OfSome, StandsAt, each_from, each_in, each_both, each_kept, each_cell, kept_form}
 use Rattle.value_set.specs.Laws.{SetLaws}
-use Rattle.entry_value.proofs.Uniting.{of_telling, small_number, IsAlike, kept_form}
+use Rattle.entry_value.proofs.Uniting.{of_telling, small_number}
 use Rattle.entry_value.proofs.Values.{join_covers, join_forms}
-use Rattle.entry_value.proofs.Writing.{StandsAt, whole_turn, stays}
+use Rattle.entry_value.proofs.Writing.{whole_turn, stays}
+use Rattle.plain_lemmas.specs.AnyOf.{any_from}
+use Rattle.plain_lemmas.specs.Cases.{clash}
 
 -- ---- addresses
-
-any_from : (v : ℕ) (xs : List ℕ) → Contains xs v → list_any (λ x. x == v) xs ≡ true
-any_from v [] h = absurd (omega (arith, h.1))
-any_from v (x ∷ xs) (zero, below, is) = or_left (x == v) (list_any (λ y. y == v) xs) (eq-eqb x v is)
-any_from v (x ∷ xs) (suc k, below, is) = or_right (x == v) (list_any (λ y. y == v) xs) (any_from v xs (k, omega arith, is))
-
-clash : (x : Bool) → x ≡ true → x ≡ false → ⊥
-clash x h k = absurd (cc)
 
 no_address : (at : Form) (x address : ℕ) → Has 65536 at address → is_in 65536 at x ≡ false → x ≡ address → ⊥
 no_address at x address h other e = clash (is_in 65536 at x) (subst (λ (n : ℕ). is_in 65536 at n ≡ true) (sym e) (any_from address (members 65536 at) h)) other

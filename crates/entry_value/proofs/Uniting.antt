@@ -1,19 +1,18 @@
 -- Cells that two states have, and cells within others.
-use Rattle.std.proofs.Common.{◌≡◌, ℕ, ◌+◌, ◌<◌, ◌≤◌, true, false, Option, None, Some, List, [], ◌∷◌, All, refl, sym, subst, inl, inr, arith}
+use Rattle.std.proofs.Common.{◌≡◌, ℕ, ◌<◌, true, false, Option, None, Some, List, [], ◌∷◌, All, refl, sym, subst, inl, inr}
 use Rattle.std.specs.Prelude.{◌==◌}
 use Rattle.std.proofs.lemmas.Bool.{cases_Bool, and_parts, eqb-true, eqb-false}
 use Rattle.value_set.specs.Form.{Has, IsNormal}
 use Rattle.entry_value.specs.declared.word.Word.{Word}
 use Rattle.entry_value.specs.declared.cells.Cell.{Cell}
 use Rattle.entry_value.specs.Words.{Suspended, HoldsOfWord, word_join, word_widen}
-use Rattle.entry_value.specs.Cells.{StandsUnder, IsCell, AreCells, number_at, is_nothing, cell_at, telling, with_some, kept, both_of, with_both, join_cells, byte_widened, cell_widened, widen_cells, is_found_within, are_within}
+use Rattle.entry_value.specs.Cells.{StandsUnder, IsCell, AreCells, number_at, is_nothing, cell_at, telling, kept, both_of, with_both, join_cells, byte_widened, cell_widened, widen_cells, is_found_within, are_within}
 use Rattle.entry_value.proofs.Bytes.{AreBytes}
-use Rattle.entry_value.specs.CellLists.{Each, OfSome, each_from, each_in, each_then, each_kept, each_cell, found_at}
+use Rattle.entry_value.specs.CellLists.{Each, IsAlike, OfSome, StandsAt, each_from, each_in, each_then, each_kept, each_cell, found_at, kept_form}
 use Rattle.value_bits.specs.Laws.{BitLaws}
 use Rattle.value_set.specs.Laws.{SetLaws}
 use Rattle.entry_value.proofs.Reading.{Holds, each_holds}
 use Rattle.entry_value.proofs.Values.{Covers, Forms, join_covers, widen_covers, byte_covers, within_holds, join_forms, widen_forms, byte_forms}
-use Rattle.entry_value.proofs.Writing.{StandsAt, lowered}
 
 -- ---- cells that say something
 
@@ -60,10 +59,6 @@ new_stands first ram bytes f lo hi new held cell covers is = of_both (StandsAt f
     (found_at (λ p s word. IsNormalWord word × HoldsOfWord first word (number_at ram p s)) new cell.place cell.size
     (each_then (Holds first ram) (λ c. IsNormalWord c.word × HoldsOfWord first c.word (number_at ram c.place c.size)) new (λ c h. (h.normal, h.holds)) held)))
 
--- a cell of a form, of a place and a size
-abbrev pub IsAlike : (lo hi : ℕ) → Cell → Cell → Type 0
-IsAlike lo hi cell new = IsCell lo hi new × (new.place ≡ cell.place) × (new.size ≡ cell.size)
-
 form_stays : (f : Word → Word → Word) (lo hi low high start : ℕ) (new : List Cell) → AreCells low high start new → (cell : Cell) → Forms cell.size f
     → IsCell lo hi cell
     → OfSome (IsAlike lo hi cell) (with_both f new cell)
@@ -86,23 +81,17 @@ form_stays f lo hi low high start new are cell forms is = of_both (IsAlike lo hi
     (found_at (λ p s word. IsNormalWord word × (s ≡ 1 → (n : ℕ) → Has 65536 word.set n → n < 256)) new cell.place cell.size
     (each_then (IsCell low high) (λ c. IsNormalWord c.word × (c.size ≡ 1 → (n : ℕ) → Has 65536 c.word.set n → n < 256)) new (λ c h. (h.normal, h.byte)) (each_cell low high start new are))))
 
-same_start : (from place other : ℕ) → other ≡ place → from ≤ place → from ≤ other
-same_start from place other e h = omega arith
+-- ---- what stands under what is made of each cell
 
-alike_form : (lo hi from : ℕ) (cell : Cell) (found : Option Cell) (rest : List Cell) → from ≤ cell.place → OfSome (IsAlike lo hi cell) found
-    → AreCells lo hi (cell.place + cell.size) rest → AreCells lo hi from (with_some found rest)
-alike_form lo hi from cell None rest h alike are = lowered lo hi (cell.place + cell.size) from rest (omega arith) are
-alike_form lo hi from cell (Some new) rest h alike are = (
-  alike.0,
-  same_start from cell.place new.place alike.1 h,
-  lowered lo hi (cell.place + cell.size) (new.place + new.size) rest (omega (arith, alike.1, alike.2)) are,
-)
+kept_stand : (first : Option Suspended) (ram : ℕ → ℕ) (lo hi from : ℕ) (f : Cell → Option Cell) (held : List Cell) → AreCells lo hi from held
+    → ((cell : Cell) → Holds first ram cell → OfSome (StandsAt first ram) (f cell)) → StandsUnder first held ram → StandsUnder first (kept f held) ram
+kept_stand first ram lo hi from f held are step h =
+    (h.0, each_in (StandsAt first ram) (kept f held) (each_kept (Holds first ram) (StandsAt first ram) f held step (each_holds first ram lo hi from held are h)))
 
-pub kept_form : (lo hi from : ℕ) (f : Cell → Option Cell) (cells : List Cell)
-    → ((cell : Cell) → IsCell lo hi cell → OfSome (IsAlike lo hi cell) (f cell)) → AreCells lo hi from cells
-    → AreCells lo hi from (kept f cells)
-kept_form lo hi from f [] step are = tt
-kept_form lo hi from f (cell ∷ cells) step are = alike_form lo hi from cell (f cell) (kept f cells) are.1 (step cell are.0) (kept_form lo hi (cell.place + cell.size) f cells step are.2)
+made_stand : (first : Option Suspended) (ram : ℕ → ℕ) (lo hi from : ℕ) (f : Cell → Option Cell) (held : List Cell) → AreCells lo hi from held → AreBytes ram
+    → ((cell : Cell) → IsCell lo hi cell → OfSome (StandsAt first ram) (f cell)) → StandsUnder first (kept f held) ram
+made_stand first ram lo hi from f held are bytes step =
+    (bytes, each_in (StandsAt first ram) (kept f held) (each_kept (IsCell lo hi) (StandsAt first ram) f held step (each_cell lo hi from held are)))
 
 -- ---- joined cells
 
@@ -110,25 +99,15 @@ pub join_covers_held : SetLaws → (first : Option Suspended) (ram : ℕ → ℕ
     → AreCells lo hi from held → AreCells low high start new
     → StandsUnder first held ram → StandsUnder first (join_cells held new) ram
 unfolding join_cells
-join_covers_held sets first ram lo hi from low high start held new are others h = (
-  h.0,
-  each_in (StandsAt first ram) (kept (with_both word_join new) held)
-      (each_kept (Holds first ram) (StandsAt first ram) (with_both word_join new) held
-      (λ cell holds. held_stands first ram h.0 word_join low high start new others cell (join_covers sets first cell.size) holds)
-      (each_holds first ram lo hi from held are h)),
-)
+join_covers_held sets first ram lo hi from low high start held new are others h = kept_stand first ram lo hi from (with_both word_join new) held are
+    (λ cell holds. held_stands first ram h.0 word_join low high start new others cell (join_covers sets first cell.size) holds) h
 
 pub join_covers_new : SetLaws → (first : Option Suspended) (ram : ℕ → ℕ) (lo hi from low high start : ℕ) (held new : List Cell)
     → AreCells lo hi from held → AreCells low high start new
     → StandsUnder first new ram → StandsUnder first (join_cells held new) ram
 unfolding join_cells
-join_covers_new sets first ram lo hi from low high start held new are others h = (
-  h.0,
-  each_in (StandsAt first ram) (kept (with_both word_join new) held)
-      (each_kept (IsCell lo hi) (StandsAt first ram) (with_both word_join new) held
-      (λ cell is. new_stands first ram h.0 word_join lo hi new (each_holds first ram low high start new others h) cell (join_covers sets first cell.size) is)
-      (each_cell lo hi from held are)),
-)
+join_covers_new sets first ram lo hi from low high start held new are others h = made_stand first ram lo hi from (with_both word_join new) held are h.0
+    (λ cell is. new_stands first ram h.0 word_join lo hi new (each_holds first ram low high start new others h) cell (join_covers sets first cell.size) is)
 
 pub join_form : SetLaws → (lo hi from low high start : ℕ) (held new : List Cell) → AreCells lo hi from held → AreCells low high start new
     → AreCells lo hi from (join_cells held new)
@@ -153,15 +132,11 @@ pub widen_covers_held : SetLaws → BitLaws
     → AreCells low high start new
     → All (λ mark. mark < 65536) marks → StandsUnder first held ram → StandsUnder first (widen_cells held new marks) ram
 unfolding widen_cells
-widen_covers_held sets bits first ram lo hi from low high start held new marks are others below h = (
-  h.0,
-  each_in (StandsAt first ram) (kept (cell_widened marks new) held)
-      (each_kept (Holds first ram) (StandsAt first ram) (cell_widened marks new) held
-      (λ cell holds. of_size (StandsAt first ram) marks new cell
-      (λ one. held_stands first ram h.0 (λ a b. byte_widened a b marks) low high start new others cell (byte_covers sets bits first cell.size marks one) holds)
-      (λ wide. held_stands first ram h.0 (λ a b. word_widen a b marks) low high start new others cell (widen_covers sets first cell.size marks below) holds))
-      (each_holds first ram lo hi from held are h)),
-)
+widen_covers_held sets bits first ram lo hi from low high start held new marks are others below h = kept_stand first ram lo hi from (cell_widened marks new) held are
+    (λ cell holds. of_size (StandsAt first ram) marks new cell
+    (λ one. held_stands first ram h.0 (λ a b. byte_widened a b marks) low high start new others cell (byte_covers sets bits first cell.size marks one) holds)
+    (λ wide. held_stands first ram h.0 (λ a b. word_widen a b marks) low high start new others cell (widen_covers sets first cell.size marks below) holds))
+    h
 
 pub widen_covers_new : SetLaws → BitLaws
     → (first : Option Suspended) (ram : ℕ → ℕ) (lo hi from low high start : ℕ) (held new : List Cell) (marks : List ℕ) → AreCells lo hi from held
@@ -169,15 +144,11 @@ pub widen_covers_new : SetLaws → BitLaws
     → All (λ mark. mark < 65536) marks → StandsUnder first new ram → StandsUnder first (widen_cells held new marks) ram
 unfolding widen_cells
 widen_covers_new sets bits first ram lo hi from low high start held new marks are others below h =
-    let all = each_holds first ram low high start new others h in (
-      h.0,
-      each_in (StandsAt first ram) (kept (cell_widened marks new) held)
-          (each_kept (IsCell lo hi) (StandsAt first ram) (cell_widened marks new) held
-          (λ cell is. of_size (StandsAt first ram) marks new cell
-          (λ one. new_stands first ram h.0 (λ a b. byte_widened a b marks) lo hi new all cell (byte_covers sets bits first cell.size marks one) is)
-          (λ wide. new_stands first ram h.0 (λ a b. word_widen a b marks) lo hi new all cell (widen_covers sets first cell.size marks below) is))
-          (each_cell lo hi from held are)),
-    )
+    let all = each_holds first ram low high start new others h in
+    made_stand first ram lo hi from (cell_widened marks new) held are h.0
+    (λ cell is. of_size (StandsAt first ram) marks new cell
+    (λ one. new_stands first ram h.0 (λ a b. byte_widened a b marks) lo hi new all cell (byte_covers sets bits first cell.size marks one) is)
+    (λ wide. new_stands first ram h.0 (λ a b. word_widen a b marks) lo hi new all cell (widen_covers sets first cell.size marks below) is))
 
 pub widen_form : SetLaws → BitLaws → (lo hi from low high start : ℕ) (held new : List Cell) (marks : List ℕ) → AreCells lo hi from held
     → AreCells low high start new
@@ -194,7 +165,7 @@ widen_form sets bits lo hi from low high start held new marks are others below =
 found_within : SetLaws → (first : Option Suspended) (v : ℕ) (found : Option Word) (held : Word) → is_found_within found held ≡ true
     → OfSome (λ word. HoldsOfWord first word v) found → HoldsOfWord first held v
 found_within sets first v None held within h = absurd (cc)
-found_within sets first v (Some new) held within h = within_holds sets first new held v within h
+found_within sets first v (Some new) held within h = within_holds sets 65536 first v new.set held.set new.entry held.entry within h
 
 each_within : SetLaws → (first : Option Suspended) (ram : ℕ → ℕ) (new held : List Cell) → are_within new held ≡ true → Each (StandsAt first ram) new
     → Each (StandsAt first ram) held

@@ -1,21 +1,22 @@
 -- Joins, widenings and inclusion of values, and what holds of them.
-use Rattle.std.proofs.Common.{◌≡◌, ℕ, ◌+◌, ◌*◌, ◌%◌, ◌<◌, true, Option, None, Some, List, [], ◌∷◌, All, sym, ◌∙◌, ap, subst, inl, inr, arith, nat_lt}
+use Rattle.std.proofs.Common.{◌≡◌, ℕ, ◌+◌, ◌*◌, ◌<◌, true, Option, None, Some, List, [], ◌∷◌, All, sym, ◌∙◌, ap, subst, inl, inr, arith, nat_lt}
 use Rattle.std.specs.Prelude.{◌==◌, ◌&&◌}
 use Rattle.std.specs.List.{filter}
 use Rattle.std.proofs.lemmas.Bool.{cases_Bool, and_parts, eqb-true, ltb-true}
 use Rattle.std.proofs.lemmas.List.Elements.{All-nil, All-cons}
 use Rattle.value_set.specs.declared.form.Form.{Form}
 use Rattle.value_set.specs.Form.{Has, IsNormal}
-use Rattle.value_set.specs.Joining.{is_within}
+use Rattle.value_set.specs.Joining.{is_within, join}
 use Rattle.value_set.specs.Summing.{single}
 use Rattle.value_set.specs.Widening.{widen}
 use Rattle.value_bits.specs.Sets.{low_set, pair_set}
 use Rattle.entry_value.specs.declared.word.Entry.{Entry}
 use Rattle.entry_value.specs.declared.word.Word.{Word}
-use Rattle.entry_value.specs.Words.{Suspended, IsFromEntry, HoldsOfWord, is_same_entry, common_entry, is_entry_within, word_join, word_widen, word_within}
+use Rattle.entry_value.specs.Words.{Suspended, IsFromEntry, HoldsOfWord, is_same_entry, common_entry, is_entry_within, word_join, word_widen}
 use Rattle.entry_value.specs.Cells.{byte_widened}
 use Rattle.value_bits.specs.Laws.{BitLaws}
-use Rattle.value_set.specs.Laws.{SetLaws}
+use Rattle.value_set.specs.Laws.{AreMarks, SetLaws}
+use Rattle.plain_lemmas.specs.Small.{byte_alone}
 
 -- ---- relations
 
@@ -45,7 +46,35 @@ entry_within first a None v within h = tt
 entry_within first None (Some b) v within h = absurd (cc)
 entry_within first (Some a) (Some b) v within h = subst (λ (entry : Entry). IsFromEntry first (Some entry) v) (same_entry a b within) h
 
--- ---- words
+-- ---- sets with relations, of words and of bytes alike
+
+-- a set of numbers below m and a relation hold of a number
+abbrev pub HoldsOf : (m : ℕ) → Option Suspended → Form → Option Entry → ℕ → Type 0
+HoldsOf m first set entry v = Has m set v × IsFromEntry first entry v
+
+pub join_holds_first : SetLaws → (m : ℕ) (first : Option Suspended) (v : ℕ) (a b : Form) (e f : Option Entry) → IsNormal m a → IsNormal m b
+    → HoldsOf m first a e v → HoldsOf m first (join m a b) (common_entry e f) v
+join_holds_first sets m first v a b e f n k h = (sets.join_first m a b n k v h.0, common_first first e f v h.1)
+
+pub join_holds_second : SetLaws → (m : ℕ) (first : Option Suspended) (v : ℕ) (a b : Form) (e f : Option Entry) → IsNormal m a → IsNormal m b
+    → HoldsOf m first b f v → HoldsOf m first (join m a b) (common_entry e f) v
+join_holds_second sets m first v a b e f n k h = (sets.join_second m a b n k v h.0, common_second first e f v h.1)
+
+pub widen_holds_held : SetLaws → (m : ℕ) (first : Option Suspended) (v : ℕ) (a b : Form) (e f : Option Entry) (marks : List ℕ) → IsNormal m a → IsNormal m b
+    → AreMarks m marks → HoldsOf m first a e v → HoldsOf m first (widen m a b marks) (common_entry e f) v
+widen_holds_held sets m first v a b e f marks n k below h = (sets.widen_held m a b marks n k below v h.0, common_first first e f v h.1)
+
+pub widen_holds_new : SetLaws → (m : ℕ) (first : Option Suspended) (v : ℕ) (a b : Form) (e f : Option Entry) (marks : List ℕ) → IsNormal m a → IsNormal m b
+    → AreMarks m marks → HoldsOf m first b f v → HoldsOf m first (widen m a b marks) (common_entry e f) v
+widen_holds_new sets m first v a b e f marks n k below h = (sets.widen_new m a b marks n k below v h.0, common_second first e f v h.1)
+
+pub within_holds : SetLaws → (m : ℕ) (first : Option Suspended) (v : ℕ) (a b : Form) (e f : Option Entry) → (is_within m a b && is_entry_within e f) ≡ true
+    → HoldsOf m first a e v → HoldsOf m first b f v
+within_holds sets m first v a b e f within h =
+    let parts = and_parts (is_within m a b) (is_entry_within e f) within in
+    ((sets.tested m a b).0 parts.0 v h.0, entry_within first e f v parts.1 h.1)
+
+-- ---- words of a size
 
 -- what holds of either of two words of a size holds of what is made of them
 pub record Covers (first : Option Suspended) (size : ℕ) (f : Word → Word → Word) : Type 0 where
@@ -54,21 +83,16 @@ pub record Covers (first : Option Suspended) (size : ℕ) (f : Word → Word →
 
 pub join_covers : SetLaws → (first : Option Suspended) (size : ℕ) → Covers first size word_join
 join_covers sets first size = record {
-  one = λ a b v n k small h. (sets.join_first 65536 a.set b.set n k v h.0, common_first first a.entry b.entry v h.1);
-  other = λ a b v n k small h. (sets.join_second 65536 a.set b.set n k v h.0, common_second first a.entry b.entry v h.1);
+  one = λ a b v n k small. join_holds_first sets 65536 first v a.set b.set a.entry b.entry n k;
+  other = λ a b v n k small. join_holds_second sets 65536 first v a.set b.set a.entry b.entry n k;
 }
 
 pub widen_covers : SetLaws → (first : Option Suspended) (size : ℕ) (marks : List ℕ) → All (λ mark. mark < 65536) marks
     → Covers first size (λ held new. word_widen held new marks)
 widen_covers sets first size marks below = record {
-  one = λ a b v n k small h. (sets.widen_held 65536 a.set b.set marks n k below v h.0, common_first first a.entry b.entry v h.1);
-  other = λ a b v n k small h. (sets.widen_new 65536 a.set b.set marks n k below v h.0, common_second first a.entry b.entry v h.1);
+  one = λ a b v n k small. widen_holds_held sets 65536 first v a.set b.set a.entry b.entry marks n k below;
+  other = λ a b v n k small. widen_holds_new sets 65536 first v a.set b.set a.entry b.entry marks n k below;
 }
-
-pub within_holds : SetLaws → (first : Option Suspended) (a b : Word) (v : ℕ) → word_within a b ≡ true → HoldsOfWord first a v → HoldsOfWord first b v
-within_holds sets first a b v within h =
-    let parts = and_parts (is_within 65536 a.set b.set) (is_entry_within a.entry b.entry) within in
-    ((sets.tested 65536 a.set b.set).0 parts.0 v h.0, entry_within first a.entry b.entry v parts.1 h.1)
 
 -- ---- words of one byte
 
@@ -82,19 +106,17 @@ all_low (mark ∷ marks) = elim (cases_Bool (nat_lt mark 256)) [
 abbrev widened_low : Form → Form → List ℕ → Form
 widened_low held new marks = widen 256 (low_set held) (low_set new) (filter (λ mark. nat_lt mark 256) marks)
 
-low_itself : (v : ℕ) → v < 256 → v % 256 ≡ v
-low_itself v h = omega arith
+as_low : (v : ℕ) → v + 0 * 256 ≡ v
+as_low v = omega arith
 
-word_alone : (v : ℕ) → v + 0 * 256 ≡ v
-word_alone v = omega arith
-
-put_back : SetLaws → BitLaws → (low : Form) (v : ℕ) → IsNormal 256 low → Has 256 low v → Has 65536 (pair_set low (single 0)) v
+-- a byte as a word of one byte, and back
+pub put_back : SetLaws → BitLaws → (low : Form) (v : ℕ) → IsNormal 256 low → Has 256 low v → Has 65536 (pair_set low (single 0)) v
 put_back sets bits low v normal h =
     let zero_set = sets.single 256 0 (omega arith) in
-    subst (λ (n : ℕ). Has 65536 (pair_set low (single 0)) n) (word_alone v) (bits.pair v 0 low (single 0) normal zero_set.0 h zero_set.1)
+    subst (λ (n : ℕ). Has 65536 (pair_set low (single 0)) n) (as_low v) (bits.pair v 0 low (single 0) normal zero_set.0 h zero_set.1)
 
-low_has : SetLaws → BitLaws → (set : Form) (v : ℕ) → IsNormal 65536 set → v < 256 → Has 65536 set v → Has 256 (low_set set) v
-low_has sets bits set v normal small h = subst (λ (n : ℕ). Has 256 (low_set set) n) (low_itself v small) (bits.low v set normal h)
+pub low_has : BitLaws → (set : Form) (v : ℕ) → IsNormal 65536 set → v < 256 → Has 65536 set v → Has 256 (low_set set) v
+low_has bits set v normal small h = subst (λ (n : ℕ). Has 256 (low_set set) n) (byte_alone v small) (bits.low v set normal h)
 
 widened_normal : SetLaws → BitLaws → (held new : Form) (marks : List ℕ) → IsNormal 65536 held → IsNormal 65536 new → IsNormal 256 (widened_low held new marks)
 widened_normal sets bits held new marks n k =
@@ -107,7 +129,7 @@ byte_held sets bits held new marks v n k small h = elim (cases_Bool (is_within 6
   | inl within ↦ rw within h
   | inr beyond ↦ rw beyond (put_back sets bits (widened_low held.set new.set marks) v (widened_normal sets bits held.set new.set marks n k)
       (sets.widen_held 256 (low_set held.set) (low_set new.set) (filter (λ mark. nat_lt mark 256) marks) (bits.low_normal held.set n) (bits.low_normal new.set k) (all_low marks)
-      v (low_has sets bits held.set v n small h)))
+      v (low_has bits held.set v n small h)))
 ]
 
 pub byte_new : SetLaws → BitLaws → (held new : Word) (marks : List ℕ) (v : ℕ) → IsNormal 65536 held.set → IsNormal 65536 new.set → v < 256 → Has 65536 new.set v
@@ -116,7 +138,7 @@ byte_new sets bits held new marks v n k small h = elim (cases_Bool (is_within 65
   | inl within ↦ rw within ((sets.tested 65536 new.set held.set).0 within v h)
   | inr beyond ↦ rw beyond (put_back sets bits (widened_low held.set new.set marks) v (widened_normal sets bits held.set new.set marks n k)
       (sets.widen_new 256 (low_set held.set) (low_set new.set) (filter (λ mark. nat_lt mark 256) marks) (bits.low_normal held.set n) (bits.low_normal new.set k) (all_low marks)
-      v (low_has sets bits new.set v k small h)))
+      v (low_has bits new.set v k small h)))
 ]
 
 pub byte_covers : SetLaws → BitLaws → (first : Option Suspended) (size : ℕ) (marks : List ℕ) → size ≡ 1

@@ -1,5 +1,5 @@
 -- What stands in a RAM behind a write.
-use Rattle.std.proofs.Common.{◌≡◌, ℕ, ◌+◌, ◌-◌, ◌%◌, ◌<◌, ◌≤◌, Bool, true, false, Option, List, [], ◌∷◌, refl, sym, ◌∙◌, subst, inl, inr, arith, nat_lt}
+use Rattle.std.proofs.Common.{◌≡◌, ℕ, ◌+◌, ◌-◌, ◌%◌, ◌<◌, ◌≤◌, true, false, Option, List, [], ◌∷◌, refl, sym, ◌∙◌, subst, inl, inr, arith, nat_lt}
 use Rattle.std.specs.Prelude.{◌⊎◌, ◌==◌, ◌&&◌, ◌||◌, nat_le, not}
 use Rattle.std.specs.List.{filter}
 use Rattle.std.proofs.lemmas.Bool.{cases_Bool, cases_lt, and_from, or_parts, eq-eqb, le-leb, lt-ltb, ltb-true, ltb-false, not-true}
@@ -8,9 +8,11 @@ use Rattle.entry_value.specs.declared.word.Word.{Word}
 use Rattle.entry_value.specs.declared.cells.Cell.{Cell}
 use Rattle.entry_value.specs.Words.{Suspended, HoldsOfWord}
 use Rattle.entry_value.specs.Cells.{CellMap, StandsUnder, IsCell, AreCells, number_at, written, has_byte, meets, is_nothing, insert, with_cell, write_one}
-use Rattle.entry_value.proofs.Bytes.{IsSize, within_turn, same_number, written-beyond, written_bytes, written_itself}
-use Rattle.entry_value.specs.CellLists.{Each, each_from, each_in, each_both, each_then, each_insert, each_filter, each_cell}
+use Rattle.entry_value.proofs.Bytes.{IsSize, same_number, written-beyond, written_bytes, written_itself}
+use Rattle.entry_value.specs.CellLists.{Each, StandsAt, each_from, each_in, each_both, each_then, each_filter, each_cell, each_with_cell, filtered_form, some_size}
 use Rattle.value_set.specs.Laws.{SetLaws}
+use Rattle.plain_lemmas.specs.Cases.{clash}
+use Rattle.plain_lemmas.specs.Small.{word_alone}
 
 -- ---- accesses that have no byte of a cell
 
@@ -24,18 +26,11 @@ stays ram at access v place size is first second = same_number (written ram at a
     (written-beyond ram at access v place first.0 (λ two. (second two).0))
     (λ wide. written-beyond ram at access v ((place + 1) % 65536) (first.1 wide) (λ two. (second two).1 wide))
 
-some_byte : (size : ℕ) → IsSize size → 0 < size
-some_byte size (inl one) = omega arith
-some_byte size (inr two) = omega arith
-
 pub whole_turn : (place size hi : ℕ) → size ≡ 2 → place + size ≤ hi + 1 → hi < 65536 → (place + 1) % 65536 ≡ place + 1
-whole_turn place size hi two high below = within_turn (place + 1) (omega arith)
+whole_turn place size hi two high below = word_alone (place + 1) (omega arith)
 
 its_byte : (cell : Cell) (at : ℕ) → cell.place ≤ at → at < cell.place + cell.size → has_byte cell at ≡ true
 its_byte cell at from to = and_from (nat_le cell.place at) (nat_lt at (cell.place + cell.size)) (le-leb cell.place at from) (lt-ltb at (cell.place + cell.size) to)
-
-true_or_false : (x : Bool) → x ≡ true → x ≡ false → ⊥
-true_or_false x h k = absurd (cc)
 
 first_byte : (place at size : ℕ) → 0 < size → place ≡ at → (place ≤ at) × (at < place + size)
 first_byte place at size some e = (omega arith, omega arith)
@@ -45,9 +40,9 @@ second_byte place at size two e = (omega arith, omega arith)
 
 unmet : (lo hi at : ℕ) (cell : Cell) → hi < 65536 → IsCell lo hi cell → has_byte cell at ≡ false → IsApartFrom cell.place cell.size at
 unmet lo hi at cell below is apart = (
-  (λ e. let b = first_byte cell.place at cell.size (some_byte cell.size is.size) e in true_or_false (has_byte cell at) (its_byte cell at b.0 b.1) apart),
+  (λ e. let b = first_byte cell.place at cell.size (some_size cell.size is.size) e in clash (has_byte cell at) (its_byte cell at b.0 b.1) apart),
   (λ two e. let b = second_byte cell.place at cell.size two (sym (whole_turn cell.place cell.size hi two is.high below) ∙ e) in
-      true_or_false (has_byte cell at) (its_byte cell at b.0 b.1) apart),
+      clash (has_byte cell at) (its_byte cell at b.0 b.1) apart),
 )
 
 -- an access that doesn't meet a cell
@@ -59,21 +54,12 @@ unmet_from at size cell h =
     let parts = or_parts (has_byte cell at) ((size == 2) && has_byte cell ((at + 1) % 65536)) (not-true (meets at size cell) h) in (
       parts.0,
       λ two. elim (cases_Bool (has_byte cell ((at + 1) % 65536))) [
-        | inl has ↦ absurd (true_or_false ((size == 2) && has_byte cell ((at + 1) % 65536)) (and_from (size == 2) (has_byte cell ((at + 1) % 65536)) (eq-eqb size 2 two) has) parts.1)
+        | inl has ↦ absurd (clash ((size == 2) && has_byte cell ((at + 1) % 65536)) (and_from (size == 2) (has_byte cell ((at + 1) % 65536)) (eq-eqb size 2 two) has) parts.1)
         | inr apart ↦ apart
       ],
     )
 
 -- ---- a write at one address
-
-with_each : (P : Cell → Type 0) (lo hi : ℕ) (cell : Cell) (cells : List Cell) → P cell → Each P cells → Each P (with_cell lo hi cell cells)
-with_each P lo hi cell cells h k = elim (cases_Bool (nat_lt cell.place lo || nat_lt hi (cell.place + cell.size - 1) || is_nothing cell.size cell.word)) [
-  | inl left_out ↦ rw left_out k
-  | inr put ↦ rw put (each_insert P cell cells h k)
-]
-
-abbrev pub StandsAt : Option Suspended → (ℕ → ℕ) → Cell → Type 0
-StandsAt first ram cell = HoldsOfWord first cell.word (number_at ram cell.place cell.size)
 
 still_stands : (first : Option Suspended) (ram : ℕ → ℕ) (lo hi at size v : ℕ) → hi < 65536 → (cell : Cell)
     → (StandsAt first ram cell × IsCell lo hi cell) × (not (meets at size cell) ≡ true) → StandsAt first (written ram at size v) cell
@@ -97,21 +83,10 @@ one_covers sets first ram from at size v map word below are low is normal byte s
     (each_filter (λ c. StandsAt first ram c × IsCell map.lo map.hi c) (λ c. not (meets at size c)) map.cells old) in
     let own : StandsAt first (written ram at size v) cell = subst (λ (n : ℕ). HoldsOfWord first word n) (sym (written_itself ram at size v low is (λ one. byte one v holds.0))) holds in (
       written_bytes ram at size v stands.0 (sets.below 65536 v word.set normal holds.0),
-      each_in (StandsAt first (written ram at size v)) (with_cell map.lo map.hi cell rest) (with_each (StandsAt first (written ram at size v)) map.lo map.hi cell rest own kept_ones),
+      each_in (StandsAt first (written ram at size v)) (with_cell map.lo map.hi cell rest) (each_with_cell (StandsAt first (written ram at size v)) map.lo map.hi cell rest own kept_ones),
     )
 
 -- ---- its form
-
-pub lowered : (lo hi from low : ℕ) (cells : List Cell) → low ≤ from → AreCells lo hi from cells → AreCells lo hi low cells
-lowered lo hi from low [] h are = tt
-lowered lo hi from low (cell ∷ cells) h are = (are.0, omega (arith, are.1), are.2)
-
-filtered_form : (lo hi from : ℕ) (test : Cell → Bool) (cells : List Cell) → AreCells lo hi from cells → AreCells lo hi from (filter test cells)
-filtered_form lo hi from test [] h = tt
-filtered_form lo hi from test (cell ∷ cells) h = elim (cases_Bool (test cell)) [
-  | inl passes ↦ rw passes (h.0, h.1, filtered_form lo hi (cell.place + cell.size) test cells h.2)
-  | inr fails ↦ rw fails (lowered lo hi (cell.place + cell.size) from (filter test cells) (omega (arith, h.1)) (filtered_form lo hi (cell.place + cell.size) test cells h.2))
-]
 
 abbrev AreApart : Cell → Cell → Type 0
 AreApart cell other = (other.place + other.size ≤ cell.place) ⊎ (cell.place + cell.size ≤ other.place)
@@ -132,13 +107,13 @@ inserted_form lo hi from cell (c ∷ cells) is h are apart = elim (cases_Bool (n
   | inl before ↦ rw before (
     is,
     h,
-    (are.0, behind_it cell.place cell.size c.place c.size (some_byte c.size are.0.size) (ltb-true cell.place c.place before) apart.0, are.2),
+    (are.0, behind_it cell.place cell.size c.place c.size (some_size c.size are.0.size) (ltb-true cell.place c.place before) apart.0, are.2),
   )
   | inr behind ↦ rw behind (
     are.0,
     are.1,
     inserted_form lo hi (c.place + c.size) cell cells is
-        (before_it cell.place cell.size c.place c.size (some_byte cell.size is.size) (ltb-false cell.place c.place behind) apart.0) are.2 apart.1,
+        (before_it cell.place cell.size c.place c.size (some_size cell.size is.size) (ltb-false cell.place c.place behind) apart.0) are.2 apart.1,
   )
 ]
 
@@ -159,10 +134,10 @@ cells_apart : (at size hi : ℕ) (word : Word) (other : Cell) → hi < 65536 →
     → AreApart (record { place = at; size = size; word = word }) other
 cells_apart at size hi word other below is high its h =
     let apart = unmet_from at size other h in
-    apart_numbers at size other.place other.size is (some_byte other.size its)
-    (λ from to. true_or_false (has_byte other at) (its_byte other at from to) apart.0)
+    apart_numbers at size other.place other.size is (some_size other.size its)
+    (λ from to. clash (has_byte other at) (its_byte other at from to) apart.0)
     (λ two from to. let turn = whole_turn at size hi two high below in
-    true_or_false (has_byte other (at + 1)) (its_byte other (at + 1) from to) (subst (λ (n : ℕ). has_byte other n ≡ false) turn (apart.1 two)))
+    clash (has_byte other (at + 1)) (its_byte other (at + 1) from to) (subst (λ (n : ℕ). has_byte other n ≡ false) turn (apart.1 two)))
 
 high_from : (place size hi : ℕ) → place + size - 1 ≤ hi → place + size ≤ hi + 1
 high_from place size hi h = omega arith

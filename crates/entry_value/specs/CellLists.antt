@@ -1,12 +1,13 @@
--- Facts of each cell of a list: definitions and lemmas, also for the proofs of crates above.
-use Rattle.std.proofs.Common.{◌≡◌, ℕ, ◌+◌, ◌-◌, Bool, true, Option, None, Some, List, [], ◌∷◌, map, refl, subst, inl, inr, arith, nat_lt}
+-- Facts of each cell of a list, and of lists in ascending order: definitions and lemmas, also for the proofs of crates above.
+use Rattle.std.proofs.Common.{◌≡◌, ℕ, ◌+◌, ◌-◌, ◌<◌, ◌≤◌, Bool, true, Option, None, Some, List, [], ◌∷◌, map, refl, subst, inl, inr, arith, nat_lt}
 use Prim.Native.Nat.{zero, suc}
 use Rattle.std.specs.Prelude.{◌==◌, ◌&&◌, ◌||◌, ◌⊎◌, not}
 use Rattle.std.specs.List.{Contains, filter}
 use Rattle.std.proofs.lemmas.Bool.{cases_Bool, and_parts, eqb-true}
 use Rattle.entry_value.specs.declared.word.Word.{Word}
 use Rattle.entry_value.specs.declared.cells.Cell.{Cell}
-use Rattle.entry_value.specs.Cells.{CellMap, IsCell, AreCells, cell_at, insert, is_nothing, meets, with_cell, with_some, write_one, kept}
+use Rattle.entry_value.specs.Words.{Suspended, HoldsOfWord}
+use Rattle.entry_value.specs.Cells.{CellMap, IsCell, AreCells, cell_at, insert, is_nothing, meets, number_at, with_cell, with_some, write_one, kept}
 
 abbrev pub Each : (Cell → Type 0) → List Cell → Type 0
 Each P [] = Unit {0}
@@ -113,3 +114,47 @@ write_from at size map word cell =
     let made : Cell = record { place = at; size = size; word = word } in
     let P = WrittenOr at size word map.cells in
     each_in P (write_one map at size word).cells (each_written P map made (inl refl) (each_from P map.cells (λ c held. inr held))) cell
+
+-- ---- cells in ascending order
+
+pub some_size : (size : ℕ) → (size ≡ 1) ⊎ (size ≡ 2) → 0 < size
+some_size size (inl one) = omega arith
+some_size size (inr two) = omega arith
+
+pub lowered : (lo hi from low : ℕ) (cells : List Cell) → low ≤ from → AreCells lo hi from cells → AreCells lo hi low cells
+lowered lo hi from low [] h are = tt
+lowered lo hi from low (cell ∷ cells) h are = (are.0, omega (arith, are.1), are.2)
+
+pub filtered_form : (lo hi from : ℕ) (test : Cell → Bool) (cells : List Cell) → AreCells lo hi from cells → AreCells lo hi from (filter test cells)
+filtered_form lo hi from test [] h = tt
+filtered_form lo hi from test (cell ∷ cells) h = elim (cases_Bool (test cell)) [
+  | inl passes ↦ rw passes (h.0, h.1, filtered_form lo hi (cell.place + cell.size) test cells h.2)
+  | inr fails ↦ rw fails (lowered lo hi (cell.place + cell.size) from (filter test cells) (omega (arith, h.1)) (filtered_form lo hi (cell.place + cell.size) test cells h.2))
+]
+
+-- a cell of a form, of a place and a size
+abbrev pub IsAlike : (lo hi : ℕ) → Cell → Cell → Type 0
+IsAlike lo hi cell new = IsCell lo hi new × (new.place ≡ cell.place) × (new.size ≡ cell.size)
+
+same_start : (from place other : ℕ) → other ≡ place → from ≤ place → from ≤ other
+same_start from place other e h = omega arith
+
+alike_form : (lo hi from : ℕ) (cell : Cell) (found : Option Cell) (rest : List Cell) → from ≤ cell.place → OfSome (IsAlike lo hi cell) found
+    → AreCells lo hi (cell.place + cell.size) rest → AreCells lo hi from (with_some found rest)
+alike_form lo hi from cell None rest h alike are = lowered lo hi (cell.place + cell.size) from rest (omega arith) are
+alike_form lo hi from cell (Some new) rest h alike are = (
+  alike.0,
+  same_start from cell.place new.place alike.1 h,
+  lowered lo hi (cell.place + cell.size) (new.place + new.size) rest (omega (arith, alike.1, alike.2)) are,
+)
+
+pub kept_form : (lo hi from : ℕ) (f : Cell → Option Cell) (cells : List Cell)
+    → ((cell : Cell) → IsCell lo hi cell → OfSome (IsAlike lo hi cell) (f cell)) → AreCells lo hi from cells
+    → AreCells lo hi from (kept f cells)
+kept_form lo hi from f [] step are = tt
+kept_form lo hi from f (cell ∷ cells) step are = alike_form lo hi from cell (f cell) (kept f cells) are.1 (step cell are.0) (kept_form lo hi (cell.place + cell.size) f cells step are.2)
+
+-- ---- what stands in a RAM
+
+abbrev pub StandsAt : Option Suspended → (ℕ → ℕ) → Cell → Type 0
+StandsAt first ram cell = HoldsOfWord first cell.word (number_at ram cell.place cell.size)

@@ -13,7 +13,8 @@ use Rattle.entry_value.specs.Cells as cells
 use Rattle.entry_value.specs.Cells.{AreCells, CellMap, IsCell, StandsUnder, are_within, join_cells, kept, number_at, unknown, widen_cells, write_any, write_one, written}
 use Rattle.entry_value.specs.Words.{Suspended, IsFromEntry, HoldsOfWord, HoldsOfByte, common_entry, is_entry_within, entry_and, entry_or, word_join, word_widen, word_within, word_and, word_or, byte_join, byte_widen, byte_within, byte_and, byte_or}
 
--- relations of numbers to places of the suspended state
+-- Relations of numbers to places of the suspended state: what came from a place came from it, behind a mask, by the masked
+-- relation; a relation says what another one does that it is within, and what either says their common one says.
 pub record EntryLaws : Type 0 where
   pub holds : (first : Option Suspended) (v : ℕ) (a b : Option Entry) → is_entry_within a b ≡ true → IsFromEntry first a v → IsFromEntry first b v
   pub and : (first : Option Suspended) (entry : Option Entry) (v m : ℕ) → IsFromEntry first entry v
@@ -30,6 +31,8 @@ pub record EntryLaws : Type 0 where
   pub join_second : (a b : Option Entry) → is_entry_within b (common_entry a b) ≡ true
   pub whole : (a : Option Entry) → is_entry_within a None ≡ true
 
+-- What holds of a number under a suspended state holds of it behind joins, widenings and greater sets, and of the number behind
+-- a mask where it has passed that mask. Sets stay in normal form, and `within` is an order.
 pub record WordLaws : Type 0 where
   pub holds : (first : Option Suspended) (v : ℕ) (a b : Word) → word_within a b ≡ true → HoldsOfWord first a v → HoldsOfWord first b v
   pub join_normal : (a b : Word) → IsNormal 65536 a.set → IsNormal 65536 b.set → IsNormal 65536 (word_join a b).set
@@ -63,6 +66,7 @@ pub record WordLaws : Type 0 where
       → word_within new (word_widen held new marks) ≡ true
   pub whole : (a : Word) → IsNormal 65536 a.set → word_within a (unknown 2) ≡ true
 
+-- the same of bytes, which are words with the high byte 0
 pub record ByteLaws : Type 0 where
   pub holds : (first : Option Suspended) (v : ℕ) (a b : Byte) → byte_within a b ≡ true → HoldsOfByte first a v → HoldsOfByte first b v
   pub join_normal : (a b : Byte) → IsNormal 256 a.set → IsNormal 256 b.set → IsNormal 256 (byte_join a b).set

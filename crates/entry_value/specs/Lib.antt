@@ -1,5 +1,7 @@
 pub mod Cells
 pub mod CellLists
+pub mod CellWalks
 pub mod Words
 pub mod Laws
 pub mod RelationFacts
+pub mod Representing

@@ -4,24 +4,21 @@
 //! when the interrupt came. `HoldsOfWord` in `specs/Words.antt` says when one holds of a number.
 //!
 //! [`Cells`] is what any representation of cells has to do, over the one list of them in `specs/Cells.antt`.
-//! The laws, as [`reads_hold`] and [`words_hold`], are functions that do nothing, for proofs over the definitions alone;
-//! [`value_laws`] and [`cell_laws`] give them all, each as one record. They
-//! say of all words, bytes and relations what these say behind an operation, and how they are ordered. Of every list of
-//! cells they say that what is read holds of what stands there, that writes, joins and widenings cover each RAM behind them
-//! and keep the cells' form, and that `within` is an order.
+//! The laws are functions that do nothing, for proofs over the definitions alone: [`value_laws`] and [`cell_laws`] give them
+//! all, each as one record (`specs/Laws.antt`). They say of all words, bytes and relations what these say behind an operation,
+//! and how they are ordered. Of every list of cells they say that what is read holds of what stands there, that writes, joins
+//! and widenings cover each RAM behind them and keep the cells' form, and that `within` is an order. [`reads_hold`] and
+//! [`bytes_stay_bytes`] give the part that readers and writers of cells need.
 #![tactic(auto)]
 
 mod byte;
 mod cells;
 mod laws;
+mod parts;
 mod word;
 
 pub use byte::Byte;
 pub use cells::{Cell, Cells};
-pub use laws::{
-    bytes_are_ordered, bytes_are_words, bytes_hold, bytes_stay_bytes, cell_laws, cells_are_ordered,
-    cells_speak_of_ram, inclusion_covers, reads_hold, reads_keep_form, relations_hold,
-    unions_cover, unions_keep_form, value_laws, words_are_ordered, words_hold,
-    writes_are_at_one_or_several, writes_cover, writes_keep_form,
-};
+pub use laws::{bytes_stay_bytes, cell_laws, reads_hold, value_laws};
+pub use parts::{is_nothing, unknown, word_of_byte, word_of_bytes};
 pub use word::{Entry, Word, common};

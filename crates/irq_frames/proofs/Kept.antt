@@ -1,9 +1,10 @@
 -- Cells without relations: what stands under them, and their form.
-use Rattle.std.proofs.Common.{◌≡◌, ℕ, ◌+◌, ◌≤◌, Option, Some, None, List, [], ◌∷◌, sym, ◌∙◌, subst, inl, inr, arith, Contains}
+use Rattle.std.proofs.Common.{◌≡◌, ℕ, Option, Some, None, List, refl, sym, ◌∙◌, subst, inl, inr, Contains}
 use Rattle.std.proofs.lemmas.Bool.{cases_Bool, cond-true, cond-false}
 use Rattle.std.proofs.lemmas.Option.{same_Some}
 use Rattle.entry_value.specs.declared.cells.Cell.{Cell}
 use Rattle.entry_value.specs.Cells.{AreCells, IsCell, StandsUnder, is_nothing, kept, number_at}
+use Rattle.entry_value.specs.CellLists.{kept_form}
 use Rattle.entry_value.specs.Laws.{CellLaws}
 use Rattle.entry_value.specs.Words.{Suspended, HoldsOfWord}
 use Rattle.irq_frames.specs.Unrelated.{plain_cell, unrelated}
@@ -24,25 +25,12 @@ stands_without laws first other ram cells stands = (
       subst (λ cell. HoldsOfWord other cell.word (number_at ram cell.place cell.size)) is ((stands.1 found.0 found.1).0, tt),
 )
 
-are_from : (lo hi from lower : ℕ) (cells : List Cell) → lower ≤ from → AreCells lo hi from cells → AreCells lo hi lower cells
-are_from lo hi from lower [] le are = tt
-are_from lo hi from lower (cell ∷ cells) le are = (are.0, omega (arith, le, are.1), are.2)
-
 pub are_kept : (lo hi from : ℕ) (cells : List Cell) → AreCells lo hi from cells → AreCells lo hi from (kept unrelated cells)
-are_kept lo hi from [] are = tt
-are_kept lo hi from (cell ∷ cells) are =
-    let rest = are_kept lo hi (cell.place + cell.size) cells are.2 in
-    let word = (plain_cell cell).word in
-    elim (cases_Bool (is_nothing cell.size word)) [
-      | inl nothing ↦
-          let none : unrelated cell ≡ None = cond-true (is_nothing cell.size word) None (Some (plain_cell cell)) nothing in
-          rw none (are_from lo hi (cell.place + cell.size) from (kept unrelated cells) (omega (arith, are.1)) rest)
-      | inr tells ↦
-          let some : unrelated cell ≡ Some (plain_cell cell) = cond-false (is_nothing cell.size word) None (Some (plain_cell cell)) tells in
-          let is = are.0 in
-          let one : IsCell lo hi (plain_cell cell) = assumption (is, tells) in
-          rw some (one, are.1, rest)
-    ]
+are_kept lo hi from cells = kept_form lo hi from unrelated cells
+    (λ cell is. elim (cases_Bool (is_nothing cell.size (plain_cell cell).word)) [
+      | inl nothing ↦ rw nothing tt
+      | inr tells ↦ rw tells (let one : IsCell lo hi (plain_cell cell) = assumption (is, tells) in (one, refl, refl))
+    ])
 
 pub each_plain : CellLaws → (cells : List Cell) (cell : Cell) → Contains (kept unrelated cells) cell
     → (held : Cell) × Contains cells held × (plain_cell held ≡ cell)

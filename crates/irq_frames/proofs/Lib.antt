@@ -1,5 +1,6 @@
-pub mod RangeLemmas
-pub mod Walking
-pub mod Resumption
-pub mod CellsLeft
 pub mod Kept
+pub mod Lists
+pub mod RangeLemmas
+pub mod Resumption
+pub mod Rewritten
+pub mod Walking

@@ -1,49 +1,28 @@
 -- What holds of what goes on behind a handler.
-use Rattle.std.proofs.Common.{◌≡◌, ℕ, max, ◌+◌, ◌-◌, ◌*◌, ◌/◌, ◌%◌, ◌<◌, ◌≤◌, Bool, true, Option, None, Some, List, [], ◌∷◌, map, refl, sym, ◌∙◌, ap, subst, inl, inr, arith, bit_and, bit_or}
+use Rattle.std.proofs.Common.{◌≡◌, ℕ, ◌+◌, ◌-◌, ◌*◌, ◌/◌, ◌%◌, ◌<◌, ◌≤◌, true, Option, None, Some, List, [], ◌∷◌, map, refl, sym, ◌∙◌, ap, subst, inl, inr, arith, bit_and, bit_or}
 use Rattle.std.specs.Prelude.{◌⊎◌, ◌==◌, not, Contains}
-use Rattle.std.specs.Int.{bit_at}
 use Rattle.std.specs.List.{filter}
-use Rattle.std.proofs.lemmas.Bool.{cases_Bool, cond-true, and_parts, eqb-true, not-true}
-use Rattle.std.proofs.lemmas.Nat.{and_mask}
-use Rattle.std.proofs.lemmas.Nat.Bits.{same_from_bits, bit_at_or, bit_at-zero}
-use Rattle.value_set.specs.Form.{Has, IsNormal}
+use Rattle.std.proofs.lemmas.Bool.{cases_Bool, cond_both, and_parts, eqb-false, eqb-true, not-true}
+use Rattle.value_set.specs.Form.{IsNormal}
 use Rattle.entry_value.specs.declared.cells.Cell.{Cell}
 use Rattle.entry_value.specs.declared.word.Entry.{Entry}
 use Rattle.entry_value.specs.declared.word.Word.{Word}
 use Rattle.entry_value.specs.Words.{Suspended, IsFromEntry, HoldsOfWord, word_and}
-use Rattle.entry_value.specs.Cells.{CellMap, IsCell, AreCells, StandsUnder, number_at, written, write_one}
+use Rattle.entry_value.specs.Cells.{CellMap, IsCell, StandsUnder, number_at, written, write_one}
 use Rattle.irq_frames.specs.Ranges.{has_address}
-use Rattle.irq_frames.specs.Resuming.{is_unmasked, masked_by, resumed_by, resumed_sized, resumed_word, resumed_cell, is_all_touched, is_untouched, untouched_cells, touched_cells, with_written, resumed_cells, HasMasks, IsBehind, Tells, AreNormal, EachTells, IsCellMap, CanResume, AgreeOutside, IsFromEither}
+use Rattle.irq_frames.specs.Resuming.{is_unmasked, masked_by, resumed_by, resumed_sized, resumed_word, going_on, is_all_touched, is_untouched, untouched_cells, touched_cells, with_written, cells_behind, FitsCell, EachFits, EachHolds, HasMasks, IsBehind, Tells, AreNormal, EachTells, IsCellMap, CanResume, AgreeOutside, IsFromEither}
+use Rattle.irq_frames.specs.MaskFacts.{unmasked_is}
 use Rattle.entry_value.specs.Laws.{CellLaws, WordLaws}
-use Rattle.entry_value.specs.CellLists.{Each, each_both, each_cell, each_filter, each_from, each_in, each_map, each_then, each_written}
-use Rattle.irq_frames.proofs.Walking.{some_size}
+use Rattle.entry_value.specs.CellLists.{Each, StandsAt, cell_of, each_both, each_cell, each_filter, each_from, each_in, each_map, each_then, each_written, filtered_form, some_size}
+use Rattle.plain_lemmas.specs.Small.{byte_alone, word_alone}
 
 -- WORDS
-
-greatest : (x : ℕ) → max x 0 ≡ x
-greatest x = omega arith
-
-nothing_set : (x : ℕ) → bit_or x 0 ≡ x
-nothing_set x = same_from_bits (bit_or x 0) x (λ i.
-    let both : bit_at (bit_or x 0) i ≡ max (bit_at x i) (bit_at 0 i) = bit_at_or x 0 i in
-    let none : bit_at 0 i ≡ 0 = bit_at-zero i in
-    both ∙ ap (max (bit_at x i)) none ∙ greatest (bit_at x i))
-
-within_word : (word : ℕ) → word < 65536 → word % 65536 ≡ word
-within_word word below = omega arith
-
--- an unmasked relation is the number itself
-unmasked_is : (entry : Entry) (word : ℕ) → word < 65536 → is_unmasked entry ≡ true → bit_or (bit_and word entry.and) entry.or ≡ word
-unmasked_is entry word below unmasked =
-    let parts = and_parts (entry.and == 65535) (entry.or == 0) unmasked in
-    let all : bit_and word entry.and ≡ word = ap (bit_and word) (eqb-true entry.and 65535 parts.0) ∙ and_mask word 16 ∙ within_word word below in
-    ap (bit_or (bit_and word entry.and)) (eqb-true entry.or 0 parts.1) ∙ nothing_set (bit_and word entry.and) ∙ all
 
 masked_holds : (words : WordLaws) (first : Option Suspended) (entry : Entry) (held : Word) (word : ℕ) → HasMasks (Some entry)
     → IsNormal 65536 held.set → word < 65536
     → HoldsOfWord first held word → HoldsOfWord first (masked_by entry held) (bit_or (bit_and word entry.and) entry.or)
-masked_holds words first entry held word masks normal below holds = elim (cases_Bool (is_unmasked entry)) [
-  | inl whole ↦ rw whole (subst (λ (v : ℕ). HoldsOfWord first held v) (sym (unmasked_is entry word below whole)) holds)
+masked_holds words first entry held word masks normal below holds = elim (cases_Bool (is_unmasked 65535 entry)) [
+  | inl whole ↦ rw whole (subst (λ (v : ℕ). HoldsOfWord first held v) (sym (unmasked_is 16 entry word whole ∙ word_alone word below)) holds)
   | inr some ↦ rw some (words.or first entry.or (bit_and word entry.and) (word_and entry.and held) masks.1 (words.and_normal entry.and held masks.0 normal)
       (words.and first entry.and word held masks.0 normal holds))
 ]
@@ -62,7 +41,7 @@ pub word_holds : (words : WordLaws) (places : ℕ → Word) (f : Suspended) (fir
 word_holds words places f first exit v normal masks tells holds = by_holds words places f first exit exit.entry v refl normal masks tells holds
 
 masked_normal : (words : WordLaws) (entry : Entry) (held : Word) → HasMasks (Some entry) → IsNormal 65536 held.set → IsNormal 65536 (masked_by entry held).set
-masked_normal words entry held masks normal = elim (cases_Bool (is_unmasked entry)) [
+masked_normal words entry held masks normal = elim (cases_Bool (is_unmasked 65535 entry)) [
   | inl whole ↦ rw whole normal
   | inr some ↦ rw some (words.or_normal entry.or (word_and entry.and held) masks.1 (words.and_normal entry.and held masks.0 normal))
 ]
@@ -85,7 +64,7 @@ pub word_none : (places : ℕ → Word) (exit : Word) → exit.entry ≡ None �
 word_none places exit is = by_none places exit exit.entry is is
 
 masked_entry : (entry : Entry) (held : Word) → IsBehind entry held.entry (masked_by entry held).entry
-masked_entry entry held = elim (cases_Bool (is_unmasked entry)) [
+masked_entry entry held = elim (cases_Bool (is_unmasked 65535 entry)) [
   | inl whole ↦ inl (rw whole refl)
   | inr some ↦ inr (rw some refl)
 ]
@@ -100,25 +79,12 @@ all_each : (P : Cell → Type 0) (cells : List Cell) (held : CellMap) → Each P
 all_each P [] held h k = k
 all_each P (cell ∷ cells) held h k = all_each P cells (write_one held cell.place cell.size cell.word) h.1 (each_written P held cell h.0 k)
 
--- a cell behind a write is the one that was written, or was there
-pub each_behind : (P : Cell → Type 0) (held : CellMap) (cell : Cell) → P cell → ((c : Cell) → Contains held.cells c → P c)
-    → (c : Cell) → Contains (write_one held cell.place cell.size cell.word).cells c → P c
-each_behind P held cell h k =
-    each_in P (write_one held cell.place cell.size cell.word).cells (each_written P held cell h (each_from P held.cells k))
-
 record IsWritten (cell : Cell) : Type 0 where
   size : (cell.size ≡ 1) ⊎ (cell.size ≡ 2)
   high : cell.place < 65536
-  normal : IsNormal 65536 cell.word.set
-  byte : cell.size ≡ 1 → (v : ℕ) → Has 65536 cell.word.set v → v < 256
-
-abbrev StandsAt : Option Suspended → (ℕ → ℕ) → Cell → Type 0
-StandsAt first ram cell = HoldsOfWord first cell.word (number_at ram cell.place cell.size)
+  fits : FitsCell cell.size cell.word
 
 -- a RAM stays behind a write of what stands in it
-low_alone : (x : ℕ) → x < 256 → x % 256 ≡ x
-low_alone x h = omega arith
-
 low_of : (x y : ℕ) → x < 256 → (x + 256 * y) % 256 ≡ x
 low_of x y h = omega arith
 
@@ -128,7 +94,7 @@ high_of x y h = omega arith
 rewritten_byte : (ram : ℕ → ℕ) (at address : ℕ) → ((b : ℕ) → ram b < 256) → written ram at 1 (ram at) address ≡ ram address
 unfolding written
 rewritten_byte ram at address bytes = elim (cases_Bool (address == at)) [
-  | inl same ↦ rw same (low_alone (ram at) (bytes at) ∙ ap ram (sym (eqb-true address at same)))
+  | inl same ↦ rw same (byte_alone (ram at) (bytes at) ∙ ap ram (sym (eqb-true address at same)))
   | inr other ↦ rw other refl
 ]
 
@@ -151,7 +117,7 @@ one_formed : (laws : CellLaws) (held : CellMap) (cell : Cell) → IsCellMap held
 unfolding write_one
 one_formed laws held cell form is = record {
   high = form.high;
-  are = laws.write_form held.lo cell.place cell.size held cell.word form.high (omega arith) form.are is.size is.normal is.byte;
+  are = laws.write_form held.lo cell.place cell.size held cell.word form.high (omega arith) form.are is.size is.fits.normal is.fits.byte;
 }
 
 one_stands : (laws : CellLaws) (first : Option Suspended) (ram : ℕ → ℕ) (held : CellMap) (cell : Cell) → IsCellMap held → IsWritten cell
@@ -162,9 +128,9 @@ one_stands laws first ram held cell form is stands under =
     let size = cell.size in
     let v = number_at ram at size in
     laws.agree first (written ram at size v) ram held.lo held.hi held.lo (write_one held at size cell.word).cells form.high
-    (laws.write_form held.lo at size held cell.word form.high (omega arith) form.are is.size is.normal is.byte)
+    (laws.write_form held.lo at size held cell.word form.high (omega arith) form.are is.size is.fits.normal is.fits.byte)
     under.0 (λ b low high. rewritten ram at size b under.0 is.size)
-    (laws.write first ram held.lo at size v held cell.word form.high form.are is.high is.size is.normal is.byte under stands)
+    (laws.write first ram held.lo at size v held cell.word form.high form.are is.high is.size is.fits.normal is.fits.byte under stands)
 
 all_formed : (laws : CellLaws) (cells : List Cell) (held : CellMap) → IsCellMap held → Each IsWritten cells → IsCellMap (with_written cells held)
 all_formed laws [] held form each = form
@@ -183,17 +149,6 @@ same_ends [] held = (refl, refl)
 same_ends (cell ∷ cells) held = same_ends cells (write_one held cell.place cell.size cell.word)
 
 -- WHAT NO HANDLER TOUCHED
-
-lowered : (lo hi from low : ℕ) (cells : List Cell) → low ≤ from → AreCells lo hi from cells → AreCells lo hi low cells
-lowered lo hi from low [] h are = tt
-lowered lo hi from low (cell ∷ cells) h are = (are.0, omega (arith, h, are.1), are.2)
-
-filtered_form : (lo hi from : ℕ) (test : Cell → Bool) (cells : List Cell) → AreCells lo hi from cells → AreCells lo hi from (filter test cells)
-filtered_form lo hi from test [] h = tt
-filtered_form lo hi from test (cell ∷ cells) h = elim (cases_Bool (test cell)) [
-  | inl passes ↦ rw passes (h.0, h.1, filtered_form lo hi (cell.place + cell.size) test cells h.2)
-  | inr fails ↦ rw fails (lowered lo hi (cell.place + cell.size) from (filter test cells) (omega (arith, h.1)) (filtered_form lo hi (cell.place + cell.size) test cells h.2))
-]
 
 untouched_form : (touched : List (ℕ × ℕ)) (at : CellMap) → IsCellMap at → IsCellMap (record at { cells = untouched_cells touched at.cells })
 untouched_form touched at form = record {
@@ -232,84 +187,76 @@ untouched_stand first touched now then_ at form bytes agree under =
     (each_filter (λ cell. StandsAt first then_ cell × IsCell at.lo at.hi cell) test at.cells each) in
     (bytes, each_in (StandsAt first now) (filter test at.cells) kept)
 
--- THE EXIT'S CELLS
+-- CELLS THAT GO ON
 
--- the word of a cell that goes on, by its size
-sized_is_byte : (places : ℕ → Word) (size : ℕ) (exit : Word) → size ≡ 1 → resumed_sized places size exit ≡ record { set = exit.set; entry = None }
-sized_is_byte places size exit one = cond-true (size == 1) (record { set = exit.set; entry = None }) (resumed_word places exit) (ap (λ n. n == 1) one)
+exit_each : (words : Cell → Word) (P : Cell → Type 0) (touched : List (ℕ × ℕ)) (cells : List Cell)
+    → ((cell : Cell) → Contains cells cell → P (going_on words cell))
+    → Each P (map (going_on words) (touched_cells touched cells))
+exit_each words P touched cells each =
+    let test = λ (cell : Cell). is_all_touched touched cell.place cell.size in
+    let Q = λ (cell : Cell). P (going_on words cell) in
+    each_map (λ cell. Q cell × (test cell ≡ true)) P (going_on words) (filter test cells) (λ cell h. h.0) (each_filter Q test cells (each_from Q cells each))
 
-pub byte_of : (places : ℕ → Word) (size : ℕ) (exit : Word) → size ≡ 1 → ((v : ℕ) → Has 65536 exit.set v → v < 256) → (v : ℕ)
-    → Has 65536 (resumed_sized places size exit).set v → v < 256
-byte_of places size exit one below v has = below v (subst (λ (word : Word). Has 65536 word.set v) (sized_is_byte places size exit one) has)
-
-sized_normal : (words : WordLaws) (places : ℕ → Word) (size : ℕ) (exit : Word) → AreNormal places → HasMasks exit.entry → IsNormal 65536 exit.set
-    → IsNormal 65536 (resumed_sized places size exit).set
-sized_normal words places size exit normal masks own = elim (cases_Bool (size == 1)) [
-  | inl one ↦ rw one own
-  | inr two ↦ rw two (word_normal words places exit normal masks own)
-]
-
-sized_holds : (words : WordLaws) (places : ℕ → Word) (f : Suspended) (first : Option Suspended) (size : ℕ) (exit : Word) (v : ℕ) → AreNormal places
-    → HasMasks exit.entry
-    → Tells places f first exit.entry → HoldsOfWord (Some f) exit v → HoldsOfWord first (resumed_sized places size exit) v
-sized_holds words places f first size exit v normal masks tells holds = elim (cases_Bool (size == 1)) [
-  | inl one ↦ rw one (holds.0, tt)
-  | inr two ↦ rw two (word_holds words places f first exit v normal masks tells holds)
-]
-
-resumed_written : (words : WordLaws) (places : ℕ → Word) (exit : CellMap) → CanResume places exit → (cell : Cell) → Contains exit.cells cell
-    → IsWritten (resumed_cell places cell)
-resumed_written words places exit can cell held =
-    let is : IsCell exit.lo exit.hi cell = each_in (IsCell exit.lo exit.hi) exit.cells (each_cell exit.lo exit.hi exit.lo exit.cells can.form.are) cell held in
+exit_written : (words : Cell → Word) (exit : CellMap) → IsCellMap exit → EachFits words exit.cells → (cell : Cell) → Contains exit.cells cell
+    → IsWritten (going_on words cell)
+exit_written words exit form fit cell held =
+    let is = cell_of exit.lo exit.hi exit.lo exit.cells cell form.are held in
     record {
       size = is.size;
-      high = omega (arith, is.high, can.form.high, some_size cell.size is.size);
-      normal = sized_normal words places cell.size cell.word can.normal (can.masks cell held) is.normal;
-      byte = λ one. byte_of places cell.size cell.word one (is.byte one);
+      high = omega (arith, is.high, form.high, some_size cell.size is.size);
+      fits = fit cell held;
     }
 
-exit_each : (places : ℕ → Word) (P : Cell → Type 0) (touched : List (ℕ × ℕ)) (cells : List Cell)
-    → ((cell : Cell) → Contains cells cell → P (resumed_cell places cell))
-    → Each P (map (resumed_cell places) (touched_cells touched cells))
-exit_each places P touched cells each =
-    let test = λ (cell : Cell). is_all_touched touched cell.place cell.size in
-    let Q = λ (cell : Cell). P (resumed_cell places cell) in
-    each_map (λ cell. Q cell × (test cell ≡ true)) P (resumed_cell places) (filter test cells) (λ cell h. h.0) (each_filter Q test cells (each_from Q cells each))
+pub cells_stand : (cells : CellLaws) (words : Cell → Word) (first : Option Suspended) (then_ now : ℕ → ℕ) (at exit : CellMap) (touched : List (ℕ × ℕ))
+    → IsCellMap at → IsCellMap exit → EachFits words exit.cells → EachHolds first words now exit.cells → AgreeOutside touched now then_
+    → ((b : ℕ) → now b < 256) → StandsUnder first at.cells then_ → StandsUnder first (cells_behind words at exit touched).cells now
+unfolding cells_behind
+cells_stand cells words first then_ now at exit touched form exit_form fit hold agree bytes under =
+    all_stand cells first now (map (going_on words) (touched_cells touched exit.cells)) (record at { cells = untouched_cells touched at.cells }) (untouched_form touched at form)
+    (exit_each words (λ cell. IsWritten cell × StandsAt first now cell) touched exit.cells (λ cell held. (exit_written words exit exit_form fit cell held, hold cell held)))
+    (untouched_stand first touched now then_ at form bytes agree under)
 
--- ALL OF THEM
+pub cells_formed : (cells : CellLaws) (words : Cell → Word) (at exit : CellMap) (touched : List (ℕ × ℕ)) → IsCellMap at → IsCellMap exit → EachFits words exit.cells
+    → IsCellMap (cells_behind words at exit touched)
+unfolding cells_behind
+cells_formed cells words at exit touched form exit_form fit =
+    all_formed cells (map (going_on words) (touched_cells touched exit.cells)) (record at { cells = untouched_cells touched at.cells }) (untouched_form touched at form)
+    (exit_each words IsWritten touched exit.cells (exit_written words exit exit_form fit))
 
-pub cells_stand : (words : WordLaws) (cells : CellLaws) (places : ℕ → Word) (f : Suspended) (first : Option Suspended) (then_ now : ℕ → ℕ) (at exit : CellMap) (touched : List (ℕ × ℕ))
-    → IsCellMap at → CanResume places exit → EachTells places f first exit.cells → AgreeOutside touched now then_
-    → StandsUnder first at.cells then_ → StandsUnder (Some f) exit.cells now → StandsUnder first (resumed_cells places at exit touched).cells now
-unfolding resumed_cells
-cells_stand words cells places f first then_ now at exit touched form can tells agree under left =
-    all_stand cells first now (map (resumed_cell places) (touched_cells touched exit.cells)) (record at { cells = untouched_cells touched at.cells }) (untouched_form touched at form)
-    (exit_each places (λ cell. IsWritten cell × StandsAt first now cell) touched exit.cells (λ cell held. (
-      resumed_written words places exit can cell held,
-      sized_holds words places f first cell.size cell.word (number_at now cell.place cell.size) can.normal (can.masks cell held) (tells cell held) (left.1 cell held),
-    )))
-    (untouched_stand first touched now then_ at form left.0 agree under)
+pub ends_stay : (words : Cell → Word) (at exit : CellMap) (touched : List (ℕ × ℕ))
+    → ((cells_behind words at exit touched).lo ≡ at.lo) × ((cells_behind words at exit touched).hi ≡ at.hi)
+unfolding cells_behind
+ends_stay words at exit touched = same_ends (map (going_on words) (touched_cells touched exit.cells)) (record at { cells = untouched_cells touched at.cells })
 
-pub cells_formed : (words : WordLaws) (cells : CellLaws) (places : ℕ → Word) (at exit : CellMap) (touched : List (ℕ × ℕ)) → IsCellMap at → CanResume places exit
-    → IsCellMap (resumed_cells places at exit touched)
-unfolding resumed_cells
-cells_formed words cells places at exit touched form can =
-    all_formed cells (map (resumed_cell places) (touched_cells touched exit.cells)) (record at { cells = untouched_cells touched at.cells }) (untouched_form touched at form)
-    (exit_each places IsWritten touched exit.cells (resumed_written words places exit can))
-
-pub ends_stay : (places : ℕ → Word) (at exit : CellMap) (touched : List (ℕ × ℕ))
-    → ((resumed_cells places at exit touched).lo ≡ at.lo) × ((resumed_cells places at exit touched).hi ≡ at.hi)
-unfolding resumed_cells
-ends_stay places at exit touched = same_ends (map (resumed_cell places) (touched_cells touched exit.cells)) (record at { cells = untouched_cells touched at.cells })
-
-pub cells_from : (places : ℕ → Word) (at exit : CellMap) (touched : List (ℕ × ℕ)) (cell : Cell) → Contains (resumed_cells places at exit touched).cells cell
-    → IsFromEither places at.cells exit.cells cell
-unfolding resumed_cells
-cells_from places at exit touched =
-    let P = IsFromEither places at.cells exit.cells in
+pub cells_from : (words : Cell → Word) (at exit : CellMap) (touched : List (ℕ × ℕ)) (cell : Cell) → Contains (cells_behind words at exit touched).cells cell
+    → IsFromEither words at.cells exit.cells cell
+unfolding cells_behind
+cells_from words at exit touched =
+    let P = IsFromEither words at.cells exit.cells in
     let test = λ (cell : Cell). is_untouched touched cell.place cell.size in
     let first = record at { cells = untouched_cells touched at.cells } in
-    let written_ones = map (resumed_cell places) (touched_cells touched exit.cells) in
+    let written_ones = map (going_on words) (touched_cells touched exit.cells) in
     each_in P (with_written written_ones first).cells (all_each P written_ones first
-    (exit_each places P touched exit.cells (λ one held. inr (one, held, refl)))
+    (exit_each words P touched exit.cells (λ one held. inr (one, held, refl)))
     (each_then (λ cell. P cell × (test cell ≡ true)) P (filter test at.cells) (λ cell h. h.0) (each_filter P test at.cells (each_from P at.cells (λ cell held. inl held)))))
+
+-- BY WHAT THE PLACES HELD
+
+pub sized_fit : (words : WordLaws) (places : ℕ → Word) (exit : CellMap) → CanResume places exit → EachFits (resumed_sized places) exit.cells
+sized_fit words places exit can cell held =
+    let is = cell_of exit.lo exit.hi exit.lo exit.cells cell can.form.are held in
+    elim (cases_Bool (cell.size == 1)) [
+      | inl one ↦ rw one record { normal = is.normal; byte = is.byte }
+      | inr two ↦ rw two record {
+        normal = word_normal words places cell.word can.normal (can.masks cell held) is.normal;
+        byte = λ one. absurd (eqb-false cell.size 1 two one);
+      }
+    ]
+
+pub sized_hold : (words : WordLaws) (places : ℕ → Word) (suspended : Suspended) (first : Option Suspended) (now : ℕ → ℕ) (exit : CellMap) → CanResume places exit
+    → EachTells places suspended first exit.cells → StandsUnder (Some suspended) exit.cells now → EachHolds first (resumed_sized places) now exit.cells
+sized_hold words places f first now exit can tells left cell held =
+    let v = number_at now cell.place cell.size in
+    cond_both (cell.size == 1) (record { set = cell.word.set; entry = None }) (resumed_word places cell.word) (λ (word : Word). HoldsOfWord first word v)
+    (λ one. ((left.1 cell held).0, tt))
+    (λ two. word_holds words places f first cell.word v can.normal (can.masks cell held) (tells cell held) (left.1 cell held))

@@ -1,5 +1,9 @@
 pub mod Ranges
 pub mod Resuming
+pub mod Rewriting
+pub mod Masking
+pub mod MaskFacts
 pub mod Unrelated
 pub mod Laws
+pub mod TouchFacts
 pub mod KnownLaws

@@ -43,6 +43,10 @@ abbrev pub united : List (ℕ × ℕ) → List (ℕ × ℕ) → List (ℕ × ℕ
 united ranges [] = ranges
 united ranges (range ∷ others) = united (with_range range.0 range.1 ranges) others
 
+-- what may be touched in the state that goes on: in an interrupt's frame what either handler touched, else nothing
+abbrev pub touched_behind : (framed : Bool) → (at exit : List (ℕ × ℕ)) → List (ℕ × ℕ)
+touched_behind framed at exit = if framed then united at exit else []
+
 -- each range ends at an address, behind it, or right in front of it
 abbrev pub EachReaches : (at : ℕ) → List (ℕ × ℕ) → Type 0
 EachReaches at [] = Unit {0}

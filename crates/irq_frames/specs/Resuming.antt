@@ -4,22 +4,28 @@ use Rattle.std.specs.Prelude.{◌≡◌, ℕ, ◌+◌, ◌-◌, ◌<◌, ◌==�
 use Rattle.std.specs.List.{filter}
 use Rattle.std.specs.Option.{option_map}
 use Rattle.value_set.specs.Form.{IsNormal}
+use Rattle.value_set.specs.Laws.{IsBelow}
 use Rattle.entry_value.specs.declared.cells.Cell.{Cell}
 use Rattle.entry_value.specs.declared.word.Entry.{Entry}
 use Rattle.entry_value.specs.declared.word.Word.{Word}
 use Rattle.entry_value.specs.Words.{Suspended, Reads, HoldsOfWord, entry_and, entry_or, word_and, word_or}
-use Rattle.entry_value.specs.Cells.{CellMap, AreCells, write_one}
+use Rattle.entry_value.specs.Cells.{CellMap, AreCells, number_at, write_one}
 use Rattle.irq_frames.specs.Ranges.{has_address}
 
 -- WORDS
 
--- a relation that keeps each bit
-abbrev pub is_unmasked : Entry → Bool
-is_unmasked entry = (entry.and == 65535) && (entry.or == 0)
+-- a relation that keeps each bit of a number, of which the last has all
+abbrev pub is_unmasked : (last : ℕ) → Entry → Bool
+is_unmasked last entry = (entry.and == last) && (entry.or == 0)
+
+-- a value is what a place held, without a mask
+abbrev pub is_itself : (last place : ℕ) → Option Entry → Bool
+is_itself last place None = false
+is_itself last place (Some entry) = (entry.place == place) && is_unmasked last entry
 
 -- what a place held, behind the masks of a relation
 abbrev pub masked_by : Entry → Word → Word
-masked_by entry held = if is_unmasked entry then held else word_or entry.or (word_and entry.and held)
+masked_by entry held = if is_unmasked 65535 entry then held else word_or entry.or (word_and entry.and held)
 
 abbrev pub resumed_by : (places : ℕ → Word) → Word → Option Entry → Word
 resumed_by places exit None = exit
@@ -44,23 +50,28 @@ untouched_cells touched = filter (λ cell. is_untouched touched cell.place cell.
 abbrev pub touched_cells : List (ℕ × ℕ) → List Cell → List Cell
 touched_cells touched = filter (λ cell. is_all_touched touched cell.place cell.size)
 
--- a byte keeps its set alone: what it says by a relation to a place of two bytes isn't told
-abbrev pub resumed_sized : (places : ℕ → Word) → (size : ℕ) → Word → Word
-resumed_sized places size exit = if size == 1 then record { set = exit.set; entry = None } else resumed_word places exit
-
-abbrev pub resumed_cell : (places : ℕ → Word) → Cell → Cell
-resumed_cell places cell = record { place = cell.place; size = cell.size; word = resumed_sized places cell.size cell.word }
-
 -- cells with each of some others written in its place
 abbrev pub with_written : List Cell → CellMap → CellMap
 with_written [] held = held
 with_written (cell ∷ cells) held = with_written cells (write_one held cell.place cell.size cell.word)
 
--- The suspended state's cells that no handler touched, and the exit's whose bytes are all touched. What is touched in part
--- goes.
-unfoldable pub resumed_cells : (places : ℕ → Word) → (at exit : CellMap) → (touched : List (ℕ × ℕ)) → CellMap
-resumed_cells places at exit touched =
-    with_written (map (resumed_cell places) (touched_cells touched exit.cells)) (record at { cells = untouched_cells touched at.cells })
+-- a cell with the word with which it goes on
+abbrev pub going_on : (words : Cell → Word) → Cell → Cell
+going_on words cell = record { place = cell.place; size = cell.size; word = words cell }
+
+-- The suspended state's cells that no handler touched, and the exit's whose bytes are all touched, with the words with which
+-- they go on. What is touched in part goes.
+unfoldable pub cells_behind : (words : Cell → Word) → (at exit : CellMap) → (touched : List (ℕ × ℕ)) → CellMap
+cells_behind words at exit touched =
+    with_written (map (going_on words) (touched_cells touched exit.cells)) (record at { cells = untouched_cells touched at.cells })
+
+-- a byte keeps its set alone: what it says by a relation to a place of two bytes isn't told
+abbrev pub resumed_sized : (places : ℕ → Word) → Cell → Word
+resumed_sized places cell =
+    if cell.size == 1 then record { set = cell.word.set; entry = None } else resumed_word places cell.word
+
+abbrev pub resumed_cells : (places : ℕ → Word) → (at exit : CellMap) → (touched : List (ℕ × ℕ)) → CellMap
+resumed_cells places = cells_behind (resumed_sized places)
 
 -- WHAT IS ASKED OF THEM
 
@@ -96,10 +107,26 @@ pub record CanResume (places : ℕ → Word) (exit : CellMap) : Type 0 where
   pub normal : AreNormal places
   pub masks : (cell : Cell) → Contains exit.cells cell → HasMasks cell.word.entry
 
+-- a cell of one byte has a byte
+abbrev pub IsByteCell : Cell → Type 0
+IsByteCell cell = cell.size ≡ 1 → IsBelow 65536 256 cell.word.set
+
+-- a word that a cell of a size can have
+pub record FitsCell (size : ℕ) (word : Word) : Type 0 where
+  pub normal : IsNormal 65536 word.set
+  pub byte : size ≡ 1 → IsBelow 65536 256 word.set
+
+abbrev pub EachFits : (words : Cell → Word) → List Cell → Type 0
+EachFits words cells = (cell : Cell) → Contains cells cell → FitsCell cell.size (words cell)
+
+-- the words of cells hold of what stands at their places
+abbrev pub EachHolds : Option Suspended → (words : Cell → Word) → (ram : ℕ → ℕ) → List Cell → Type 0
+EachHolds first words ram cells = (cell : Cell) → Contains cells cell → HoldsOfWord first (words cell) (number_at ram cell.place cell.size)
+
 -- two RAMs have the same bytes outside the touched ranges
 abbrev pub AgreeOutside : (touched : List (ℕ × ℕ)) → (one other : ℕ → ℕ) → Type 0
 AgreeOutside touched one other = (at : ℕ) → has_address touched at ≡ false → one at ≡ other at
 
 -- a cell of the suspended state, or one of the exit that goes on
-abbrev pub IsFromEither : (places : ℕ → Word) → (at exit : List Cell) → Cell → Type 0
-IsFromEither places at exit cell = Contains at cell ⊎ ((one : Cell) × Contains exit one × (resumed_cell places one ≡ cell))
+abbrev pub IsFromEither : (words : Cell → Word) → (at exit : List Cell) → Cell → Type 0
+IsFromEither words at exit cell = Contains at cell ⊎ ((one : Cell) × Contains exit one × (going_on words one ≡ cell))

@@ -134,3 +134,19 @@ impl Ranges {
         true
     }
 }
+
+/// What may be touched in the state that goes on: in an interrupt's frame what either handler touched, else nothing.
+pub fn touched_behind(
+    alloc: Global,
+    framed: bool,
+    at: &Ranges,
+    exit: &Ranges,
+) -> Result<Ranges, Memory>
+    ensures { IfOk result (λ all. all ≡ the_ranges.touched_behind framed at.now exit.now) }
+{
+    if framed {
+        at.united(alloc, exit)
+    } else {
+        Ok(Ranges::new(alloc))
+    }
+}

@@ -1,20 +1,18 @@
 //! Words and cells that go on behind a handler.
 
-ghost use Rattle.std.specs.Prelude.{◌≡◌, ◌≤◌, ◌<◌, ◌+◌, ◌⊎◌, ℕ, Some, not, Contains, IfOk, OnOk, map};
-ghost use Rattle.std.specs.List.{filter};
+ghost use Rattle.std.specs.Prelude.{◌≡◌, ◌<◌, ℕ, IfOk, OnOk, map};
 ghost use Rattle.value_set.specs.Form.{Has};
 ghost use Rattle.entry_value.specs.declared.cells.Cell.{Cell as ACell};
 ghost use Rattle.entry_value.specs.declared.word.Word.{Word as AWord};
-ghost use Rattle.entry_value.specs.Cells as the_cells;
-ghost use Rattle.entry_value.specs.Cells.{AreCells, IsCell};
+ghost use Rattle.entry_value.specs.Cells.{IsCell};
 ghost use Rattle.irq_frames.specs.Resuming as resuming;
-ghost use Rattle.irq_frames.specs.Resuming.{resumed_cell, resumed_cells, resumed_sized, resumed_word, touched_cells, untouched_cells, with_written};
+ghost use Rattle.irq_frames.specs.Resuming.{IsByteCell, going_on, resumed_cells, resumed_word, touched_cells, with_written};
 
 use crate::ranges::Ranges;
-use entry_value::{Cell, Cells, Word, bytes_stay_bytes, words_are_ordered};
+use crate::rewriting::{Rewrites, next_cell, rewritten};
+use entry_value::{Cell, Cells, Word, unknown};
 use no_memory::Memory;
 use std::alloc::Global;
-use value_set::Vs16;
 
 /// What the places of a suspended state held.
 pub trait Places {
@@ -47,66 +45,43 @@ pub fn resume_by<P: Places>(places: &P, exit: &Word) -> Word
     }
 }
 
-/// The word of a cell of the exit that goes on. A byte keeps its set alone.
-fn resume_sized<P: Places>(places: &P, cell: &Cell) -> Word
-    ensures { result ≡ resumed_sized (P.words places.now) cell.now.size cell.now.word }
-{
-    if cell.size == 1 {
-        return Word {
-            set: cell.word.set,
-            entry: None,
-        };
-    }
-    resume_by(places, &cell.word)
+/// How each cell of the exit goes on.
+pub trait Resumes {
+    /// The word with which a cell goes on.
+    ghost words: { Self → ACell → AWord };
+
+    /// The word with which a cell goes on. It is a byte for a cell of one byte.
+    fn word(&self, cell: &Cell) -> Word
+        ensures value { result ≡ words self.now cell.now }
+        ensures byte { IsByteCell cell.now → cell.now.size ≡ 1
+            → (v : ℕ) → Has 65536 result.set v → v < 256 };
 }
 
-/// The cell with the least place that is at least an address. It lies whole in RAM.
-fn next_cell<M: Cells>(cells: &M, from: u32) -> Option<Cell>
-    ensures value { result ≡ the_cells.next (M.map cells.now).cells from }
-    ensures form { (cell : ACell) → result ≡ Some cell → IsCell (M.map cells.now).lo (M.map cells.now).hi cell }
-    ensures held { (cell : ACell) → result ≡ Some cell → Contains (M.map cells.now).cells cell }
-    ensures from { (cell : ACell) → result ≡ Some cell → from ≤ cell.place }
-    ensures high { (M.map cells.now).hi < 65536 }
-    ensures are { AreCells (M.map cells.now).lo (M.map cells.now).hi (M.map cells.now).lo (M.map cells.now).cells }
-{
-    cells.keep_form();
-    match cells.next(from) {
-        None => None,
-        Some((place, size, word)) => Some(Cell { place, size, word }),
-    }
+/// Cells go on by what the places held.
+#[derive(Drop)]
+struct ByPlaces<'a, P> {
+    places: &'a P,
 }
 
-/// The numbers of one byte or of two.
-fn any_of(size: u8) -> Vs16
-    ensures { result ≡ the_cells.any_of size }
-{
-    if size != 1 {
-        return Vs16::any();
-    }
-    match Vs16::run(0, 1, 256) {
-        Some(bytes) => bytes,
-        None => unreachable!(),
-    }
-}
+impl<'a, P: Places> Resumes for ByPlaces<'a, P> {
+    ghost use Rattle.irq_frames.specs.Resuming.{resumed_sized};
 
-/// Drops the cells that have a byte of a cell.
-fn forget<M: Cells>(cells: &mut M, cell: &Cell) -> Result<(), Memory>
-    requires { (cell.now.size ≡ 1) ⊎ (cell.now.size ≡ 2) }
-    ensures { OnOk result (M.map cells.new ≡ record (M.map cells.old) { cells = filter (λ one. not (the_cells.meets cell.now.place cell.now.size one)) (M.map cells.old).cells }) }
-{
-    bytes_stay_bytes();
-    words_are_ordered();
-    let unknown = Word {
-        set: any_of(cell.size),
-        entry: None,
-    };
-    cells.write_one(cell.place, cell.size, unknown)
+    ghost words = { λ by. resumed_sized (P.words by.places.now) };
+
+    fn word(&self, cell: &Cell) -> Word {
+        if cell.size == 1 {
+            return Word {
+                set: cell.word.set,
+                entry: None,
+            };
+        }
+        resume_by(self.places, &cell.word)
+    }
 }
 
 /// Whether each byte of a cell is touched.
 fn is_all_touched(touched: &Ranges, cell: &Cell) -> bool
-    requires some { 1 ≤ cell.now.size }
-    requires whole { cell.now.place + cell.now.size ≤ 65536 }
+    requires { IsCell 0 65535 cell.now }
     ensures { result ≡ resuming.is_all_touched touched.now cell.now.place cell.now.size }
 {
     touched.has(cell.place) && touched.has(cell.place + (cell.size - 1) as u16)
@@ -114,41 +89,48 @@ fn is_all_touched(touched: &Ranges, cell: &Cell) -> bool
 
 /// Whether no byte of a cell is touched.
 fn is_untouched(touched: &Ranges, cell: &Cell) -> bool
-    requires some { 1 ≤ cell.now.size }
-    requires whole { cell.now.place + cell.now.size ≤ 65536 }
+    requires { IsCell 0 65535 cell.now }
     ensures { result ≡ resuming.is_untouched touched.now cell.now.place cell.now.size }
 {
     !touched.has(cell.place) && !touched.has(cell.place + (cell.size - 1) as u16)
 }
 
-/// The cells that no handler touched.
-fn untouched<M: Cells>(alloc: Global, at: &M, touched: &Ranges) -> Result<M, Memory>
-    ensures { IfOk result (λ cells. M.map cells ≡ record (M.map at.now) { cells = untouched_cells touched.now (M.map at.now).cells }) }
-{
-    let mut cells = at.copy(alloc)?;
-    let mut from = 0u32;
-    while let Some(cell) = next_cell(at, from) {
-        if !is_untouched(touched, &cell) {
-            forget(&mut cells, &cell)?;
+/// Drops each cell that a handler touched.
+#[derive(Drop)]
+struct Untouched<'a> {
+    touched: &'a Ranges,
+}
+
+impl Rewrites for Untouched<'_> {
+    ghost use Rattle.std.specs.Prelude.{None, Some, if◌then◌else◌};
+    ghost use Rattle.irq_frames.specs.Resuming as resuming;
+
+    ghost made = { λ untouched cell.
+        if resuming.is_untouched untouched.touched.now cell.place cell.size then Some cell else None };
+
+    fn word(&self, cell: &Cell) -> Option<Word> {
+        if is_untouched(self.touched, cell) {
+            return None;
         }
-        from = cell.place as u32 + cell.size as u32;
+        Some(unknown(cell.size))
     }
-    Ok(cells)
 }
 
 /// Writes each of the exit's cells whose bytes are all touched, as it goes on.
-fn write_touched<M: Cells, P: Places>(
+fn write_touched<M: Cells, R: Resumes>(
     cells: &mut M,
-    places: &P,
+    resumes: &R,
     exit: &M,
     touched: &Ranges,
 ) -> Result<(), Memory>
-    ensures { OnOk result (M.map cells.new ≡ with_written (map (resumed_cell (P.words places.now)) (touched_cells touched.now (M.map exit.now).cells)) (M.map cells.old)) }
+    ensures { OnOk result (M.map cells.new ≡ with_written
+        (map (going_on (R.words resumes.now)) (touched_cells touched.now (M.map exit.now).cells))
+        (M.map cells.old)) }
 {
     let mut from = 0u32;
     while let Some(cell) = next_cell(exit, from) {
         if is_all_touched(touched, &cell) {
-            cells.write_one(cell.place, cell.size, resume_sized(places, &cell))?;
+            cells.write_one(cell.place, cell.size, resumes.word(&cell))?;
         }
         from = cell.place as u32 + cell.size as u32;
     }
@@ -157,6 +139,22 @@ fn write_touched<M: Cells, P: Places>(
 
 /// The cells that go on behind a handler, of those that the suspended state had and those of the exit. Each byte outside the
 /// touched ranges is what it was when the interrupt came.
+pub fn cells_behind<M: Cells, R: Resumes>(
+    alloc: Global,
+    at: &M,
+    resumes: &R,
+    exit: &M,
+    touched: &Ranges,
+) -> Result<M, Memory>
+    ensures { IfOk result (λ cells. M.map cells ≡ resuming.cells_behind
+        (R.words resumes.now) (M.map at.now) (M.map exit.now) touched.now) }
+{
+    let mut cells = rewritten(alloc, at, &Untouched { touched })?;
+    write_touched(&mut cells, resumes, exit, touched)?;
+    Ok(cells)
+}
+
+/// Such cells, where those of the exit go on by what the places held.
 pub fn resume_cells<M: Cells, P: Places>(
     alloc: Global,
     at: &M,
@@ -166,7 +164,5 @@ pub fn resume_cells<M: Cells, P: Places>(
 ) -> Result<M, Memory>
     ensures { IfOk result (λ cells. M.map cells ≡ resumed_cells (P.words places.now) (M.map at.now) (M.map exit.now) touched.now) }
 {
-    let mut cells = untouched(alloc, at, touched)?;
-    write_touched(&mut cells, places, exit, touched)?;
-    Ok(cells)
+    cells_behind(alloc, at, &ByPlaces { places }, exit, touched)
 }

@@ -1,9 +1,6 @@
 -- What a handler left stands where the suspended state goes on, and what is known there is in form.
-use Rattle.std.proofs.Common.{◌≡◌, ℕ, zero, suc, ◌<◌, Bool, true, Option, Some, List, [], ◌∷◌, refl, sym, subst, arith}
-use Rattle.std.specs.Prelude.{◌==◌, Contains}
-use Rattle.std.specs.List.{list_any}
+use Rattle.std.proofs.Common.{◌≡◌, ℕ, ◌<◌, Bool, true, Option, Some, refl, sym, subst, arith}
 use Rattle.std.specs.Option.{option_map}
-use Rattle.std.proofs.lemmas.Bool.{or_left, or_right, eq-eqb}
 use Rattle.call_context.specs.declared.node.Frame.TheVariants.{Irq}
 use Rattle.value_set.specs.Form.{Has, members}
 use Rattle.value_set.specs.Joining.{is_in}
@@ -24,7 +21,9 @@ use Rattle.mcs51_resume.proofs.Masks.{byte_form, byte_holds, own_form, own_is_re
 use Rattle.mcs51_resume.proofs.PlaceLemmas.{at_enable, at_priority, relation_formed, relation_tells}
 use Rattle.mcs51_resume.proofs.Psw.{status_form, status_holds}
 use Rattle.mcs51_resume.proofs.FactLemmas.{IsLeft, carry_form, carry_holds, linear_form, linear_holds}
-use Rattle.mcs51_resume.proofs.CellLemmas.{cells_are, cells_from, cells_stand, cells_up_to, each_chip_cell, none_touched, touched_form, untouched_behind}
+use Rattle.mcs51_resume.proofs.CellLemmas.{cells_are, cells_from, cells_stand, cells_up_to, each_chip_cell, untouched_behind}
+use Rattle.irq_frames.specs.TouchFacts.{none_touched, touched_form}
+use Rattle.plain_lemmas.specs.AnyOf.{any_from}
 
 -- COVER
 
@@ -62,11 +61,6 @@ module _ (laws : Premises) (framed : Bool) (a exit : Known) (f t : ChipState) (f
 
 -- THE STACK POINTER
 
-any_from : (v : ℕ) (xs : List ℕ) → Contains xs v → list_any (λ x. x == v) xs ≡ true
-any_from v [] held = absurd (omega (arith, held.1))
-any_from v (x ∷ xs) (zero, lt, is) = or_left (x == v) (list_any (λ y. y == v) xs) (eq-eqb x v is)
-any_from v (x ∷ xs) (suc k, lt, is) = or_right (x == v) (list_any (λ y. y == v) xs) (any_from v xs (k, omega arith, is))
-
 pub has_pointer : (a : Known) (f : ChipState) (first : Option ChipState) (sp : ℕ) → HoldsOf a f first → CameAt (Some sp) f → is_in 256 a.sp sp ≡ true
 has_pointer a f first sp holds came = any_from sp (members 256 a.sp) (subst (Has 256 a.sp) came holds.parts.sp)
 
@@ -97,7 +91,7 @@ module _ (laws : Premises) (framed : Bool) (a exit : Known) (pc : ℕ) (small : 
         up_to = cells_up_to laws framed a exit pc small form exit_form;
         cells = cells_are laws framed a exit pc small form exit_form;
         each_cell = each_chip_cell laws framed a exit pc small form exit_form;
-        touched = touched_form laws.known.ranges framed a.touched exit.touched form.touched exit_form.touched;
+        touched = touched_form laws.known.ranges 0 255 framed a.touched exit.touched form.touched exit_form.touched;
         none_touched = none_touched framed a.touched exit.touched;
       }
 

@@ -1,10 +1,8 @@
 -- The facts where a suspended state goes on.
-use Rattle.std.proofs.Common.{◌≡◌, ℕ, ◌+◌, ◌*◌, ◌%◌, ◌<◌, true, Option, None, Some, refl, sym, ap, ◌∙◌, subst, inl, inr, arith}
-use Rattle.std.specs.Prelude.{◌==◌, ◌&&◌, not, nat_lt, slice_index}
-use Rattle.std.proofs.lemmas.Bool.{and_parts, eqb-true, cond_both, not-true, or_cases}
-use Rattle.entry_value.specs.declared.word.Entry.{Entry}
+use Rattle.std.proofs.Common.{◌≡◌, ℕ, ◌+◌, ◌*◌, ◌%◌, ◌<◌, true, Option, None, Some, refl, sym, ap, ◌∙◌, inl, inr, arith}
+use Rattle.std.specs.Prelude.{◌&&◌, not, nat_lt, slice_index}
+use Rattle.std.proofs.lemmas.Bool.{and_parts, cond_both, not-true, or_cases}
 use Rattle.entry_value.specs.Cells.{read}
-use Rattle.entry_value.specs.Words.{Reads, IsFromEntry}
 use Rattle.irq_frames.specs.Ranges.{has_address}
 use Rattle.mcs51_chip.specs.declared.state.ChipState.{ChipState}
 use Rattle.mcs51_chip.specs.Registers.{bit_of}
@@ -20,49 +18,40 @@ use Rattle.mcs51_state.specs.Known.{Known}
 use Rattle.mcs51_state.specs.Places.{psw_place, suspended_of}
 use Rattle.mcs51_state.specs.Under.{IsUnder}
 use Rattle.mcs51_resume.specs.Premises.{Premises}
-use Rattle.mcs51_resume.specs.Resume.{accumulator_place, carry_resumed, is_compared_itself, is_itself, is_ram_itself, is_unmasked, linear_resumed}
-use Rattle.mcs51_resume.proofs.Masks.{unmasked_is}
+use Rattle.mcs51_resume.specs.Resume.{accumulator_place, carry_resumed, is_compared_itself, is_ram_itself, linear_resumed}
+use Rattle.irq_frames.specs.MaskFacts.{itself_read}
+use Rattle.irq_frames.specs.Resuming.{is_itself}
+use Rattle.plain_lemmas.specs.Small.{byte_alone}
 use Rattle.mcs51_resume.proofs.Numbers.{ram_small, reads_ram, reads_status, same_alone}
 
 -- WHAT IS WHAT IT WAS
-
-byte_alone : (x : ℕ) → x < 256 → x % 256 ≡ x
-byte_alone x small = omega arith
-
--- a value that is what a place held is a number that the place may be read as
-itself_read : (f : ChipState) (place v : ℕ) (entry : Option Entry) → is_itself place entry ≡ true → IsFromEntry (Some (suspended_of f)) entry v
-    → (word : ℕ) × Reads (suspended_of f) place word × (v ≡ word % 256)
-itself_read f place v None is from = absurd (cc)
-itself_read f place v (Some entry) is (word, reads, made) =
-    let parts = and_parts (entry.place == place) (is_unmasked entry) is in
-    (word, subst (λ p. Reads (suspended_of f) p word) (eqb-true entry.place place parts.0) reads, made ∙ unmasked_is entry word parts.1)
 
 -- the state where the interrupt came, and the one that its handler left
 pub record IsLeft (f t : ChipState) (exit : Known) : Type 0 where
   pub suspended : IsChipState f
   pub under : IsUnder true exit t (Some f)
 
-accumulator_is : (f t : ChipState) (exit : Known) → IsLeft f t exit → is_itself accumulator_place exit.a.entry ≡ true → t.a ≡ f.a
+accumulator_is : (f t : ChipState) (exit : Known) → IsLeft f t exit → is_itself 255 accumulator_place exit.a.entry ≡ true → t.a ≡ f.a
 accumulator_is f t exit left is =
-    let (word, (small, same), number) = itself_read f accumulator_place t.a exit.a.entry is left.under.holds.parts.a.1 in
+    let (word, (small, same), number) = itself_read 8 (suspended_of f) accumulator_place t.a exit.a.entry is left.under.holds.parts.a.1 in
     let byte = left.suspended.a in
     number ∙ ap (λ n. n % 256) (same_alone word f.a small (omega (arith, byte)) same) ∙ byte_alone f.a byte
 
 ram_is : (laws : Premises) (f t : ChipState) (exit : Known) → IsLeft f t exit → (at : ℕ) → at < 256 → is_ram_itself exit at ≡ true → slice_index t.ram at ≡ slice_index f.ram at
-ram_is laws f t exit left at inside is = elim (or_cases (not (has_address exit.touched at)) (is_itself at (read exit.cells.cells at 1).entry) is) [
+ram_is laws f t exit left at inside is = elim (or_cases (not (has_address exit.touched at)) (is_itself 255 at (read exit.cells.cells at 1).entry) is) [
   | inl untouched ↦ left.under.holds.parts.untouched at (not-true (has_address exit.touched at) untouched)
   | inr again ↦
       let held = laws.known.cells.reads (Some (suspended_of f)) (slice_index t.ram) 0 255 0 at 1 exit.cells.cells left.under.form.cells (omega (arith, inside)) (inl refl) left.under.holds.parts.cells in
-      let (word, reads, number) = itself_read f at (slice_index t.ram at) (read exit.cells.cells at 1).entry again held.1 in
+      let (word, reads, number) = itself_read 8 (suspended_of f) at (slice_index t.ram at) (read exit.cells.cells at 1).entry again held.1 in
       number ∙ ap (λ n. n % 256) (reads_ram f left.suspended at word inside reads) ∙ byte_alone (slice_index f.ram at) (ram_small f left.suspended at inside)
 ]
 
 two_low : (psw y t : ℕ) → psw < 256 → psw % 4 ≡ 0 → y < 4 → t % 4 ≡ 0 → t ≡ (psw + y) % 256 → t ≡ psw
 two_low psw y t small none few held is = omega (arith, small, none, few, held, is)
 
-status_is : (f t : ChipState) (exit : Known) → IsLeft f t exit → is_itself psw_place exit.psw.entry ≡ true → t.psw ≡ f.psw
+status_is : (f t : ChipState) (exit : Known) → IsLeft f t exit → is_itself 255 psw_place exit.psw.entry ≡ true → t.psw ≡ f.psw
 status_is f t exit left is =
-    let (word, reads, number) = itself_read f psw_place t.psw exit.psw.entry is left.under.holds.parts.psw.entry in
+    let (word, reads, number) = itself_read 8 (suspended_of f) psw_place t.psw exit.psw.entry is left.under.holds.parts.psw.entry in
     let (y, few, same) = reads_status f left.suspended word reads in
     two_low f.psw y t.psw left.suspended.psw left.suspended.psw_held few left.under.holds.state.psw_held (number ∙ ap (λ n. n % 256) same)
 
@@ -76,7 +65,7 @@ compared_is laws f t exit left (Ram at) form is = ram_is laws f t exit left at f
 pub linear_holds : (laws : Premises) (f t : ChipState) (exit : Known) → IsLeft f t exit → (fact : Option LinearFact) → IsLinear fact → HoldsOfLinear fact f → HoldsOfLinear (linear_resumed exit fact) t
 linear_holds laws f t exit left None form holds = tt
 linear_holds laws f t exit left (Some fact) form holds =
-    let first = is_itself accumulator_place exit.a.entry in
+    let first = is_itself 255 accumulator_place exit.a.entry in
     let second = is_ram_itself exit fact.place in
     cond_both (first && second) (Some fact) None (λ kept. HoldsOfLinear kept t)
     (λ e. let both = and_parts first second e in
@@ -86,7 +75,7 @@ linear_holds laws f t exit left (Some fact) form holds =
 pub carry_holds : (laws : Premises) (f t : ChipState) (exit : Known) → IsLeft f t exit → (fact : Option CarryFact) → IsCarry fact → HoldsOfCarry fact f → HoldsOfCarry (carry_resumed exit fact) t
 carry_holds laws f t exit left None form holds = tt
 carry_holds laws f t exit left (Some fact) form holds =
-    let first = is_itself psw_place exit.psw.entry in
+    let first = is_itself 255 psw_place exit.psw.entry in
     let second = is_compared_itself exit fact.compared in
     cond_both (first && second) (Some fact) None (λ kept. HoldsOfCarry kept t)
     (λ e. let both = and_parts first second e in
@@ -96,8 +85,8 @@ carry_holds laws f t exit left (Some fact) form holds =
 -- their form
 pub linear_form : (exit : Known) (fact : Option LinearFact) → IsLinear fact → IsLinear (linear_resumed exit fact)
 linear_form exit None form = tt
-linear_form exit (Some fact) form = cond_both (is_itself accumulator_place exit.a.entry && is_ram_itself exit fact.place) (Some fact) None IsLinear (λ e. form) (λ e. tt)
+linear_form exit (Some fact) form = cond_both (is_itself 255 accumulator_place exit.a.entry && is_ram_itself exit fact.place) (Some fact) None IsLinear (λ e. form) (λ e. tt)
 
 pub carry_form : (exit : Known) (fact : Option CarryFact) → IsCarry fact → IsCarry (carry_resumed exit fact)
 carry_form exit None form = tt
-carry_form exit (Some fact) form = cond_both (is_itself psw_place exit.psw.entry && is_compared_itself exit fact.compared) (Some fact) None IsCarry (λ e. form) (λ e. tt)
+carry_form exit (Some fact) form = cond_both (is_itself 255 psw_place exit.psw.entry && is_compared_itself exit fact.compared) (Some fact) None IsCarry (λ e. form) (λ e. tt)

@@ -1,10 +1,7 @@
-mod StatusBits
 mod Masks
 mod Numbers
 mod PlaceLemmas
 mod Psw
 mod FactLemmas
-mod Walking
 mod CellLemmas
 mod Covering
-mod Lists

@@ -1,40 +1,41 @@
 -- Bytes behind the masks of relations.
-use Rattle.std.proofs.Common.{◌≡◌, ℕ, ◌%◌, ◌<◌, Bool, true, false, Option, None, Some, refl, sym, ap, ◌∙◌, subst, inl, inr, arith}
-use Rattle.std.specs.Prelude.{◌==◌, bit_and, bit_or}
-use Rattle.std.specs.Int.Bits.{or_zero_r}
+use Rattle.std.proofs.Common.{◌≡◌, ℕ, ◌<◌, Bool, true, false, Option, None, Some, refl, sym, ap, ◌∙◌, subst, inl, inr, arith}
+use Rattle.std.specs.Prelude.{bit_and, bit_or}
 use Rattle.std.specs.Option.{option_map}
-use Rattle.std.proofs.lemmas.Bool.{cases_Bool, and_parts, eqb-true}
-use Rattle.std.proofs.lemmas.Nat.{and_mask, and_assoc, and_le_l, and_or_apart, or_lt}
+use Rattle.std.proofs.lemmas.Bool.{cases_Bool}
+use Rattle.std.proofs.lemmas.Nat.{and_assoc, and_le_l, and_or_apart, or_lt}
 use Rattle.value_set.specs.Form.{IsNormal}
 use Rattle.entry_value.specs.declared.byte.Byte.{Byte}
 use Rattle.entry_value.specs.declared.word.Entry.{Entry}
-use Rattle.entry_value.specs.Words.{Suspended, Reads, IsFromEntry, HoldsOfByte, byte_and, entry_and, entry_or}
+use Rattle.entry_value.specs.Words.{Suspended, Reads, IsFromEntry, HoldsOfByte, byte_and, byte_or, entry_and}
 use Rattle.mcs51_state.specs.Forms.{IsByte, IsOwnByte, IsOwnRelation, IsRelation}
 use Rattle.irq_frames.specs.KnownLaws.{KnownLaws}
-use Rattle.mcs51_resume.specs.Resume.{is_unmasked, masked_by, masked_entry, resumed_by, resumed_byte}
+use Rattle.irq_frames.specs.Masking.{masked_entry}
+use Rattle.irq_frames.specs.MaskFacts.{unmasked_is}
+use Rattle.irq_frames.specs.Resuming.{is_unmasked}
+use Rattle.mcs51_state.specs.FormFacts.{and_form, no_own_relation, no_relation, or_form}
+use Rattle.plain_lemmas.specs.Small.{byte_alone}
+use Rattle.mcs51_resume.specs.Resume.{masked_by, resumed_by, resumed_byte}
 
 -- WHAT THEY HOLD OF
 
-byte_alone : (x : ℕ) → x < 256 → x % 256 ≡ x
-byte_alone x small = omega arith
-
--- an unmasked relation is the number itself
-pub unmasked_is : (entry : Entry) (v : ℕ) → is_unmasked entry ≡ true → bit_or (bit_and v entry.and) entry.or ≡ v % 256
-unmasked_is entry v whole =
-    let parts = and_parts (entry.and == 255) (entry.or == 0) whole in
-    ap (bit_or (bit_and v entry.and)) (eqb-true entry.or 0 parts.1) ∙ or_zero_r (bit_and v entry.and) ∙ ap (bit_and v) (eqb-true entry.and 255 parts.0) ∙ and_mask v 8
+-- a fact of what a place held, behind the masks of a relation unless they keep each bit
+behind_masks : (P : Byte → Type 0) (entry : Entry) (held : Byte) → entry.and < 256 → entry.or < 256 → (is_unmasked 255 entry ≡ true → P held)
+    → P (byte_or entry.or (byte_and entry.and held)) → P (masked_by entry held)
+behind_masks P entry held and_small or_small whole some = elim (cases_Bool (is_unmasked 255 entry)) [
+  | inl keeps ↦ rw keeps (whole keeps)
+  | inr masks ↦ rw (masks, byte_alone entry.and and_small, byte_alone entry.or or_small) some
+]
 
 pub masked_holds : (laws : KnownLaws) (first : Option Suspended) (entry : Entry) (held : Byte) (word : ℕ) → entry.and < 256 → entry.or < 256 → IsNormal 256 held.set
     → HoldsOfByte first held word → HoldsOfByte first (masked_by entry held) (bit_or (bit_and word entry.and) entry.or)
 masked_holds laws first entry held word and_small or_small normal holds =
-    let and_is = byte_alone entry.and and_small in
-    let or_is = byte_alone entry.or or_small in
+    let bytes = laws.values.bytes in
     let word_small = laws.sets.below 256 word held.set normal holds.0 in
-    elim (cases_Bool (is_unmasked entry)) [
-      | inl whole ↦ rw whole (subst (λ (v : ℕ). HoldsOfByte first held v) (sym (unmasked_is entry word whole ∙ byte_alone word word_small)) holds)
-      | inr some ↦ rw (some, and_is, or_is) (laws.values.bytes.or first entry.or (bit_and word entry.and) (byte_and entry.and held) or_small (laws.values.bytes.and_normal entry.and held and_small normal)
-          (laws.values.bytes.and first entry.and word held and_small normal holds))
-    ]
+    behind_masks (λ byte. HoldsOfByte first byte (bit_or (bit_and word entry.and) entry.or)) entry held and_small or_small
+    (λ whole. subst (λ (v : ℕ). HoldsOfByte first held v) (sym (unmasked_is 8 entry word whole ∙ byte_alone word word_small)) holds)
+    (bytes.or first entry.or (bit_and word entry.and) (byte_and entry.and held) or_small (bytes.and_normal entry.and held and_small normal)
+    (bytes.and first entry.and word held and_small normal holds))
 
 -- The place that a relation names is known, and the byte there holds of all that the place may be read as. It speaks of the
 -- state that was suspended first when this one was.
@@ -66,34 +67,16 @@ byte_holds laws places f first exit v tells holds = by_holds laws places f first
 
 -- THEIR FORM
 
-pub no_relation : (framed : Bool) → IsRelation framed None
-no_relation true = tt
-no_relation false = tt
-
-and_form : (framed : Bool) (m : ℕ) (entry : Option Entry) → IsRelation framed entry → IsRelation framed (option_map (entry_and m) entry)
-and_form framed m None form = no_relation framed
-and_form false m (Some entry) form = form
-and_form true m (Some entry) (place, and_small, or_small) =
-    let first = and_le_l entry.and m in
-    let second = and_le_l entry.or m in
-    (place, omega (arith, and_small, first), omega (arith, or_small, second))
-
-or_form : (framed : Bool) (m : ℕ) (entry : Option Entry) → m < 256 → IsRelation framed entry → IsRelation framed (option_map (entry_or m) entry)
-or_form framed m None small form = no_relation framed
-or_form false m (Some entry) small form = form
-or_form true m (Some entry) small (place, and_small, or_small) = (place, and_small, or_lt 8 entry.or m or_small small)
+masked_normal : (laws : KnownLaws) (entry : Entry) (held : Byte) → entry.and < 256 → entry.or < 256 → IsNormal 256 held.set
+    → IsNormal 256 (byte_or entry.or (byte_and entry.and held)).set
+masked_normal laws entry held and_small or_small normal =
+    laws.values.bytes.or_normal entry.or (byte_and entry.and held) or_small (laws.values.bytes.and_normal entry.and held and_small normal)
 
 pub masked_form : (laws : KnownLaws) (framed : Bool) (entry : Entry) (held : Byte) → entry.and < 256 → entry.or < 256 → IsByte framed held → IsByte framed (masked_by entry held)
-masked_form laws framed entry held and_small or_small form =
-    let and_is = byte_alone entry.and and_small in
-    let or_is = byte_alone entry.or or_small in
-    elim (cases_Bool (is_unmasked entry)) [
-      | inl whole ↦ rw whole form
-      | inr some ↦ rw (some, and_is, or_is) (record {
-        normal = laws.values.bytes.or_normal entry.or (byte_and entry.and held) or_small (laws.values.bytes.and_normal entry.and held and_small form.normal);
-        entry = or_form framed entry.or (option_map (entry_and entry.and) held.entry) or_small (and_form framed entry.and held.entry form.entry);
-      })
-    ]
+masked_form laws framed entry held and_small or_small form = behind_masks (IsByte framed) entry held and_small or_small (λ whole. form) record {
+  normal = masked_normal laws entry held and_small or_small form.normal;
+  entry = or_form framed entry.or (option_map (entry_and entry.and) held.entry) or_small (and_form framed entry.and held.entry form.entry);
+}
 
 -- what the places that relations name are known as
 abbrev pub AreFormed : (framed : Bool) → (places : ℕ → Byte) → Option Entry → Type 0
@@ -109,10 +92,6 @@ pub byte_form : (laws : KnownLaws) (framed : Bool) (places : ℕ → Byte) (exit
 byte_form laws framed places exit formed form = by_form laws framed places exit exit.entry refl formed form.entry form.normal
 
 -- REGISTERS THAT DON'T HOLD ALL OF THEIR BITS
-
-pub no_own_relation : (framed : Bool) (place unheld : ℕ) → IsOwnRelation framed place unheld None
-no_own_relation true place unheld = tt
-no_own_relation false place unheld = tt
 
 -- the masks leave the bits as they are that it doesn't hold
 pub own_masked : (framed : Bool) (place unheld : ℕ) (entry : Entry) (held : Option Entry) → IsOwnRelation true place unheld (Some entry) → IsOwnRelation framed place unheld held
@@ -141,15 +120,10 @@ own_masked_by : (laws : KnownLaws) (framed : Bool) (place unheld : ℕ) (entry :
     → IsOwnByte framed place unheld (masked_by entry held)
 own_masked_by laws framed place unheld entry held masks form =
     let (named, and_small, and_free, or_small, or_free) = masks in
-    let and_is = byte_alone entry.and and_small in
-    let or_is = byte_alone entry.or or_small in
-    elim (cases_Bool (is_unmasked entry)) [
-      | inl whole ↦ rw whole form
-      | inr some ↦ rw (some, and_is, or_is) (record {
-        normal = laws.values.bytes.or_normal entry.or (byte_and entry.and held) or_small (laws.values.bytes.and_normal entry.and held and_small form.normal);
-        entry = own_masked framed place unheld entry held.entry masks form.entry;
-      })
-    ]
+    behind_masks (IsOwnByte framed place unheld) entry held and_small or_small (λ whole. form) record {
+      normal = masked_normal laws entry held and_small or_small form.normal;
+      entry = own_masked framed place unheld entry held.entry masks form.entry;
+    }
 
 own_by_form : (laws : KnownLaws) (framed : Bool) (place unheld : ℕ) (places : ℕ → Byte) (exit : Byte) (entry : Option Entry) → exit.entry ≡ entry → IsOwnByte framed place unheld (places place)
     → IsOwnRelation true place unheld entry → IsNormal 256 exit.set → IsOwnByte framed place unheld (resumed_by places exit entry)

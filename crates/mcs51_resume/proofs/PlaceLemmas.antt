@@ -15,13 +15,14 @@ use Rattle.mcs51_chip.specs.Leading.{MayReadSfr}
 use Rattle.mcs51_chip.specs.Registers.{sfr_at}
 use Rattle.mcs51_state.specs.declared.addresses.Addresses.TheVariants.{InRam, InSfr}
 use Rattle.mcs51_state.specs.Forms.{IsByte, IsKnown, IsRelation}
+use Rattle.mcs51_state.specs.FormFacts.{byte_form}
 use Rattle.mcs51_state.specs.Known.{Known, byte_of}
 use Rattle.mcs51_state.specs.Places.{ie_place, ip_place, is_place, sfr_of, suspended_of}
 use Rattle.mcs51_state.specs.Under.{IsUnder}
 use Rattle.mcs51_operands.specs.Reading.{read_byte, register_byte}
 use Rattle.mcs51_resume.specs.Premises.{Premises}
 use Rattle.mcs51_resume.specs.Resume.{place_byte}
-use Rattle.mcs51_resume.proofs.Masks.{AreFormed, Tells, no_relation}
+use Rattle.mcs51_resume.proofs.Masks.{AreFormed, Tells}
 use Rattle.mcs51_resume.proofs.Numbers.{IsRegister, MayReadHeld, place_cases, reads_ram, reads_register, same_alone}
 
 -- THE PLACES ONE BY ONE
@@ -106,7 +107,7 @@ module _ (laws : Premises) (framed : Bool) (a : Known) (f : ChipState) (first : 
 -- THEIR FORM
 
 number_form : (laws : Premises) (framed : Bool) (byte : Byte) (n : ℕ) → byte ≡ byte_of (single n) → n < 256 → IsByte framed byte
-number_form laws framed byte n is small = subst (IsByte framed) (sym is) (record { normal = (laws.known.sets.single 256 n small).0; entry = no_relation framed })
+number_form laws framed byte n is small = subst (IsByte framed) (sym is) (byte_form framed (single n) (laws.known.sets.single 256 n small).0)
 
 place_form : (laws : Premises) (framed : Bool) (a : Known) (pc : ℕ) → pc < 65536 → IsKnown framed a → (place : ℕ) → is_place place ≡ true → IsByte framed (place_byte framed a pc place)
 place_form laws framed a pc small form place names = elim (place_cases place names) [

@@ -14,10 +14,12 @@ use Rattle.mcs51_state.specs.Places.{psw_place, suspended_of}
 use Rattle.mcs51_state.specs.Under.{IsUnder}
 use Rattle.mcs51_state.specs.Known.{Known}
 use Rattle.mcs51_resume.specs.Premises.{Premises}
-use Rattle.mcs51_resume.specs.Resume.{masked_bits, masked_entry, status_by, status_resumed}
-use Rattle.mcs51_resume.proofs.Masks.{no_own_relation, own_masked}
+use Rattle.irq_frames.specs.Masking.{masked_bits, masked_entry}
+use Rattle.irq_frames.specs.MaskFacts.{Low, low_agrees, low_from, masked_length, masked_low}
+use Rattle.mcs51_state.specs.FormFacts.{no_own_relation}
+use Rattle.mcs51_resume.specs.Resume.{status_by, status_resumed}
+use Rattle.mcs51_resume.proofs.Masks.{own_masked}
 use Rattle.mcs51_resume.proofs.Numbers.{reads_status}
-use Rattle.mcs51_resume.proofs.StatusBits.{Low, low_agrees, low_from, masked_length, masked_low}
 
 by_holds : (laws : Premises) (framed : Bool) (a : Known) (f : ChipState) (first : Option ChipState) (exit : Status) (entry : Option Entry) (psw : ℕ) → IsUnder framed a f first → exit.entry ≡ entry
     → IsOwnRelation true psw_place 3 entry → psw < 256 → HoldsOfStatus (Some (suspended_of f)) exit psw → HoldsOfStatus (option_map suspended_of first) (status_by a.psw exit entry) psw

@@ -1,17 +1,16 @@
 -- What is known where a return from an interrupt resumes the state that the interrupt suspended: what the handler left,
 -- told by the state at the place where it came (Intel, MCS-51 Microcontroller Family User's Manual, "How Interrupts Are
 -- Handled").
-use Rattle.std.specs.Prelude.{ℕ, ◌-◌, ◌/◌, ◌%◌, ◌==◌, ◌&&◌, ◌||◌, not, nat_lt, if◌then◌else◌, Bool, false, Option, option_map, None, Some, List, [], ◌∷◌, map}
+use Rattle.std.specs.Prelude.{ℕ, ◌-◌, ◌/◌, ◌%◌, ◌==◌, ◌&&◌, ◌||◌, not, nat_lt, if◌then◌else◌, Bool, Option, None, Some, List}
 use Rattle.entry_value.specs.declared.byte.Byte.{Byte}
 use Rattle.entry_value.specs.declared.cells.Cell.{Cell}
 use Rattle.entry_value.specs.declared.word.Entry.{Entry}
 use Rattle.entry_value.specs.declared.word.Word.{Word}
 use Rattle.entry_value.specs.Cells.{CellMap, read}
-use Rattle.entry_value.specs.Words.{byte_and, byte_or, entry_and, entry_or}
-use Rattle.irq_frames.specs.Ranges.{has_address, united}
-use Rattle.irq_frames.specs.Resuming.{touched_cells, untouched_cells, with_written}
-use Rattle.value_bits.specs.declared.tri.Tri.{Tri}
-use Rattle.value_bits.specs.declared.tri.Tri.TheVariants.{Zero, One}
+use Rattle.entry_value.specs.Words.{byte_and, byte_or}
+use Rattle.irq_frames.specs.Masking.{masked_bits, masked_entry}
+use Rattle.irq_frames.specs.Ranges.{has_address, touched_behind}
+use Rattle.irq_frames.specs.Resuming.{cells_behind, is_itself, is_unmasked}
 use Rattle.value_bits.specs.Sets.{pair_set}
 use Rattle.value_set.specs.Summing.{single}
 use Rattle.mcs51_state.specs.declared.addresses.Addresses.TheVariants.{InRam, InSfr}
@@ -39,13 +38,9 @@ place_byte framed a pc place =
 
 -- BYTES
 
--- a relation that keeps each bit of a byte
-abbrev pub is_unmasked : Entry → Bool
-is_unmasked entry = (entry.and == 255) && (entry.or == 0)
-
 -- What a place held, behind the masks of a relation. Those of a byte are the low bytes.
 abbrev pub masked_by : Entry → Byte → Byte
-masked_by entry held = if is_unmasked entry then held else byte_or (entry.or % 256) (byte_and (entry.and % 256) held)
+masked_by entry held = if is_unmasked 255 entry then held else byte_or (entry.or % 256) (byte_and (entry.and % 256) held)
 
 abbrev pub resumed_by : (places : ℕ → Byte) → Byte → Option Entry → Byte
 resumed_by places exit None = exit
@@ -56,18 +51,6 @@ abbrev pub resumed_byte : (places : ℕ → Byte) → Byte → Byte
 resumed_byte places exit = resumed_by places exit exit.entry
 
 -- PSW
-
--- bits behind an AND and an OR with a mask, from the lowest one on
-abbrev pub masked_bit : (and or : ℕ) → Tri → Tri
-masked_bit and or bit = if or % 2 == 1 then One else if and % 2 == 1 then bit else Zero
-
-abbrev pub masked_bits : (and or : ℕ) → List Tri → List Tri
-masked_bits and or [] = []
-masked_bits and or (bit ∷ bits) = masked_bit and or bit ∷ masked_bits (and / 2) (or / 2) bits
-
--- the relation of what a place held, behind the masks of a relation
-abbrev pub masked_entry : Entry → (held : Option Entry) → Option Entry
-masked_entry entry held = option_map (entry_or entry.or) (option_map (entry_and entry.and) held)
 
 -- the bits 7 to 2
 abbrev pub status_by : Status → (exit : Status) → Option Entry → Status
@@ -82,30 +65,25 @@ status_resumed held exit = status_by held exit exit.entry
 
 -- FACTS
 
--- a value is what a place held, without a mask
-abbrev pub is_itself : (place : ℕ) → Option Entry → Bool
-is_itself place None = false
-is_itself place (Some entry) = (entry.place == place) && is_unmasked entry
-
 -- a byte of RAM is what it held: no handler touched it, or it holds that again
 abbrev pub is_ram_itself : (exit : Known) → (at : ℕ) → Bool
-is_ram_itself exit at = not (has_address exit.touched at) || is_itself at (read exit.cells.cells at 1).entry
+is_ram_itself exit at = not (has_address exit.touched at) || is_itself 255 at (read exit.cells.cells at 1).entry
 
 abbrev pub is_compared_itself : (exit : Known) → Compared → Bool
-is_compared_itself exit Accumulator = is_itself accumulator_place exit.a.entry
+is_compared_itself exit Accumulator = is_itself 255 accumulator_place exit.a.entry
 is_compared_itself exit (Ram at) = is_ram_itself exit at
 
 -- the fact of the accumulator stays where this and its byte of RAM are what they were
 abbrev pub linear_resumed : (exit : Known) → Option LinearFact → Option LinearFact
 linear_resumed exit None = None
 linear_resumed exit (Some fact) =
-    if is_itself accumulator_place exit.a.entry && is_ram_itself exit fact.place then Some fact else None
+    if is_itself 255 accumulator_place exit.a.entry && is_ram_itself exit fact.place then Some fact else None
 
 -- that of CY where all of PSW and the compared byte are what they were
 abbrev pub carry_resumed : (exit : Known) → Option CarryFact → Option CarryFact
 carry_resumed exit None = None
 carry_resumed exit (Some fact) =
-    if is_itself psw_place exit.psw.entry && is_compared_itself exit fact.compared then Some fact else None
+    if is_itself 255 psw_place exit.psw.entry && is_compared_itself exit fact.compared then Some fact else None
 
 -- CELLS
 
@@ -117,24 +95,14 @@ abbrev pub cell_word_by : (places : ℕ → Byte) → Word → Option Entry → 
 cell_word_by places exit None = exit
 cell_word_by places exit (Some entry) = word_of_byte (masked_by entry (places entry.place))
 
-abbrev pub resumed_cell : (places : ℕ → Byte) → Cell → Cell
-resumed_cell places cell =
-    record { place = cell.place; size = cell.size; word = cell_word_by places cell.word cell.word.entry }
-
--- cells with the exit's written that its handler touched
-abbrev pub touched_written : (places : ℕ → Byte) → (touched : List (ℕ × ℕ)) → (exit : List Cell) → (held : CellMap) → CellMap
-touched_written places touched exit held = with_written (map (resumed_cell places) (touched_cells touched exit)) held
+abbrev pub resumed_cell_word : (places : ℕ → Byte) → Cell → Word
+resumed_cell_word places cell = cell_word_by places cell.word cell.word.entry
 
 -- the suspended state's cells that no handler touched, and the exit's that one did
-unfoldable pub resumed_cells : (places : ℕ → Byte) → (at exit : CellMap) → (touched : List (ℕ × ℕ)) → CellMap
-resumed_cells places at exit touched =
-    touched_written places touched exit.cells (record at { cells = untouched_cells touched at.cells })
+abbrev pub resumed_cells : (places : ℕ → Byte) → (at exit : CellMap) → (touched : List (ℕ × ℕ)) → CellMap
+resumed_cells places = cells_behind (resumed_cell_word places)
 
 -- THE RESUMED STATE
-
--- in an interrupt's frame what either handler touched
-abbrev pub touched_behind : Bool → (at exit : List (ℕ × ℕ)) → List (ℕ × ℕ)
-touched_behind framed at exit = if framed then united at exit else []
 
 -- from what is known at an address where the interrupt came at a stack pointer, and at the exit of its frame
 unfoldable pub resumed_known : (framed : Bool) → Known → (pc sp : ℕ) → (exit : Known) → Known

@@ -6,6 +6,7 @@ ghost use Rattle.mcs51_state.specs.Known.{byte_of};
 ghost use Rattle.mcs51_resume.specs.Resume as the_resumed;
 
 use entry_value::{Byte, Cells, Entry};
+use irq_frames::is_unmasked;
 use mcs51_operands::read_byte;
 use mcs51_state::{Addresses, State};
 use value_set::Vs8;
@@ -36,18 +37,11 @@ pub(crate) fn place_byte<M: Cells>(framed: bool, at: &State<M>, pc: u16, place: 
     }
 }
 
-/// Whether a relation keeps each bit of a byte.
-pub(crate) fn is_unmasked(entry: &Entry) -> bool
-    ensures { result ≡ the_resumed.is_unmasked entry.now }
-{
-    entry.and == 0xFF && entry.or == 0
-}
-
 /// What a place held, behind the masks of a relation.
 pub(crate) fn masked_by(entry: &Entry, held: &Byte) -> Byte
     ensures { result ≡ the_resumed.masked_by entry.now held.now }
 {
-    if is_unmasked(entry) {
+    if is_unmasked(0xFF, entry) {
         return *held;
     }
     let and = (entry.and % 256) as u8;

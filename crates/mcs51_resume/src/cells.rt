@@ -1,48 +1,18 @@
 //! RAM as it goes on.
 
-ghost use Rattle.std.specs.Prelude.{◌≡◌, ◌≤◌, ◌<◌, ◌+◌, ℕ, Some, IfOk, OnOk};
+ghost use Rattle.std.specs.Prelude.{◌≡◌, ◌<◌, ℕ, IfOk};
 ghost use Rattle.value_set.specs.Form.{Has};
-ghost use Rattle.entry_value.specs.declared.cells.Cell.{Cell as ACell};
-ghost use Rattle.entry_value.specs.Cells as the_cells;
-ghost use Rattle.entry_value.specs.Cells.{AreCells, IsCell};
-ghost use Rattle.irq_frames.specs.Resuming as resuming;
-ghost use Rattle.irq_frames.specs.Resuming.{untouched_cells};
 ghost use Rattle.mcs51_resume.specs.Resume as the_resumed;
-ghost use Rattle.mcs51_resume.specs.Resume.{resumed_cells, touched_written};
+ghost use Rattle.mcs51_resume.specs.Resume.{resumed_cells};
 
 use crate::bytes::{masked_by, place_byte};
 use entry_value::{Byte, Cell, Cells, Word, bytes_stay_bytes};
-use irq_frames::{Places, Ranges, resume_cells as resume_by_words};
+use irq_frames::{Resumes, cells_behind};
 use mcs51_state::State;
 use no_memory::Memory;
 use std::alloc::Global;
 use value_bits::w16;
-use value_set::{Vs8, Vs16};
-
-/// No place is asked for where a handler left no cells.
-struct NoPlaces {}
-
-impl Places for NoPlaces {
-    ghost use Rattle.entry_value.specs.Cells.{unknown};
-
-    ghost words = { λ none place. unknown 2 };
-
-    fn word(&self, place: u16) -> Word {
-        Word {
-            set: Vs16::any(),
-            entry: None,
-        }
-    }
-}
-
-/// The cells that no handler touched.
-fn untouched<M: Cells>(alloc: Global, at: &M, touched: &Ranges) -> Result<M, Memory>
-    ensures { IfOk result (λ cells. M.map cells
-        ≡ record (M.map at.now) { cells = untouched_cells touched.now (M.map at.now).cells }) }
-{
-    let none = M::empty(alloc, 0, 255)?;
-    resume_by_words(alloc, at, &NoPlaces {}, &none, touched)
-}
+use value_set::Vs8;
 
 /// A byte as a cell holds it.
 fn word_of(byte: &Byte) -> Word
@@ -68,50 +38,22 @@ fn resume_word<M: Cells>(framed: bool, at: &State<M>, pc: u16, exit: &Word) -> W
     }
 }
 
-/// The cell with the least place that is at least an address. It lies whole in RAM.
-fn next_cell<M: Cells>(cells: &M, from: u32) -> Option<Cell>
-    ensures value { result ≡ the_cells.next (M.map cells.now).cells from }
-    ensures form { (cell : ACell) → result ≡ Some cell → IsCell (M.map cells.now).lo (M.map cells.now).hi cell }
-    ensures from { (cell : ACell) → result ≡ Some cell → from ≤ cell.place }
-    ensures high { (M.map cells.now).hi < 65536 }
-    ensures are { AreCells (M.map cells.now).lo (M.map cells.now).hi (M.map cells.now).lo (M.map cells.now).cells }
-{
-    cells.keep_form();
-    match cells.next(from) {
-        None => None,
-        Some((place, size, word)) => Some(Cell { place, size, word }),
-    }
-}
-
-/// Whether each byte of a cell is touched.
-fn is_all_touched(touched: &Ranges, cell: &Cell) -> bool
-    requires some { 1 ≤ cell.now.size }
-    requires whole { cell.now.place + cell.now.size ≤ 65536 }
-    ensures { result ≡ resuming.is_all_touched touched.now cell.now.place cell.now.size }
-{
-    touched.has(cell.place) && touched.has(cell.place + (cell.size - 1) as u16)
-}
-
-/// Writes each cell of the exit that its handler touched, as it goes on.
-fn write_touched<M: Cells>(
-    cells: &mut M,
+/// Cells of the exit go on by what is known of the state that an interrupt suspended at an address.
+#[derive(Drop)]
+struct BySuspended<'a, M: Cells> {
     framed: bool,
-    at: &State<M>,
+    at: &'a State<M>,
     pc: u16,
-    exit: &State<M>,
-) -> Result<(), Memory>
-    ensures { OnOk result (M.map cells.new
-        ≡ touched_written (the_resumed.place_byte framed at.now pc) exit.now.touched exit.now.cells.cells (M.map cells.old)) }
-{
-    let mut from = 0u32;
-    while let Some(cell) = next_cell(&exit.cells, from) {
-        if is_all_touched(&exit.touched, &cell) {
-            let word = resume_word(framed, at, pc, &cell.word);
-            cells.write_one(cell.place, cell.size, word)?;
-        }
-        from = cell.place as u32 + cell.size as u32;
+}
+
+impl<'a, M: Cells> Resumes for BySuspended<'a, M> {
+    ghost use Rattle.mcs51_resume.specs.Resume.{place_byte, resumed_cell_word};
+
+    ghost words = { λ by. resumed_cell_word (place_byte by.framed by.at.now by.pc) };
+
+    fn word(&self, cell: &Cell) -> Word {
+        resume_word(self.framed, self.at, self.pc, &cell.word)
     }
-    Ok(())
 }
 
 /// RAM as it goes on.
@@ -125,7 +67,6 @@ pub(crate) fn resume_cells<M: Cells>(
     ensures { IfOk result (λ cells. M.map cells
         ≡ resumed_cells (the_resumed.place_byte framed at.now pc) at.now.cells exit.now.cells exit.now.touched) }
 {
-    let mut cells = untouched(alloc, &at.cells, &exit.touched)?;
-    write_touched(&mut cells, framed, at, pc, exit)?;
-    Ok(cells)
+    let resumes = BySuspended { framed, at, pc };
+    cells_behind(alloc, &at.cells, &resumes, &exit.cells, &exit.touched)
 }

@@ -1,34 +1,25 @@
 //! The facts, as they go on.
 
 ghost use Rattle.std.specs.Prelude.{◌≡◌};
+ghost use Rattle.irq_frames.specs.Resuming as resuming;
 ghost use Rattle.mcs51_resume.specs.Resume as the_resumed;
 
-use crate::bytes::is_unmasked;
-use entry_value::{Cells, Entry};
+use entry_value::Cells;
+use irq_frames::is_itself;
 use mcs51_state::{CarryFact, Compared, LinearFact, State};
-
-/// Whether a value is what a place held, without a mask.
-fn is_itself(place: u16, entry: &Option<Entry>) -> bool
-    ensures { result ≡ the_resumed.is_itself place entry.now }
-{
-    match entry {
-        Some(entry) => entry.place == place && is_unmasked(entry),
-        None => false,
-    }
-}
 
 /// Whether the accumulator is what it was.
 fn is_accumulator_itself<M: Cells>(exit: &State<M>) -> bool
-    ensures { result ≡ the_resumed.is_itself the_resumed.accumulator_place exit.now.a.entry }
+    ensures { result ≡ resuming.is_itself 255 the_resumed.accumulator_place exit.now.a.entry }
 {
-    is_itself(0x1E0, &exit.a.entry)
+    is_itself(0xFF, 0x1E0, &exit.a.entry)
 }
 
 /// Whether a byte of RAM is what it was.
 fn is_ram_itself<M: Cells>(exit: &State<M>, at: u8) -> bool
     ensures { result ≡ the_resumed.is_ram_itself exit.now at }
 {
-    !exit.touched.has(at as u16) || is_itself(at as u16, &exit.cells.read(at as u16, 1).entry)
+    !exit.touched.has(at as u16) || is_itself(0xFF, at as u16, &exit.cells.read(at as u16, 1).entry)
 }
 
 /// Whether the byte that CJNE compared is what it was.
@@ -60,9 +51,8 @@ pub(crate) fn resume_carry<M: Cells>(exit: &State<M>, fact: &Option<CarryFact>) 
 {
     match fact {
         Some(fact)
-            if is_itself(0x1D0, &exit.psw.entry) && is_compared_itself(exit, fact.compared) => {
-            Some(*fact)
-        }
+            if is_itself(0xFF, 0x1D0, &exit.psw.entry) && is_compared_itself(exit, fact.compared) =>
+            { Some(*fact) }
         _ => None,
     }
 }

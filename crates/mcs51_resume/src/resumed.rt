@@ -1,29 +1,18 @@
 //! Resuming a suspended state.
 
 ghost use Rattle.std.specs.Prelude.{◌≡◌, IfOk};
-ghost use Rattle.mcs51_resume.specs.Resume.{resumed_known, touched_behind};
+ghost use Rattle.mcs51_resume.specs.Resume.{resumed_known};
 
 use crate::bytes::resume_byte;
 use crate::cells::resume_cells;
 use crate::facts::{resume_carry, resume_linear};
 use crate::status::resume_status;
 use entry_value::Cells;
-use irq_frames::Ranges;
+use irq_frames::touched_behind;
 use mcs51_state::State;
 use no_memory::Memory;
 use std::alloc::Global;
 use value_set::Vs8;
-
-/// What may be touched in the state that goes on: in an interrupt's frame what either handler touched, else nothing.
-fn touched(alloc: Global, framed: bool, at: &Ranges, exit: &Ranges) -> Result<Ranges, Memory>
-    ensures { IfOk result (λ all. all ≡ touched_behind framed at.now exit.now) }
-{
-    if framed {
-        at.united(alloc, exit)
-    } else {
-        Ok(Ranges::new(alloc))
-    }
-}
 
 /// What is known where a handler's exit resumes the state that its interrupt suspended at `pc` and at the stack pointer `sp`, of
 /// which `at` is known. Whether that state is in an interrupt's frame itself is `framed`.
@@ -51,6 +40,6 @@ pub fn resume<M: Cells>(
         linear_fact: resume_linear(exit, &at.linear_fact),
         carry_fact: resume_carry(exit, &at.carry_fact),
         cells: resume_cells(alloc, framed, at, pc, exit)?,
-        touched: touched(alloc, framed, &at.touched, &exit.touched)?,
+        touched: touched_behind(alloc, framed, &at.touched, &exit.touched)?,
     })
 }

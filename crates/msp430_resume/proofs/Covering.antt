@@ -1,10 +1,6 @@
 -- What a handler left stands where the suspended state goes on, and what is known there is in form.
-use Rattle.std.proofs.Common.{◌≡◌, ℕ, zero, suc, ◌-◌, ◌%◌, ◌<◌, Bool, true, false, Option, None, Some, List, [], ◌∷◌, map, get_or, sym, ◌∙◌, subst, arith}
-use Rattle.std.specs.Prelude.{◌==◌, Contains}
-use Rattle.std.specs.List.{list_any}
+use Rattle.std.proofs.Common.{◌≡◌, ℕ, zero, suc, ◌-◌, ◌%◌, ◌<◌, Bool, true, false, Option, None, Some, map, get_or, sym, ◌∙◌, subst, arith}
 use Rattle.std.specs.Option.{option_map}
-use Rattle.std.proofs.lemmas.Bool.{or_left, or_right, eq-eqb}
-use Rattle.std.proofs.lemmas.List.Elements.{All-get_or}
 use Rattle.call_context.specs.declared.node.Frame.TheVariants.{Irq}
 use Rattle.value_set.specs.Form.{Has, members}
 use Rattle.value_set.specs.Joining.{is_in}
@@ -13,7 +9,7 @@ use Rattle.value_set.specs.Summing.{single}
 use Rattle.entry_value.specs.declared.word.Word.{Word}
 use Rattle.entry_value.specs.Words.{HoldsOfWord}
 use Rattle.entry_value.specs.Cells.{unknown}
-use Rattle.irq_frames.specs.Resuming.{resumed_word}
+use Rattle.irq_frames.specs.Resuming.{resumed_sized, resumed_word}
 use Rattle.msp430_chip.specs.declared.device.Device.{Device}
 use Rattle.msp430_chip.specs.declared.state.ChipState.{ChipState}
 use Rattle.msp430_chip.specs.State.{IsChipState, register_of}
@@ -22,9 +18,11 @@ use Rattle.msp430_state.specs.Holding.{CameAt, GoesOn, HoldsOf, HoldsOfParts, ra
 use Rattle.msp430_state.specs.Known.{Known, word_of}
 use Rattle.msp430_resume.specs.Resume.{place_word, resumed_known}
 use Rattle.msp430_alu.specs.Laws.{MemoryLaws}
-use Rattle.msp430_resume.proofs.HeldWords.{IsSuspended, each_resumed, has_masks, length-resumed, place_form, relation_tells, resumed_at, resumed_form, word_of_form}
+use Rattle.msp430_resume.proofs.HeldWords.{IsSuspended, each_resumed, has_masks, register_small, length-resumed, place_form, relation_tells, resumed_at, resumed_form, word_of_form}
 use Rattle.msp430_resume.proofs.Facts.{fact_form, fact_holds, status_form, status_holds}
-use Rattle.msp430_resume.proofs.CellParts.{can_resume, cells_form, each_cell, each_tells, map_form, none_touched, touched_form, untouched_behind}
+use Rattle.msp430_resume.proofs.CellParts.{can_resume, cells_form, each_cell, each_tells, map_form, untouched_behind}
+use Rattle.irq_frames.specs.TouchFacts.{none_touched, touched_form}
+use Rattle.plain_lemmas.specs.AnyOf.{any_from}
 
 -- COVER
 
@@ -50,19 +48,18 @@ parts_stand laws device framed a exit f t first sp below base is form state left
     let pc = register_of f 0 in
     let places = place_word a pc in
     let under = option_map suspended_of first in
+    let can = can_resume laws device.ram.lo device.ram.hi framed a exit pc below small is.form form in
     record {
       sp = subst (Has 65536 (single sp)) (sym at) (laws.known.sets.single 65536 sp sp_small).1;
       status = status_holds laws device framed a f first exit.status (register_of t 2) is form.status state.status left.status;
       words = λ register above low. word_stands laws device framed a exit f first register (register_of t register) is form small above low (left.words register above low);
       fact = fact_holds device exit f t a.fact is.state state is.form.fact is.parts.fact left.status.entry (λ register above low. (left.words register above low).1);
-      cells = laws.known.frames.untouched places (suspended_of f) under (ram_byte device f.ram) (ram_byte device t.ram) a.cells exit.cells exit.touched
-          (map_form device.ram.lo device.ram.hi framed a below is.form) (can_resume laws device.ram.lo device.ram.hi framed a exit pc below small is.form form)
-          (each_tells laws device framed a exit f first is form) left.untouched is.parts.cells left.cells;
+      cells = laws.known.frames.untouched (resumed_sized places) under (ram_byte device f.ram) (ram_byte device t.ram) a.cells exit.cells exit.touched
+          (map_form device.ram.lo device.ram.hi framed a below is.form) can.form (laws.known.frames.sized_fit places exit.cells can)
+          (laws.known.frames.sized_hold places (suspended_of f) under (ram_byte device t.ram) exit.cells can (each_tells laws device framed a exit f first is form) left.cells)
+          left.untouched left.cells.0 is.parts.cells;
       untouched = untouched_behind laws device framed a.touched exit.touched f t.ram first base is.parts.untouched left.untouched;
     }
-
-register_small : (device : Device) (s : ChipState) → IsChipState device s → (register : ℕ) → register < 16 → register_of s register < 65536
-register_small device s is register lt = All-get_or (λ r. r < 65536) s.registers register 0 (omega (arith, lt, is.registers)) is.words
 
 pub covers : (laws : MemoryLaws) (device : Device) (framed : Bool) (a exit : Known) (f t : ChipState) (first : Option ChipState) (vector sp level : ℕ) → device.ram.hi < 65536
     → (framed ≡ false → first ≡ None) → IsKnown device.ram.lo device.ram.hi framed a → IsKnown device.ram.lo device.ram.hi true exit
@@ -79,11 +76,6 @@ covers laws device framed a exit f t first vector sp level below base form exit_
       late = left.late;
       parts = parts_stand laws device framed a exit f t first sp below base is exit_form left.state left.parts small goes.1 sp_small;
     }
-
-any_from : (v : ℕ) (xs : List ℕ) → Contains xs v → list_any (λ x. x == v) xs ≡ true
-any_from v [] held = absurd (omega (arith, held.1))
-any_from v (x ∷ xs) (zero, lt, is) = or_left (x == v) (list_any (λ y. y == v) xs) (eq-eqb x v is)
-any_from v (x ∷ xs) (suc k, lt, is) = or_right (x == v) (list_any (λ y. y == v) xs) (any_from v xs (k, omega arith, is))
 
 pub has_pointer : (device : Device) (a : Known) (f : ChipState) (first : Option ChipState) (sp : ℕ) → HoldsOf device a f first → CameAt (Some sp) f → is_in 65536 a.sp sp ≡ true
 has_pointer device a f first sp holds came = any_from sp (members 65536 a.sp) (subst (Has 65536 a.sp) came holds.parts.sp)
@@ -107,10 +99,10 @@ in_form laws lo hi framed a exit pc sp below form exit_form pc_so sp_so =
       count = length-resumed (resumed_word places) exit.registers ∙ exit_form.count;
       registers = each_resumed (IsWord true) (IsWord framed) (resumed_word places) exit.registers (λ word. resumed_form laws framed places word (place_form laws lo hi framed a pc pc_so.0 form)) exit_form.registers;
       fact = fact_form exit a.fact form.fact;
-      from = laws.known.frames.untouched_lo places a.cells exit.cells exit.touched ∙ form.from;
-      up_to = laws.known.frames.untouched_hi places a.cells exit.cells exit.touched ∙ form.up_to;
+      from = laws.known.frames.untouched_lo (resumed_sized places) a.cells exit.cells exit.touched ∙ form.from;
+      up_to = laws.known.frames.untouched_hi (resumed_sized places) a.cells exit.cells exit.touched ∙ form.up_to;
       cells = cells_form laws lo hi framed a exit pc below pc_so.0 form exit_form;
       each_cell = each_cell laws lo hi framed a exit pc pc_so.0 form exit_form;
-      touched = touched_form laws lo hi framed a.touched exit.touched form.touched exit_form.touched;
+      touched = touched_form laws.known.ranges lo hi framed a.touched exit.touched form.touched exit_form.touched;
       none_touched = none_touched framed a.touched exit.touched;
     }

@@ -1,10 +1,9 @@
 -- SR and the flag fact where a suspended state goes on.
-use Rattle.std.proofs.Common.{◌≡◌, ℕ, ◌+◌, ◌*◌, ◌/◌, ◌%◌, ◌^◌, ◌<◌, Bool, true, false, Option, None, Some, length, sym, ap, ◌∙◌, subst, arith, bit_and, bit_or}
+use Rattle.std.proofs.Common.{◌≡◌, ℕ, ◌+◌, ◌*◌, ◌/◌, ◌%◌, ◌^◌, ◌<◌, Bool, true, false, Option, None, Some, length, sym, ap, ◌∙◌, subst, arith, bit_and}
 use Rattle.std.specs.Prelude.{◌==◌, ◌&&◌}
-use Rattle.std.specs.Int.Bits.{or_zero_r}
 use Rattle.std.specs.Option.{option_map}
-use Rattle.std.proofs.lemmas.Bool.{and_parts, eqb-true, ne_eqb, cond_both}
-use Rattle.std.proofs.lemmas.Nat.{and_mask, and_le_l, and_assoc, or_lt}
+use Rattle.std.proofs.lemmas.Bool.{and_parts, ne_eqb, cond_both}
+use Rattle.std.proofs.lemmas.Nat.{and_le_l, and_assoc, or_lt}
 use Rattle.value_bits.specs.Bits.{Agrees}
 use Rattle.entry_value.specs.declared.word.Entry.{Entry}
 use Rattle.entry_value.specs.Words.{Reads, IsFromEntry, entry_and}
@@ -18,10 +17,14 @@ use Rattle.msp430_state.specs.declared.status.Status.{Status}
 use Rattle.msp430_state.specs.Forms.{IsFact, IsStatusRelation}
 use Rattle.msp430_state.specs.Holding.{HasFlagsOf, HoldsOfFact, HoldsOfStatus, suspended_of}
 use Rattle.msp430_state.specs.Known.{Known, word_of}
-use Rattle.msp430_resume.specs.Resume.{masked_bits, masked_entry, status_by, status_resumed, is_itself, fact_resumed}
+use Rattle.msp430_state.specs.FormFacts.{no_status_relation}
+use Rattle.irq_frames.specs.Masking.{masked_bits, masked_entry}
+use Rattle.irq_frames.specs.MaskFacts.{Low, itself_read, low_agrees, low_from, low_wider, masked_length, masked_low}
+use Rattle.irq_frames.specs.Resuming.{is_itself}
+use Rattle.plain_lemmas.specs.Small.{word_alone}
+use Rattle.msp430_resume.specs.Resume.{fact_resumed, status_by, status_resumed}
 use Rattle.msp430_alu.specs.Laws.{MemoryLaws}
 use Rattle.msp430_resume.proofs.HeldWords.{IsSuspended, reads_itself, reads_status, status_held}
-use Rattle.msp430_resume.proofs.StatusBits.{Low, low_from, low_agrees, low_wider, masked_low, masked_length}
 
 -- SR
 
@@ -51,10 +54,6 @@ pub status_holds : (laws : MemoryLaws) (device : Device) (framed : Bool) (a : Kn
 status_holds laws device framed a f first exit sr is form small holds = by_holds laws device framed a f first exit exit.entry sr is form small holds.bits holds.entry
 
 -- its form
-no_status_relation : (framed : Bool) → IsStatusRelation framed None
-no_status_relation true = tt
-no_status_relation false = tt
-
 masked_form : (framed : Bool) (entry : Entry) (held : Option Entry) → IsStatusRelation true (Some entry) → IsStatusRelation framed held → IsStatusRelation framed (masked_entry entry held)
 masked_form framed entry None masks form = no_status_relation framed
 masked_form false entry (Some held) masks form = form
@@ -75,18 +74,14 @@ status_form framed held exit = by_form framed held exit exit.entry
 
 -- THE FACT
 
-word_alone : (x : ℕ) → x < 65536 → x % 65536 ≡ x
-word_alone x small = omega arith
+word_is : (word v : ℕ) → word < 65536 → v ≡ word % 65536 → v ≡ word
+word_is word v below is = is ∙ word_alone word below
 
 -- a value that is what a place held is a number that the place may be read as
-itself_read : (f : ChipState) (place v : ℕ) (entry : Option Entry) → is_itself place entry ≡ true → IsFromEntry (Some (suspended_of f)) entry v → Reads (suspended_of f) place v
-itself_read f place v None is from = absurd (cc)
-itself_read f place v (Some entry) is (word, reads, made) =
-    let masks = and_parts ((entry.place == place) && (entry.and == 65535)) (entry.or == 0) is in
-    let parts = and_parts (entry.place == place) (entry.and == 65535) masks.0 in
-    let all : bit_and word entry.and ≡ word = ap (bit_and word) (eqb-true entry.and 65535 parts.1) ∙ and_mask word 16 ∙ word_alone word reads.0 in
-    let same : v ≡ word = made ∙ ap (bit_or (bit_and word entry.and)) (eqb-true entry.or 0 masks.1) ∙ or_zero_r (bit_and word entry.and) ∙ all in
-    subst (Reads (suspended_of f) place) (sym same) (subst (λ p. Reads (suspended_of f) p word) (eqb-true entry.place place parts.0) reads)
+itself_is : (f : ChipState) (place v : ℕ) (entry : Option Entry) → is_itself 65535 place entry ≡ true → IsFromEntry (Some (suspended_of f)) entry v → Reads (suspended_of f) place v
+itself_is f place v entry is from =
+    let (word, reads, made) = itself_read 16 (suspended_of f) place v entry is from in
+    subst (Reads (suspended_of f) place) (sym (word_is word v reads.0 made)) reads
 
 past_status : (register : ℕ) → 3 < register → register ≡ 2 → ⊥
 past_status register lt is = absurd (omega (arith, lt, is))
@@ -103,17 +98,18 @@ pub fact_holds : (device : Device) (exit : Known) (f t : ChipState) (fact : Opti
     → HoldsOfFact (fact_resumed exit fact) t.registers
 fact_holds device exit f t None f_is t_is form holds status words = tt
 fact_holds device exit f t (Some fact) f_is t_is (above, below, added, compared) holds status words =
-    let first = is_itself 2 exit.status.entry in
-    let second = is_itself fact.register (word_of exit fact.register).entry in
+    let first = is_itself 65535 2 exit.status.entry in
+    let second = is_itself 65535 fact.register (word_of exit fact.register).entry in
     cond_both (first && second) (Some fact) None (λ kept. HoldsOfFact kept t.registers)
     (λ e. let both = and_parts first second e in
-    let sr_number = reads_status device f f_is (register_of t 2) (itself_read f 2 (register_of t 2) exit.status.entry both.0 status) in
+    let sr_number = reads_status device f f_is (register_of t 2) (itself_is f 2 (register_of t 2) exit.status.entry both.0 status) in
     let sr : register_of f 2 ≡ register_of t 2 = omega (arith, sr_number, t_is.status) in
     let value : register_of f fact.register ≡ register_of t fact.register = sym (reads_itself device f f_is fact.register (register_of t fact.register) (not_status fact.register above) below
-    (itself_read f fact.register (register_of t fact.register) (word_of exit fact.register).entry both.1 (words fact.register above below))) in
+    (itself_is f fact.register (register_of t fact.register) (word_of exit fact.register).entry both.1 (words fact.register above below))) in
     subst (λ (n : ℕ). SaysOfFlags fact n (register_of t 2)) value (subst (λ (n : ℕ). SaysOfFlags fact (register_of f fact.register) n) sr holds))
     (λ e. tt)
 
 pub fact_form : (exit : Known) (fact : Option FlagFact) → IsFact fact → IsFact (fact_resumed exit fact)
 fact_form exit None form = tt
-fact_form exit (Some fact) form = cond_both (is_itself 2 exit.status.entry && is_itself fact.register (word_of exit fact.register).entry) (Some fact) None IsFact (λ e. form) (λ e. tt)
+fact_form exit (Some fact) form =
+    cond_both (is_itself 65535 2 exit.status.entry && is_itself 65535 fact.register (word_of exit fact.register).entry) (Some fact) None IsFact (λ e. form) (λ e. tt)

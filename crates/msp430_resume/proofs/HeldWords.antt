@@ -5,12 +5,12 @@ use Rattle.std.specs.Option.{option_map}
 use Rattle.std.proofs.lemmas.Bool.{cases_lt, and_parts, or_cases, eqb-true, cond_both, ltb-true}
 use Rattle.std.proofs.lemmas.List.{get_or_past}
 use Rattle.std.proofs.lemmas.List.Elements.{All-get_or, All-nil, All-cons, All-head, All-tail}
-use Rattle.std.proofs.lemmas.Nat.{and_mask, and_le_l, or_lt}
+use Rattle.std.proofs.lemmas.Nat.{and_mask}
 use Rattle.value_set.specs.Form.{Has}
 use Rattle.value_set.specs.Summing.{single}
 use Rattle.entry_value.specs.declared.word.Entry.{Entry}
 use Rattle.entry_value.specs.declared.word.Word.{Word}
-use Rattle.entry_value.specs.Words.{Reads, HoldsOfWord, entry_and, entry_or}
+use Rattle.entry_value.specs.Words.{Reads, HoldsOfWord, entry_and}
 use Rattle.entry_value.specs.Cells.{unknown}
 use Rattle.irq_frames.specs.Resuming.{HasMasks, IsBehind, Tells, resumed_word}
 use Rattle.msp430_chip.specs.declared.device.Device.{Device}
@@ -19,14 +19,13 @@ use Rattle.msp430_chip.specs.State.{IsChipState, register_of}
 use Rattle.msp430_state.specs.Forms.{IsKnown, IsRelation, IsWord, is_place}
 use Rattle.msp430_state.specs.Holding.{HoldsOfParts, held_bits, suspended_of}
 use Rattle.msp430_state.specs.Known.{Known, word_of}
+use Rattle.msp430_state.specs.FormFacts.{and_form, no_relation, or_form}
+use Rattle.plain_lemmas.specs.Cases.{clash}
+use Rattle.plain_lemmas.specs.Small.{word_alone}
 use Rattle.msp430_resume.specs.Resume.{place_word, status_word}
 use Rattle.msp430_alu.specs.Laws.{MemoryLaws}
 
 -- FORM
-
-no_relation : (framed : Bool) → IsRelation framed None
-no_relation true = tt
-no_relation false = tt
 
 pub word_of_form : (laws : MemoryLaws) (framed : Bool) (registers : List Word) → All (IsWord framed) registers → (index : ℕ) → IsWord framed (get_or registers index (unknown 2))
 word_of_form laws framed registers form index = elim (cases_lt index (length registers)) [
@@ -45,19 +44,6 @@ place_form laws lo hi framed a pc small form place = cond_both (place == 0) (rec
 pub has_masks : (entry : Option Entry) → IsRelation true entry → HasMasks entry
 has_masks None form = tt
 has_masks (Some entry) form = (form.1, form.2)
-
-and_form : (framed : Bool) (m : ℕ) (entry : Option Entry) → IsRelation framed entry → IsRelation framed (option_map (entry_and m) entry)
-and_form framed m None form = no_relation framed
-and_form false m (Some entry) form = form
-and_form true m (Some entry) (place, and_small, or_small) =
-    let first = and_le_l entry.and m in
-    let second = and_le_l entry.or m in
-    (place, omega (arith, and_small, first), omega (arith, or_small, second))
-
-or_form : (framed : Bool) (m : ℕ) (entry : Option Entry) → m < 65536 → IsRelation framed entry → IsRelation framed (option_map (entry_or m) entry)
-or_form framed m None small form = no_relation framed
-or_form false m (Some entry) small form = form
-or_form true m (Some entry) small (place, and_small, or_small) = (place, and_small, or_lt 16 entry.or m or_small small)
 
 behind_form : (framed : Bool) (entry : Entry) (held behind : Option Entry) → IsRelation true (Some entry) → IsBehind entry held behind → IsRelation framed held → IsRelation framed behind
 behind_form framed entry held behind masks (inl same) form = subst (IsRelation framed) (sym same) form
@@ -91,11 +77,8 @@ resumed_at g (word ∷ words) (suc i) d lt = resumed_at g words i d (omega arith
 
 -- WHAT A PLACE MAY BE READ AS
 
-register_small : (device : Device) (f : ChipState) → IsChipState device f → (register : ℕ) → register < 16 → register_of f register < 65536
+pub register_small : (device : Device) (f : ChipState) → IsChipState device f → (register : ℕ) → register < 16 → register_of f register < 65536
 register_small device f is register lt = All-get_or (λ r. r < 65536) f.registers register 0 (omega (arith, lt, is.registers)) is.words
-
-word_alone : (x : ℕ) → x < 65536 → x % 65536 ≡ x
-word_alone x small = omega arith
 
 pub reads_itself : (device : Device) (f : ChipState) → IsChipState device f → (place word : ℕ) → (place == 2) ≡ false → place < 16 → Reads (suspended_of f) place word → word ≡ register_of f place
 reads_itself device f is place word other lt reads =
@@ -107,9 +90,6 @@ pub reads_status : (device : Device) (f : ChipState) → IsChipState device f �
 reads_status device f is word reads =
     let same : word % 512 ≡ register_of f 2 % 512 = sym (and_mask word 9) ∙ reads.1 ∙ and_mask (register_of f 2) 9 in
     omega (arith, same, is.status)
-
-clash : (x : Bool) → x ≡ true → x ≡ false → ⊥
-clash x h k = absurd (cc)
 
 general_place : (place : ℕ) → is_place place ≡ true → (place == 0) ≡ false → (place == 2) ≡ false → (3 < place) × (place < 16)
 general_place place is no_pc no_sr = elim (or_cases ((place == 0) || (place == 2)) (nat_lt 3 place && nat_lt place 16) is) [

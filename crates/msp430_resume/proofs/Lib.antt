@@ -1,4 +1,3 @@
-pub mod StatusBits
 pub mod HeldWords
 pub mod Facts
 pub mod CellParts

@@ -5,11 +5,12 @@ use Rattle.value_set.specs.Summing.{single}
 use Rattle.value_bits.specs.declared.tri.Tri.{Tri}
 use Rattle.entry_value.specs.declared.word.Word.{Word}
 use Rattle.entry_value.specs.Cells.{CellMap}
+use Rattle.irq_frames.specs.Ranges.{touched_behind}
 use Rattle.irq_frames.specs.Resuming.{resumed_cells, resumed_word}
 use Rattle.msp430_state.specs.declared.fact.FlagFact.{FlagFact}
 use Rattle.msp430_state.specs.declared.status.Status.{Status}
 use Rattle.msp430_state.specs.Known.{Known}
-use Rattle.msp430_resume.specs.Resume.{fact_resumed, place_word, resumed_known, status_resumed, touched_behind}
+use Rattle.msp430_resume.specs.Resume.{fact_resumed, place_word, resumed_known, status_resumed}
 
 pub made : (framed : Bool) (a : Known) (pc sp : ℕ) (exit : Known) (set : Form) (status : Status) (late : Tri) (registers : List Word) (fact : Option FlagFact) (cells : CellMap) (touched : List (ℕ × ℕ))
     → set ≡ single sp → status ≡ status_resumed a.status exit.status → late ≡ exit.late → registers ≡ map (resumed_word (place_word a pc)) exit.registers

@@ -6,7 +6,7 @@ ghost use Rattle.entry_value.specs.Cells as the_cells;
 ghost use Rattle.irq_frames.specs.Resuming.{resumed_word};
 ghost use Rattle.msp430_resume.specs.Resume.{held_word, place_word};
 
-use entry_value::{Cells, Word};
+use entry_value::{Cells, Word, unknown};
 use irq_frames::{Places, resume_by};
 use msp430_alu::register_word as operand_of;
 use msp430_decode::Register;
@@ -21,23 +21,13 @@ pub(crate) struct Held {
     pub(crate) registers: [Word; 12],
 }
 
-/// A word of which nothing is known.
-pub(crate) fn unknown() -> Word
-    ensures { result ≡ the_cells.unknown 2 }
-{
-    Word {
-        set: Vs16::any(),
-        entry: None,
-    }
-}
-
 /// One of R4 to R15, by its number.
 pub(crate) fn register_word(registers: &[Word; 12], register: u16) -> Word
     ensures { result ≡ slice_index_or registers.now (register - 4) (the_cells.unknown 2) }
 {
     match registers.get(register.saturating_sub(4) as usize) {
         Some(word) => *word,
-        None => unknown(),
+        None => unknown(2),
     }
 }
 
@@ -64,7 +54,7 @@ impl Places for Held {
 fn copy_all(words: &[Word; 12]) -> [Word; 12]
     ensures { result ≡ words.now }
 {
-    let mut all = [unknown(); 12];
+    let mut all = [unknown(2); 12];
     all.copy_from_slice(words.as_slice());
     all
 }
@@ -84,7 +74,7 @@ pub(crate) fn places_of<M: Cells>(at: &State<M>, pc: u16) -> Held
 pub(crate) fn resume_all(held: &Held, exit: &[Word; 12]) -> [Word; 12]
     ensures { result ≡ map (resumed_word (held_word held.now.pc held.now.status held.now.registers)) exit.now }
 {
-    let mut words = [unknown(); 12];
+    let mut words = [unknown(2); 12];
     for i in 0..12 {
         words[i] = resume_by(held, &exit[i]);
     }

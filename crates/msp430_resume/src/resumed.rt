@@ -1,27 +1,16 @@
 //! Resuming a suspended state.
 
 ghost use Rattle.std.specs.Prelude.{◌≡◌, IfOk};
-ghost use Rattle.msp430_resume.specs.Resume.{place_word, resumed_known, touched_behind};
+ghost use Rattle.msp430_resume.specs.Resume.{resumed_known};
 
 use crate::places::{places_of, resume_all};
 use crate::status::{resume_fact, resume_status};
 use entry_value::Cells;
-use irq_frames::{Ranges, resume_cells};
+use irq_frames::{resume_cells, touched_behind};
 use msp430_state::State;
 use no_memory::Memory;
 use std::alloc::Global;
 use value_set::Vs16;
-
-/// What may be touched in the state that goes on: in an interrupt's frame what either handler touched, else nothing.
-fn touched(alloc: Global, framed: bool, at: &Ranges, exit: &Ranges) -> Result<Ranges, Memory>
-    ensures { IfOk result (λ all. all ≡ touched_behind framed at.now exit.now) }
-{
-    if framed {
-        at.united(alloc, exit)
-    } else {
-        Ok(Ranges::new(alloc))
-    }
-}
 
 /// What is known where a handler's exit resumes the state that its interrupt suspended at `pc` and at the stack pointer `sp`, of
 /// which `at` is known. Whether that state is in an interrupt's frame itself is `framed`. A cell of one byte of the exit stays
@@ -44,6 +33,6 @@ pub fn resume<M: Cells>(
         registers: resume_all(&places, &exit.registers),
         fact: resume_fact(exit, &at.fact),
         cells: resume_cells(alloc, &at.cells, &places, &exit.cells, &exit.touched)?,
-        touched: touched(alloc, framed, &at.touched, &exit.touched)?,
+        touched: touched_behind(alloc, framed, &at.touched, &exit.touched)?,
     })
 }

@@ -1,5 +1,5 @@
 use Rattle.value_set.specs.Form.{members}
-use Rattle.abs_memory.proofs.Members.{any_is}
+use Rattle.plain_lemmas.specs.AnyOf.{any_is}
 use Rattle.abs_memory.proofs.writing.is_in.Goals as goal
 
 pub returns : goal.returns

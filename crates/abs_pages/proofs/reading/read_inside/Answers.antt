@@ -1,4 +1,4 @@
-use Rattle.std.proofs.Common.{◌≡◌, ◌/◌, ◌∙◌, ap, refl, sym, [], arith}
+use Rattle.std.proofs.Common.{◌≡◌, ◌/◌, ◌∙◌, refl, sym, [], arith}
 use Rattle.abs_pages.specs.Paging.{cells_at}
 use Rattle.abs_pages.proofs.Flat.{cells_none}
 use Rattle.abs_pages.proofs.Inside.{AreSeen, read_none, read_seen}
@@ -34,4 +34,4 @@ returns-in-None c =
       own = tt;
       is = none;
     } in
-    c.nothing_known.ensures ∙ (sym (read_none at size c.requires.size) ∙ sym (read_seen pages (at / 32) [] at size seen (omega arith) refl c.requires.size c.requires.inside))
+    c.unknown.ensures.value ∙ (sym (read_none at size c.requires.size) ∙ sym (read_seen pages (at / 32) [] at size seen (omega arith) refl c.requires.size c.requires.inside))

@@ -1,9 +1,10 @@
 use Rattle.std.proofs.Common.{ℕ, map, ap, ◌∙◌}
 use Rattle.std.proofs.Math.Path.{ap₂}
 use Rattle.entry_value.specs.declared.word.Word.{Word as AWord}
+use Rattle.irq_frames.specs.Ranges.{touched_behind}
 use Rattle.irq_frames.specs.Resuming.{resumed_cells, resumed_word}
 use Rattle.msp430_state.specs.Known.{Known}
-use Rattle.msp430_resume.specs.Resume.{fact_resumed, place_word, status_resumed, touched_behind}
+use Rattle.msp430_resume.specs.Resume.{fact_resumed, place_word, status_resumed}
 use Rattle.msp430_resume.proofs.Made.{made}
 use Rattle.msp430_resume.proofs.resumed.resume.Goals as goal
 
@@ -24,4 +25,4 @@ returns g c =
     (c.resume_fact.ensures ∙ ap (λ (x : Known). fact_resumed exit x.fact) at_is)
     (c.in_ok-resume_cells.ensures ∙ ap (λ (p : ℕ → AWord). resumed_cells p (g.M.Cells.map c.at.inside.cells) (g.M.Cells.map c.exit.inside.cells) c.exit.inside.touched) named
     ∙ ap₂ (λ (x y : Known). resumed_cells places x.cells y.cells y.touched) at_is exit_is)
-    (c.in_ok-touched.ensures ∙ ap₂ (λ (x y : Known). touched_behind c.args.framed x.touched y.touched) at_is exit_is)
+    (c.in_ok-touched_behind.ensures ∙ ap₂ (λ (x y : Known). touched_behind c.args.framed x.touched y.touched) at_is exit_is)

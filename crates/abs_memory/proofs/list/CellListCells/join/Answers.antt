@@ -1,5 +1,7 @@
-use Rattle.std.proofs.Common.{◌≡◌, sym, subst}
-use Rattle.entry_value.specs.Cells.{CellMap, AreCells, StandsUnder, join_cells}
+use Rattle.std.proofs.Common.{◌≡◌}
+use Rattle.entry_value.specs.Cells.{join_cells}
+use Rattle.entry_value.specs.Representing.{is_united, joins_unite}
+use Rattle.abs_memory.proofs.Seen.{map_of, seen}
 use Rattle.abs_memory.proofs.Lists.{list_ascends}
 use Rattle.abs_memory.proofs.list.CellListCells.join.Goals as goal
 
@@ -11,29 +13,22 @@ join-requires-clause-new c = rw c.deref-2.ensures.value (list_ascends c.other.in
 
 pub invariant_of-result : goal.invariant_of-result
 invariant_of-result c =
-    let fields = c.self.inside in
-    let items : c.in_ok-join.field-0.items ≡ join_cells fields.cells.items c.other.inside.cells.items = rw (c.deref.ensures.value, c.deref-2.ensures.value) at c.in_ok-join.ensures in
-    record {
-      some = c.self.invariant.some;
-      high = c.self.invariant.high;
-      are = subst (λ cells. AreCells fields.lo fields.hi fields.lo cells) (sym items)
-          (c.unions_keep_form.ensures.join fields.lo fields.hi fields.lo c.other.inside.lo c.other.inside.hi c.other.inside.lo fields.cells.items c.other.inside.cells.items c.self.invariant.are c.other.invariant.are);
-    }
-
-pub returns-clause-own : goal.returns-clause-own
-returns-clause-own c = λ first ram under.
     let held = c.self.inside in
     let new = c.other.inside in
     let items : c.in_ok-join.field-0.items ≡ join_cells held.cells.items new.cells.items = rw (c.deref.ensures.value, c.deref-2.ensures.value) at c.in_ok-join.ensures in
-    let stands : StandsUnder first c.self.inside.cells.items ram = subst (λ (one : CellMap). StandsUnder first one.cells ram) (sym c.self.view_is) under in
-    subst (λ cells. StandsUnder first cells ram) (sym items)
-    (c.unions_cover.ensures.own first ram held.lo held.hi held.lo new.lo new.hi new.lo held.cells.items new.cells.items c.self.invariant.are c.other.invariant.are stands)
+    let all = is_united join_cells (joins_unite c.cell_laws.ensures) (map_of held.lo held.hi held.cells.items) c.args.self.now
+    (map_of new.lo new.hi new.cells.items) c.args.other.now
+    c.in_ok-join.field-0.items (seen held.lo held.hi held.cells.items c.args.self.now c.self.invariant c.self.view_is)
+    (seen new.lo new.hi new.cells.items c.args.other.now c.other.invariant c.other.view_is) items in
+    record { some = c.self.invariant.some; high = c.self.invariant.high; are = all.are }
 
-pub returns-clause-others : goal.returns-clause-others
-returns-clause-others c = λ first ram under.
+pub returns : goal.returns
+returns c =
     let held = c.self.inside in
     let new = c.other.inside in
     let items : c.in_ok-join.field-0.items ≡ join_cells held.cells.items new.cells.items = rw (c.deref.ensures.value, c.deref-2.ensures.value) at c.in_ok-join.ensures in
-    let stands : StandsUnder first c.other.inside.cells.items ram = subst (λ (one : CellMap). StandsUnder first one.cells ram) (sym c.other.view_is) under in
-    subst (λ cells. StandsUnder first cells ram) (sym items)
-    (c.unions_cover.ensures.others first ram held.lo held.hi held.lo new.lo new.hi new.lo held.cells.items new.cells.items c.self.invariant.are c.other.invariant.are stands)
+    let all = is_united join_cells (joins_unite c.cell_laws.ensures) (map_of held.lo held.hi held.cells.items) c.args.self.now
+    (map_of new.lo new.hi new.cells.items) c.args.other.now
+    c.in_ok-join.field-0.items (seen held.lo held.hi held.cells.items c.args.self.now c.self.invariant c.self.view_is)
+    (seen new.lo new.hi new.cells.items c.args.other.now c.other.invariant c.other.view_is) items in
+    record { value = all.value; own = all.own; others = all.others }

@@ -1,6 +1,9 @@
-use Rattle.std.proofs.Common.{◌≡◌, sym, subst}
-use Rattle.entry_value.specs.Cells.{CellMap, AreCells, StandsUnder, widen_cells}
-use Rattle.abs_memory.proofs.Lists.{list_ascends, marks_below}
+use Rattle.std.proofs.Common.{◌≡◌}
+use Rattle.entry_value.specs.Cells.{widen_cells}
+use Rattle.entry_value.specs.Representing.{is_united, widenings_unite}
+use Rattle.abs_memory.proofs.Seen.{map_of, seen}
+use Rattle.abs_memory.specs.Joining.{marks_below}
+use Rattle.abs_memory.proofs.Lists.{list_ascends}
 use Rattle.abs_memory.proofs.list.CellListCells.widen.Goals as goal
 
 pub widen-requires-clause-held : goal.widen-requires-clause-held
@@ -11,29 +14,26 @@ widen-requires-clause-new c = rw c.deref-2.ensures.value (list_ascends c.new.ins
 
 pub invariant_of-result : goal.invariant_of-result
 invariant_of-result c =
-    let fields = c.self.inside in
-    let items : c.in_ok-widen.field-0.items ≡ widen_cells fields.cells.items c.new.inside.cells.items c.args.marks.now = rw (c.deref.ensures.value, c.deref-2.ensures.value) at c.in_ok-widen.ensures in
-    record {
-      some = c.self.invariant.some;
-      high = c.self.invariant.high;
-      are = subst (λ cells. AreCells fields.lo fields.hi fields.lo cells) (sym items)
-          (c.unions_keep_form.ensures.widen fields.lo fields.hi fields.lo c.new.inside.lo c.new.inside.hi c.new.inside.lo fields.cells.items c.new.inside.cells.items c.args.marks.now c.self.invariant.are c.new.invariant.are (marks_below c.args.marks.now (λ k. (c.type_inv.marks k).fits)));
-    }
-
-pub returns-clause-held : goal.returns-clause-held
-returns-clause-held c = λ first ram under.
     let held = c.self.inside in
     let new = c.new.inside in
-    let items : c.in_ok-widen.field-0.items ≡ widen_cells held.cells.items new.cells.items c.args.marks.now = rw (c.deref.ensures.value, c.deref-2.ensures.value) at c.in_ok-widen.ensures in
-    let stands : StandsUnder first c.self.inside.cells.items ram = subst (λ (one : CellMap). StandsUnder first one.cells ram) (sym c.self.view_is) under in
-    subst (λ cells. StandsUnder first cells ram) (sym items)
-    (c.unions_cover.ensures.held first ram held.lo held.hi held.lo new.lo new.hi new.lo held.cells.items new.cells.items c.args.marks.now c.self.invariant.are c.new.invariant.are (marks_below c.args.marks.now (λ k. (c.type_inv.marks k).fits)) stands)
+    let marks = c.args.marks.now in
+    let items : c.in_ok-widen.field-0.items ≡ widen_cells held.cells.items new.cells.items marks = rw (c.deref.ensures.value, c.deref-2.ensures.value) at c.in_ok-widen.ensures in
+    let all = is_united (λ held new. widen_cells held new marks)
+    (widenings_unite c.cell_laws.ensures marks (marks_below marks (λ k. (c.type_inv.marks k).fits)))
+    (map_of held.lo held.hi held.cells.items) c.args.self.now (map_of new.lo new.hi new.cells.items) c.args.new.now
+    c.in_ok-widen.field-0.items (seen held.lo held.hi held.cells.items c.args.self.now c.self.invariant c.self.view_is)
+    (seen new.lo new.hi new.cells.items c.args.new.now c.new.invariant c.new.view_is) items in
+    record { some = c.self.invariant.some; high = c.self.invariant.high; are = all.are }
 
-pub returns-clause-added : goal.returns-clause-added
-returns-clause-added c = λ first ram under.
+pub returns : goal.returns
+returns c =
     let held = c.self.inside in
     let new = c.new.inside in
-    let items : c.in_ok-widen.field-0.items ≡ widen_cells held.cells.items new.cells.items c.args.marks.now = rw (c.deref.ensures.value, c.deref-2.ensures.value) at c.in_ok-widen.ensures in
-    let stands : StandsUnder first c.new.inside.cells.items ram = subst (λ (one : CellMap). StandsUnder first one.cells ram) (sym c.new.view_is) under in
-    subst (λ cells. StandsUnder first cells ram) (sym items)
-    (c.unions_cover.ensures.added first ram held.lo held.hi held.lo new.lo new.hi new.lo held.cells.items new.cells.items c.args.marks.now c.self.invariant.are c.new.invariant.are (marks_below c.args.marks.now (λ k. (c.type_inv.marks k).fits)) stands)
+    let marks = c.args.marks.now in
+    let items : c.in_ok-widen.field-0.items ≡ widen_cells held.cells.items new.cells.items marks = rw (c.deref.ensures.value, c.deref-2.ensures.value) at c.in_ok-widen.ensures in
+    let all = is_united (λ held new. widen_cells held new marks)
+    (widenings_unite c.cell_laws.ensures marks (marks_below marks (λ k. (c.type_inv.marks k).fits)))
+    (map_of held.lo held.hi held.cells.items) c.args.self.now (map_of new.lo new.hi new.cells.items) c.args.new.now
+    c.in_ok-widen.field-0.items (seen held.lo held.hi held.cells.items c.args.self.now c.self.invariant c.self.view_is)
+    (seen new.lo new.hi new.cells.items c.args.new.now c.new.invariant c.new.view_is) items in
+    record { value = all.value; held = all.own; added = all.others }

@@ -1,9 +1,10 @@
-use Rattle.std.proofs.Common.{◌≡◌, ◌∙◌, List, length, sym, subst, ap, arith}
+use Rattle.std.proofs.Common.{◌≡◌, ◌∙◌, sym, subst, ap}
 use Rattle.std.proofs.lemmas.Result.{on_ok_weaker}
-use Rattle.value_set.specs.Form.{members}
-use Rattle.entry_value.specs.declared.cells.Cell.{Cell}
-use Rattle.entry_value.specs.Cells.{CellMap, AreCells, StandsUnder, write_one, write_several, write_any, written}
+use Rattle.value_set.specs.Summing.{count_of}
+use Rattle.entry_value.specs.Cells.{StandsUnder, write_one, write_several, written}
+use Rattle.entry_value.specs.Representing.{is_scattered}
 use Rattle.abs_memory.proofs.Lists.{list_ends}
+use Rattle.abs_memory.proofs.Seen.{map_of, seen}
 use Rattle.abs_memory.proofs.list.CellListCells.write_any.Goals as goal
 
 pub write_several-requires : goal.write_several-requires
@@ -12,47 +13,29 @@ write_several-requires c = list_ends c.self.inside.lo c.self.inside.hi c.self.in
 pub invariant_of-self : goal.invariant_of-self
 unfolding write_several
 invariant_of-self c =
-    let fields = c.self.inside in
-    let map : CellMap = record { lo = fields.lo; hi = fields.hi; cells = fields.cells.items } in
-    let several : length (members 65536 c.args.at.now) ≡ 1 → ⊥ = λ one. c.if-count-eq1.false (c.count.ensures.value ∙ one) in
-    let same : write_any map c.args.at.now c.args.size c.args.value ≡ write_several map c.args.at.now c.args.size c.args.value = c.writes_are_at_one_or_several.ensures.several map c.args.at.now c.args.size c.args.value several in
-    let items : c.write_several.new.cells.items ≡ (write_any map c.args.at.now c.args.size c.args.value).cells = c.write_several.ensures ∙ ap (λ (one : CellMap). one.cells) (sym same) in
-    record {
-      some = c.self.invariant.some;
-      high = c.self.invariant.high;
-      are = subst (λ cells. AreCells fields.lo fields.hi fields.lo cells) (sym items)
-          (c.writes_keep_form.ensures.any fields.lo c.args.size map c.args.at.now c.args.value c.self.invariant.high (omega arith) c.self.invariant.are c.requires.size c.form-2.ensures.normal c.requires.byte);
-    }
+    let held = c.self.inside in
+    let several : count_of 65536 c.args.at.now ≡ 1 → ⊥ = λ one. c.if-count-eq1.false (c.count.ensures.value ∙ one) in
+    let all = is_scattered c.cell_laws.ensures (map_of held.lo held.hi held.cells.items) c.args.self.now c.args.at.now c.args.size c.args.value c.write_several.new.cells.items
+    (seen held.lo held.hi held.cells.items c.args.self.now c.self.invariant c.self.view_is) c.form.ensures.normal
+    (record { sized = c.requires.size; normal = c.form-2.ensures.normal; byte = c.requires.byte }) several c.write_several.ensures in
+    record { some = c.self.invariant.some; high = c.self.invariant.high; are = all.are }
 
-pub returns-clause-value : goal.returns-clause-value
+pub returns : goal.returns
 unfolding write_several
-returns-clause-value c =
-    let fields = c.self.inside in
-    let map : CellMap = record { lo = fields.lo; hi = fields.hi; cells = fields.cells.items } in
-    let several : length (members 65536 c.args.at.now) ≡ 1 → ⊥ = λ one. c.if-count-eq1.false (c.count.ensures.value ∙ one) in
-    let same : write_any map c.args.at.now c.args.size c.args.value ≡ write_several map c.args.at.now c.args.size c.args.value = c.writes_are_at_one_or_several.ensures.several map c.args.at.now c.args.size c.args.value several in
-    let made : List Cell → CellMap = λ cells. record { lo = fields.lo; hi = fields.hi; cells = cells } in
-    let written_several : made c.write_several.new.cells.items ≡ write_several map c.args.at.now c.args.size c.args.value = ap made c.write_several.ensures in
-    written_several ∙ sym same ∙ ap (λ one. write_any one c.args.at.now c.args.size c.args.value) c.self.view_is
-
-pub returns-clause-covers : goal.returns-clause-covers
-unfolding write_several
-returns-clause-covers c = λ first ram address v under is_one holds.
-    let fields = c.self.inside in
-    let map : CellMap = record { lo = fields.lo; hi = fields.hi; cells = fields.cells.items } in
-    let several : length (members 65536 c.args.at.now) ≡ 1 → ⊥ = λ one. c.if-count-eq1.false (c.count.ensures.value ∙ one) in
-    let same : write_any map c.args.at.now c.args.size c.args.value ≡ write_several map c.args.at.now c.args.size c.args.value = c.writes_are_at_one_or_several.ensures.several map c.args.at.now c.args.size c.args.value several in
-    let items : c.write_several.new.cells.items ≡ (write_any map c.args.at.now c.args.size c.args.value).cells = c.write_several.ensures ∙ ap (λ (one : CellMap). one.cells) (sym same) in
-    let stands : StandsUnder first fields.cells.items ram = subst (λ (one : CellMap). StandsUnder first one.cells ram) (sym c.self.view_is) under in
-    subst (λ cells. StandsUnder first cells (written ram address c.args.size v)) (sym items)
-    (c.writes_cover.ensures.any first ram fields.lo c.args.size address v map c.args.at.now c.args.value c.self.invariant.high c.self.invariant.are c.form.ensures.normal c.requires.size c.form-2.ensures.normal c.requires.byte stands is_one holds)
+returns c =
+    let held = c.self.inside in
+    let several : count_of 65536 c.args.at.now ≡ 1 → ⊥ = λ one. c.if-count-eq1.false (c.count.ensures.value ∙ one) in
+    let all = is_scattered c.cell_laws.ensures (map_of held.lo held.hi held.cells.items) c.args.self.now c.args.at.now c.args.size c.args.value c.write_several.new.cells.items
+    (seen held.lo held.hi held.cells.items c.args.self.now c.self.invariant c.self.view_is) c.form.ensures.normal
+    (record { sized = c.requires.size; normal = c.form-2.ensures.normal; byte = c.requires.byte }) several c.write_several.ensures in
+    record { value = all.value; kept = tt; covers = all.covers }
 
 pub returns-then-count-eq1-clause-value : goal.returns-then-count-eq1-clause-value
 returns-then-count-eq1-clause-value c = on_ok_weaker c.write_one.result (λ value.
     value ∙ ap (λ place. write_one c.args.self.now place c.args.size c.args.value) c.nth.ensures
-    ∙ sym (c.writes_are_at_one_or_several.ensures.one c.args.self.now c.args.at.now c.args.size c.args.value (sym c.count.ensures.value ∙ c.if-count-eq1.true))) c.write_one.ensures.value
+    ∙ sym (c.cell_laws.ensures.store_one c.args.self.now c.args.at.now c.args.size c.args.value (sym c.count.ensures.value ∙ c.if-count-eq1.true))) c.write_one.ensures.value
 
 pub returns-then-count-eq1-clause-covers : goal.returns-then-count-eq1-clause-covers
 returns-then-count-eq1-clause-covers c = on_ok_weaker c.write_one.result (λ covers first ram address v under is_one holds.
-    let place : c.nth.result ≡ address = c.nth.ensures ∙ c.writes_are_at_one_or_several.ensures.only c.args.at.now address (sym c.count.ensures.value ∙ c.if-count-eq1.true) is_one in
+    let place : c.nth.result ≡ address = c.nth.ensures ∙ c.cell_laws.ensures.store_only c.args.at.now address (sym c.count.ensures.value ∙ c.if-count-eq1.true) is_one in
     subst (λ at. StandsUnder first c.write_one.new.self.cells (written ram at c.args.size v)) place (covers first ram v under holds)) c.write_one.ensures.covers

@@ -1,8 +1,9 @@
-use Rattle.std.proofs.Common.{◌≡◌, ◌∙◌, List, ap, sym, subst}
-use Rattle.entry_value.specs.declared.cells.Cell.{Cell}
-use Rattle.entry_value.specs.Cells.{CellMap, AreCells, StandsUnder, widen_cells}
+use Rattle.std.proofs.Common.{◌≡◌}
+use Rattle.entry_value.specs.Cells.{widen_cells}
+use Rattle.entry_value.specs.Representing.{is_united, widenings_unite}
 use Rattle.abs_pages.specs.Paging.{flat}
-use Rattle.abs_pages.proofs.Flat.{marks_below}
+use Rattle.abs_memory.specs.Joining.{marks_below}
+use Rattle.abs_pages.proofs.Seen.{map_of, seen}
 use Rattle.abs_pages.proofs.pages.CellPagesCells.widen.Goals as goal
 
 pub invariant_of-result : goal.invariant_of-result
@@ -10,42 +11,27 @@ unfolding widen_cells
 invariant_of-result c =
     let held = c.self.inside in
     let new = c.new.inside in
-    let cells : flat c.in_ok-passed.field-0.items ≡ widen_cells (flat held.pages.items) (flat new.pages.items) c.args.marks.now = rw (c.deref.ensures.value, c.deref-2.ensures.value) at c.in_ok-passed.ensures.value in
-    record {
-      some = c.self.invariant.some;
-      high = c.self.invariant.high;
-      form = c.in_ok-passed.ensures.pages;
-      are = subst (λ all. AreCells held.lo held.hi held.lo all) (sym cells)
-          (c.unions_keep_form.ensures.widen held.lo held.hi held.lo new.lo new.hi new.lo (flat held.pages.items) (flat new.pages.items) c.args.marks.now c.self.invariant.are c.new.invariant.are (marks_below c.args.marks.now (λ k. (c.type_inv.marks k).fits)));
-    }
+    let marks = c.args.marks.now in
+    let cells : flat c.in_ok-passed.field-0.items ≡ widen_cells (flat held.pages.items) (flat new.pages.items) marks =
+    rw (c.deref.ensures.value, c.deref-2.ensures.value) at c.in_ok-passed.ensures.value in
+    let all = is_united (λ held new. widen_cells held new marks)
+    (widenings_unite c.cell_laws.ensures marks (marks_below marks (λ k. (c.type_inv.marks k).fits)))
+    (map_of held.lo held.hi held.pages.items) c.args.self.now (map_of new.lo new.hi new.pages.items) c.args.new.now
+    (flat c.in_ok-passed.field-0.items) (seen held.lo held.hi held.pages.items c.args.self.now c.self.invariant c.self.view_is)
+    (seen new.lo new.hi new.pages.items c.args.new.now c.new.invariant c.new.view_is) cells in
+    record { some = c.self.invariant.some; high = c.self.invariant.high; form = c.in_ok-passed.ensures.pages; are = all.are }
 
-pub returns-clause-value : goal.returns-clause-value
+pub returns : goal.returns
 unfolding widen_cells
-returns-clause-value c =
+returns c =
     let held = c.self.inside in
     let new = c.new.inside in
-    let cells : flat c.in_ok-passed.field-0.items ≡ widen_cells (flat held.pages.items) (flat new.pages.items) c.args.marks.now = rw (c.deref.ensures.value, c.deref-2.ensures.value) at c.in_ok-passed.ensures.value in
-    let made : List Cell → CellMap = λ all. record { lo = held.lo; hi = held.hi; cells = all } in
-    ap made cells
-    ∙ (ap (λ (one : CellMap). record { lo = one.lo; hi = one.hi; cells = widen_cells one.cells (flat new.pages.items) c.args.marks.now }) c.self.view_is
-    ∙ ap (λ (one : CellMap). record { lo = c.args.self.now.lo; hi = c.args.self.now.hi; cells = widen_cells c.args.self.now.cells one.cells c.args.marks.now }) c.new.view_is)
-
-pub returns-clause-held : goal.returns-clause-held
-unfolding widen_cells
-returns-clause-held c = λ first ram under.
-    let held = c.self.inside in
-    let new = c.new.inside in
-    let cells : flat c.in_ok-passed.field-0.items ≡ widen_cells (flat held.pages.items) (flat new.pages.items) c.args.marks.now = rw (c.deref.ensures.value, c.deref-2.ensures.value) at c.in_ok-passed.ensures.value in
-    let stands : StandsUnder first (flat held.pages.items) ram = subst (λ (one : CellMap). StandsUnder first one.cells ram) (sym c.self.view_is) under in
-    subst (λ all. StandsUnder first all ram) (sym cells)
-    (c.unions_cover.ensures.held first ram held.lo held.hi held.lo new.lo new.hi new.lo (flat held.pages.items) (flat new.pages.items) c.args.marks.now c.self.invariant.are c.new.invariant.are (marks_below c.args.marks.now (λ k. (c.type_inv.marks k).fits)) stands)
-
-pub returns-clause-added : goal.returns-clause-added
-unfolding widen_cells
-returns-clause-added c = λ first ram under.
-    let held = c.self.inside in
-    let new = c.new.inside in
-    let cells : flat c.in_ok-passed.field-0.items ≡ widen_cells (flat held.pages.items) (flat new.pages.items) c.args.marks.now = rw (c.deref.ensures.value, c.deref-2.ensures.value) at c.in_ok-passed.ensures.value in
-    let stands : StandsUnder first (flat new.pages.items) ram = subst (λ (one : CellMap). StandsUnder first one.cells ram) (sym c.new.view_is) under in
-    subst (λ all. StandsUnder first all ram) (sym cells)
-    (c.unions_cover.ensures.added first ram held.lo held.hi held.lo new.lo new.hi new.lo (flat held.pages.items) (flat new.pages.items) c.args.marks.now c.self.invariant.are c.new.invariant.are (marks_below c.args.marks.now (λ k. (c.type_inv.marks k).fits)) stands)
+    let marks = c.args.marks.now in
+    let cells : flat c.in_ok-passed.field-0.items ≡ widen_cells (flat held.pages.items) (flat new.pages.items) marks =
+    rw (c.deref.ensures.value, c.deref-2.ensures.value) at c.in_ok-passed.ensures.value in
+    let all = is_united (λ held new. widen_cells held new marks)
+    (widenings_unite c.cell_laws.ensures marks (marks_below marks (λ k. (c.type_inv.marks k).fits)))
+    (map_of held.lo held.hi held.pages.items) c.args.self.now (map_of new.lo new.hi new.pages.items) c.args.new.now
+    (flat c.in_ok-passed.field-0.items) (seen held.lo held.hi held.pages.items c.args.self.now c.self.invariant c.self.view_is)
+    (seen new.lo new.hi new.pages.items c.args.new.now c.new.invariant c.new.view_is) cells in
+    record { value = all.value; held = all.own; added = all.others }

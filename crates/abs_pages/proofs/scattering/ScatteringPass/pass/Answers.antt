@@ -27,7 +27,7 @@ returns c =
     let copied : c.in_ok-cells.cells ≡ page.map = c.in_ok-cells.ensures ∙ c.cells-2.ensures in
     let written : c.write_any.new.self ≡ write_several page.map scattering.at.now scattering.size scattering.word =
     c.in_ok-write_any.ensures.value ∙ (ap (λ (map : CellMap). write_any map scattering.at.now scattering.size scattering.word) copied
-    ∙ c.writes_are_at_one_or_several.ensures.several page.map scattering.at.now scattering.size scattering.word c.requires.able.0) in
+    ∙ c.cell_laws.ensures.store_several page.map scattering.at.now scattering.size scattering.word c.requires.able.0) in
     let made : (map : CellMap) → map ≡ write_several page.map scattering.at.now scattering.size scattering.word
     → IfOk c.made.result (MadeOf (record { number = page.number; map = map }) map.cells) → IfOk c.made.result (MadeOf page (kept f page.map.cells)) =
     λ map is. subst (λ (one : CellMap). IfOk c.made.result (MadeOf (record { number = page.number; map = one }) one.cells) → IfOk c.made.result (MadeOf page (kept f page.map.cells))) (sym is) (λ h. h) in
