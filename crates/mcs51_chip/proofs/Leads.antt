@@ -36,7 +36,8 @@ use Rattle.mcs51_chip.specs.Step.{Effect, implied, reading, updating, moving, go
 -- ---- bytes
 
 -- one question of so many options, and what its option makes
-made_of : (options : ℕ) (made : ℕ → ℕ) → 0 < options → Gives (λ (x : ℕ). (option : ℕ) × (option < options) × (x ≡ made option)) (and_then (ask options) (λ option. answer (made option)))
+made_of : (options : ℕ) (made : ℕ → ℕ) → 0 < options
+    → Gives (λ (x : ℕ). (option : ℕ) × (option < options) × (x ≡ made option)) (and_then (ask options) (λ option. answer (made option)))
 made_of options made some = then_gives (λ (option : ℕ). option < options) (λ (x : ℕ). (option : ℕ) × (option < options) × (x ≡ made option)) _ _ (ask_gives options some)
     (λ option below. answer_gives (λ (x : ℕ). (option : ℕ) × (option < options) × (x ≡ made option)) (made option) (option, below, refl))
 
