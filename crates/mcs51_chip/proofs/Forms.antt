@@ -28,9 +28,6 @@ use Rattle.mcs51_decode.specs.declared.instr.CodeBase.TheVariants.{ProgramCounte
 use Rattle.mcs51_decode.specs.declared.instr.External.{External}
 use Rattle.mcs51_decode.specs.declared.instr.External.TheVariants.{DataPointer, Indirect}
 use Rattle.mcs51_decode.specs.declared.instr.Pointer.{Pointer}
-use Rattle.mcs51_decode.specs.declared.instr.Pointer.TheVariants as pointer
-use Rattle.mcs51_decode.specs.declared.instr.Register.{Register}
-use Rattle.mcs51_decode.specs.declared.instr.Register.TheVariants as register
 use Rattle.mcs51_decode.specs.declared.instr.Instr.{Instr}
 use Rattle.mcs51_decode.specs.declared.instr.Instr.TheVariants.{Nop, AbsoluteJump, AbsoluteCall, LongJump, LongCall, Return, ReturnFromInterrupt, JumpIndirect, JumpOn, JumpOnBit, CompareJump, DecrementJump, ChangeAccumulator, Increment, Decrement, IncrementDataPointer, Accumulate, DirectLogic, Multiply, Divide, ChangeCarry, CarryBit, ChangeBit, MoveImmediate, MoveToDirect, MoveFromDirect, LoadDataPointer, Load, Store, MoveCode, ReadExternal, WriteExternal, Push, Pop, Exchange, ExchangeDigit}
 use Rattle.mcs51_decode.specs.declared.refusal.NoInstr.{NoInstr}
