@@ -1,12 +1,10 @@
 -- What the instructions that write the accumulator do.
-use Rattle.std.proofs.Common.{◌≡◌, ℕ, ◌+◌, ◌%◌, ◌<◌, Bool, true, false, Option, List, [], refl}
+use Rattle.std.proofs.Common.{ℕ, ◌+◌, ◌%◌, ◌<◌, Bool, true, false, Option, List, [], refl}
 use Rattle.choosing.specs.Gives.{Gives}
 use Rattle.mcs51_decode.specs.declared.instr.AccumulatorOperation.{AccumulatorOperation}
-use Rattle.mcs51_decode.specs.declared.instr.AccumulatorOperation.TheVariants.{Rr, Rrc, Rl, Rlc, Swap, Da, Clr, Cpl}
 use Rattle.mcs51_decode.specs.declared.instr.Instr.TheVariants.{Accumulate, ChangeAccumulator, Decrement, Increment, Load, MoveImmediate}
 use Rattle.mcs51_decode.specs.declared.instr.Memory.{Memory}
 use Rattle.mcs51_decode.specs.declared.instr.Operation.{Operation}
-use Rattle.mcs51_decode.specs.declared.instr.Operation.TheVariants.{Add, Addc, Orl, Anl, Xrl, Subb}
 use Rattle.mcs51_decode.specs.declared.instr.Place.TheVariants.{Accumulator}
 use Rattle.mcs51_decode.specs.declared.instr.Source.{Source}
 use Rattle.mcs51_decode.specs.declared.instr.Source.TheVariants as source
@@ -23,31 +21,12 @@ use Rattle.mcs51_operands.specs.Operands.{addresses_of}
 use Rattle.mcs51_operands.specs.Showing.{address_accesses}
 use Rattle.mcs51_operands.specs.Doing.{DoesSo, LeadsSo}
 use Rattle.mcs51_operands.specs.Accesses.{read_items}
-use Rattle.mcs51_alu.specs.Accumulator.{accumulated_known, changed_known, counted, immediate, loaded, source_items}
+use Rattle.mcs51_alu.specs.Accumulator.{accumulated_known, changed_known, changes_carry, counted, immediate, loaded, sets_carry, source_items}
 use Rattle.mcs51_alu.specs.Premises.{Premises}
-use Rattle.mcs51_alu.proofs.Changes.{change_so}
+use Rattle.mcs51_alu.proofs.Changes.{change_so, changed_writes}
 use Rattle.mcs51_alu.proofs.Moves.{count_so, immediate_so, load_so}
-use Rattle.mcs51_alu.proofs.Sums.{accumulate_so}
-
--- PC STAYS
-
-accumulated_on : (done : Operation) (x : ℕ) (s : ChipState) → (accumulated done x s).pc ≡ s.pc
-accumulated_on Add x s = refl
-accumulated_on Addc x s = refl
-accumulated_on Orl x s = refl
-accumulated_on Anl x s = refl
-accumulated_on Xrl x s = refl
-accumulated_on Subb x s = refl
-
-changed_on : (done : AccumulatorOperation) (s : ChipState) → (changed done s).pc ≡ s.pc
-changed_on Rr s = refl
-changed_on Rrc s = refl
-changed_on Rl s = refl
-changed_on Rlc s = refl
-changed_on Swap s = refl
-changed_on Da s = refl
-changed_on Clr s = refl
-changed_on Cpl s = refl
+use Rattle.mcs51_alu.proofs.Sums.{accumulate_so, accumulated_writes}
+use Rattle.mcs51_alu.proofs.Written.{pc_stays}
 
 -- THE FORMATS
 
@@ -61,13 +40,15 @@ operand_does laws framed a s first pc m behind leads under is each =
 
 -- THE INSTRUCTIONS
 
-pub load_does : (laws : Premises) (framed : Bool) (a : Known) (s : ChipState) (first : Option ChipState) (image : List (Option ℕ)) (pc : ℕ) (m : Memory) → IsUnder framed a s first → IsMemory m
+pub load_does : (laws : Premises) (framed : Bool) (a : Known) (s : ChipState) (first : Option ChipState) (image : List (Option ℕ)) (pc : ℕ) (m : Memory)
+    → IsUnder framed a s first → IsMemory m
     → Gives (DoesSo framed first (read_items pc a m) pc (loaded framed m a) s) (effect_of image s (Load m))
 unfolding effect_of
 load_does laws framed a s first image pc m under is =
     operand_does laws framed a s first pc m (loaded framed m a) (λ x. with_accumulator x s) under is (λ x may. record { onward = refl; under = load_so laws framed a s first m x under is may })
 
-pub immediate_does : (laws : Premises) (framed : Bool) (a : Known) (s : ChipState) (first : Option ChipState) (image : List (Option ℕ)) (pc value : ℕ) → IsUnder framed a s first → value < 256
+pub immediate_does : (laws : Premises) (framed : Bool) (a : Known) (s : ChipState) (first : Option ChipState) (image : List (Option ℕ)) (pc value : ℕ)
+    → IsUnder framed a s first → value < 256
     → Gives (DoesSo framed first [] pc (immediate value a) s) (effect_of image s (MoveImmediate Accumulator value))
 unfolding effect_of
 immediate_does laws framed a s first image pc value under small =
@@ -90,13 +71,13 @@ pub accumulate_does : (laws : Premises) (framed : Bool) (a : Known) (s : ChipSta
 unfolding effect_of
 accumulate_does laws framed a s first image pc done (source.Immediate value) under is =
     laws.operands.formats.implied framed first pc (accumulated_known framed done (source.Immediate value) a) s (accumulated done value s)
-    (record { onward = accumulated_on done value s; under = accumulate_so laws framed a s first done (source.Immediate value) value under is refl })
+    (record { onward = pc_stays (sets_carry done) s (accumulated done value s) (accumulated_writes done value s); under = accumulate_so laws framed a s first done (source.Immediate value) value under is refl })
 accumulate_does laws framed a s first image pc done (source.Memory m) under is =
     operand_does laws framed a s first pc m (accumulated_known framed done (source.Memory m) a) (λ x. accumulated done x s) under is
-    (λ x may. record { onward = accumulated_on done x s; under = accumulate_so laws framed a s first done (source.Memory m) x under is may })
+    (λ x may. record { onward = pc_stays (sets_carry done) s (accumulated done x s) (accumulated_writes done x s); under = accumulate_so laws framed a s first done (source.Memory m) x under is may })
 
 pub change_does : (laws : Premises) (framed : Bool) (a : Known) (s : ChipState) (first : Option ChipState) (image : List (Option ℕ)) (pc : ℕ) (done : AccumulatorOperation) → IsUnder framed a s first
     → Gives (DoesSo framed first [] pc (changed_known done a) s) (effect_of image s (ChangeAccumulator done))
 unfolding effect_of
 change_does laws framed a s first image pc done under =
-    laws.operands.formats.implied framed first pc (changed_known done a) s (changed done s) (record { onward = changed_on done s; under = change_so laws framed a s first done under })
+    laws.operands.formats.implied framed first pc (changed_known done a) s (changed done s) (record { onward = pc_stays (changes_carry done) s (changed done s) (changed_writes done s); under = change_so laws framed a s first done under })

@@ -1,4 +1,3 @@
-pub mod Members
 pub mod Written
 pub mod OnlyBytes
 pub mod Gathers

@@ -2,7 +2,6 @@
 use Rattle.std.proofs.Common.{◌≡◌, ℕ, ◌+◌, ◌%◌, ◌<◌, Bool, true, false, Option, None, Some, refl, arith}
 use Rattle.std.specs.Prelude.{if◌then◌else◌, slice_index}
 use Rattle.std.specs.Option.{option_map}
-use Rattle.value_set.specs.Form.{IsNormal}
 use Rattle.value_set.specs.Summing.{single}
 use Rattle.mcs51_decode.specs.declared.instr.Memory.{Memory}
 use Rattle.mcs51_decode.specs.Fitting.{IsMemory}
@@ -10,7 +9,8 @@ use Rattle.mcs51_chip.specs.declared.state.ChipState.{ChipState}
 use Rattle.mcs51_chip.specs.Leading.{MayRead}
 use Rattle.mcs51_chip.specs.Memory.{address_of}
 use Rattle.mcs51_chip.specs.Registers.{with_accumulator}
-use Rattle.mcs51_state.specs.Forms.{IsByte, IsKnown, IsLinear}
+use Rattle.mcs51_state.specs.FormFacts.{byte_form as plain_byte}
+use Rattle.mcs51_state.specs.Forms.{IsKnown, IsLinear}
 use Rattle.mcs51_state.specs.Holding.{HoldsOfLinear}
 use Rattle.mcs51_state.specs.Known.{Known, byte_of}
 use Rattle.mcs51_state.specs.Places.{suspended_of}
@@ -24,17 +24,14 @@ use Rattle.mcs51_alu.specs.Premises.{Premises}
 use Rattle.mcs51_alu.proofs.OnlyBytes.{address_small, only_read}
 use Rattle.mcs51_alu.proofs.Written.{byte_form, byte_under}
 
-no_relation : (framed : Bool) (value : ℕ) → IsNormal 256 (single value) → IsByte framed (byte_of (single value))
-no_relation true value normal = record { normal = normal; entry = tt }
-no_relation false value normal = record { normal = normal; entry = tt }
-
 -- THE FACT BEHIND A MOVE
 
 loaded_is : (only : Option ℕ) → ((at : ℕ) → only ≡ Some at → at < 256) → IsLinear (option_map whole only)
 loaded_is None small = tt
 loaded_is (Some at) small = (small at refl, omega arith, omega arith)
 
-loaded_holds : (only : Option ℕ) (s : ChipState) (x : ℕ) → x < 256 → ((at : ℕ) → only ≡ Some at → x ≡ slice_index s.ram at) → HoldsOfLinear (option_map whole only) (with_accumulator x s)
+loaded_holds : (only : Option ℕ) (s : ChipState) (x : ℕ) → x < 256 → ((at : ℕ) → only ≡ Some at → x ≡ slice_index s.ram at)
+    → HoldsOfLinear (option_map whole only) (with_accumulator x s)
 loaded_holds None s x small reads = tt
 loaded_holds (Some at) s x small reads = let same = reads at refl in omega (arith, same, small)
 
@@ -48,7 +45,8 @@ load_form laws framed a m form is =
     byte_form framed (read_byte framed a addresses) (loaded_fact addresses) a (laws.operands.reads.form framed a form addresses are)
     (loaded_is (only_address addresses) (λ at e. address_small laws.known.sets.below addresses at are e)) form
 
-pub load_so : (laws : Premises) (framed : Bool) (a : Known) (s : ChipState) (first : Option ChipState) (m : Memory) (x : ℕ) → IsUnder framed a s first → IsMemory m → MayRead s (address_of s m) x
+pub load_so : (laws : Premises) (framed : Bool) (a : Known) (s : ChipState) (first : Option ChipState) (m : Memory) (x : ℕ) → IsUnder framed a s first
+    → IsMemory m → MayRead s (address_of s m) x
     → IsUnder framed (loaded framed m a) (with_accumulator x s) first
 unfolding loaded
 load_so laws framed a s first m x under is may =
@@ -63,13 +61,14 @@ load_so laws framed a s first m x under is may =
 
 pub immediate_form : (laws : Premises) (framed : Bool) (a : Known) (value : ℕ) → IsKnown framed a → value < 256 → IsKnown framed (immediate value a)
 unfolding immediate
-immediate_form laws framed a value form small = byte_form framed (byte_of (single value)) None a (no_relation framed value (laws.known.sets.single 256 value small).0) tt form
+immediate_form laws framed a value form small = byte_form framed (byte_of (single value)) None a (plain_byte framed (single value) (laws.known.sets.single 256 value small).0) tt form
 
-pub immediate_so : (laws : Premises) (framed : Bool) (a : Known) (s : ChipState) (first : Option ChipState) (value : ℕ) → IsUnder framed a s first → value < 256 → IsUnder framed (immediate value a) (with_accumulator value s) first
+pub immediate_so : (laws : Premises) (framed : Bool) (a : Known) (s : ChipState) (first : Option ChipState) (value : ℕ) → IsUnder framed a s first
+    → value < 256 → IsUnder framed (immediate value a) (with_accumulator value s) first
 unfolding immediate
 immediate_so laws framed a s first value under small =
     let one = laws.known.sets.single 256 value small in
-    byte_under laws framed (byte_of (single value)) None a s first value (no_relation framed value one.0) (one.1, tt) tt tt under
+    byte_under laws framed (byte_of (single value)) None a s first value (plain_byte framed (single value) one.0) (one.1, tt) tt tt under
 
 -- INC AND DEC
 

@@ -1,8 +1,9 @@
 -- An operand that is one byte of RAM.
-use Rattle.std.proofs.Common.{◌≡◌, ℕ, ◌+◌, ◌*◌, ◌%◌, ◌<◌, Some, [], ◌∷◌, refl, sym, ap, ◌∙◌, subst, inl, inr, arith, length}
+use Rattle.std.proofs.Common.{◌≡◌, ℕ, ◌+◌, ◌*◌, ◌%◌, ◌<◌, Some, [], ◌∷◌, refl, sym, ap, ◌∙◌, subst, arith, length}
 use Rattle.std.specs.Prelude.{slice_index}
 use Rattle.std.proofs.lemmas.List.FromFn.{length-map-range_with_len}
 use Rattle.std.proofs.lemmas.Option.{same_Some}
+use Rattle.plain_lemmas.specs.Members.{in_one}
 use Rattle.value_set.specs.declared.form.Form.{Form}
 use Rattle.value_set.specs.declared.form.Form.TheVariants.{Values, Run}
 use Rattle.value_set.specs.declared.form.Progression.{Progression}
@@ -15,16 +16,16 @@ use Rattle.mcs51_state.specs.declared.addresses.Addresses.{Addresses}
 use Rattle.mcs51_state.specs.declared.addresses.Addresses.TheVariants.{InRam, InSfr}
 use Rattle.mcs51_state.specs.Standing.{AreAddresses, MayStandAt}
 use Rattle.mcs51_alu.specs.LinearFacts.{only_address, only_of}
-use Rattle.mcs51_alu.proofs.Members.{in_cons, in_none}
 
 only_is : (set : Form) (at v : ℕ) → only_of set ≡ Some at → Has 256 set v → v ≡ at
 only_is (Values []) at v e h = absurd (cc)
-only_is (Values (one ∷ [])) at v e h = elim (in_cons one [] v h) [ inl same ↦ sym same ∙ same_Some one at e | inr none ↦ absurd (in_none v none) ]
+only_is (Values (one ∷ [])) at v e h = sym (in_one one v h) ∙ same_Some one at e
 only_is (Values (one ∷ next ∷ rest)) at v e h = absurd (cc)
 only_is (Run p) at v e h = absurd (cc)
 
 -- what is read there is that byte
-pub only_read : (addresses : Addresses) (address : Address) (s : ChipState) (at x : ℕ) → only_address addresses ≡ Some at → MayStandAt addresses address → MayRead s address x → x ≡ slice_index s.ram at
+pub only_read : (addresses : Addresses) (address : Address) (s : ChipState) (at x : ℕ) → only_address addresses ≡ Some at → MayStandAt addresses address
+    → MayRead s address x → x ≡ slice_index s.ram at
 only_read (InRam set) (AtRam place) s at x e stands may = may ∙ ap (slice_index s.ram) (only_is set at place e stands)
 only_read (InRam set) (AtSfr place) s at x e stands may = absurd stands
 only_read (InSfr register) address s at x e stands may = absurd (cc)
@@ -47,6 +48,7 @@ only_small (Values (one ∷ [])) at below e = subst (λ n. n < 256) (same_Some o
 only_small (Values (one ∷ next ∷ rest)) at below e = absurd (cc)
 only_small (Run p) at below e = absurd (cc)
 
-pub address_small : ((m v : ℕ) (set : Form) → IsNormal m set → Has m set v → v < m) → (addresses : Addresses) (at : ℕ) → AreAddresses addresses → only_address addresses ≡ Some at → at < 256
+pub address_small : ((m v : ℕ) (set : Form) → IsNormal m set → Has m set v → v < m) → (addresses : Addresses) (at : ℕ) → AreAddresses addresses
+    → only_address addresses ≡ Some at → at < 256
 address_small below (InRam set) at are e = only_small set at (λ v. below 256 v set are) e
 address_small below (InSfr register) at are e = absurd (cc)

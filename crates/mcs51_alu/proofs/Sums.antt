@@ -1,11 +1,9 @@
 -- The accumulator and a byte.
-use Rattle.std.proofs.Common.{◌≡◌, ℕ, ◌+◌, ◌*◌, ◌/◌, ◌-◌, ◌%◌, ◌<◌, ◌==◌, Bool, true, false, Option, None, Some, refl, sym, ap, ◌∙◌, subst, inl, inr, arith}
-use Rattle.std.specs.Prelude.{bit_and, bit_or, bit_xor, if◌then◌else◌, slice_index}
+use Rattle.std.proofs.Common.{◌≡◌, ℕ, ◌+◌, ◌*◌, ◌-◌, ◌%◌, ◌<◌, ◌==◌, Bool, true, Option, None, Some, refl, sym, ap, ◌∙◌, subst, inl, inr, arith}
+use Rattle.std.specs.Prelude.{if◌then◌else◌, slice_index}
 use Rattle.std.specs.Option.{option_map}
-use Rattle.std.proofs.lemmas.Bool.{cases_lt, cond_both, cond-false, eqb-true}
-use Rattle.entry_value.specs.declared.byte.Byte.{Byte}
-use Rattle.value_set.specs.declared.form.Form.{Form}
-use Rattle.value_set.specs.Form.{Has, IsNormal}
+use Rattle.std.proofs.lemmas.Bool.{cases_lt, cond_both, eqb-true}
+use Rattle.value_set.specs.Form.{Has}
 use Rattle.mcs51_decode.specs.declared.instr.Memory.TheVariants.{Direct, Working}
 use Rattle.mcs51_decode.specs.declared.instr.Operation.{Operation}
 use Rattle.mcs51_decode.specs.declared.instr.Operation.TheVariants.{Add, Addc, Orl, Anl, Xrl, Subb}
@@ -13,26 +11,28 @@ use Rattle.mcs51_decode.specs.declared.instr.Source.{Source}
 use Rattle.mcs51_decode.specs.declared.instr.Source.TheVariants as source
 use Rattle.mcs51_decode.specs.Fitting.{IsSource}
 use Rattle.mcs51_chip.specs.declared.state.ChipState.{ChipState}
-use Rattle.mcs51_chip.specs.Arithmetic.{accumulated, borrows, carries, differ}
+use Rattle.mcs51_chip.specs.Arithmetic.{accumulated}
 use Rattle.mcs51_chip.specs.Leading.{MayRead}
 use Rattle.mcs51_chip.specs.Memory.{address_of, direct_address}
-use Rattle.mcs51_chip.specs.Registers.{bit_of, carry_of}
+use Rattle.mcs51_chip.specs.StateFacts.{accumulated_kept}
 use Rattle.mcs51_state.specs.declared.fact.LinearFact.{LinearFact}
-use Rattle.mcs51_state.specs.Forms.{IsByte, IsKnown, IsLinear}
+use Rattle.mcs51_state.specs.FormFacts.{byte_form as plain_byte}
+use Rattle.mcs51_state.specs.Forms.{IsKnown, IsLinear}
 use Rattle.mcs51_state.specs.Holding.{HoldsOfLinear}
-use Rattle.mcs51_state.specs.Known.{Known, byte_of}
+use Rattle.mcs51_state.specs.Known.{Known}
 use Rattle.mcs51_state.specs.Places.{suspended_of}
 use Rattle.mcs51_state.specs.Under.{IsUnder}
 use Rattle.mcs51_operands.specs.Operands.{addresses_of}
+use Rattle.mcs51_operands.specs.Reading.{read_byte}
 use Rattle.mcs51_results.specs.declared.made.Made.{Made}
 use Rattle.mcs51_results.specs.Holding.{AreOperands, HoldsOfMade, IsMade, IsOperand}
 use Rattle.mcs51_results.specs.Results.{accumulated_made, twice_made}
-use Rattle.mcs51_alu.specs.Accumulator.{MayBe, accumulated_known, carry_left, gathered_made, is_add, is_itself, made_of, operand_of, sets_carry, with_made}
+use Rattle.mcs51_alu.specs.Accumulator.{MayBe, accumulated_known, gathered_made, is_add, is_itself, made_of, operand_of, sets_carry}
 use Rattle.mcs51_alu.specs.LinearFacts.{added_fact, fact_behind, linear_values, once_more, only_address, raised_by, with_byte}
 use Rattle.mcs51_alu.specs.Premises.{Premises}
 use Rattle.mcs51_alu.proofs.Gathers.{values_have, values_normal}
 use Rattle.mcs51_alu.proofs.OnlyBytes.{only_read}
-use Rattle.mcs51_alu.proofs.Written.{before_form, before_stands, byte_under, flag_small, flags_below, flags_held, left_is, made_before, made_form, made_state, made_under}
+use Rattle.mcs51_alu.proofs.Written.{Writes, before_form, before_stands, made_before, made_form, made_state, made_under}
 
 -- OPERANDS
 
@@ -40,7 +40,8 @@ operand_form : (laws : Premises) (framed : Bool) (a : Known) (origin : Source) �
 operand_form laws framed a (source.Immediate value) form is = is
 operand_form laws framed a (source.Memory m) form is = (laws.operands.reads.form framed a form (addresses_of a m) (laws.operands.stands.operand_form framed a form m is)).normal
 
-operand_so : (laws : Premises) (framed : Bool) (a : Known) (s : ChipState) (first : Option ChipState) (origin : Source) (x : ℕ) → IsUnder framed a s first → IsSource origin → MayBe s origin x → IsOperand (operand_of framed a origin) x
+operand_so : (laws : Premises) (framed : Bool) (a : Known) (s : ChipState) (first : Option ChipState) (origin : Source) (x : ℕ) → IsUnder framed a s first
+    → IsSource origin → MayBe s origin x → IsOperand (operand_of framed a origin) x
 operand_so laws framed a s first (source.Immediate value) x under is may = (is, may)
 operand_so laws framed a s first (source.Memory m) x under is may =
     let are = laws.operands.stands.operand_form framed a under.form m is in record {
@@ -72,7 +73,8 @@ made_is laws framed a done origin form is =
     cond_both (is_itself origin) (if is_add done then twice else two) two (IsMade framed)
     (λ e. cond_both (is_add done) twice two (IsMade framed) (λ add. laws.results.accumulations.twice_form framed (made_before a) (before_form framed a form)) (λ add. two_is)) (λ e. two_is)
 
-made_holds : (laws : Premises) (framed : Bool) (a : Known) (s : ChipState) (first : Option ChipState) (done : Operation) (origin : Source) (x : ℕ) → IsUnder framed a s first → IsSource origin → MayBe s origin x
+made_holds : (laws : Premises) (framed : Bool) (a : Known) (s : ChipState) (first : Option ChipState) (done : Operation) (origin : Source) (x : ℕ)
+    → IsUnder framed a s first → IsSource origin → MayBe s origin x
     → HoldsOfMade (option_map suspended_of first) (made_of framed done origin a) (accumulated done x s)
 made_holds laws framed a s first done origin x under is may =
     let first_so = option_map suspended_of first in
@@ -110,24 +112,28 @@ more_so factor r added small = elim (cases_lt (factor + 1) 256) [
 abbrev IsFact : Option LinearFact → ChipState → Type 0
 IsFact fact t = IsLinear fact × HoldsOfLinear fact t
 
-raised_fact : (fact : LinearFact) (value p : ℕ) (s : ChipState) → value < 256 → IsFact (Some fact) s → IsFact (Some (raised_by value fact)) (made_state ((s.a + value + 0) % 256) p s)
+raised_fact : (fact : LinearFact) (value p : ℕ) (s : ChipState) → value < 256 → IsFact (Some fact) s
+    → IsFact (Some (raised_by value fact)) (made_state ((s.a + value + 0) % 256) p s)
 raised_fact fact value p s small is =
     ((is.0.0, is.0.1, omega arith), ap (λ n. (n + value + 0) % 256) is.1 ∙ sum_so (fact.factor * slice_index s.ram fact.place) fact.added value)
 
-more_fact : (fact : LinearFact) (x p : ℕ) (s : ChipState) → x ≡ slice_index s.ram fact.place → IsFact (Some fact) s → IsFact (Some (once_more fact)) (made_state ((s.a + x + 0) % 256) p s)
+more_fact : (fact : LinearFact) (x p : ℕ) (s : ChipState) → x ≡ slice_index s.ram fact.place → IsFact (Some fact) s
+    → IsFact (Some (once_more fact)) (made_state ((s.a + x + 0) % 256) p s)
 more_fact fact x p s reads is = (
   (is.0.0, omega arith, is.0.2),
   ap (λ n. (n + x + 0) % 256) is.1 ∙ ap (λ n. ((fact.factor * slice_index s.ram fact.place + fact.added) % 256 + n + 0) % 256) reads
       ∙ more_so fact.factor (slice_index s.ram fact.place) fact.added is.0.1,
 )
 
-with_fact : (fact : LinearFact) (only : Option ℕ) (x p : ℕ) (s : ChipState) → ((at : ℕ) → only ≡ Some at → x ≡ slice_index s.ram at) → IsFact (Some fact) s → IsFact (with_byte only fact) (made_state ((s.a + x + 0) % 256) p s)
+with_fact : (fact : LinearFact) (only : Option ℕ) (x p : ℕ) (s : ChipState) → ((at : ℕ) → only ≡ Some at → x ≡ slice_index s.ram at) → IsFact (Some fact) s
+    → IsFact (with_byte only fact) (made_state ((s.a + x + 0) % 256) p s)
 with_fact fact None x p s reads is = (tt, tt)
 with_fact fact (Some at) x p s reads is =
     cond_both (at == fact.place) (Some (once_more fact)) None (λ (f : Option LinearFact). IsFact f (made_state ((s.a + x + 0) % 256) p s))
     (λ e. more_fact fact x p s (reads at refl ∙ ap (slice_index s.ram) (eqb-true at fact.place e)) is) (λ e. (tt, tt))
 
-behind_fact : (laws : Premises) (framed : Bool) (a : Known) (s : ChipState) (first : Option ChipState) (held : Option LinearFact) (origin : Source) (x p : ℕ) → IsUnder framed a s first → IsSource origin → MayBe s origin x
+behind_fact : (laws : Premises) (framed : Bool) (a : Known) (s : ChipState) (first : Option ChipState) (held : Option LinearFact) (origin : Source) (x p : ℕ)
+    → IsUnder framed a s first → IsSource origin → MayBe s origin x
     → IsFact held s → IsFact (fact_behind a origin held) (made_state ((s.a + x + 0) % 256) p s)
 behind_fact laws framed a s first None origin x p under is may fact = (tt, tt)
 behind_fact laws framed a s first (Some fact) (source.Immediate value) x p under is may held =
@@ -147,15 +153,13 @@ behind_is a (source.Memory m) (Some fact) is = with_is (only_address (addresses_
 
 -- GATHERED
 
-plain_form : (framed : Bool) (set : Form) → IsNormal 256 set → IsByte framed (byte_of set)
-plain_form true set normal = record { normal = normal; entry = tt }
-plain_form false set normal = record { normal = normal; entry = tt }
-
-gathered_is : (laws : Premises) (framed : Bool) (a : Known) (fact : Option LinearFact) (made : Made) → IsKnown framed a → IsLinear fact → IsMade framed made → IsMade framed (gathered_made a fact made)
+gathered_is : (laws : Premises) (framed : Bool) (a : Known) (fact : Option LinearFact) (made : Made) → IsKnown framed a → IsLinear fact → IsMade framed made
+    → IsMade framed (gathered_made a fact made)
 gathered_is laws framed a None made form linear is = is
-gathered_is laws framed a (Some fact) made form linear is = record { a = plain_form framed (linear_values a fact) (values_normal laws framed a fact linear form); psw = is.psw }
+gathered_is laws framed a (Some fact) made form linear is = record { a = plain_byte framed (linear_values a fact) (values_normal laws framed a fact linear form); psw = is.psw }
 
-gathered_holds : (laws : Premises) (framed : Bool) (a : Known) (s : ChipState) (first : Option ChipState) (fact : Option LinearFact) (made : Made) (x p : ℕ) → IsUnder framed a s first → IsFact fact (made_state x p s)
+gathered_holds : (laws : Premises) (framed : Bool) (a : Known) (s : ChipState) (first : Option ChipState) (fact : Option LinearFact) (made : Made) (x p : ℕ)
+    → IsUnder framed a s first → IsFact fact (made_state x p s)
     → HoldsOfMade (option_map suspended_of first) made (made_state x p s) → HoldsOfMade (option_map suspended_of first) (gathered_made a fact made) (made_state x p s)
 gathered_holds laws framed a s first None made x p under fact holds = holds
 gathered_holds laws framed a s first (Some fact) made x p under is holds = record {
@@ -173,75 +177,54 @@ added_is laws framed a Anl origin form = tt
 added_is laws framed a Xrl origin form = tt
 added_is laws framed a Subb origin form = tt
 
-pub accumulate_form : (laws : Premises) (framed : Bool) (a : Known) (done : Operation) (origin : Source) → IsKnown framed a → IsSource origin → IsKnown framed (accumulated_known framed done origin a)
+added_holds : (laws : Premises) (framed : Bool) (a : Known) (s : ChipState) (first : Option ChipState) (done : Operation) (origin : Source) (x p : ℕ)
+    → IsUnder framed a s first → IsSource origin → MayBe s origin x → IsFact (added_fact done a origin) (made_state (accumulated done x s).a p s)
+added_holds laws framed a s first Add origin x p under is may =
+    behind_fact laws framed a s first a.linear_fact origin x p under is may (under.form.linear_fact, under.holds.parts.linear_fact)
+added_holds laws framed a s first Addc origin x p under is may = (tt, tt)
+added_holds laws framed a s first Orl origin x p under is may = (tt, tt)
+added_holds laws framed a s first Anl origin x p under is may = (tt, tt)
+added_holds laws framed a s first Xrl origin x p under is may = (tt, tt)
+added_holds laws framed a s first Subb origin x p under is may = (tt, tt)
+
+pub accumulate_form : (laws : Premises) (framed : Bool) (a : Known) (done : Operation) (origin : Source) → IsKnown framed a → IsSource origin
+    → IsKnown framed (accumulated_known framed done origin a)
 unfolding accumulated_known
 accumulate_form laws framed a done origin form is =
     let fact = added_fact done a origin in
     let fact_is = added_is laws framed a done origin form in
-    made_form framed (gathered_made a fact (made_of framed done origin a)) fact (carry_left (sets_carry done) a.carry_fact) a
-    (gathered_is laws framed a fact (made_of framed done origin a) form fact_is (made_is laws framed a done origin form is)) fact_is (left_is (sets_carry done) a.carry_fact form.carry_fact) form
+    made_form framed (gathered_made a fact (made_of framed done origin a)) (sets_carry done) fact a
+    (gathered_is laws framed a fact (made_of framed done origin a) form fact_is (made_is laws framed a done origin form is)) fact_is form
 
--- flags are set, and so CY's fact goes
-flags_under : (laws : Premises) (framed : Bool) (a : Known) (s : ChipState) (first : Option ChipState) (made : Made) (fact : Option LinearFact) (x carry half over : ℕ) → carry < 2 → half < 2 → over < 2
-    → IsUnder framed a s first → IsFact fact (made_state x (s.psw / 8 % 8 * 8 + 128 * carry + 64 * half + 4 * over) s) → IsMade framed made
-    → HoldsOfMade (option_map suspended_of first) made (made_state x (s.psw / 8 % 8 * 8 + 128 * carry + 64 * half + 4 * over) s)
-    → IsUnder framed (with_made (gathered_made a fact made) true fact a) (made_state x (s.psw / 8 % 8 * 8 + 128 * carry + 64 * half + 4 * over) s) first
-flags_under laws framed a s first made fact x carry half over c h o under is form holds =
-    let p = s.psw / 8 % 8 * 8 + 128 * carry + 64 * half + 4 * over in
-    let gathered = gathered_made a fact made in
-    let gathered_form = gathered_is laws framed a fact made under.form is.0 form in
-    let gathered_so = gathered_holds laws framed a s first fact made x p under is holds in
-    made_under framed gathered fact None a s first x p (laws.known.sets.below 256 x gathered.a.set gathered_form.a.normal gathered_so.a.0) (flags_below s.psw carry half over c h o)
-    (flags_held s.psw carry half over) gathered_form gathered_so is.0 is.1 tt tt under
+-- flags are set by sums and differences alone
+pub accumulated_writes : (done : Operation) (x : ℕ) (s : ChipState) → Writes (sets_carry done) s (accumulated done x s)
+accumulated_writes Add x s = record { state = refl; psw = λ e. absurd (cc) }
+accumulated_writes Addc x s = record { state = refl; psw = λ e. absurd (cc) }
+accumulated_writes Orl x s = record { state = refl; psw = λ e. refl }
+accumulated_writes Anl x s = record { state = refl; psw = λ e. refl }
+accumulated_writes Xrl x s = record { state = refl; psw = λ e. refl }
+accumulated_writes Subb x s = record { state = refl; psw = λ e. absurd (cc) }
 
--- nothing but the accumulator is written
-logic_under : (laws : Premises) (framed : Bool) (a : Known) (s : ChipState) (first : Option ChipState) (byte : Byte) (x : ℕ) → IsUnder framed a s first → IsMade framed (record { a = byte; psw = a.psw })
-    → HoldsOfMade (option_map suspended_of first) (record { a = byte; psw = a.psw }) (made_state x s.psw s) → IsUnder framed (with_made (record { a = byte; psw = a.psw }) false None a) (made_state x s.psw s) first
-logic_under laws framed a s first byte x under form holds = byte_under laws framed byte None a s first x form.a holds.a tt tt under
+number_below : (laws : Premises) (framed : Bool) (a : Known) (s : ChipState) (first : Option ChipState) (origin : Source) (x : ℕ)
+    → IsUnder framed a s first → IsSource origin → MayBe s origin x → x < 256
+number_below laws framed a s first (source.Immediate value) x under is may = subst (λ n. n < 256) (sym may) is
+number_below laws framed a s first (source.Memory m) x under is may =
+    let set = operand_so laws framed a s first (source.Memory m) x under is may in
+    laws.known.sets.below 256 x (read_byte framed a (addresses_of a m)).set set.normal set.has
 
-not_add : (framed : Bool) (done : Operation) (origin : Source) (a : Known) → is_add done ≡ false → made_of framed done origin a ≡ accumulated_made done a.a (operand_of framed a origin) a.psw
-not_add framed done origin a other =
-    let two = accumulated_made done a.a (operand_of framed a origin) a.psw in
-    let twice = twice_made a.a a.psw in
-    cond_both (is_itself origin) (if is_add done then twice else two) two (λ (made : Made). made ≡ two) (λ e. cond-false (is_add done) twice two other) (λ e. refl)
-
-pub accumulate_so : (laws : Premises) (framed : Bool) (a : Known) (s : ChipState) (first : Option ChipState) (done : Operation) (origin : Source) (x : ℕ) → IsUnder framed a s first → IsSource origin → MayBe s origin x
-    → IsUnder framed (accumulated_known framed done origin a) (accumulated done x s) first
+pub accumulate_so : (laws : Premises) (framed : Bool) (a : Known) (s : ChipState) (first : Option ChipState) (done : Operation) (origin : Source) (x : ℕ)
+    → IsUnder framed a s first → IsSource origin → MayBe s origin x → IsUnder framed (accumulated_known framed done origin a) (accumulated done x s) first
 unfolding accumulated_known
-accumulate_so laws framed a s first Add origin x under is may =
-    let carry = bit_of (carries 256 s.a x 0) in
-    let half = bit_of (carries 16 s.a x 0) in
-    let over = bit_of (differ (carries 256 s.a x 0) (carries 128 s.a x 0)) in
-    let p = s.psw / 8 % 8 * 8 + 128 * carry + 64 * half + 4 * over in
-    flags_under laws framed a s first (made_of framed Add origin a) (added_fact Add a origin) ((s.a + x + 0) % 256) carry half over (flag_small (carries 256 s.a x 0)) (flag_small (carries 16 s.a x 0))
-    (flag_small (differ (carries 256 s.a x 0) (carries 128 s.a x 0))) under
-    (behind_fact laws framed a s first a.linear_fact origin x p under is may (under.form.linear_fact, under.holds.parts.linear_fact)) (made_is laws framed a Add origin under.form is)
-    (made_holds laws framed a s first Add origin x under is may)
-accumulate_so laws framed a s first Addc origin x under is may =
-    let c = carry_of s in
-    flags_under laws framed a s first (made_of framed Addc origin a) None ((s.a + x + c) % 256) (bit_of (carries 256 s.a x c)) (bit_of (carries 16 s.a x c))
-    (bit_of (differ (carries 256 s.a x c) (carries 128 s.a x c))) (flag_small (carries 256 s.a x c)) (flag_small (carries 16 s.a x c))
-    (flag_small (differ (carries 256 s.a x c) (carries 128 s.a x c))) under (tt, tt) (made_is laws framed a Addc origin under.form is) (made_holds laws framed a s first Addc origin x under is may)
-accumulate_so laws framed a s first Subb origin x under is may =
-    let c = carry_of s in
-    flags_under laws framed a s first (made_of framed Subb origin a) None ((s.a + 256 - x - c) % 256) (bit_of (borrows 256 s.a x c)) (bit_of (borrows 16 s.a x c))
-    (bit_of (differ (borrows 256 s.a x c) (borrows 128 s.a x c))) (flag_small (borrows 256 s.a x c)) (flag_small (borrows 16 s.a x c))
-    (flag_small (differ (borrows 256 s.a x c) (borrows 128 s.a x c))) under (tt, tt) (made_is laws framed a Subb origin under.form is) (made_holds laws framed a s first Subb origin x under is may)
-accumulate_so laws framed a s first Orl origin x under is may =
-    let made = accumulated_made Orl a.a (operand_of framed a origin) a.psw in
-    let same = not_add framed Orl origin a refl in
-    subst (λ (m : Made). IsUnder framed (with_made m false None a) (accumulated Orl x s) first) (sym same)
-    (logic_under laws framed a s first made.a (bit_or s.a x) under (subst (IsMade framed) same (made_is laws framed a Orl origin under.form is))
-    (subst (λ (m : Made). HoldsOfMade (option_map suspended_of first) m (accumulated Orl x s)) same (made_holds laws framed a s first Orl origin x under is may)))
-accumulate_so laws framed a s first Anl origin x under is may =
-    let made = accumulated_made Anl a.a (operand_of framed a origin) a.psw in
-    let same = not_add framed Anl origin a refl in
-    subst (λ (m : Made). IsUnder framed (with_made m false None a) (accumulated Anl x s) first) (sym same)
-    (logic_under laws framed a s first made.a (bit_and s.a x) under (subst (IsMade framed) same (made_is laws framed a Anl origin under.form is))
-    (subst (λ (m : Made). HoldsOfMade (option_map suspended_of first) m (accumulated Anl x s)) same (made_holds laws framed a s first Anl origin x under is may)))
-accumulate_so laws framed a s first Xrl origin x under is may =
-    let made = accumulated_made Xrl a.a (operand_of framed a origin) a.psw in
-    let same = not_add framed Xrl origin a refl in
-    subst (λ (m : Made). IsUnder framed (with_made m false None a) (accumulated Xrl x s) first) (sym same)
-    (logic_under laws framed a s first made.a (bit_xor s.a x) under (subst (IsMade framed) same (made_is laws framed a Xrl origin under.form is))
-    (subst (λ (m : Made). HoldsOfMade (option_map suspended_of first) m (accumulated Xrl x s)) same (made_holds laws framed a s first Xrl origin x under is may)))
+accumulate_so laws framed a s first done origin x under is may =
+    let t = accumulated done x s in
+    let made = made_of framed done origin a in
+    let fact = added_fact done a origin in
+    let writes = accumulated_writes done x s in
+    let fact_so = added_holds laws framed a s first done origin x t.psw under is may in
+    let holds = subst (HoldsOfMade (option_map suspended_of first) made) writes.state (made_holds laws framed a s first done origin x under is may) in
+    let gathered = gathered_holds laws framed a s first fact made t.a t.psw under fact_so holds in
+    made_under framed (gathered_made a fact made) (sets_carry done) fact a s t first writes
+    (accumulated_kept s done x under.holds.state (number_below laws framed a s first origin x under is may))
+    (gathered_is laws framed a fact made under.form fact_so.0 (made_is laws framed a done origin under.form is))
+    (subst (HoldsOfMade (option_map suspended_of first) (gathered_made a fact made)) (sym writes.state) gathered)
+    fact_so.0 (subst (HoldsOfLinear fact) (sym writes.state) fact_so.1) under

@@ -1,69 +1,45 @@
 -- CY alone, and CY by a bit.
-use Rattle.std.proofs.Common.{◌≡◌, ℕ, ◌+◌, ◌-◌, ◌*◌, ◌/◌, ◌%◌, ◌<◌, Bool, Option, List, [], bit_and, bit_or, refl, subst, sym, arith}
+use Rattle.std.proofs.Common.{ℕ, ◌+◌, ◌-◌, ◌*◌, ◌%◌, ◌<◌, Bool, Option, None, List, [], refl, arith}
 use Rattle.std.specs.Int.{bit_at}
 use Rattle.std.specs.Option.{option_map}
-use Rattle.std.proofs.lemmas.Nat.{and_le_l, or_lt}
 use Rattle.std.proofs.lemmas.Nat.Bits.{bit_at-lt}
 use Rattle.choosing.specs.Gives.{Gives}
 use Rattle.mcs51_decode.specs.declared.instr.CarryByBit.{CarryByBit}
-use Rattle.mcs51_decode.specs.declared.instr.CarryByBit.TheVariants as by_bit
 use Rattle.mcs51_decode.specs.declared.instr.CarryOperation.{CarryOperation}
-use Rattle.mcs51_decode.specs.declared.instr.CarryOperation.TheVariants as alone
 use Rattle.mcs51_decode.specs.declared.instr.Instr.TheVariants.{CarryBit, ChangeCarry}
 use Rattle.mcs51_chip.specs.declared.state.ChipState.{ChipState}
 use Rattle.mcs51_chip.specs.Arithmetic.{carry_after, carry_with}
 use Rattle.mcs51_chip.specs.Leading.{MayRead}
 use Rattle.mcs51_chip.specs.Memory.{bit_address}
+use Rattle.mcs51_chip.specs.NumberFacts.{carry_after_below, carry_below, carry_with_below}
 use Rattle.mcs51_chip.specs.Registers.{carry_of, with_carry}
+use Rattle.mcs51_chip.specs.StateFacts.{carry_kept}
 use Rattle.mcs51_chip.specs.Step.{effect_of}
 use Rattle.mcs51_state.specs.declared.status.Status.{Status}
 use Rattle.mcs51_state.specs.Forms.{IsKnown}
-use Rattle.mcs51_state.specs.Holding.{HoldsOfStatus}
+use Rattle.mcs51_state.specs.Holding.{HoldsOfCarry, HoldsOfStatus}
 use Rattle.mcs51_state.specs.Known.{Known}
 use Rattle.mcs51_state.specs.Places.{suspended_of}
 use Rattle.mcs51_state.specs.Under.{IsUnder}
 use Rattle.mcs51_operands.specs.Operands.{bit_addresses}
 use Rattle.mcs51_results.specs.Holding.{IsStatus}
 use Rattle.mcs51_results.specs.StatusBytes.{carry_bit_made, carry_made}
+use Rattle.mcs51_stores.specs.FactsStay.{linear_stays}
 use Rattle.mcs51_stores.specs.Writing.{status_written}
 use Rattle.mcs51_operands.specs.Doing.{DoesSo, LeadsSo}
 use Rattle.mcs51_operands.specs.Accesses.{read_at}
 use Rattle.mcs51_bits.specs.Bits.{bit_read, carry_changed, carry_joined}
 use Rattle.mcs51_bits.specs.Premises.{Premises}
 
--- CY BEHIND AN OPERATION
-
-after_small : (done : CarryOperation) (c : ℕ) → c < 2 → carry_after done c < 2
-after_small alone.Cpl c small = omega (arith, small)
-after_small alone.Clr c small = omega arith
-after_small alone.Setb c small = omega arith
-
-or_small : (b c : ℕ) → b < 2 → c < 2 → bit_or b c < 2
-or_small b c small few = or_lt 1 b c small few
-
-and_small : (b c : ℕ) → b < 2 → bit_and b c < 2
-and_small b c small = omega (arith, and_le_l b c, small)
-
-with_small : (done : CarryByBit) (c b : ℕ) → c < 2 → b < 2 → carry_with done c b < 2
-with_small by_bit.Orl c b small few = or_small c b small few
-with_small by_bit.Anl c b small few = and_small c b small
-with_small by_bit.OrlComplement c b small few = or_small c (1 - b) small (omega (arith, few))
-with_small by_bit.AnlComplement c b small few = and_small c (1 - b) small
-with_small by_bit.Mov c b small few = few
-
 -- CY IS WRITTEN
 
-held_is : (x : ℕ) → x % 4 ≡ 0 → x / 4 * 4 ≡ x
-held_is x held = omega (arith, held)
-
-carry_under : (laws : Premises) (framed : Bool) (a : Known) (s : ChipState) (first : Option ChipState) (psw : Status) (c : ℕ) → c < 2 → IsUnder framed a s first → IsStatus framed psw
+carry_under : (framed : Bool) (a : Known) (s : ChipState) (first : Option ChipState) (psw : Status) (c : ℕ) → c < 2 → IsUnder framed a s first → IsStatus framed psw
     → HoldsOfStatus (option_map suspended_of first) psw (s.psw % 128 + 128 * c) → IsUnder framed (status_written psw a) (with_carry c s) first
-carry_under laws framed a s first psw c small under form holds =
-    let before = under.holds.state.psw_held in
-    let x = s.psw % 128 + 128 * c in
-    let same : x / 4 * 4 ≡ x = held_is x (omega (arith, before)) in
-    subst (λ (p : ℕ). IsUnder framed (status_written psw a) (record s { psw = p }) first) same
-    (laws.stores.flags.status framed first psw x (omega (arith, small)) form.bits form.entry (subst (HoldsOfStatus (option_map suspended_of first) psw) (sym same) holds) a s under)
+carry_under framed a s first psw c small under form holds =
+    let state = carry_kept s c under.holds.state small in
+    let linear = linear_stays a.linear_fact s (with_carry c s) refl refl under.holds.parts.linear_fact in
+    let carry : HoldsOfCarry None (with_carry c s) = tt in
+    assumption (under, state, form, holds, linear, carry)
 
 -- CPL, CLR AND SETB
 
@@ -82,7 +58,7 @@ carry_does laws framed a s first image pc operation under =
     let holds = laws.results.bits.carry (option_map suspended_of first) operation a.psw s under.holds.parts.psw in
     laws.operands.formats.implied framed first pc (status_written made a) s (with_carry c s) (record {
       onward = refl;
-      under = carry_under laws framed a s first made c (after_small operation (carry_of s) (bit_at-lt s.psw 7)) under (laws.results.bits.carry_form framed operation a.psw) holds;
+      under = carry_under framed a s first made c (carry_after_below operation (carry_of s)) under (laws.results.bits.carry_form framed operation a.psw) holds;
     })
 
 -- ORL, ANL AND MOV
@@ -93,7 +69,8 @@ carry_bit_form laws framed a operation bit form =
     let is = laws.results.bits.carry_bit_form framed operation a.psw (bit_read a bit) in
     laws.stores.forms.status framed (carry_bit_made operation (bit_read a bit) a.psw) is.bits is.entry a form
 
-joined_leads : (laws : Premises) (framed : Bool) (a : Known) (s : ChipState) (first : Option ChipState) (operation : CarryByBit) (bit x : ℕ) → IsUnder framed a s first → bit < 256 → MayRead s (bit_address bit) x
+joined_leads : (laws : Premises) (framed : Bool) (a : Known) (s : ChipState) (first : Option ChipState) (operation : CarryByBit) (bit x : ℕ)
+    → IsUnder framed a s first → bit < 256 → MayRead s (bit_address bit) x
     → LeadsSo framed first (carry_joined operation bit a) s (with_carry (carry_with operation (carry_of s) (bit_at x (bit % 8))) s)
 unfolding carry_joined
 joined_leads laws framed a s first operation bit x under inside may =
@@ -104,7 +81,7 @@ joined_leads laws framed a s first operation bit x under inside may =
     let holds = laws.results.bits.carry_bit (option_map suspended_of first) operation a.psw (bit_read a bit) y s under.holds.parts.psw is in
     record {
       onward = refl;
-      under = carry_under laws framed a s first made (carry_with operation (carry_of s) y) (with_small operation (carry_of s) y (bit_at-lt s.psw 7) (bit_at-lt x (bit % 8))) under
+      under = carry_under framed a s first made (carry_with operation (carry_of s) y) (carry_with_below operation (carry_of s) y (carry_below s) (bit_at-lt x (bit % 8))) under
           (laws.results.bits.carry_bit_form framed operation a.psw (bit_read a bit)) holds;
     }
 

@@ -20,7 +20,7 @@ use Rattle.mcs51_state.specs.Places.{suspended_of}
 use Rattle.mcs51_state.specs.Under.{IsUnder}
 use Rattle.mcs51_operands.specs.Operands.{bit_addresses}
 use Rattle.mcs51_operands.specs.Reading.{carry, read_byte}
-use Rattle.mcs51_results.specs.Holding.{IsStatus}
+use Rattle.mcs51_results.specs.HoldingFacts.{status_of_known}
 use Rattle.mcs51_results.specs.StatusBytes.{status_with_bit}
 use Rattle.mcs51_stores.specs.Following.{IsValue}
 use Rattle.mcs51_stores.specs.Writing.{byte_written, status_written}
@@ -35,7 +35,8 @@ after operation bit s x = with_bit x (bit % 8) (bit_after operation (carry_of s)
 
 -- THE BYTE
 
-value_is : (laws : Premises) (framed : Bool) (a : Known) (s : ChipState) (first : Option ChipState) (operation : BitOperation) (bit x : ℕ) → IsUnder framed a s first → bit < 256 → MayRead s (bit_address bit) x
+value_is : (laws : Premises) (framed : Bool) (a : Known) (s : ChipState) (first : Option ChipState) (operation : BitOperation) (bit x : ℕ)
+    → IsUnder framed a s first → bit < 256 → MayRead s (bit_address bit) x
     → IsValue framed first (byte_changed framed operation bit a) (after operation bit s x)
 value_is laws framed a s first operation bit x under inside may =
     let at = laws.operands.stands.bit bit inside in
@@ -47,7 +48,8 @@ value_is laws framed a s first operation bit x under inside may =
       holds = laws.results.bits.byte framed (option_map suspended_of first) operation bit (carry a) byte x (carry_of s) form holds (laws.operands.reads.carry framed a s first under);
     }
 
-after_small : (laws : Premises) (framed : Bool) (a : Known) (s : ChipState) (first : Option ChipState) (operation : BitOperation) (bit x : ℕ) → IsUnder framed a s first → bit < 256 → MayRead s (bit_address bit) x
+after_small : (laws : Premises) (framed : Bool) (a : Known) (s : ChipState) (first : Option ChipState) (operation : BitOperation) (bit x : ℕ)
+    → IsUnder framed a s first → bit < 256 → MayRead s (bit_address bit) x
     → after operation bit s x < 256
 after_small laws framed a s first operation bit x under inside may =
     let value = value_is laws framed a s first operation bit x under inside may in
@@ -58,36 +60,35 @@ after_small laws framed a s first operation bit x under inside may =
 psw_address : (bit : ℕ) → bit / 8 * 8 ≡ 208 → bit_address bit ≡ InSfr 208
 psw_address bit at = grind (arith, at)
 
-psw_under : (laws : Premises) (framed : Bool) (a : Known) (s : ChipState) (first : Option ChipState) (operation : BitOperation) (bit x : ℕ) → after operation bit s x < 256 → IsUnder framed a s first → MayRead s (InSfr 208) x
+psw_under : (laws : Premises) (framed : Bool) (a : Known) (s : ChipState) (first : Option ChipState) (operation : BitOperation) (bit x : ℕ)
+    → after operation bit s x < 256 → IsUnder framed a s first → MayRead s (InSfr 208) x
     → IsUnder framed (status_written (status_with_bit operation bit a.psw) a) (write (InSfr 208) (after operation bit s x) s) first
 unfolding write
 psw_under laws framed a s first operation bit x small under may =
-    let form : IsStatus framed a.psw = record { bits = under.form.bits; entry = under.form.psw } in
+    let form = status_of_known framed a under.form in
     let is = laws.results.bits.status_form framed operation bit a.psw form in
     let holds = laws.results.bits.status framed first operation bit a.psw s x under.holds.state form under.holds.parts.psw may in
     laws.stores.flags.status framed first (status_with_bit operation bit a.psw) (after operation bit s x) small is.bits is.entry holds a s under
 
 -- EITHER
 
-either_form : (framed : Bool) (test : Bool) (a b : Known) → IsKnown framed a → IsKnown framed b → IsKnown framed (cond test a b)
-either_form framed true a b is other = is
-either_form framed false a b is other = other
-
-pub of_status : (framed : Bool) (operation : BitOperation) (bit : ℕ) (a : Known) → is_of_status bit ≡ true → status_written (status_with_bit operation bit a.psw) a ≡ bit_changed framed operation bit a
+pub of_status : (framed : Bool) (operation : BitOperation) (bit : ℕ) (a : Known) → is_of_status bit ≡ true
+    → status_written (status_with_bit operation bit a.psw) a ≡ bit_changed framed operation bit a
 unfolding bit_changed
 of_status framed operation bit a is =
     let written = status_written (status_with_bit operation bit a.psw) a in
     cond_both (is_of_status bit) written (byte_written framed (bit_addresses bit) (byte_changed framed operation bit a) a) (λ (behind : Known). written ≡ behind) (λ e. refl) (λ e. absurd cc)
 
-pub bit_form : (laws : Premises) (framed : Bool) (a : Known) (operation : BitOperation) (bit : ℕ) → IsKnown framed a → bit < 256 → IsKnown framed (bit_changed framed operation bit a)
+pub bit_form : (laws : Premises) (framed : Bool) (a : Known) (operation : BitOperation) (bit : ℕ) → IsKnown framed a → bit < 256
+    → IsKnown framed (bit_changed framed operation bit a)
 unfolding bit_changed
 bit_form laws framed a operation bit form inside =
     let at = laws.operands.stands.bit bit inside in
-    let is = laws.results.bits.status_form framed operation bit a.psw (record { bits = form.bits; entry = form.psw }) in
+    let is = laws.results.bits.status_form framed operation bit a.psw (status_of_known framed a form) in
     let byte = laws.results.bits.byte_form framed operation bit (carry a) (read_byte framed a (bit_addresses bit)) (laws.operands.reads.form framed a form (bit_addresses bit) at.1) in
-    either_form framed (is_of_status bit) (status_written (status_with_bit operation bit a.psw) a) (byte_written framed (bit_addresses bit) (byte_changed framed operation bit a) a)
-    (laws.stores.forms.status framed (status_with_bit operation bit a.psw) is.bits is.entry a form)
-    (laws.stores.forms.byte framed (bit_addresses bit) (byte_changed framed operation bit a) at.1 byte a form)
+    cond_both (is_of_status bit) (status_written (status_with_bit operation bit a.psw) a) (byte_written framed (bit_addresses bit) (byte_changed framed operation bit a) a) (IsKnown framed)
+    (λ e. laws.stores.forms.status framed (status_with_bit operation bit a.psw) is.bits is.entry a form)
+    (λ e. laws.stores.forms.byte framed (bit_addresses bit) (byte_changed framed operation bit a) at.1 byte a form)
 
 under_either : (laws : Premises) (framed : Bool) (a : Known) (s : ChipState) (first : Option ChipState) (operation : BitOperation) (bit x : ℕ) (of_status : Bool) → is_of_status bit ≡ of_status → IsUnder framed a s first
     → bit < 256 → MayRead s (bit_address bit) x
@@ -100,7 +101,8 @@ under_either laws framed a s first operation bit x false is under inside may =
     let at = laws.operands.stands.bit bit inside in
     laws.stores.writes.byte framed first (bit_addresses bit) (bit_address bit) (byte_changed framed operation bit a) (after operation bit s x) (value_is laws framed a s first operation bit x under inside may) at.1 at.0 a s under
 
-changed_leads : (laws : Premises) (framed : Bool) (a : Known) (s : ChipState) (first : Option ChipState) (operation : BitOperation) (bit x : ℕ) → IsUnder framed a s first → bit < 256 → MayRead s (bit_address bit) x
+pub changed_leads : (laws : Premises) (framed : Bool) (a : Known) (s : ChipState) (first : Option ChipState) (operation : BitOperation) (bit x : ℕ)
+    → IsUnder framed a s first → bit < 256 → MayRead s (bit_address bit) x
     → LeadsSo framed first (bit_changed framed operation bit a) s (write (bit_address bit) (after operation bit s x) s)
 unfolding bit_changed
 changed_leads laws framed a s first operation bit x under inside may = record {

@@ -1,17 +1,22 @@
 -- What holds of instructions on CY and on bits.
-use Rattle.std.specs.Prelude.{◌<◌, ℕ, Bool, [], List, Option}
+use Rattle.std.specs.Prelude.{◌<◌, ◌%◌, ℕ, Bool, [], List, Option}
+use Rattle.std.specs.Int.{bit_at}
 use Rattle.choosing.specs.Gives.{Gives}
 use Rattle.mcs51_decode.specs.declared.instr.BitOperation.{BitOperation}
 use Rattle.mcs51_decode.specs.declared.instr.CarryByBit.{CarryByBit}
 use Rattle.mcs51_decode.specs.declared.instr.CarryOperation.{CarryOperation}
 use Rattle.mcs51_decode.specs.declared.instr.Instr.TheVariants.{CarryBit, ChangeBit, ChangeCarry}
 use Rattle.mcs51_chip.specs.declared.state.ChipState.{ChipState}
+use Rattle.mcs51_chip.specs.Arithmetic.{bit_after}
+use Rattle.mcs51_chip.specs.Leading.{MayRead}
+use Rattle.mcs51_chip.specs.Memory.{bit_address, write}
+use Rattle.mcs51_chip.specs.Registers.{carry_of, with_bit}
 use Rattle.mcs51_chip.specs.Step.{effect_of}
 use Rattle.mcs51_state.specs.Forms.{IsKnown}
 use Rattle.mcs51_state.specs.Known.{Known}
 use Rattle.mcs51_state.specs.Under.{IsUnder}
 use Rattle.mcs51_operands.specs.Operands.{bit_addresses}
-use Rattle.mcs51_operands.specs.Doing.{DoesSo}
+use Rattle.mcs51_operands.specs.Doing.{DoesSo, LeadsSo}
 use Rattle.mcs51_operands.specs.Accesses.{read_at, update_at}
 use Rattle.mcs51_bits.specs.Bits.{bit_changed, carry_changed, carry_joined}
 
@@ -31,6 +36,12 @@ pub record BitsDo : Type 0 where
       → IsUnder framed a s first → bit < 256
       → Gives (DoesSo framed first (update_at pc (bit_addresses bit)) pc (bit_changed framed operation bit a) s)
       (effect_of image s (ChangeBit operation bit))
+  -- whichever of the numbers that it may read the chip reads
+  pub changed : (framed : Bool) (a : Known) (s : ChipState) (first : Option ChipState) (operation : BitOperation)
+      (bit x : ℕ)
+      → IsUnder framed a s first → bit < 256 → MayRead s (bit_address bit) x
+      → LeadsSo framed first (bit_changed framed operation bit a) s
+      (write (bit_address bit) (with_bit x (bit % 8) (bit_after operation (carry_of s) (bit_at x (bit % 8)))) s)
 
 -- What is said behind an instruction on CY or on a bit is in form.
 pub record BitsKeepForm : Type 0 where

@@ -1,5 +1,5 @@
 -- Cells of one byte, in all 256 bytes of RAM: where one is read and where one is written.
-use Rattle.std.proofs.Common.{◌≡◌, ℕ, ◌+◌, ◌-◌, ◌%◌, ◌<◌, ◌≤◌, ◌==◌, Bool, true, false, Option, None, Some, List, [], ◌∷◌, refl, sym, subst, inl, arith}
+use Rattle.std.proofs.Common.{◌≡◌, ℕ, ◌+◌, ◌-◌, ◌%◌, ◌<◌, ◌≤◌, ◌==◌, Bool, Option, Some, List, [], ◌∷◌, refl, sym, subst, inl, arith}
 use Rattle.std.specs.Prelude.{◌&&◌, ◌||◌, nat_lt, not, All}
 use Rattle.std.specs.List.{filter}
 use Rattle.std.proofs.lemmas.Bool.{cond_both}
@@ -12,6 +12,7 @@ use Rattle.entry_value.specs.Laws.{CellLaws}
 use Rattle.entry_value.specs.Words.{HoldsOfWord, Suspended}
 use Rattle.value_set.specs.Form.{IsNormal}
 use Rattle.value_set.specs.Laws.{IsBelow}
+use Rattle.mcs51_state.specs.FormFacts.{no_relation}
 use Rattle.mcs51_state.specs.Forms.{IsChipCell, IsRelation}
 
 -- READING
@@ -22,10 +23,6 @@ cell_read laws first ram at cells are below stands = laws.reads first ram 0 255 
 
 pub cell_normal : (laws : CellLaws) (at : ℕ) (cells : List Cell) → AreCells 0 255 0 cells → IsNormal 65536 (read cells at 1).set
 cell_normal laws at cells are = laws.read_normal 0 255 0 at 1 cells are
-
-pub no_relation : (framed : Bool) → IsRelation framed None
-no_relation true = tt
-no_relation false = tt
 
 found_relation : (framed : Bool) (cells : List Cell) (at size : ℕ) (otherwise : Word) → All (IsChipCell framed) cells → IsRelation framed otherwise.entry
     → IsRelation framed (found_or (cell_at cells at size) otherwise).entry
@@ -48,7 +45,8 @@ insert_each P cell (first ∷ cells) is each =
     (λ e. All-cons P cell (first ∷ cells) is each)
     (λ e. All-cons P first (insert cell cells) (All-head P first cells each) (insert_each P cell cells is (All-tail P first cells each)))
 
-pub write_each : (P : Cell → Type 0) (map : CellMap) (at size : ℕ) (word : Word) → P (record { place = at; size = size; word = word }) → All P map.cells → All P (write_one map at size word).cells
+pub write_each : (P : Cell → Type 0) (map : CellMap) (at size : ℕ) (word : Word) → P (record { place = at; size = size; word = word }) → All P map.cells
+    → All P (write_one map at size word).cells
 unfolding write_one
 write_each P map at size word is each =
     let cell : Cell = record { place = at; size = size; word = word } in

@@ -1,7 +1,5 @@
 -- Sets that are cut to a window.
 use Rattle.std.proofs.Common.{◌≡◌, ℕ, ◌<◌, Option, None, Some, refl, arith}
-use Rattle.std.specs.Option.{option_map}
-use Rattle.std.proofs.lemmas.Option.{same_Some}
 use Rattle.value_set.specs.declared.form.Form.{Form}
 use Rattle.value_set.specs.Cutting.{cut}
 use Rattle.value_set.specs.Form.{Has, IsNormal, above}
@@ -12,10 +10,6 @@ use Rattle.mcs51_branch.specs.Cuts.{cut_to}
 some_part : {A : Type 0} (o : Option A) → (o ≡ None → ⊥) → (part : A) × (o ≡ Some part)
 some_part None none = absurd (none refl)
 some_part (Some part) none = (part, refl)
-
-pub mapped : {A B : Type 0} (f : A → B) (o : Option A) (y : B) → option_map f o ≡ Some y → (x : A) × (o ≡ Some x) × (f x ≡ y)
-mapped f None y e = absurd (cc)
-mapped f (Some x) y e = (x, refl, same_Some (f x) y e)
 
 -- the byte is one of the window's
 pub record IsInside (v : ℕ) (window : Window) : Type 0 where

@@ -5,6 +5,5 @@ pub mod Cells
 pub mod PlaceWays
 pub mod Carries
 pub mod Ways
-pub mod OneRegister
 pub mod TestedSets
 pub mod TestedBits

@@ -5,6 +5,7 @@ use Rattle.std.specs.Option.{option_map}
 use Rattle.entry_value.specs.declared.word.Word.{Word}
 use Rattle.entry_value.specs.Cells.{read, write_one, written}
 use Rattle.entry_value.specs.Words.{HoldsOfByte, HoldsOfWord}
+use Rattle.plain_lemmas.specs.Cases.{mapped}
 use Rattle.irq_frames.specs.KnownLaws.{KnownLaws}
 use Rattle.value_set.specs.declared.form.Form.{Form}
 use Rattle.value_set.specs.Form.{Has, IsNormal}
@@ -15,14 +16,14 @@ use Rattle.mcs51_chip.specs.declared.state.ChipState.{ChipState}
 use Rattle.mcs51_state.specs.declared.fact.Compared.{Compared}
 use Rattle.mcs51_state.specs.declared.fact.Compared.TheVariants.{Accumulator, Ram}
 use Rattle.mcs51_state.specs.Forms.{IsByte, IsChipCell, IsCompared, IsKnown}
-use Rattle.mcs51_state.specs.Holding.{HoldsOf, compared_in}
+use Rattle.mcs51_state.specs.Holding.{compared_in}
 use Rattle.mcs51_state.specs.Known.{Known}
 use Rattle.mcs51_state.specs.Places.{suspended_of}
 use Rattle.mcs51_state.specs.Under.{IsUnder}
 use Rattle.mcs51_branch.specs.declared.window.Window.{Window}
 use Rattle.mcs51_branch.specs.Cuts.{cut_to, place_cut, set_at, with_set, words_of}
 use Rattle.mcs51_branch.proofs.Cells.{cell_normal, cell_put, cell_put_form, cell_read, cells_alike, read_relation, write_each, written_same}
-use Rattle.mcs51_branch.proofs.Cutting.{IsInside, mapped, part_has, part_normal}
+use Rattle.mcs51_branch.proofs.Cutting.{IsInside, part_has, part_normal}
 
 -- WHAT IS KNOWN
 
@@ -30,7 +31,8 @@ pub set_normal : (laws : KnownLaws) (framed : Bool) (place : Compared) (known : 
 set_normal laws framed Accumulator known form = form.a.normal
 set_normal laws framed (Ram at) known form = laws.bits.low_normal (read known.cells.cells at 1).set (cell_normal laws.cells at known.cells.cells form.cells)
 
-pub set_has : (laws : KnownLaws) (framed : Bool) (place : Compared) (known : Known) (s : ChipState) (first : Option ChipState) → IsCompared place → IsUnder framed known s first → Has 256 (set_at place known) (compared_in place s)
+pub set_has : (laws : KnownLaws) (framed : Bool) (place : Compared) (known : Known) (s : ChipState) (first : Option ChipState) → IsCompared place
+    → IsUnder framed known s first → Has 256 (set_at place known) (compared_in place s)
 set_has laws framed Accumulator known s first is under = under.holds.parts.a.0
 set_has laws framed (Ram at) known s first is under =
     let cells = known.cells.cells in
@@ -70,13 +72,13 @@ with_set_form laws framed (Ram at) known set is normal form =
     let each_cell = write_each (IsChipCell framed) map at 1 word chip form.each_cell in
     assumption (form, from, up_to, cells, each_cell)
 
-with_set_holds : (laws : KnownLaws) (framed : Bool) (place : Compared) (known : Known) (set : Form) (s : ChipState) (first : Option ChipState)
-    → IsCompared place → IsNormal 256 set → Has 256 set (compared_in place s) → IsUnder framed known s first → HoldsOf (with_set place known set) s first
+pub with_set_under : (laws : KnownLaws) (framed : Bool) (place : Compared) (known : Known) (set : Form) (s : ChipState) (first : Option ChipState)
+    → IsCompared place → IsNormal 256 set → Has 256 set (compared_in place s) → IsUnder framed known s first → IsUnder framed (with_set place known set) s first
 unfolding with_set
-with_set_holds laws framed Accumulator known set s first is normal has under =
+with_set_under laws framed Accumulator known set s first is normal has under =
     let held : HoldsOfByte (option_map suspended_of first) (record { set = set; entry = known.a.entry }) s.a = (has, under.holds.parts.a.1) in
-    assumption (under.holds, held)
-with_set_holds laws framed (Ram at) known set s first is normal has under =
+    assumption (under, normal, held)
+with_set_under laws framed (Ram at) known set s first is normal has under =
     let form = under.form in
     let stands = under.holds.parts.cells in
     let map = known.cells in
@@ -92,20 +94,14 @@ with_set_holds laws framed (Ram at) known set s first is normal has under =
     let put_form = cell_put_form laws.cells at map word form.from form.up_to form.cells words bytes in
     let cells = cells_alike laws.cells suspended (written ram at 1 (ram at)) ram (write_one map at 1 word).cells put_form stands.0
     (λ address low high. written_same ram at byte address) put in
-    assumption (under.holds, cells)
-
-pub with_set_under : (laws : KnownLaws) (framed : Bool) (place : Compared) (known : Known) (set : Form) (s : ChipState) (first : Option ChipState)
-    → IsCompared place → IsNormal 256 set → Has 256 set (compared_in place s) → IsUnder framed known s first → IsUnder framed (with_set place known set) s first
-with_set_under laws framed place known set s first is normal has under = record {
-  base = under.base;
-  form = with_set_form laws framed place known set is normal under.form;
-  holds = with_set_holds laws framed place known set s first is normal has under;
-}
+    let form_behind = with_set_form laws framed (Ram at) known set is normal form in
+    assumption (under, form_behind, cells)
 
 -- THE WAY
 
 -- a subset that still has the byte serves each cut
-pub place_way : (laws : KnownLaws) (framed : Bool) (place : Compared) (window : Window) (known : Known) (s : ChipState) (first : Option ChipState) → IsCompared place → IsInside (compared_in place s) window
+pub place_way : (laws : KnownLaws) (framed : Bool) (place : Compared) (window : Window) (known : Known) (s : ChipState) (first : Option ChipState)
+    → IsCompared place → IsInside (compared_in place s) window
     → IsUnder framed known s first → (way : Known) × (place_cut place window known ≡ Some way) × IsUnder framed way s first
 place_way laws framed place window known s first is inside under =
     let (part, cut, normal, has) = part_has laws.sets (compared_in place s) (set_at place known) window (set_normal laws framed place known under.form) (set_has laws framed place known s first is under) inside in (
@@ -114,7 +110,8 @@ place_way laws framed place window known s first is inside under =
       with_set_under laws framed place known part s first is normal has under,
     )
 
-pub place_way_form : (laws : KnownLaws) (framed : Bool) (place : Compared) (window : Window) (known way : Known) → IsCompared place → window.low < 256 → IsKnown framed known → place_cut place window known ≡ Some way → IsKnown framed way
+pub place_way_form : (laws : KnownLaws) (framed : Bool) (place : Compared) (window : Window) (known way : Known) → IsCompared place → window.low < 256
+    → IsKnown framed known → place_cut place window known ≡ Some way → IsKnown framed way
 place_way_form laws framed place window known way is low form e =
     let (part, cut, same) = mapped (with_set place known) (cut_to window (set_at place known)) way e in
     subst (IsKnown framed) same (with_set_form laws framed place known part is (part_normal laws.sets (set_at place known) part window (set_normal laws framed place known form) low cut) form)

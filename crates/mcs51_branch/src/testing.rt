@@ -17,30 +17,12 @@ use no_memory::Memory;
 use value_bits::w8;
 use value_set::{Form, Vs8, members_are_below};
 
-/// The number that a place of a byte stands for.
-fn weight(place: u8) -> u8
-    requires { place < 8 }
-    ensures value { result ≡ 2 ^ place }
-    ensures some { 1 ≤ result }
-{
-    match place {
-        0 => 1,
-        1 => 2,
-        2 => 4,
-        3 => 8,
-        4 => 16,
-        5 => 32,
-        6 => 64,
-        _ => 128,
-    }
-}
-
 /// Whether a byte has a bit so.
 fn has_bit(place: u8, bit: bool, byte: u8) -> bool
     requires { place < 8 }
     ensures { result ≡ testing.has_bit place bit byte }
 {
-    let held = byte / weight(place) % 2;
+    let held = (byte >> place) % 2;
     if bit { held == 1 } else { held == 0 }
 }
 

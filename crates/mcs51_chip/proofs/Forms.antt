@@ -1,12 +1,14 @@
 -- A step keeps the form of states.
-use Rattle.std.proofs.Common.{◌≡◌, ℕ, ◌+◌, ◌-◌, ◌*◌, ◌/◌, ◌%◌, ◌<◌, ◌==◌, Bool, true, false, cond, ltb, nat_lt, List, [], length, slice_index, slice_set, Option, None, Some, Result, Ok, Err, refl, arith}
+use Rattle.std.proofs.Common.{◌≡◌, ℕ, ◌+◌, ◌-◌, ◌*◌, ◌/◌, ◌%◌, ◌<◌, ◌==◌, Bool, true, false, cond, ltb, nat_lt, List, [], length, slice_index, slice_set, Option, None, Some, Result, Ok, Err, refl, ◌∙◌, arith}
 use Rattle.std.specs.Prelude.{All}
 use Rattle.std.specs.List.{range_with_len}
 use Rattle.std.specs.Int.{bit_at}
 use Rattle.std.proofs.lemmas.Grind.{common_steps}
+use Rattle.std.proofs.lemmas.Bool.{cond_both}
 use Rattle.std.proofs.lemmas.Bool.Decides.{nat_tests}
-use Rattle.std.proofs.lemmas.List.Elements.{All-set, All-get_or, All-replicate, All-filter, All-cons, All-nil}
-use Rattle.std.proofs.lemmas.List.{get_or_past}
+use Rattle.std.proofs.lemmas.List.Elements.{All-set, All-get_or, All-replicate, All-filter}
+use Rattle.std.proofs.lemmas.List.{get_or_past, length-set}
+use Rattle.std.proofs.lemmas.List.FromFn.{get_or-range_with_len, length-range_with_len}
 use borrow.Author.Tests.{ltb-true, ltb-false}
 use Rattle.std.proofs.lemmas.Nat.Bits.{bit_at-lt}
 use Rattle.image.specs.Image.{IsByte, byte_at}
@@ -26,14 +28,11 @@ use Rattle.mcs51_decode.specs.declared.instr.CodeBase.TheVariants.{ProgramCounte
 use Rattle.mcs51_decode.specs.declared.instr.External.{External}
 use Rattle.mcs51_decode.specs.declared.instr.External.TheVariants.{DataPointer, Indirect}
 use Rattle.mcs51_decode.specs.declared.instr.Pointer.{Pointer}
-use Rattle.mcs51_decode.specs.declared.instr.Pointer.TheVariants as pointer
-use Rattle.mcs51_decode.specs.declared.instr.Register.{Register}
-use Rattle.mcs51_decode.specs.declared.instr.Register.TheVariants as register
 use Rattle.mcs51_decode.specs.declared.instr.Instr.{Instr}
 use Rattle.mcs51_decode.specs.declared.instr.Instr.TheVariants.{Nop, AbsoluteJump, AbsoluteCall, LongJump, LongCall, Return, ReturnFromInterrupt, JumpIndirect, JumpOn, JumpOnBit, CompareJump, DecrementJump, ChangeAccumulator, Increment, Decrement, IncrementDataPointer, Accumulate, DirectLogic, Multiply, Divide, ChangeCarry, CarryBit, ChangeBit, MoveImmediate, MoveToDirect, MoveFromDirect, LoadDataPointer, Load, Store, MoveCode, ReadExternal, WriteExternal, Push, Pop, Exchange, ExchangeDigit}
 use Rattle.mcs51_decode.specs.declared.refusal.NoInstr.{NoInstr}
 use Rattle.mcs51_decode.specs.Decoding.{decoded}
-use Rattle.mcs51_decode.specs.Encoding.{bytes_of, pointer_number, register_number}
+use Rattle.mcs51_decode.specs.Encoding.{bytes_of}
 use Rattle.mcs51_decode.specs.Targets.{following}
 use Rattle.mcs51_chip.specs.declared.place.Access.{Access}
 use Rattle.mcs51_chip.specs.declared.place.Address.{Address}
@@ -41,77 +40,34 @@ use Rattle.mcs51_chip.specs.declared.place.Address.TheVariants.{InRam, InSfr}
 use Rattle.mcs51_chip.specs.declared.place.Sfr.{Sfr}
 use Rattle.mcs51_chip.specs.declared.place.Sfr.TheVariants.{Sp, Dpl, Dph, Ie, Ip, Psw, Acc, B, Other}
 use Rattle.mcs51_chip.specs.declared.state.ChipState.{ChipState}
-use Rattle.mcs51_decode.specs.declared.instr.Operation.{Operation}
-use Rattle.mcs51_decode.specs.declared.instr.Operation.TheVariants.{Add, Addc, Orl, Anl, Xrl, Subb}
-use Rattle.mcs51_decode.specs.declared.instr.AccumulatorOperation.{AccumulatorOperation}
-use Rattle.mcs51_decode.specs.declared.instr.AccumulatorOperation.TheVariants.{Rr, Rrc, Rl, Rlc, Swap, Da, Clr, Cpl}
 use Rattle.mcs51_decode.specs.Table.{Row}
 use Rattle.mcs51_chip.proofs.Operands.{AreFitting, operands_fit}
-use Rattle.mcs51_chip.specs.Arithmetic.{added, subtracted, accumulated, masked, changed, multiplied, divided, divided_by_zero, bit_after}
+use Rattle.mcs51_chip.specs.Arithmetic.{masked, divided, bit_after}
 use Rattle.mcs51_chip.specs.Interrupts.{coming, may_come, is_high, serving, vector_of, level_ended}
 use Rattle.mcs51_chip.specs.Memory.{direct_address, bit_address, pointer_address, pointed_by, working_address, address_of, read, write, read_code, pushed, top_of, popped, with_pushed_address, popped_address}
-use Rattle.mcs51_chip.specs.Registers.{parity, with_bit, carry_of, half_carry_of, sfr_at, read_sfr, write_sfr, with_accumulator, with_carry, with_flags, with_data_pointer}
+use Rattle.mcs51_chip.specs.Registers.{parity, with_bit, carry_of, sfr_at, read_sfr, write_sfr, with_data_pointer}
 use Rattle.mcs51_chip.specs.State.{IsChipState, IsReset, first_state}
+use Rattle.mcs51_chip.specs.StateFacts.{accumulated_kept, carry_kept, changed_kept, divided_kept, multiplied_kept, set_a, set_pc, set_psw, zero_kept}
 use Rattle.mcs51_chip.specs.Step.{Effect, Outcome, implied, reading, writing, updating, changing, moving, going_to, branched, cleared, jumping_on_bit, compared, counting, called, returned, push_value, pushing, popping, reading_code, external_address, reading_external, writing_external, dividing, exchanged_with, digit_exchanged_with, effect_of, executed, entered, run, taken, step_of}
 use Rattle.choosing.specs.Asking.{answer, and_then}
 use Rattle.choosing.specs.Outcome.Outcome.{Next, Wild}
 use Rattle.choosing.specs.Gives.{Gives, answer_gives, ask_gives, ask_if_gives, if_gives, then_gives}
-use Rattle.mcs51_chip.proofs.Results.{or_below, xor_below, and_below, masked_below, flag_below, parity_below, carry_after_below, carry_with_below, bit_after_below, with_bit_below, right_below, left_below, exchanged_below, adjusted_below, product_below, quotient_below, remainder_below, target_below, absolute_below}
+use Rattle.mcs51_chip.specs.NumberFacts.{masked_below, flag_below, parity_below, carry_after_below, carry_with_below, bit_after_below, with_bit_below, target_below, absolute_below, carry_below, pointer_below, register_below}
 
 -- ---- registers
 
-set_pc : (s : ChipState) (x : ℕ) → IsChipState s → x < 65536 → IsChipState (going_to x s)
-set_pc s x is h = assumption (is, h)
-
-set_a : (s : ChipState) (x : ℕ) → IsChipState s → x < 256 → IsChipState (with_accumulator x s)
-set_a s x is h = assumption (is, h)
-
-set_b : (s : ChipState) (x : ℕ) → IsChipState s → x < 256 → IsChipState (record s { b = x })
-set_b s x is h = assumption (is, h)
-
-set_ab : (s : ChipState) (x y : ℕ) → IsChipState s → x < 256 → y < 256 → IsChipState (record s { a = x; b = y })
-set_ab s x y is h g = assumption (is, h, g)
-
-set_sp : (s : ChipState) (x : ℕ) → IsChipState s → x < 256 → IsChipState (record s { sp = x })
-set_sp s x is h = assumption (is, h)
-
-set_halves : (s : ChipState) (x y : ℕ) → IsChipState s → x < 256 → y < 256 → IsChipState (record s { dpl = x; dph = y })
-set_halves s x y is h g = assumption (is, h, g)
-
-set_psw : (s : ChipState) (x : ℕ) → IsChipState s → x < 256 → x % 4 ≡ 0 → IsChipState (record s { psw = x })
-set_psw s x is h held = assumption (is, h, held)
-
-set_ie : (s : ChipState) (x : ℕ) → IsChipState s → x < 256 → x / 64 % 2 ≡ 0 → IsChipState (record s { ie = x })
-set_ie s x is h held = assumption (is, h, held)
-
-set_ip : (s : ChipState) (x : ℕ) → IsChipState s → x < 64 → IsChipState (record s { ip = x })
-set_ip s x is h = assumption (is, h)
-
-set_ram : (s : ChipState) (ram : List ℕ) → IsChipState s → length ram ≡ 256 → All (λ b. b < 256) ram → IsChipState (record s { ram = ram })
-set_ram s ram is size are = assumption (is, size, are)
-
-set_levels : (s : ChipState) (low high : Bool) → IsChipState s → IsChipState (record s { serves_low = low; serves_high = high })
-set_levels s low high is = assumption is
-
 set_pointer : (s : ChipState) (x : ℕ) → IsChipState s → x < 65536 → IsChipState (with_data_pointer x s)
-set_pointer s x is h = set_halves s (x % 256) (x / 256) is (omega arith) (omega (arith, h))
-
-carry_kept : (s : ChipState) (c : ℕ) → IsChipState s → c < 2 → IsChipState (with_carry c s)
-carry_kept s c is h = set_psw s _ is (omega (arith, h)) (omega (arith, is.psw_held))
-
-flags_kept : (s : ChipState) (c half overflow : ℕ) → IsChipState s → c < 2 → half < 2 → overflow < 2 → IsChipState (with_flags c half overflow s)
-flags_kept s c half overflow is h g o = set_psw s _ is (omega (arith, h, g, o)) (omega arith)
-
-ended_by : (b : Bool) (s t : ChipState) → IsChipState s → IsChipState t → IsChipState (cond b s t)
-ended_by true s t is be = is
-ended_by false s t is be = be
+set_pointer s x is h =
+    let low : x % 256 < 256 = omega arith in
+    let high : x / 256 < 256 = omega (arith, h) in
+    assumption (is, low, high)
 
 level_kept : (s : ChipState) → IsChipState s → IsChipState (level_ended s)
-level_kept s is = ended_by s.serves_high _ _ (set_levels s s.serves_low false is) (set_levels s false s.serves_high is)
+level_kept s is = cond_both s.serves_high _ _ IsChipState (λ e. assumption is) (λ e. assumption is)
 
 serving_kept : (high : Bool) (s : ChipState) → IsChipState s → IsChipState (serving high s)
-serving_kept true s is = set_levels s s.serves_low true is
-serving_kept false s is = set_levels s true s.serves_high is
+serving_kept true s is = assumption is
+serving_kept false s is = assumption is
 
 -- ---- bytes
 
@@ -146,18 +102,26 @@ read_gives s (InRam at) is h = answer_gives (λ (x : ℕ). x < 256) _ (ram_byte 
 read_gives s (InSfr at) is h = sfr_gives s (sfr_at at) is
 
 sfr_kept : (s : ChipState) (sfr : Sfr) (x : ℕ) → IsChipState s → x < 256 → IsChipState (write_sfr sfr x s)
-sfr_kept s Sp x is h = set_sp s x is h
-sfr_kept s Dpl x is h = set_halves s x s.dph is h is.dph
-sfr_kept s Dph x is h = set_halves s s.dpl x is is.dpl h
-sfr_kept s Ie x is h = set_ie s _ is (omega (arith, h)) (omega (arith, h))
-sfr_kept s Ip x is h = set_ip s (x % 64) is (omega arith)
+sfr_kept s Sp x is h = assumption (is, h)
+sfr_kept s Dpl x is h = assumption (is, h)
+sfr_kept s Dph x is h = assumption (is, h)
+sfr_kept s Ie x is h =
+    let below : x % 64 + x / 128 * 128 < 256 = omega (arith, h) in
+    let held : (x % 64 + x / 128 * 128) / 64 % 2 ≡ 0 = omega (arith, h) in
+    assumption (is, below, held)
+sfr_kept s Ip x is h =
+    let below : x % 64 < 64 = omega arith in
+    assumption (is, below)
 sfr_kept s Psw x is h = set_psw s (x / 4 * 4) is (omega (arith, h)) (omega arith)
-sfr_kept s Acc x is h = set_a s x is h
-sfr_kept s B x is h = set_b s x is h
+sfr_kept s Acc x is h = assumption (is, h)
+sfr_kept s B x is h = assumption (is, h)
 sfr_kept s Other x is h = is
 
 ram_kept : (s : ChipState) (at x : ℕ) → IsChipState s → x < 256 → IsChipState (record s { ram = slice_set s.ram at x })
-ram_kept s at x is h = set_ram s (slice_set s.ram at x) is (grind (arith, common_steps, is.ram)) (All-set (λ b. b < 256) s.ram at x h is.bytes)
+ram_kept s at x is h =
+    let size : length (slice_set s.ram at x) ≡ 256 = length-set s.ram at x ∙ is.ram in
+    let bytes = All-set (λ b. b < 256) s.ram at x h is.bytes in
+    assumption (is, size, bytes)
 
 write_kept : (s : ChipState) (address : Address) (x : ℕ) → IsChipState s → x < 256 → IsChipState (write address x s)
 unfolding write
@@ -171,40 +135,18 @@ code_gives None is = ask_gives 256 (omega arith)
 
 -- ---- addresses
 
-direct_by : (low : Bool) (direct : ℕ) → nat_lt direct 128 ≡ low → IsAddress (cond low (InRam direct) (InSfr direct))
-direct_by true direct e = grind (arith, nat_tests, e)
-direct_by false direct e = tt
-
 direct_is : (direct : ℕ) → IsAddress (direct_address direct)
-direct_is direct = direct_by (nat_lt direct 128) direct refl
-
-bit_by : (low : Bool) (bit : ℕ) → nat_lt bit 128 ≡ low → IsAddress (cond low (InRam (32 + bit / 8)) (InSfr (bit / 8 * 8)))
-bit_by true bit e = grind (arith, nat_tests, e)
-bit_by false bit e = tt
+direct_is direct = cond_both (nat_lt direct 128) _ _ IsAddress (λ e. grind (arith, nat_tests, e)) (λ e. tt)
 
 bit_is : (bit : ℕ) → IsAddress (bit_address bit)
-bit_is bit = bit_by (nat_lt bit 128) bit refl
-
-pointer_below : (i : Pointer) → pointer_number i < 8
-pointer_below pointer.R0 = omega arith
-pointer_below pointer.R1 = omega arith
-
-number_below : (n : Register) → register_number n < 8
-number_below register.R0 = omega arith
-number_below register.R1 = omega arith
-number_below register.R2 = omega arith
-number_below register.R3 = omega arith
-number_below register.R4 = omega arith
-number_below register.R5 = omega arith
-number_below register.R6 = omega arith
-number_below register.R7 = omega arith
+bit_is bit = cond_both (nat_lt bit 128) _ _ IsAddress (λ e. grind (arith, nat_tests, e)) (λ e. tt)
 
 pointed_below : (s : ChipState) (i : Pointer) → IsChipState s → pointed_by s i < 256
 pointed_below s i is = ram_byte s (pointer_address s i) is (omega (arith, pointer_below i))
 
 working_is : (s : ChipState) (w : Working) → IsChipState s → IsAddress (working_address s w)
 working_is s (At i) is = pointed_below s i is
-working_is s (InRegister n) is = omega (arith, number_below n)
+working_is s (InRegister n) is = omega (arith, register_below n)
 
 address_is : (s : ChipState) (m : Memory) → IsChipState s → IsAddress (address_of s m)
 address_is s (Direct direct) is = direct_is direct
@@ -213,10 +155,15 @@ address_is s (InWorking w) is = working_is s w is
 -- ---- the stack
 
 pushed_kept : (s : ChipState) (byte : ℕ) → IsChipState s → byte < 256 → IsChipState (pushed byte s)
-pushed_kept s byte is h = set_sp _ ((s.sp + 1) % 256) (ram_kept s ((s.sp + 1) % 256) byte is h) (omega arith)
+pushed_kept s byte is h =
+    let written = ram_kept s ((s.sp + 1) % 256) byte is h in
+    let top : (s.sp + 1) % 256 < 256 = omega arith in
+    assumption (written, top)
 
 popped_kept : (s : ChipState) → IsChipState s → IsChipState (popped s)
-popped_kept s is = set_sp s ((s.sp + 255) % 256) is (omega arith)
+popped_kept s is =
+    let top : (s.sp + 255) % 256 < 256 = omega arith in
+    assumption (is, top)
 
 called_kept : (s : ChipState) (target : ℕ) → IsChipState s → target < 65536 → IsChipState (called target s)
 called_kept s target is h = let pc = is.pc in
@@ -228,50 +175,6 @@ top_below s is = ram_byte s s.sp is is.sp
 returned_kept : (s : ChipState) → IsChipState s → IsChipState (returned s)
 returned_kept s is = set_pc (popped (popped s)) (popped_address s) (popped_kept (popped s) (popped_kept s is))
     (omega (arith, top_below s is, top_below (popped s) (popped_kept s is)))
-
--- ---- results
-
-carry_below : (s : ChipState) → carry_of s < 2
-carry_below s = bit_at-lt s.psw 7
-
-added_kept : (s : ChipState) (x c : ℕ) → IsChipState s → IsChipState (added x c s)
-added_kept s x c is = set_a _ _ (flags_kept s _ _ _ is (flag_below _) (flag_below _) (flag_below _)) (omega arith)
-
-subtracted_kept : (s : ChipState) (x c : ℕ) → IsChipState s → IsChipState (subtracted x c s)
-subtracted_kept s x c is = set_a _ _ (flags_kept s _ _ _ is (flag_below _) (flag_below _) (flag_below _)) (omega arith)
-
-accumulated_kept : (s : ChipState) (operation : Operation) (x : ℕ) → IsChipState s → x < 256 → IsChipState (accumulated operation x s)
-accumulated_kept s Add x is h = added_kept s x 0 is
-accumulated_kept s Addc x is h = added_kept s x (carry_of s) is
-accumulated_kept s Subb x is h = subtracted_kept s x (carry_of s) is
-accumulated_kept s Orl x is h = set_a s _ is (or_below s.a x is.a h)
-accumulated_kept s Anl x is h = set_a s _ is (and_below s.a x 256 is.a)
-accumulated_kept s Xrl x is h = set_a s _ is (xor_below s.a x is.a h)
-
-low_bit : (x : ℕ) → x % 2 < 2
-low_bit x = omega arith
-
-top_bit : (x : ℕ) → x < 256 → x / 128 < 2
-top_bit x h = omega (arith, h)
-
-changed_kept : (s : ChipState) (operation : AccumulatorOperation) → IsChipState s → IsChipState (changed operation s)
-changed_kept s Rr is = set_a s _ is (right_below s.a (s.a % 2) is.a (low_bit s.a))
-changed_kept s Rrc is = set_a _ _ (carry_kept s _ is (low_bit s.a)) (right_below s.a (carry_of s) is.a (carry_below s))
-changed_kept s Rl is = set_a s _ is (left_below s.a (s.a / 128) (top_bit s.a is.a))
-changed_kept s Rlc is = set_a _ _ (carry_kept s _ is (top_bit s.a is.a)) (left_below s.a (carry_of s) (carry_below s))
-changed_kept s Swap is = set_a s _ is (exchanged_below s.a is.a)
-changed_kept s Da is = set_a _ _ (carry_kept s _ is (flag_below _)) (adjusted_below s.a (carry_of s) (half_carry_of s))
-changed_kept s Clr is = set_a s 0 is (omega arith)
-changed_kept s Cpl is = set_a s (255 - s.a) is (omega arith)
-
-cleared_flags : (s : ChipState) (overflow : ℕ) → IsChipState s → overflow < 2 → IsChipState (with_flags 0 (half_carry_of s) overflow s)
-cleared_flags s overflow is h = flags_kept s 0 (half_carry_of s) overflow is (omega arith) (bit_at-lt s.psw 6) h
-
-multiplied_kept : (s : ChipState) → IsChipState s → IsChipState (multiplied s)
-multiplied_kept s is = set_ab _ _ _ (cleared_flags s _ is (flag_below _)) (omega arith) (product_below s.a s.b is.a is.b)
-
-divided_kept : (s : ChipState) → IsChipState s → (s.b == 0) ≡ false → IsChipState (divided s)
-divided_kept s is some = set_ab _ _ _ (cleared_flags s 0 is (omega arith)) (quotient_below s.a s.b is.a some) (remainder_below s.a s.b is.a)
 
 -- ---- formats of instructions
 
@@ -307,23 +210,15 @@ moving_keeps s before from to is there = byte_leads s from _ is there (λ x belo
 writing_keeps : (s : ChipState) (before : List Access) (address : Address) (x : ℕ) → IsChipState s → x < 256 → Gives Keeps (writing s before address x)
 writing_keeps s before address x is h = answer_gives Keeps _ (write_kept s address x is h)
 
-place_taken : (b : Bool) (x y : ℕ) → x < 65536 → y < 65536 → cond b x y < 65536
-place_taken true x y h g = h
-place_taken false x y h g = g
-
 branched_kept : (s : ChipState) (taken : Bool) (rel : ℕ) → IsChipState s → IsChipState (branched taken rel s)
-branched_kept s taken rel is = set_pc s _ is (place_taken taken _ _ (target_below s.pc rel) is.pc)
+branched_kept s taken rel is = set_pc s _ is (cond_both taken _ _ (λ pc. pc < 65536) (λ e. target_below s.pc rel) (λ e. is.pc))
 
 compared_kept : (s : ChipState) (x y rel : ℕ) → IsChipState s → IsChipState (compared x y rel s)
 compared_kept s x y rel is = branched_kept _ _ rel (carry_kept s _ is (flag_below _))
 
-cleared_by : (b : Bool) (e f : Effect) → Keeps e → Keeps f → Keeps (cond b e f)
-cleared_by true e f h g = h
-cleared_by false e f h g = g
-
 cleared_keeps : (s : ChipState) (address : Address) (bit rel x : ℕ) → IsChipState s → x < 256 → Keeps (cleared s address (bit % 8) rel x)
-cleared_keeps s address bit rel x is h = cleared_by (bit_at x (bit % 8) == 1) _ _
-    (branched_kept _ true rel (write_kept s address _ is (with_bit_below x bit 0 h (omega arith)))) (branched_kept s false rel is)
+cleared_keeps s address bit rel x is h = cond_both (bit_at x (bit % 8) == 1) _ _ Keeps
+    (λ e. branched_kept _ true rel (write_kept s address _ is (with_bit_below x bit 0 h (omega arith)))) (λ e. branched_kept s false rel is)
 
 on_bit_keeps : (s : ChipState) (test : BitTest) (address : Address) (bit rel : ℕ) → IsChipState s → IsAddress address → Gives Keeps (jumping_on_bit s test address (bit % 8) rel)
 unfolding jumping_on_bit
@@ -372,9 +267,6 @@ external_reads_keep s external is = then_gives (λ (at : ℕ). Unit {0}) Keeps _
 external_writes_keep : (s : ChipState) (external : External) → IsChipState s → Gives Keeps (writing_external s external)
 unfolding writing_external
 external_writes_keep s external is = then_gives (λ (at : ℕ). Unit {0}) Keeps _ _ (at_gives s external) (λ at _. answer_gives Keeps _ is)
-
-zero_kept : (s : ChipState) (a b : ℕ) → IsChipState s → a < 256 → b < 256 → IsChipState (divided_by_zero a b s)
-zero_kept s a b is h g = set_ab _ a b (cleared_flags s 1 is (omega arith)) h g
 
 dividing_keeps : (s : ChipState) → IsChipState s → Gives Keeps (dividing s)
 unfolding dividing
@@ -467,9 +359,9 @@ run_keeps image s (Ok (instr, len)) rows bytes is = executed_keeps image s instr
 run_keeps image s (Err none) rows bytes is = answer_gives KeepsForm _ tt
 
 ranged : All (λ source. source < 6) (range_with_len 0 6)
-ranged = All-cons (λ source. source < 6) 0 (range_with_len 1 5) (omega arith) (All-cons (λ source. source < 6) 1 (range_with_len 2 4) (omega arith)
-    (All-cons (λ source. source < 6) 2 (range_with_len 3 3) (omega arith) (All-cons (λ source. source < 6) 3 (range_with_len 4 2) (omega arith)
-    (All-cons (λ source. source < 6) 4 (range_with_len 5 1) (omega arith) (All-cons (λ source. source < 6) 5 (range_with_len 6 0) (omega arith) (All-nil (λ source. source < 6)))))))
+ranged = λ at other inside.
+    let below : at < 6 = rw (length-range_with_len 0 6) at inside in
+    rw (get_or-range_with_len 0 6 at other below) (omega (arith, below))
 
 all_six : (s : ChipState) → All (λ source. source < 6) (coming s)
 unfolding coming

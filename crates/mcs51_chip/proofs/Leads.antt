@@ -15,7 +15,7 @@ use Rattle.mcs51_decode.specs.Decoding.{decoded}
 use Rattle.mcs51_decode.specs.Encoding.{bytes_of}
 use Rattle.mcs51_decode.specs.Standing.{Decodes}
 use Rattle.mcs51_decode.specs.Targets.{following}
-use Rattle.choosing.specs.Asking.{answer, ask, and_then, IsOption}
+use Rattle.choosing.specs.Asking.{Asking, answer, ask, and_then, IsOption}
 use Rattle.choosing.specs.Outcome.Outcome.{Wild}
 use Rattle.choosing.specs.Gives.{Gives, answer_gives, ask_gives, ask_if_gives, option_gives, then_gives}
 use Rattle.mcs51_chip.specs.declared.place.Access.{Access}
@@ -36,7 +36,8 @@ use Rattle.mcs51_chip.specs.Step.{Effect, implied, reading, updating, moving, go
 -- ---- bytes
 
 -- one question of so many options, and what its option makes
-made_of : (options : ℕ) (made : ℕ → ℕ) → 0 < options → Gives (λ (x : ℕ). (option : ℕ) × (option < options) × (x ≡ made option)) (and_then (ask options) (λ option. answer (made option)))
+made_of : (options : ℕ) (made : ℕ → ℕ) → 0 < options
+    → Gives (λ (x : ℕ). (option : ℕ) × (option < options) × (x ≡ made option)) (and_then (ask options) (λ option. answer (made option)))
 made_of options made some = then_gives (λ (option : ℕ). option < options) (λ (x : ℕ). (option : ℕ) × (option < options) × (x ≡ made option)) _ _ (ask_gives options some)
     (λ option below. answer_gives (λ (x : ℕ). (option : ℕ) × (option < options) × (x ≡ made option)) (made option) (option, below, refl))
 
@@ -77,9 +78,12 @@ at_leads s (Indirect i) = made_of 256 (λ high. pointed_by s i + 256 * high) (om
 
 -- ---- formats
 
+-- what comes of each number that is asked for
+of_each : (May : ℕ → Type 0) (leads : ℕ → Effect) (asking : Asking ℕ) → Gives May asking → Gives (IsOfOne May leads) (and_then asking (λ x. answer (leads x)))
+of_each May leads asking gives = then_gives May (IsOfOne May leads) asking _ gives (λ x may. answer_gives (IsOfOne May leads) (leads x) (x, may, refl))
+
 of_byte : (s : ChipState) (address : Address) (leads : ℕ → Effect) → Gives (IsOfOne (MayRead s address) leads) (and_then (read s address) (λ x. answer (leads x)))
-of_byte s address leads = then_gives (MayRead s address) (IsOfOne (MayRead s address) leads) _ _ (read_leads s address) (λ x may.
-    answer_gives (IsOfOne (MayRead s address) leads) (leads x) (x, may, refl))
+of_byte s address leads = of_each (MayRead s address) leads (read s address) (read_leads s address)
 
 pub reading_leads : (s : ChipState) (before : List Access) (address : Address) (leads : ℕ → ChipState)
     → Gives (IsOfOne (MayRead s address) (λ x. (before ++ reads address, leads x))) (reading s before address leads)
@@ -104,26 +108,18 @@ clearing_leads s address place rel = of_byte s address (cleared s address place 
 pub pushing_leads : (s : ChipState) (direct : ℕ)
     → Gives (IsOfOne (MayPush (direct == 0x81) s direct) (pushed_from s direct)) (pushing s direct)
 unfolding pushing
-pushing_leads s direct =
-    let leads : ℕ → Effect = pushed_from s direct in
-    then_gives (MayPush (direct == 0x81) s direct) (IsOfOne (MayPush (direct == 0x81) s direct) leads) _ _ (value_leads s direct) (λ x may.
-    answer_gives (IsOfOne (MayPush (direct == 0x81) s direct) leads) (leads x) (x, may, refl))
+pushing_leads s direct = of_each (MayPush (direct == 0x81) s direct) (pushed_from s direct) (push_value s direct) (value_leads s direct)
 
 pub popping_leads : (s : ChipState) (direct : ℕ)
     → Gives (IsOfOne (IsOption (direct == 0x81) 2) (popped_into s direct)) (popping s direct)
 unfolding popping
-popping_leads s direct =
-    let leads : ℕ → Effect = popped_into s direct in
-    then_gives (IsOption (direct == 0x81) 2) (IsOfOne (IsOption (direct == 0x81) 2) leads) _ _ (option_gives (direct == 0x81) 2 (omega arith)) (λ option may.
-    answer_gives (IsOfOne (IsOption (direct == 0x81) 2) leads) (leads option) (option, may, refl))
+popping_leads s direct = of_each (IsOption (direct == 0x81) 2) (popped_into s direct) _ (option_gives (direct == 0x81) 2 (omega arith))
 
 pub code_reads_lead : (image : List (Option ℕ)) (s : ChipState) (at : ℕ)
     → Gives (IsOfOne (MayReadCode (byte_at image at)) (λ x. (Code at ∷ [], with_accumulator x s))) (reading_code image s at)
 unfolding reading_code
 code_reads_lead image s at =
-    let leads : ℕ → Effect = λ x. (Code at ∷ [], with_accumulator x s) in
-    then_gives (MayReadCode (byte_at image at)) (IsOfOne (MayReadCode (byte_at image at)) leads) _ _ (code_leads (byte_at image at)) (λ x may.
-    answer_gives (IsOfOne (MayReadCode (byte_at image at)) leads) (leads x) (x, may, refl))
+    of_each (MayReadCode (byte_at image at)) (λ x. (Code at ∷ [], with_accumulator x s)) (read_code (byte_at image at)) (code_leads (byte_at image at))
 
 pub external_reads_lead : (s : ChipState) (external : AnExternal)
     → Gives (MayReadExternal s external) (reading_external s external)
@@ -138,9 +134,7 @@ pub external_writes_lead : (s : ChipState) (external : AnExternal)
     → Gives (IsOfOne (MayBeAt s external) (λ at. (external_reads s external ++ External true at ∷ [], s))) (writing_external s external)
 unfolding writing_external
 external_writes_lead s external =
-    let leads : ℕ → Effect = λ at. (external_reads s external ++ External true at ∷ [], s) in
-    then_gives (MayBeAt s external) (IsOfOne (MayBeAt s external) leads) _ _ (at_leads s external) (λ at may.
-    answer_gives (IsOfOne (MayBeAt s external) leads) (leads at) (at, may, refl))
+    of_each (MayBeAt s external) (λ at. (external_reads s external ++ External true at ∷ [], s)) (external_address s external) (at_leads s external)
 
 pub set_leads : (s : ChipState) (address : Address) (place rel : ℕ)
     → Gives (IsOfOne (MayRead s address) (λ x. (reads address, branched (bit_at x place == 1) rel s))) (jumping_on_bit s Set address place rel)

@@ -3,4 +3,3 @@ pub mod Forms
 pub mod Fronts
 pub mod Leads
 pub mod Operands
-pub mod Results

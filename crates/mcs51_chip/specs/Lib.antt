@@ -3,6 +3,8 @@ pub mod Interrupts
 pub mod Laws
 pub mod Leading
 pub mod Memory
+pub mod NumberFacts
 pub mod Registers
 pub mod State
+pub mod StateFacts
 pub mod Step

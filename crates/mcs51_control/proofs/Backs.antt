@@ -30,7 +30,8 @@ only_one : (n v : ℕ) → Has 256 (single n) v → v ≡ n
 only_one n v h = elim (Contains-push_cases [] n v h) [ inl none ↦ absurd (omega (arith, none.1)) | inr same ↦ sym same ]
 
 -- a place that holds all bits of a byte
-whole_byte : (f : ChipState) (place v : ℕ) (entry : Entry) → entry.place ≡ place → entry.and ≡ 255 → entry.or ≡ 0 → (suspended_of f).held place ≡ 65535 → (suspended_of f).number place < 256
+whole_byte : (f : ChipState) (place v : ℕ) (entry : Entry) → entry.place ≡ place → entry.and ≡ 255 → entry.or ≡ 0 → (suspended_of f).held place ≡ 65535
+    → (suspended_of f).number place < 256
     → IsFromEntry (Some (suspended_of f)) (Some entry) v → v ≡ (suspended_of f).number place
 whole_byte f place v entry at masked whole held small (word, (below, reads), is) =
     let n = (suspended_of f).number place in

@@ -1,5 +1,5 @@
 -- Behind RET and RETI.
-use Rattle.std.proofs.Common.{◌+◌, ◌*◌, ◌%◌, ◌<◌, Bool, Option, subst, arith}
+use Rattle.std.proofs.Common.{◌+◌, ◌%◌, ◌<◌, Bool, Option, subst, arith}
 use Rattle.value_bits.specs.Sets.{pair_set}
 use Rattle.value_set.specs.Form.{Has, IsNormal}
 use Rattle.mcs51_chip.specs.declared.state.ChipState.{ChipState}
@@ -15,7 +15,8 @@ use Rattle.mcs51_control.specs.Returning.{below_top, high_byte, interrupt_return
 use Rattle.mcs51_control.proofs.Levels.{ended_form, ended_under}
 use Rattle.mcs51_control.proofs.Tops.{below_form, byte_small, high_holds, low_holds, popped_under}
 
-pub returned_so : (laws : Premises) (framed : Bool) (a : Known) (s : ChipState) (first : Option ChipState) → IsUnder framed a s first → IsUnder framed (returned_known a) (returned s) first
+pub returned_so : (laws : Premises) (framed : Bool) (a : Known) (s : ChipState) (first : Option ChipState) → IsUnder framed a s first
+    → IsUnder framed (returned_known a) (returned s) first
 returned_so laws framed a s first under =
     let one = popped_under laws framed a s first under in
     let two = popped_under laws framed (byte_popped a) (popped s) first one in
@@ -23,10 +24,12 @@ returned_so laws framed a s first under =
     let low : top_of (popped s) < 256 = byte_small framed a s first ((s.sp + 255) % 256) under in
     laws.stores.writes.counter framed first (popped_address s) (omega (arith, high, low)) (returned_known a) (popped (popped s)) two
 
-pub interrupt_so : (laws : Premises) (framed : Bool) (a : Known) (s : ChipState) (first : Option ChipState) → IsUnder framed a s first → IsUnder framed (interrupt_returned a) (level_ended (returned s)) first
+pub interrupt_so : (laws : Premises) (framed : Bool) (a : Known) (s : ChipState) (first : Option ChipState) → IsUnder framed a s first
+    → IsUnder framed (interrupt_returned a) (level_ended (returned s)) first
 interrupt_so laws framed a s first under = ended_under framed (returned_known a) (returned s) first (returned_so laws framed a s first under)
 
-pub target_so : (laws : Premises) (framed : Bool) (a : Known) (s : ChipState) (first : Option ChipState) → IsUnder framed a s first → Has 65536 (return_targets framed a) (returned s).pc
+pub target_so : (laws : Premises) (framed : Bool) (a : Known) (s : ChipState) (first : Option ChipState) → IsUnder framed a s first
+    → Has 65536 (return_targets framed a) (returned s).pc
 unfolding return_targets
 target_so laws framed a s first under =
     let low_form = (laws.operands.reads.form framed a under.form (below_top a) (below_form laws framed a under.form)).normal in

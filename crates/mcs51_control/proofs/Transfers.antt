@@ -12,6 +12,7 @@ use Rattle.mcs51_chip.specs.declared.place.Access.{Access}
 use Rattle.mcs51_chip.specs.declared.state.ChipState.{ChipState}
 use Rattle.mcs51_chip.specs.Interrupts.{level_ended}
 use Rattle.mcs51_chip.specs.Memory.{pop_reads, push_writes, with_pushed_address}
+use Rattle.mcs51_chip.specs.NumberFacts.{absolute_below}
 use Rattle.mcs51_chip.specs.Registers.{data_pointer}
 use Rattle.mcs51_chip.specs.Step.{called, effect_of, going_to, returned}
 use Rattle.mcs51_state.specs.Known.{Known}
@@ -26,30 +27,30 @@ use Rattle.mcs51_control.proofs.Levels.{ended_pc}
 use Rattle.mcs51_control.proofs.Returns.{interrupt_so, returned_so, target_so}
 use Rattle.mcs51_control.proofs.Showing.{call_shown, return_shown}
 
-lands : (framed : Bool) (first : Option ChipState) (items : List Item) (pc : ℕ) (targets : Form) (behind : Known) (accesses : List Access) (t : ChipState) → AreShown items pc accesses → Has 65536 targets t.pc
+lands : (framed : Bool) (first : Option ChipState) (items : List Item) (pc : ℕ) (targets : Form) (behind : Known) (accesses : List Access) (t : ChipState)
+    → AreShown items pc accesses → Has 65536 targets t.pc
     → IsUnder framed behind t first → Gives (LandsSo framed first items pc targets behind) (answer (accesses, t))
 lands framed first items pc targets behind accesses t shown has under =
     answer_gives (LandsSo framed first items pc targets behind) (accesses, t) (record { shown = shown; target = has; under = under })
 
--- a target in the page of the following address
-absolute_small : (next target : ℕ) → next < 65536 → absolute_target next target < 65536
-absolute_small next target small = omega (arith, small)
-
 -- JUMPS
 
-jumps : (laws : Premises) (framed : Bool) (a : Known) (s : ChipState) (first : Option ChipState) (pc target : ℕ) (targets : Form) → IsUnder framed a s first → target < 65536 → Has 65536 targets target
+jumps : (laws : Premises) (framed : Bool) (a : Known) (s : ChipState) (first : Option ChipState) (pc target : ℕ) (targets : Form) → IsUnder framed a s first
+    → target < 65536 → Has 65536 targets target
     → Gives (LandsSo framed first [] pc targets a) (answer ([], going_to target s))
 jumps laws framed a s first pc target targets under small has =
     lands framed first [] pc targets a [] (going_to target s) (λ access there. absurd (omega (arith, there.1))) has (laws.stores.writes.counter framed first target small a s under)
 
-pub absolute_jump_does : (laws : Premises) (framed : Bool) (a : Known) (s : ChipState) (first : Option ChipState) (image : List (Option ℕ)) (pc target : ℕ) → IsUnder framed a s first
+pub absolute_jump_does : (laws : Premises) (framed : Bool) (a : Known) (s : ChipState) (first : Option ChipState) (image : List (Option ℕ)) (pc target : ℕ)
+    → IsUnder framed a s first
     → Gives (LandsSo framed first [] pc (single (absolute_target s.pc target)) a) (effect_of image s (AbsoluteJump target))
 unfolding effect_of
 absolute_jump_does laws framed a s first image pc target under =
-    let small = absolute_small s.pc target under.holds.state.pc in
+    let small = absolute_below s.pc target under.holds.state.pc in
     jumps laws framed a s first pc (absolute_target s.pc target) (single (absolute_target s.pc target)) under small (laws.known.sets.single 65536 (absolute_target s.pc target) small).1
 
-pub long_jump_does : (laws : Premises) (framed : Bool) (a : Known) (s : ChipState) (first : Option ChipState) (image : List (Option ℕ)) (pc target : ℕ) → IsUnder framed a s first → target < 65536
+pub long_jump_does : (laws : Premises) (framed : Bool) (a : Known) (s : ChipState) (first : Option ChipState) (image : List (Option ℕ)) (pc target : ℕ)
+    → IsUnder framed a s first → target < 65536
     → Gives (LandsSo framed first [] pc (single target) a) (effect_of image s (LongJump target))
 unfolding effect_of
 long_jump_does laws framed a s first image pc target under small =
@@ -70,12 +71,14 @@ calls laws framed a s first pc target under small =
     lands framed first (call_accesses pc a) pc (single target) (address_pushed framed s.pc a) (push_writes s) (called target s) (call_shown laws framed pc a s first under) (laws.known.sets.single 65536 target small).1
     (laws.stores.writes.counter framed first target small (address_pushed framed s.pc a) (with_pushed_address s.pc s) pushed_under)
 
-pub absolute_call_does : (laws : Premises) (framed : Bool) (a : Known) (s : ChipState) (first : Option ChipState) (image : List (Option ℕ)) (pc target : ℕ) → IsUnder framed a s first
+pub absolute_call_does : (laws : Premises) (framed : Bool) (a : Known) (s : ChipState) (first : Option ChipState) (image : List (Option ℕ)) (pc target : ℕ)
+    → IsUnder framed a s first
     → Gives (LandsSo framed first (call_accesses pc a) pc (single (absolute_target s.pc target)) (address_pushed framed s.pc a)) (effect_of image s (AbsoluteCall target))
 unfolding effect_of
-absolute_call_does laws framed a s first image pc target under = calls laws framed a s first pc (absolute_target s.pc target) under (absolute_small s.pc target under.holds.state.pc)
+absolute_call_does laws framed a s first image pc target under = calls laws framed a s first pc (absolute_target s.pc target) under (absolute_below s.pc target under.holds.state.pc)
 
-pub long_call_does : (laws : Premises) (framed : Bool) (a : Known) (s : ChipState) (first : Option ChipState) (image : List (Option ℕ)) (pc target : ℕ) → IsUnder framed a s first → target < 65536
+pub long_call_does : (laws : Premises) (framed : Bool) (a : Known) (s : ChipState) (first : Option ChipState) (image : List (Option ℕ)) (pc target : ℕ)
+    → IsUnder framed a s first → target < 65536
     → Gives (LandsSo framed first (call_accesses pc a) pc (single target) (address_pushed framed s.pc a)) (effect_of image s (LongCall target))
 unfolding effect_of
 long_call_does laws framed a s first image pc target under small = calls laws framed a s first pc target under small

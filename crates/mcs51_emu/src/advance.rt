@@ -21,7 +21,7 @@ use mcs51_chip::ChipState;
 use mcs51_decode::{Image, Instr, NoInstr, decode, encode};
 
 /// The instruction that stands at PC, which is first set to the following address.
-#[tactic(auto, using(crate::proofs::StateLemmas::pc_kept), unfolding(mcs51_chip::specs::Step::executed))]
+#[tactic(auto, using(mcs51_chip::specs::StateFacts::set_pc), unfolding(mcs51_chip::specs::Step::executed))]
 fn execute(image: &Image, s: &mut ChipState, instr: Instr, choices: &mut Unused) -> Option<Done>
     requires { IsChipState s.old }
     ensures exact { asked_as (finished s.old s.new) result choices.new ≡

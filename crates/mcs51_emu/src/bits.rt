@@ -10,16 +10,7 @@ fn weight(place: u8) -> u8
     ensures value { result ≡ 2 ^ place }
     ensures some { 1 ≤ result }
 {
-    match place {
-        0 => 1,
-        1 => 2,
-        2 => 4,
-        3 => 8,
-        4 => 16,
-        5 => 32,
-        6 => 64,
-        _ => 128,
-    }
+    1 << place
 }
 
 /// The bit at a place.

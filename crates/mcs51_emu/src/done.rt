@@ -62,28 +62,26 @@ pub(crate) fn address_read(s: &ChipState, memory: Memory) -> Option<Access>
 pub(crate) fn one_read(before: Option<Access>, address: Address) -> Accesses
     ensures { listed result ≡ shown before ++ memories.reads address }
 {
-    Accesses {
-        first: None,
-        second: before,
-        third: Some(Access::Internal {
+    one_more(
+        before,
+        Access::Internal {
             write: false,
             address,
-        }),
-    }
+        },
+    )
 }
 
 /// A write of a byte.
 pub(crate) fn one_write(before: Option<Access>, address: Address) -> Accesses
     ensures { listed result ≡ shown before ++ memories.writes address }
 {
-    Accesses {
-        first: None,
-        second: before,
-        third: Some(Access::Internal {
+    one_more(
+        before,
+        Access::Internal {
             write: true,
             address,
-        }),
-    }
+        },
+    )
 }
 
 /// A read of a byte, and a write of one.

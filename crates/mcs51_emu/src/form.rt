@@ -22,7 +22,7 @@ fn bytes(ram: &[u8])
 {}
 
 /// A state has its form where no bit is set that it doesn't hold: its fields are bytes and words.
-pub(crate) fn has_form(s: &ChipState)
+pub fn has_form(s: &ChipState)
     requires { unheld s.now ≡ 0 }
     ensures { IsChipState s.now }
 {

@@ -12,6 +12,8 @@
 //!   the choices end before a question. Machine and choices are then as before.
 //! - A machine keeps the form of states: bytes and words, and 0 in the bits that PSW, IE and IP don't hold.
 //!
+//! [`write_sfr`] writes a register of a state by hand, and [`has_form`] says that a state so written has its form.
+//!
 //! A step takes no memory, and touches no more of RAM than it reads and writes. `mcs51_run_rows` tests it, a line each.
 #![tactic(auto)]
 
@@ -32,6 +34,8 @@ mod stack;
 mod stepped;
 
 pub use choosing::Choices;
+pub use form::has_form;
 pub use machine::Machine;
 pub use mcs51_decode::NoInstr;
+pub use registers::write_sfr;
 pub use stepped::Stepped;

@@ -92,7 +92,7 @@ pub(crate) fn read_sfr(s: &ChipState, sfr: Sfr, choices: &mut Unused) -> Option<
 }
 
 /// Writes a register, which keeps the bits that it holds.
-pub(crate) fn write_sfr(s: &mut ChipState, sfr: Sfr, x: u8)
+pub fn write_sfr(s: &mut ChipState, sfr: Sfr, x: u8)
     ensures value { s.new ≡ registers.write_sfr sfr x s.old }
     ensures unheld { unheld s.new ≤ unheld s.old }
 {

@@ -1,8 +1,10 @@
 //! The stack, calls and returns, and the other memories.
 
-ghost use Rattle.std.specs.Prelude.{◌≡◌, ℕ, List, None, Option, ◌≤◌};
+ghost use Rattle.std.specs.Prelude.{◌≡◌, ◌∷◌, ℕ, [], List, None, Option, ◌≤◌};
 ghost use Rattle.choosing.specs.Choosing.{asked, asked_as};
 ghost use Rattle.mcs51_decode.specs.declared.instr.Instr.TheVariants as instr;
+ghost use Rattle.mcs51_chip.specs.declared.place.Access.TheVariants.{Internal};
+ghost use Rattle.mcs51_chip.specs.declared.place.Address.TheVariants.{InRam};
 ghost use Rattle.mcs51_chip.specs.Memory as memories;
 ghost use Rattle.mcs51_chip.specs.State.{IsChipState};
 ghost use Rattle.mcs51_chip.specs.Step as steps;
@@ -19,40 +21,33 @@ use choosing::Unused;
 use mcs51_chip::{Access, Address, ChipState, direct_address};
 use mcs51_decode::{CodeBase, External, Image, Working};
 
+/// Two accesses of RAM, both reads or both writes.
+fn two_of_ram(is_write: bool, first: u8, second: u8) -> Accesses
+    ensures { listed result ≡ Internal is_write (InRam first) ∷ Internal is_write (InRam second) ∷ [] }
+{
+    let before = Access::Internal {
+        write: is_write,
+        address: Address::InRam(first),
+    };
+    let after = Access::Internal {
+        write: is_write,
+        address: Address::InRam(second),
+    };
+    one_more(Some(before), after)
+}
+
 /// What a call or an interrupt writes.
 pub(crate) fn push_writes(s: &ChipState) -> Accesses
     ensures { listed result ≡ memories.push_writes s.now }
 {
-    let first = Address::InRam(s.sp.wrapping_add(1));
-    Accesses {
-        first: None,
-        second: Some(Access::Internal {
-            write: true,
-            address: first,
-        }),
-        third: Some(Access::Internal {
-            write: true,
-            address: Address::InRam(s.sp.wrapping_add(2)),
-        }),
-    }
+    two_of_ram(true, s.sp.wrapping_add(1), s.sp.wrapping_add(2))
 }
 
 /// What a return reads.
 fn pop_reads(s: &ChipState) -> Accesses
     ensures { listed result ≡ memories.pop_reads s.now }
 {
-    let first = Address::InRam(s.sp);
-    Accesses {
-        first: None,
-        second: Some(Access::Internal {
-            write: false,
-            address: first,
-        }),
-        third: Some(Access::Internal {
-            write: false,
-            address: Address::InRam(s.sp.wrapping_sub(1)),
-        }),
-    }
+    two_of_ram(false, s.sp, s.sp.wrapping_sub(1))
 }
 
 /// A call of an address.

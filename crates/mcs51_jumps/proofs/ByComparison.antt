@@ -1,11 +1,10 @@
 -- CJNE.
-use Rattle.std.proofs.Common.{◌≡◌, ℕ, ◌<◌, ◌==◌, ◌++◌, Bool, true, false, Option, None, Some, List, [], length, set, refl, sym, subst}
+use Rattle.std.proofs.Common.{ℕ, ◌<◌, ◌==◌, ◌++◌, Bool, true, false, Option, None, Some, List, [], set, refl, ◌∙◌, subst}
 use Rattle.std.specs.Prelude.{nat_lt, not}
 use Rattle.std.proofs.lemmas.List.{length-set}
 use Rattle.std.proofs.lemmas.Option.{same_Some}
 use Rattle.choosing.specs.Gives.{Gives, answer_gives}
 use Rattle.value_set.specs.declared.form.Form.{Form}
-use Rattle.value_bits.specs.declared.tri.Tri.{Tri}
 use Rattle.mcs51_decode.specs.declared.instr.Comparison.{Comparison}
 use Rattle.mcs51_decode.specs.declared.instr.Comparison.TheVariants.{AccumulatorImmediate, AccumulatorDirect, WorkingImmediate}
 use Rattle.mcs51_decode.specs.declared.instr.Instr.TheVariants.{CompareJump}
@@ -19,9 +18,8 @@ use Rattle.mcs51_chip.specs.Memory.{direct_address, pointer_reads, reads, workin
 use Rattle.mcs51_chip.specs.Registers.{bit_of, with_carry}
 use Rattle.mcs51_chip.specs.Step.{compared, effect_of, reading}
 use Rattle.mcs51_state.specs.declared.fact.Compared.TheVariants.{Accumulator}
-use Rattle.mcs51_state.specs.Forms.{IsKnown, IsOwnRelation}
+use Rattle.mcs51_state.specs.Forms.{IsCarry, IsKnown}
 use Rattle.mcs51_state.specs.Known.{Known}
-use Rattle.mcs51_state.specs.Places.{psw_place}
 use Rattle.mcs51_state.specs.Under.{IsUnder}
 use Rattle.mcs51_operands.specs.Operands.{direct_addresses, working_addresses}
 use Rattle.mcs51_operands.specs.Reading.{read_byte}
@@ -39,13 +37,15 @@ use Rattle.mcs51_jumps.proofs.Operands.{operand_has, operand_is}
 
 -- WITH A CONSTANT
 
-constant_goes : (laws : Premises) (framed : Bool) (a : Known) (s : ChipState) (first : Option ChipState) (operand : Operand) (x value rel : ℕ) → IsUnder framed a s first → IsOperand operand → IsNumberOf operand s x → value < 256
+constant_goes : (laws : Premises) (framed : Bool) (a : Known) (s : ChipState) (first : Option ChipState) (operand : Operand) (x value rel : ℕ)
+    → IsUnder framed a s first → IsOperand operand → IsNumberOf operand s x → value < 256
     → Goes framed first (relative_target s.pc rel) (comparison_cut operand value false a) (comparison_cut operand value true a) s (compared x value rel s)
 constant_goes laws framed a s first operand x value rel under is number small =
     let (way, cut, there) = laws.branch.ways.comparison framed a s first operand x value under is number small in
     goes laws framed first (λ taken. comparison_cut operand value taken a) (not (x == value)) way rel s (with_carry (bit_of (nat_lt x value)) s) cut refl there
 
-working_does : (laws : Premises) (framed : Bool) (a : Known) (s : ChipState) (first : Option ChipState) (pc : ℕ) (w : Working) (value rel : ℕ) → IsUnder framed a s first → value < 256
+working_does : (laws : Premises) (framed : Bool) (a : Known) (s : ChipState) (first : Option ChipState) (pc : ℕ) (w : Working) (value rel : ℕ)
+    → IsUnder framed a s first → value < 256
     → Gives (GoesSo framed first (read_items pc a (InWorking w)) pc (relative_target s.pc rel) (comparison_cut (operand_at a (working_set a w)) value false a) (comparison_cut (operand_at a (working_set a w)) value true a) s)
     (reading s (pointer_reads s w) (working_address s w) (λ x. compared x value rel s))
 working_does laws framed a s first pc w value rel under small =
@@ -93,37 +93,15 @@ comparison_does laws framed a s first image pc (WorkingImmediate w value) rel un
 
 -- FORM
 
-no_own_relation : (framed : Bool) → IsOwnRelation framed psw_place 3 None
-no_own_relation true = tt
-no_own_relation false = tt
-
-six_stay : (bits : List Tri) (bit : Tri) → length bits ≡ 6 → length (set bits 5 bit) ≡ 6
-six_stay bits bit long = subst (λ n. n ≡ 6) (sym (length-set bits 5 bit)) long
-
 with_form : (framed : Bool) (a : Known) (set : Form) → IsKnown framed a → IsKnown framed (compared_with set a)
 unfolding compared_with with_carry_written
-with_form framed a set form = record {
-  sp = form.sp;
-  a = form.a;
-  b = form.b;
-  dpl = form.dpl;
-  dph = form.dph;
-  ie = form.ie;
-  ip = form.ip;
-  bits = six_stay a.psw.bits (is_less a.a.set set) form.bits;
-  psw = no_own_relation framed;
-  levels = form.levels;
-  linear_fact = form.linear_fact;
-  carry_fact = tt;
-  from = form.from;
-  up_to = form.up_to;
-  cells = form.cells;
-  each_cell = form.each_cell;
-  touched = form.touched;
-  none_touched = form.none_touched;
-}
+with_form framed a set form =
+    let bits = length-set a.psw.bits 5 (is_less a.a.set set) ∙ form.bits in
+    let none : IsCarry None = tt in
+    assumption (form, bits, none)
 
-pub comparison_form : (laws : Premises) (framed : Bool) (a : Known) (comparison : Comparison) → IsKnown framed a → IsComparison comparison → AreWays framed (ways_by_comparison framed comparison a)
+pub comparison_form : (laws : Premises) (framed : Bool) (a : Known) (comparison : Comparison) → IsKnown framed a → IsComparison comparison
+    → AreWays framed (ways_by_comparison framed comparison a)
 unfolding ways_by_comparison
 comparison_form laws framed a (AccumulatorImmediate value) form small = record {
   on = λ way e. laws.branch.ways.comparison_form framed a way (One Accumulator) value false form tt small e;

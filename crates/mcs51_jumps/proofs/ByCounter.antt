@@ -2,9 +2,8 @@
 use Rattle.std.proofs.Common.{◌≡◌, ℕ, ◌+◌, ◌%◌, ◌==◌, ◌++◌, Bool, true, false, Option, Some, List, [], subst, ap}
 use Rattle.std.specs.Prelude.{not}
 use Rattle.std.specs.Option.{option_map}
+use Rattle.plain_lemmas.specs.Cases.{mapped}
 use Rattle.choosing.specs.Gives.{Gives}
-use Rattle.value_set.specs.declared.form.Form.{Form}
-use Rattle.value_set.specs.Form.{IsNormal}
 use Rattle.mcs51_decode.specs.declared.instr.Counter.{Counter}
 use Rattle.mcs51_decode.specs.declared.instr.Counter.TheVariants as counter
 use Rattle.mcs51_decode.specs.declared.instr.Instr.TheVariants.{DecrementJump}
@@ -17,27 +16,25 @@ use Rattle.mcs51_chip.specs.Leading.{MayRead}
 use Rattle.mcs51_chip.specs.Memory.{address_of, reads, write, writes}
 use Rattle.mcs51_chip.specs.Step.{branched, counting, effect_of}
 use Rattle.mcs51_state.specs.declared.addresses.Addresses.{Addresses}
-use Rattle.mcs51_state.specs.Forms.{IsByte, IsKnown}
+use Rattle.mcs51_state.specs.FormFacts.{byte_form}
+use Rattle.mcs51_state.specs.Forms.{IsKnown}
 use Rattle.mcs51_state.specs.Known.{Known, byte_of}
 use Rattle.mcs51_state.specs.Standing.{AreAddresses, MayStandAt}
 use Rattle.mcs51_state.specs.Under.{IsUnder}
 use Rattle.mcs51_operands.specs.Operands.{addresses_of}
 use Rattle.mcs51_operands.specs.Reading.{read_byte}
-use Rattle.mcs51_stores.specs.Following.{IsValue}
+use Rattle.mcs51_stores.specs.ValueFacts.{plain_value}
 use Rattle.mcs51_branch.specs.Jumps.{lowered_cut}
 use Rattle.mcs51_operands.specs.Giving.{of_one}
 use Rattle.mcs51_operands.specs.Doing.{GoesSo}
 use Rattle.mcs51_operands.specs.Accesses.{update_at}
 use Rattle.mcs51_jumps.specs.Jumps.{AreWays, counted, counter_items, lowered_at, set_written, ways_by_counter}
 use Rattle.mcs51_jumps.specs.Premises.{Premises}
-use Rattle.mcs51_jumps.proofs.Branching.{goes, mapped}
-
-no_relation : (framed : Bool) (set : Form) → IsNormal 256 set → IsByte framed (byte_of set)
-no_relation true set normal = record { normal = normal; entry = tt }
-no_relation false set normal = record { normal = normal; entry = tt }
+use Rattle.mcs51_jumps.proofs.Branching.{goes}
 
 -- the byte at one of some addresses
-lowered_does : (laws : Premises) (framed : Bool) (a : Known) (s : ChipState) (first : Option ChipState) (pc rel : ℕ) (at : Addresses) (address : Address) → IsUnder framed a s first → MayStandAt at address → AreAddresses at
+lowered_does : (laws : Premises) (framed : Bool) (a : Known) (s : ChipState) (first : Option ChipState) (pc rel : ℕ) (at : Addresses) (address : Address)
+    → IsUnder framed a s first → MayStandAt at address → AreAddresses at
     → Gives (GoesSo framed first (update_at pc at) pc (relative_target s.pc rel) (lowered_at framed at false a) (lowered_at framed at true a) s) (counting s address rel)
 lowered_does laws framed a s first pc rel at address under stands are =
     let set = (read_byte framed a at).set in
@@ -48,7 +45,7 @@ lowered_does laws framed a s first pc rel at address under stands are =
     let normal = (laws.operands.reads.form framed a under.form at are).normal in
     let has = (laws.operands.reads.byte framed a s first under at address x stands are may).0 in
     let (part, cut, part_normal, part_has) = laws.branch.ways.lowered set x normal has in
-    let value : IsValue framed first (byte_of part) v = record { form = no_relation framed part part_normal; holds = (part_has, tt) } in
+    let value = plain_value framed first part v part_normal part_has in
     record {
       shown = laws.operands.sums.update pc at address stands are;
       goes = goes laws framed first (λ taken. lowered_at framed at taken a) (not (v == 0)) (set_written framed at a part) rel s (write address v s) (ap (option_map (set_written framed at a)) cut)
@@ -69,12 +66,13 @@ counter_does laws framed a s first image pc (counter.Register n) rel under is = 
 
 -- FORM
 
-lowered_form : (laws : Premises) (framed : Bool) (a way : Known) (at : Addresses) (taken : Bool) → IsKnown framed a → AreAddresses at → lowered_at framed at taken a ≡ Some way → IsKnown framed way
+lowered_form : (laws : Premises) (framed : Bool) (a way : Known) (at : Addresses) (taken : Bool) → IsKnown framed a → AreAddresses at
+    → lowered_at framed at taken a ≡ Some way → IsKnown framed way
 lowered_form laws framed a way at taken form are e =
     let set = (read_byte framed a at).set in
     let (part, cut, same) = mapped (set_written framed at a) (lowered_cut taken set) way e in
     let normal = laws.branch.ways.lowered_form set part taken (laws.operands.reads.form framed a form at are).normal cut in
-    subst (IsKnown framed) same (laws.stores.forms.byte framed at (byte_of part) are (no_relation framed part normal) a form)
+    subst (IsKnown framed) same (laws.stores.forms.byte framed at (byte_of part) are (byte_form framed part normal) a form)
 
 counted_is : (counter : Counter) → IsCounter counter → IsMemory (counted counter)
 counted_is (counter.Direct direct) small = small

@@ -1,6 +1,5 @@
 pub mod Numbers
 pub mod Branching
-pub mod Clearing
 pub mod ByCondition
 pub mod ByBit
 pub mod Operands

@@ -1,7 +1,8 @@
 -- The operand of CJNE that stands in RAM.
-use Rattle.std.proofs.Common.{◌≡◌, ℕ, Bool, Option, List, [], ◌∷◌, Contains, refl, sym, subst, ap, inl, inr, arith}
+use Rattle.std.proofs.Common.{◌≡◌, ℕ, Bool, Option, List, [], ◌∷◌, Contains, refl, sym, subst, ap}
 use Rattle.std.specs.Prelude.{slice_index}
-use Rattle.std.proofs.lemmas.List.Elements.{Contains-push, Contains-push_cases}
+use Rattle.std.proofs.lemmas.List.Elements.{Contains-push}
+use Rattle.plain_lemmas.specs.Members.{in_one}
 use Rattle.value_set.specs.declared.form.Form.{Form}
 use Rattle.value_set.specs.Form.{Has, IsNormal, members}
 use Rattle.mcs51_decode.specs.declared.instr.Memory.TheVariants.{Working as InWorking}
@@ -28,27 +29,27 @@ values_normal : (laws : Premises) (framed : Bool) (a : Known) (at : Form) → Is
 unfolding read_byte
 values_normal laws framed a at form normal = (laws.operands.reads.form framed a form (InRam at) normal).normal
 
-values_have : (laws : Premises) (framed : Bool) (a : Known) (s : ChipState) (first : Option ChipState) (at : Form) (place : ℕ) → IsUnder framed a s first → IsNormal 256 at → Has 256 at place
+values_have : (laws : Premises) (framed : Bool) (a : Known) (s : ChipState) (first : Option ChipState) (at : Form) (place : ℕ) → IsUnder framed a s first
+    → IsNormal 256 at → Has 256 at place
     → Has 256 (ram_values a at) (slice_index s.ram place)
 unfolding read_byte
 values_have laws framed a s first at place under normal has = (laws.operands.reads.byte framed a s first under (InRam at) (AtRam place) (slice_index s.ram place) has normal refl).0
 
 -- THE OPERAND
 
-in_one : (x place : ℕ) → Contains (x ∷ []) place → place ≡ x
-in_one x place there = elim (Contains-push_cases [] x place there) [ inl none ↦ absurd (omega (arith, none.1)) | inr same ↦ sym same ]
-
-among_is : (laws : Premises) (framed : Bool) (a : Known) (at : Form) (places : List ℕ) → IsKnown framed a → IsNormal 256 at → members 256 at ≡ places → IsOperand (operand_among a at places)
+among_is : (laws : Premises) (framed : Bool) (a : Known) (at : Form) (places : List ℕ) → IsKnown framed a → IsNormal 256 at → members 256 at ≡ places
+    → IsOperand (operand_among a at places)
 among_is laws framed a at [] form normal all = values_normal laws framed a at form normal
 among_is laws framed a at (place ∷ []) form normal all =
     laws.known.sets.below 256 place at normal (subst (λ (xs : List ℕ). Contains xs place) (sym all) (Contains-push [] place))
 among_is laws framed a at (place ∷ next ∷ rest) form normal all = values_normal laws framed a at form normal
 
-among_has : (laws : Premises) (framed : Bool) (a : Known) (s : ChipState) (first : Option ChipState) (at : Form) (places : List ℕ) (place : ℕ) → IsUnder framed a s first → IsNormal 256 at → members 256 at ≡ places
+among_has : (laws : Premises) (framed : Bool) (a : Known) (s : ChipState) (first : Option ChipState) (at : Form) (places : List ℕ) (place : ℕ)
+    → IsUnder framed a s first → IsNormal 256 at → members 256 at ≡ places
     → Has 256 at place → IsNumberOf (operand_among a at places) s (slice_index s.ram place)
 among_has laws framed a s first at [] place under normal all has = values_have laws framed a s first at place under normal has
 among_has laws framed a s first at (one ∷ []) place under normal all has =
-    ap (slice_index s.ram) (in_one one place (subst (λ (xs : List ℕ). Contains xs place) all has))
+    ap (slice_index s.ram) (sym (in_one one place (subst (λ (xs : List ℕ). Contains xs place) all has)))
 among_has laws framed a s first at (one ∷ next ∷ rest) place under normal all has = values_have laws framed a s first at place under normal has
 
 -- @Ri AND Rn
@@ -60,7 +61,8 @@ working_normal laws framed a (Register n) form = laws.operands.stands.operand_fo
 pub operand_is : (laws : Premises) (framed : Bool) (a : Known) (w : Working) → IsKnown framed a → IsOperand (operand_at a (working_set a w))
 operand_is laws framed a w form = among_is laws framed a (working_set a w) (members 256 (working_set a w)) form (working_normal laws framed a w form) refl
 
-pub operand_has : (laws : Premises) (framed : Bool) (a : Known) (s : ChipState) (first : Option ChipState) (w : Working) (x : ℕ) → IsUnder framed a s first → MayRead s (working_address s w) x
+pub operand_has : (laws : Premises) (framed : Bool) (a : Known) (s : ChipState) (first : Option ChipState) (w : Working) (x : ℕ) → IsUnder framed a s first
+    → MayRead s (working_address s w) x
     → IsNumberOf (operand_at a (working_set a w)) s x
 operand_has laws framed a s first (Indirect i) x under may =
     let at = working_set a (Indirect i) in

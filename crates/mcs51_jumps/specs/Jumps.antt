@@ -1,10 +1,9 @@
 -- What is known on both ways of a conditional jump of the MCS-51, and the accesses that it shows (Intel, MCS-51 Programmer's Guide
 -- and Instruction Set: JC, JNC, JZ, JNZ, SJMP, JB, JNB, JBC, CJNE and DJNZ).
-use Rattle.std.specs.Prelude.{◌≡◌, ℕ, ◌*◌, ◌/◌, ◌%◌, ◌==◌, if◌then◌else◌, not, Bool, true, false, Option, None, Some, option_map, List, [], ◌∷◌}
+use Rattle.std.specs.Prelude.{◌≡◌, ℕ, ◌%◌, not, Bool, true, false, Option, None, Some, option_map, List, [], ◌∷◌}
 use Rattle.call_context.specs.declared.shown.Item.{Item}
 use Rattle.value_set.specs.declared.form.Form.{Form}
 use Rattle.value_set.specs.Form.{members}
-use Rattle.value_bits.specs.declared.tri.Tri.TheVariants.{Zero}
 use Rattle.mcs51_decode.specs.declared.instr.BitOperation.TheVariants.{Clr}
 use Rattle.mcs51_decode.specs.declared.instr.BitTest.{BitTest}
 use Rattle.mcs51_decode.specs.declared.instr.BitTest.TheVariants.{SetAndClear, Set, Clear}
@@ -25,8 +24,8 @@ use Rattle.mcs51_state.specs.Forms.{IsKnown}
 use Rattle.mcs51_state.specs.Known.{Known, byte_of}
 use Rattle.mcs51_operands.specs.Operands.{addresses_of, bit_addresses, direct_addresses, pointed_addresses, register_addresses}
 use Rattle.mcs51_operands.specs.Reading.{ram_values, read_byte}
-use Rattle.mcs51_results.specs.StatusBytes.{byte_with_bit, status_with_bit}
-use Rattle.mcs51_stores.specs.Writing.{byte_written, status_written}
+use Rattle.mcs51_stores.specs.Writing.{byte_written}
+use Rattle.mcs51_bits.specs.Bits.{bit_changed}
 use Rattle.mcs51_branch.specs.declared.operand.Operand.{Operand}
 use Rattle.mcs51_branch.specs.declared.operand.Operand.TheVariants.{One, Several}
 use Rattle.mcs51_branch.specs.Jumps.{compared_with, comparison_cut, condition_cut, lowered_cut}
@@ -57,22 +56,8 @@ where_bit bit flag a = bit_tested (bit_address bit) (bit % 8) flag a
 abbrev pub tested_ways : (bit : ℕ) → (flag : Bool) → Known → Ways
 tested_ways bit flag a = record { on = where_bit bit (not flag) a; jumped = where_bit bit flag a }
 
--- the bit is one of PSW
-abbrev pub is_of_status : (bit : ℕ) → Bool
-is_of_status bit = bit / 8 * 8 == 0xD0
-
-abbrev pub status_cleared : (bit : ℕ) → Known → Known
-status_cleared bit a = status_written (status_with_bit Clr bit a.psw) a
-
-abbrev pub byte_cleared : (framed : Bool) → (bit : ℕ) → Known → Known
-byte_cleared framed bit a = byte_written framed (bit_addresses bit) (byte_with_bit Clr bit Zero (read_byte framed a (bit_addresses bit))) a
-
--- the bits of PSW are known one by one
-unfoldable pub bit_cleared : (framed : Bool) → (bit : ℕ) → Known → Known
-bit_cleared framed bit a = if is_of_status bit then status_cleared bit a else byte_cleared framed bit a
-
 abbrev pub where_cleared : (framed : Bool) → (bit : ℕ) → Known → Option Known
-where_cleared framed bit a = option_map (bit_cleared framed bit) (where_bit bit true a)
+where_cleared framed bit a = option_map (bit_changed framed Clr bit) (where_bit bit true a)
 
 -- JBC clears the bit where it jumps, and writes nothing where it doesn't
 unfoldable pub ways_on_bit : (framed : Bool) → BitTest → (bit : ℕ) → Known → Ways

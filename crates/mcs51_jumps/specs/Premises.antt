@@ -3,7 +3,7 @@ use Rattle.irq_frames.specs.KnownLaws.{KnownLaws}
 use Rattle.mcs51_chip.specs.Laws.{FormatsLead}
 use Rattle.mcs51_operands.specs.Laws.{OperandLaws}
 use Rattle.mcs51_stores.specs.Laws.{StoreLaws}
-use Rattle.mcs51_results.specs.Laws.{ResultLaws}
+use Rattle.mcs51_bits.specs.Laws.{BitsDo, BitsKeepForm}
 use Rattle.mcs51_branch.specs.Laws.{BranchLaws}
 
 pub record Premises : Type 0 where
@@ -11,5 +11,6 @@ pub record Premises : Type 0 where
   pub chip : FormatsLead
   pub operands : OperandLaws
   pub stores : StoreLaws
-  pub results : ResultLaws
+  pub bits : BitsDo
+  pub bit_forms : BitsKeepForm
   pub branch : BranchLaws

@@ -1,20 +1,17 @@
 //! The ways of jumps by a bit.
 
-ghost use Rattle.std.specs.Prelude.{◌≡◌, IfOk, OnOk};
+ghost use Rattle.std.specs.Prelude.{◌≡◌, IfOk};
 ghost use Rattle.mcs51_jumps.specs.Jumps as jumps;
 
 use crate::ways::Ways;
 use entry_value::Cells;
+use mcs51_bits::change_bit;
 use mcs51_branch::cut_by_bit;
 use mcs51_chip::bit_address;
 use mcs51_decode::{BitOperation, BitTest};
-use mcs51_operands::{bit_addresses, read_byte};
-use mcs51_results::{byte_with_bit, status_with_bit};
 use mcs51_state::State;
-use mcs51_stores::{set_status, write_byte};
 use no_memory::Memory;
 use std::alloc::Global;
-use value_bits::Tri;
 
 /// What is known where a bit is set, or is clear, if that can be.
 fn where_bit<M: Cells>(
@@ -47,36 +44,6 @@ fn tested_ways<M: Cells>(
     })
 }
 
-/// Clears a bit of PSW.
-fn clear_status<M: Cells>(state: &mut State<M>, bit: u8)
-    ensures { state.new ≡ jumps.status_cleared bit state.old }
-{
-    let status = status_with_bit(BitOperation::Clr, bit, &state.psw);
-    set_status(state, status);
-}
-
-/// Clears a bit of another byte. Behind an error the state is of no use.
-fn clear_byte<M: Cells>(framed: bool, state: &mut State<M>, bit: u8) -> Result<(), Memory>
-    ensures { OnOk result (state.new ≡ jumps.byte_cleared framed bit state.old) }
-{
-    let at = bit_addresses(bit);
-    let byte = read_byte(framed, state, &at);
-    let cleared = byte_with_bit(BitOperation::Clr, bit, Tri::Zero, &byte);
-    write_byte(framed, state, &at, &cleared)
-}
-
-/// Clears a bit. Behind an error the state is of no use.
-#[tactic(auto, unfolding(crate::specs::Jumps::bit_cleared))]
-fn clear<M: Cells>(framed: bool, state: &mut State<M>, bit: u8) -> Result<(), Memory>
-    ensures { OnOk result (state.new ≡ jumps.bit_cleared framed bit state.old) }
-{
-    if bit / 8 * 8 == 0xD0 {
-        clear_status(state, bit);
-        return Ok(());
-    }
-    clear_byte(framed, state, bit)
-}
-
 /// What is known where JBC jumps, if that can be.
 fn where_cleared<M: Cells>(
     alloc: Global,
@@ -89,7 +56,7 @@ fn where_cleared<M: Cells>(
     match where_bit(alloc, state, bit, true)? {
         Some(way) => {
             let mut way = way;
-            clear(framed, &mut way, bit)?;
+            change_bit(framed, &mut way, BitOperation::Clr, bit)?;
             Ok(Some(way))
         }
         None => Ok(None),

@@ -4,10 +4,10 @@ ghost use Rattle.mcs51_jumps.specs.Premises.{Premises};
 ghost use Rattle.mcs51_jumps.specs.Laws.{JumpsDo, JumpsKeepForm};
 
 use irq_frames::known_laws;
+use mcs51_bits::{bits_do, bits_keep_form};
 use mcs51_branch::branch_laws;
 use mcs51_chip::formats_lead;
 use mcs51_operands::operand_laws;
-use mcs51_results::result_laws;
 use mcs51_stores::store_laws;
 
 /// The laws of cuts, operands, bits, writes and formats that those below rest on.
@@ -18,7 +18,8 @@ fn premises_hold()
     formats_lead();
     operand_laws();
     store_laws();
-    result_laws();
+    bits_do();
+    bits_keep_form();
     branch_laws();
 }
 

@@ -1,5 +1,5 @@
 -- MOVC.
-use Rattle.std.proofs.Common.{◌≡◌, ℕ, ◌+◌, ◌*◌, ◌%◌, Bool, true, false, cond, ltb, nat_lt, Option, None, Some, List, [], ◌∷◌, length, refl, sym, subst, inl, inr, arith, Contains, All}
+use Rattle.std.proofs.Common.{◌≡◌, ℕ, ◌+◌, ◌*◌, ◌%◌, Bool, true, false, cond, ltb, nat_lt, Option, None, Some, List, [], ◌∷◌, length, refl, sym, subst, arith, All}
 use Rattle.std.proofs.lemmas.List.Elements.{All-get_or}
 use Rattle.std.proofs.lemmas.List.{get_or_past}
 use borrow.Author.Tests.{ltb-true, ltb-false}
@@ -12,7 +12,6 @@ use Rattle.choosing.specs.Gives.{Gives}
 use Rattle.value_bits.specs.Sets.{pair_set}
 use Rattle.value_set.specs.declared.form.Form.{Form}
 use Rattle.value_set.specs.Form.{Has, IsNormal, members}
-use Rattle.value_set.specs.Joining.{join}
 use Rattle.value_set.specs.Summing.{single}
 use Rattle.mcs51_decode.specs.declared.instr.CodeBase.{CodeBase}
 use Rattle.mcs51_decode.specs.declared.instr.CodeBase.TheVariants.{ProgramCounter, DataPointer}
@@ -27,9 +26,13 @@ use Rattle.mcs51_state.specs.Known.{Known, any_byte, byte_of}
 use Rattle.mcs51_state.specs.Under.{IsUnder}
 use Rattle.mcs51_operands.specs.Giving.{of_one}
 use Rattle.mcs51_operands.specs.Doing.{DoesSo, LeadsSo}
-use Rattle.mcs51_memories.specs.Codes.{byte_set, code_addresses, code_items, code_loaded, code_set, code_values, codes_joined, list_codes}
+use Rattle.mcs51_memories.specs.Codes.{byte_set, code_addresses, code_items, code_loaded, code_set, code_values}
 use Rattle.mcs51_memories.specs.Premises.{Premises}
-use Rattle.mcs51_memories.proofs.Values.{in_cons, in_none, one_shown, plain_is, plain_value}
+use Rattle.mcs51_operands.specs.ShowingFacts.{one_shown}
+use Rattle.mcs51_stores.specs.ValueFacts.{plain_value}
+use Rattle.mcs51_state.specs.FormFacts.{byte_form}
+use Rattle.mcs51_operands.specs.Joined.{any_of}
+use Rattle.mcs51_operands.specs.JoinedFacts.{any_has, any_normal}
 
 -- ONE ADDRESS
 
@@ -53,40 +56,8 @@ code_normal laws image at bytes = set_normal laws (byte_at image at) (byte_is im
 
 -- SEVERAL ADDRESSES
 
-joined_normal : (laws : Premises) (image : List (Option ℕ)) → All IsImageByte image → (set : Form) (list : List ℕ) → IsNormal 256 set → IsNormal 256 (codes_joined image set list)
-joined_normal laws image bytes set [] normal = normal
-joined_normal laws image bytes set (at ∷ rest) normal =
-    joined_normal laws image bytes (join 256 set (code_set image at)) rest (laws.known.sets.join_normal 256 set (code_set image at) normal (code_normal laws image at bytes))
-
-joined_keeps : (laws : Premises) (image : List (Option ℕ)) → All IsImageByte image → (set : Form) (list : List ℕ) (v : ℕ) → IsNormal 256 set → Has 256 set v → Has 256 (codes_joined image set list) v
-joined_keeps laws image bytes set [] v normal has = has
-joined_keeps laws image bytes set (at ∷ rest) v normal has =
-    let next_normal = code_normal laws image at bytes in
-    joined_keeps laws image bytes (join 256 set (code_set image at)) rest v (laws.known.sets.join_normal 256 set (code_set image at) normal next_normal)
-    (laws.known.sets.join_first 256 set (code_set image at) normal next_normal v has)
-
-joined_has : (laws : Premises) (image : List (Option ℕ)) → All IsImageByte image → (set : Form) (list : List ℕ) (at v : ℕ) → IsNormal 256 set → Contains list at → Has 256 (code_set image at) v
-    → Has 256 (codes_joined image set list) v
-joined_has laws image bytes set [] at v normal there has = absurd (in_none at there)
-joined_has laws image bytes set (one ∷ rest) at v normal there has =
-    let next_normal = code_normal laws image one bytes in
-    let both = laws.known.sets.join_normal 256 set (code_set image one) normal next_normal in
-    elim (in_cons one rest at there) [
-      | inl same ↦ joined_keeps laws image bytes (join 256 set (code_set image one)) rest v both
-          (laws.known.sets.join_second 256 set (code_set image one) normal next_normal v (subst (λ n. Has 256 (code_set image n) v) (sym same) has))
-      | inr later ↦ joined_has laws image bytes (join 256 set (code_set image one)) rest at v both later has
-    ]
-
-list_normal : (laws : Premises) (image : List (Option ℕ)) → All IsImageByte image → (list : List ℕ) → IsNormal 256 (list_codes image list)
-list_normal laws image bytes [] = laws.known.sets.whole_normal 256 (omega arith)
-list_normal laws image bytes (at ∷ rest) = joined_normal laws image bytes (code_set image at) rest (code_normal laws image at bytes)
-
-list_has : (laws : Premises) (image : List (Option ℕ)) → All IsImageByte image → (list : List ℕ) (at v : ℕ) → Contains list at → Has 256 (code_set image at) v → Has 256 (list_codes image list) v
-list_has laws image bytes [] at v there has = absurd (in_none at there)
-list_has laws image bytes (one ∷ rest) at v there has = elim (in_cons one rest at there) [
-  | inl same ↦ joined_keeps laws image bytes (code_set image one) rest v (code_normal laws image one bytes) (subst (λ n. Has 256 (code_set image n) v) (sym same) has)
-  | inr later ↦ joined_has laws image bytes (code_set image one) rest at v (code_normal laws image one bytes) later has
-]
+list_normal : (laws : Premises) (image : List (Option ℕ)) → All IsImageByte image → (list : List ℕ) → IsNormal 256 (any_of (code_set image) list)
+list_normal laws image bytes = any_normal laws.known (code_set image) (λ at. code_normal laws image at bytes)
 
 or_any_normal : (laws : Premises) (many : Bool) (set : Form) → IsNormal 256 set → IsNormal 256 (cond many any_byte set)
 or_any_normal laws true set normal = laws.known.sets.whole_normal 256 (omega arith)
@@ -98,23 +69,26 @@ or_any_has laws false set v normal has = has
 
 values_normal : (laws : Premises) (image : List (Option ℕ)) (set : Form) → All IsImageByte image → IsNormal 256 (code_values image set)
 unfolding code_values
-values_normal laws image set bytes = or_any_normal laws (nat_lt 256 (length (members 65536 set))) (list_codes image (members 65536 set)) (list_normal laws image bytes (members 65536 set))
+values_normal laws image set bytes = or_any_normal laws (nat_lt 256 (length (members 65536 set))) (any_of (code_set image) (members 65536 set)) (list_normal laws image bytes (members 65536 set))
 
-values_have : (laws : Premises) (image : List (Option ℕ)) (set : Form) (at v : ℕ) → All IsImageByte image → Has 65536 set at → Has 256 (code_set image at) v → Has 256 (code_values image set) v
+values_have : (laws : Premises) (image : List (Option ℕ)) (set : Form) (at v : ℕ) → All IsImageByte image → Has 65536 set at → Has 256 (code_set image at) v
+    → Has 256 (code_values image set) v
 unfolding code_values
 values_have laws image set at v bytes there has =
     let list = members 65536 set in
-    or_any_has laws (nat_lt 256 (length list)) (list_codes image list) v (list_normal laws image bytes list) (list_has laws image bytes list at v there has)
+    or_any_has laws (nat_lt 256 (length list)) (any_of (code_set image) list) v (list_normal laws image bytes list) (any_has laws.known (code_set image) (λ at. code_normal laws image at bytes) list at v there has)
 
 -- MOVC
 
-pub code_form : (laws : Premises) (framed : Bool) (a : Known) (image : List (Option ℕ)) (base : CodeBase) (next : ℕ) → IsKnown framed a → All IsImageByte image → IsKnown framed (code_loaded image base next a)
+pub code_form : (laws : Premises) (framed : Bool) (a : Known) (image : List (Option ℕ)) (base : CodeBase) (next : ℕ) → IsKnown framed a → All IsImageByte image
+    → IsKnown framed (code_loaded image base next a)
 unfolding code_loaded
 code_form laws framed a image base next form bytes =
     let set = code_values image (code_addresses base next a) in
-    laws.stores.forms.accumulator framed (byte_of set) (plain_is framed set (values_normal laws image (code_addresses base next a) bytes)) a form
+    laws.stores.forms.accumulator framed (byte_of set) (byte_form framed set (values_normal laws image (code_addresses base next a) bytes)) a form
 
-code_leads : (laws : Premises) (framed : Bool) (a : Known) (s : ChipState) (first : Option ChipState) (image : List (Option ℕ)) (base : CodeBase) (at x : ℕ) → IsUnder framed a s first → All IsImageByte image
+code_leads : (laws : Premises) (framed : Bool) (a : Known) (s : ChipState) (first : Option ChipState) (image : List (Option ℕ)) (base : CodeBase) (at x : ℕ)
+    → IsUnder framed a s first → All IsImageByte image
     → Has 65536 (code_addresses base s.pc a) at → MayReadCode (byte_at image at) x → LeadsSo framed first (code_loaded image base s.pc a) s (with_accumulator x s)
 unfolding code_loaded
 code_leads laws framed a s first image base at x under bytes there may =
@@ -134,7 +108,8 @@ code_at laws framed a s first image pc base at under bytes there =
     (laws.chip.code image s at)
     (λ x may. record { shown = one_shown (Access pc Code false 1 (W (code_addresses base s.pc a))) pc (ACode at) shows; leads = code_leads laws framed a s first image base at x under bytes there may })
 
-counter_has : (laws : Premises) (framed : Bool) (a : Known) (s : ChipState) (first : Option ChipState) → IsUnder framed a s first → Has 65536 (code_addresses ProgramCounter s.pc a) ((s.a + s.pc) % 65536)
+counter_has : (laws : Premises) (framed : Bool) (a : Known) (s : ChipState) (first : Option ChipState) → IsUnder framed a s first
+    → Has 65536 (code_addresses ProgramCounter s.pc a) ((s.a + s.pc) % 65536)
 counter_has laws framed a s first under =
     let next = laws.known.sets.single 65536 s.pc under.holds.state.pc in
     let zero_so = laws.known.sets.single 256 0 (omega arith) in
@@ -143,7 +118,8 @@ counter_has laws framed a s first under =
     let sum = laws.known.sets.add 65536 s.pc (s.a + 0 * 256) (single s.pc) (pair_set a.a.set (single 0)) next.0 normal next.1 offset in
     subst (Has 65536 (code_addresses ProgramCounter s.pc a)) (omega arith) sum
 
-pub code_does : (laws : Premises) (framed : Bool) (a : Known) (s : ChipState) (first : Option ChipState) (image : List (Option ℕ)) (pc : ℕ) (base : CodeBase) → IsUnder framed a s first → All IsImageByte image
+pub code_does : (laws : Premises) (framed : Bool) (a : Known) (s : ChipState) (first : Option ChipState) (image : List (Option ℕ)) (pc : ℕ) (base : CodeBase)
+    → IsUnder framed a s first → All IsImageByte image
     → Gives (DoesSo framed first (code_items pc base s.pc a) pc (code_loaded image base s.pc a) s) (effect_of image s (MoveCode base))
 unfolding effect_of
 code_does laws framed a s first image pc ProgramCounter under bytes =

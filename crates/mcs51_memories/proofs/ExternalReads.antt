@@ -23,13 +23,15 @@ use Rattle.mcs51_operands.specs.Operands.{pointed_addresses}
 use Rattle.mcs51_operands.specs.Showing.{AreShown}
 use Rattle.mcs51_operands.specs.Giving.{of_one}
 use Rattle.mcs51_operands.specs.Doing.{DoesSo, LeadsSo}
+use Rattle.mcs51_operands.specs.ShowingFacts.{one_shown}
 use Rattle.mcs51_memories.specs.Externals.{external_addresses, external_items, external_loaded, register_items}
 use Rattle.mcs51_memories.specs.Premises.{Premises}
-use Rattle.mcs51_memories.proofs.Values.{any_is, any_value, one_shown}
+use Rattle.mcs51_memories.proofs.Values.{any_is, any_value}
 
 -- THE ADDRESS
 
-external_has : (laws : Premises) (framed : Bool) (a : Known) (s : ChipState) (first : Option ChipState) (external : External) (at : ℕ) → IsUnder framed a s first → MayBeAt s external at
+external_has : (laws : Premises) (framed : Bool) (a : Known) (s : ChipState) (first : Option ChipState) (external : External) (at : ℕ)
+    → IsUnder framed a s first → MayBeAt s external at
     → Has 65536 (external_addresses external a) at
 external_has laws framed a s first DataPointer at under is =
     let form = under.form in
@@ -65,11 +67,13 @@ pub external_form : (laws : Premises) (framed : Bool) (a : Known) → IsKnown fr
 unfolding external_loaded
 external_form laws framed a form = laws.stores.forms.accumulator framed (byte_of any_byte) (any_is laws framed) a form
 
-read_leads : (laws : Premises) (framed : Bool) (a : Known) (s : ChipState) (first : Option ChipState) (x : ℕ) → IsUnder framed a s first → x < 256 → LeadsSo framed first (external_loaded a) s (with_accumulator x s)
+read_leads : (laws : Premises) (framed : Bool) (a : Known) (s : ChipState) (first : Option ChipState) (x : ℕ) → IsUnder framed a s first → x < 256
+    → LeadsSo framed first (external_loaded a) s (with_accumulator x s)
 unfolding external_loaded
 read_leads laws framed a s first x under small = record { onward = refl; under = laws.stores.writes.accumulator framed first (byte_of any_byte) x (any_value laws framed first x small) a s under }
 
-read_so : (laws : Premises) (framed : Bool) (a : Known) (s : ChipState) (first : Option ChipState) (pc : ℕ) (external : External) (effect : Effect) → IsUnder framed a s first → MayReadExternal s external effect
+read_so : (laws : Premises) (framed : Bool) (a : Known) (s : ChipState) (first : Option ChipState) (pc : ℕ) (external : External) (effect : Effect)
+    → IsUnder framed a s first → MayReadExternal s external effect
     → DoesSo framed first (external_items pc false external a) pc (external_loaded a) s effect
 read_so laws framed a s first pc external effect under (at, may, (x, small, same)) =
     subst (DoesSo framed first (external_items pc false external a) pc (external_loaded a) s) (sym same)

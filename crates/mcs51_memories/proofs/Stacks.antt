@@ -6,13 +6,13 @@ use Rattle.entry_value.specs.declared.byte.Byte.{Byte}
 use Rattle.value_set.specs.declared.form.Form.{Form}
 use Rattle.value_set.specs.Form.{Has, IsNormal}
 use Rattle.value_set.specs.Joining.{join}
-use Rattle.value_set.specs.Summing.{single}
 use Rattle.mcs51_decode.specs.declared.instr.Instr.TheVariants.{Pop, Push}
 use Rattle.mcs51_chip.specs.declared.place.Address.TheVariants.{InRam as AtRam}
 use Rattle.mcs51_chip.specs.declared.state.ChipState.{ChipState}
 use Rattle.mcs51_chip.specs.Leading.{MayPush, popped_into, pushed_from}
 use Rattle.mcs51_chip.specs.Memory.{direct_address, popped, pushed, reads, top_of, write, writes}
 use Rattle.mcs51_chip.specs.Step.{effect_of, popping, pushing}
+use Rattle.mcs51_state.specs.FormFacts.{byte_form}
 use Rattle.mcs51_state.specs.Forms.{IsByte, IsKnown}
 use Rattle.mcs51_state.specs.Known.{Known, byte_of}
 use Rattle.mcs51_state.specs.Under.{IsUnder}
@@ -21,26 +21,15 @@ use Rattle.mcs51_operands.specs.Reading.{read_byte}
 use Rattle.mcs51_operands.specs.Showing.{AreShown}
 use Rattle.mcs51_stores.specs.Following.{IsValue}
 use Rattle.mcs51_stores.specs.Stack.{byte_popped, lowered, raised, stack_top}
+use Rattle.mcs51_stores.specs.ValueFacts.{lowered_has, lowered_normal, plain_value, raised_has, raised_normal}
 use Rattle.mcs51_operands.specs.Giving.{of_one}
 use Rattle.mcs51_operands.specs.Doing.{DoesSo, LeadsSo}
 use Rattle.mcs51_operands.specs.Accesses.{read_at, write_at}
 use Rattle.mcs51_memories.specs.Premises.{Premises}
 use Rattle.mcs51_memories.specs.Stacking.{is_stack_pointer, next_top, or_lowered, pop_items, popped_byte, popped_known, push_items, pushed_byte, pushed_known, top_byte}
-use Rattle.mcs51_memories.proofs.Values.{plain_is, plain_value, read_value}
+use Rattle.mcs51_memories.proofs.Values.{read_value}
 
 -- SETS
-
-raised_normal : (laws : Premises) (sp : Form) → IsNormal 256 sp → IsNormal 256 (raised sp)
-raised_normal laws sp normal = laws.known.sets.add_normal 256 sp (single 1) normal (laws.known.sets.single 256 1 (omega arith)).0
-
-raised_has : (laws : Premises) (sp : Form) (v : ℕ) → IsNormal 256 sp → Has 256 sp v → Has 256 (raised sp) ((v + 1) % 256)
-raised_has laws sp v normal has = let one = laws.known.sets.single 256 1 (omega arith) in laws.known.sets.add 256 v 1 sp (single 1) normal one.0 has one.1
-
-lowered_normal : (laws : Premises) (set : Form) → IsNormal 256 set → IsNormal 256 (lowered set)
-lowered_normal laws set normal = laws.known.sets.sub_normal 256 set (single 1) normal (laws.known.sets.single 256 1 (omega arith)).0
-
-lowered_has : (laws : Premises) (set : Form) (v : ℕ) → IsNormal 256 set → Has 256 set v → Has 256 (lowered set) ((v + 256 - 1) % 256)
-lowered_has laws set v normal has = let one = laws.known.sets.single 256 1 (omega arith) in laws.known.sets.sub 256 v 1 set (single 1) normal one.0 has one.1
 
 both_normal : (laws : Premises) (a b : Form) → IsNormal 256 a → IsNormal 256 b → IsNormal 256 (join 256 a b)
 both_normal laws a b normal other = laws.known.sets.join_normal 256 a b normal other
@@ -49,26 +38,26 @@ both_normal laws a b normal other = laws.known.sets.join_normal 256 a b normal o
 or_raised : (laws : Premises) (sp : Form) (v option x : ℕ) → IsNormal 256 sp → Has 256 sp v → option < 2 → x ≡ (v + option) % 256 → Has 256 (join 256 sp (raised sp)) x
 or_raised laws sp v zero x normal has few is =
     let same : x ≡ v = omega (arith, is, laws.known.sets.below 256 v sp normal has) in
-    subst (Has 256 (join 256 sp (raised sp))) (sym same) (laws.known.sets.join_first 256 sp (raised sp) normal (raised_normal laws sp normal) v has)
+    subst (Has 256 (join 256 sp (raised sp))) (sym same) (laws.known.sets.join_first 256 sp (raised sp) normal (raised_normal laws.known sp normal) v has)
 or_raised laws sp v (suc zero) x normal has few is =
     let same : x ≡ (v + 1) % 256 = omega (arith, is) in
-    subst (Has 256 (join 256 sp (raised sp))) (sym same) (laws.known.sets.join_second 256 sp (raised sp) normal (raised_normal laws sp normal) ((v + 1) % 256) (raised_has laws sp v normal has))
+    subst (Has 256 (join 256 sp (raised sp))) (sym same) (laws.known.sets.join_second 256 sp (raised sp) normal (raised_normal laws.known sp normal) ((v + 1) % 256) (raised_has laws.known sp v normal has))
 or_raised laws sp v (suc (suc more)) x normal has few is = absurd (omega (arith, few))
 
 -- a number or the one below
 less_has : (laws : Premises) (set : Form) (v option x : ℕ) → IsNormal 256 set → Has 256 set v → option < 2 → x ≡ (v + 256 - option) % 256 → Has 256 (or_lowered set) x
 less_has laws set v zero x normal has few is =
     let same : x ≡ v = omega (arith, is, laws.known.sets.below 256 v set normal has) in
-    subst (Has 256 (or_lowered set)) (sym same) (laws.known.sets.join_first 256 set (lowered set) normal (lowered_normal laws set normal) v has)
+    subst (Has 256 (or_lowered set)) (sym same) (laws.known.sets.join_first 256 set (lowered set) normal (lowered_normal laws.known set normal) v has)
 less_has laws set v (suc zero) x normal has few is =
     let same : x ≡ (v + 256 - 1) % 256 = omega (arith, is) in
-    subst (Has 256 (or_lowered set)) (sym same) (laws.known.sets.join_second 256 set (lowered set) normal (lowered_normal laws set normal) ((v + 256 - 1) % 256) (lowered_has laws set v normal has))
+    subst (Has 256 (or_lowered set)) (sym same) (laws.known.sets.join_second 256 set (lowered set) normal (lowered_normal laws.known set normal) ((v + 256 - 1) % 256) (lowered_has laws.known set v normal has))
 less_has laws set v (suc (suc more)) x normal has few is = absurd (omega (arith, few))
 
 -- PUSH
 
 either_is : (framed : Bool) (test : Bool) (set : Form) (byte : Byte) → IsNormal 256 set → IsByte framed byte → IsByte framed (cond test (byte_of set) byte)
-either_is framed true set byte normal is = plain_is framed set normal
+either_is framed true set byte normal is = byte_form framed set normal
 either_is framed false set byte normal is = is
 
 pub push_form : (laws : Premises) (framed : Bool) (a : Known) (direct : ℕ) → IsKnown framed a → direct < 256 → IsKnown framed (pushed_known framed direct a)
@@ -77,18 +66,20 @@ push_form laws framed a direct form inside =
     let at = laws.operands.stands.direct direct inside in
     let byte = laws.operands.reads.form framed a form (direct_addresses direct) at.1 in
     laws.stores.forms.push framed (pushed_byte framed direct a)
-    (either_is framed (is_stack_pointer direct) (join 256 a.sp (raised a.sp)) (read_byte framed a (direct_addresses direct)) (both_normal laws a.sp (raised a.sp) form.sp (raised_normal laws a.sp form.sp)) byte) a form
+    (either_is framed (is_stack_pointer direct) (join 256 a.sp (raised a.sp)) (read_byte framed a (direct_addresses direct)) (both_normal laws a.sp (raised a.sp) form.sp (raised_normal laws.known a.sp form.sp)) byte) a form
 
-push_value : (laws : Premises) (framed : Bool) (a : Known) (s : ChipState) (first : Option ChipState) (direct x : ℕ) (test : Bool) → IsUnder framed a s first → direct < 256 → MayPush test s direct x
+push_value : (laws : Premises) (framed : Bool) (a : Known) (s : ChipState) (first : Option ChipState) (direct x : ℕ) (test : Bool) → IsUnder framed a s first
+    → direct < 256 → MayPush test s direct x
     → IsValue framed first (cond test (byte_of (join 256 a.sp (raised a.sp))) (read_byte framed a (direct_addresses direct))) x
 push_value laws framed a s first direct x true under inside (option, few, is) =
-    plain_value framed first (join 256 a.sp (raised a.sp)) x (both_normal laws a.sp (raised a.sp) under.form.sp (raised_normal laws a.sp under.form.sp))
+    plain_value framed first (join 256 a.sp (raised a.sp)) x (both_normal laws a.sp (raised a.sp) under.form.sp (raised_normal laws.known a.sp under.form.sp))
     (or_raised laws a.sp s.sp option x under.form.sp under.holds.parts.sp few is)
 push_value laws framed a s first direct x false under inside may =
     let at = laws.operands.stands.direct direct inside in
     read_value laws framed a s first (direct_addresses direct) (direct_address direct) x under at.0 at.1 may
 
-push_leads : (laws : Premises) (framed : Bool) (a : Known) (s : ChipState) (first : Option ChipState) (direct x : ℕ) → IsUnder framed a s first → direct < 256 → MayPush (direct == 0x81) s direct x
+push_leads : (laws : Premises) (framed : Bool) (a : Known) (s : ChipState) (first : Option ChipState) (direct x : ℕ) → IsUnder framed a s first → direct < 256
+    → MayPush (direct == 0x81) s direct x
     → LeadsSo framed first (pushed_known framed direct a) s (pushed x s)
 unfolding pushed_known
 push_leads laws framed a s first direct x under inside may = record {
@@ -102,9 +93,10 @@ push_shown laws framed a s first pc direct under inside =
     let at = laws.operands.stands.direct direct inside in
     laws.operands.sums.both (read_at pc (direct_addresses direct)) (write_at pc (next_top a)) pc (reads (direct_address direct)) (writes (AtRam ((s.sp + 1) % 256)))
     (laws.operands.sums.read pc (direct_addresses direct) (direct_address direct) at.0 at.1)
-    (laws.operands.sums.write pc (next_top a) (AtRam ((s.sp + 1) % 256)) (raised_has laws a.sp s.sp under.form.sp under.holds.parts.sp) (raised_normal laws a.sp under.form.sp))
+    (laws.operands.sums.write pc (next_top a) (AtRam ((s.sp + 1) % 256)) (raised_has laws.known a.sp s.sp under.form.sp under.holds.parts.sp) (raised_normal laws.known a.sp under.form.sp))
 
-pub push_does : (laws : Premises) (framed : Bool) (a : Known) (s : ChipState) (first : Option ChipState) (image : List (Option ℕ)) (pc direct : ℕ) → IsUnder framed a s first → direct < 256
+pub push_does : (laws : Premises) (framed : Bool) (a : Known) (s : ChipState) (first : Option ChipState) (image : List (Option ℕ)) (pc direct : ℕ)
+    → IsUnder framed a s first → direct < 256
     → Gives (DoesSo framed first (push_items pc direct a) pc (pushed_known framed direct a) s) (effect_of image s (Push direct))
 unfolding effect_of
 push_does laws framed a s first image pc direct under inside =
@@ -120,7 +112,7 @@ pop_form laws framed a direct form inside =
     let top = top_byte framed a in
     let is = laws.operands.reads.form framed a form (stack_top a) form.sp in
     laws.stores.forms.byte framed (direct_addresses direct) (popped_byte framed direct a) at.1
-    (either_is framed (is_stack_pointer direct) (or_lowered top.set) top (both_normal laws top.set (lowered top.set) is.normal (lowered_normal laws top.set is.normal)) is)
+    (either_is framed (is_stack_pointer direct) (or_lowered top.set) top (both_normal laws top.set (lowered top.set) is.normal (lowered_normal laws.known top.set is.normal)) is)
     (byte_popped a) (laws.stores.forms.pop framed a form)
 
 -- what POP takes from the byte on top
@@ -132,7 +124,7 @@ pop_value : (laws : Premises) (framed : Bool) (a : Known) (s : ChipState) (first
 pop_value laws framed a s first option true under is =
     let top = top_byte framed a in
     let value = read_value laws framed a s first (stack_top a) (AtRam s.sp) (top_of s) under (laws.stores.stack.top framed first a s under) under.form.sp refl in
-    plain_value framed first (or_lowered top.set) (left_by s option) (both_normal laws top.set (lowered top.set) value.form.normal (lowered_normal laws top.set value.form.normal))
+    plain_value framed first (or_lowered top.set) (left_by s option) (both_normal laws top.set (lowered top.set) value.form.normal (lowered_normal laws.known top.set value.form.normal))
     (less_has laws top.set (top_of s) option (left_by s option) value.form.normal value.holds.0 is.below refl)
 pop_value laws framed a s first option false under is =
     let top = top_byte framed a in
@@ -142,7 +134,8 @@ pop_value laws framed a s first option false under is =
     let same : top_of s ≡ left_by s option = omega (arith, none, small) in
     subst (IsValue framed first top) same value
 
-pop_leads : (laws : Premises) (framed : Bool) (a : Known) (s : ChipState) (first : Option ChipState) (direct option : ℕ) → IsUnder framed a s first → direct < 256 → IsOption (direct == 0x81) 2 option
+pop_leads : (laws : Premises) (framed : Bool) (a : Known) (s : ChipState) (first : Option ChipState) (direct option : ℕ) → IsUnder framed a s first
+    → direct < 256 → IsOption (direct == 0x81) 2 option
     → LeadsSo framed first (popped_known framed direct a) s (write (direct_address direct) (left_by s option) (popped s))
 unfolding popped_known
 pop_leads laws framed a s first direct option under inside is =
@@ -161,7 +154,8 @@ pop_shown laws framed a s first pc direct under inside =
     (laws.operands.sums.read pc (stack_top a) (AtRam s.sp) (laws.stores.stack.top framed first a s under) under.form.sp)
     (laws.operands.sums.write pc (direct_addresses direct) (direct_address direct) at.0 at.1)
 
-pub pop_does : (laws : Premises) (framed : Bool) (a : Known) (s : ChipState) (first : Option ChipState) (image : List (Option ℕ)) (pc direct : ℕ) → IsUnder framed a s first → direct < 256
+pub pop_does : (laws : Premises) (framed : Bool) (a : Known) (s : ChipState) (first : Option ChipState) (image : List (Option ℕ)) (pc direct : ℕ)
+    → IsUnder framed a s first → direct < 256
     → Gives (DoesSo framed first (pop_items pc direct a) pc (popped_known framed direct a) s) (effect_of image s (Pop direct))
 unfolding effect_of
 pop_does laws framed a s first image pc direct under inside =

@@ -9,11 +9,11 @@ use Rattle.chip_numbers.specs.declared.space.Space.TheVariants.{Code}
 use Rattle.value_bits.specs.Sets.{pair_set}
 use Rattle.value_set.specs.declared.form.Form.{Form}
 use Rattle.value_set.specs.Form.{members}
-use Rattle.value_set.specs.Joining.{join}
 use Rattle.value_set.specs.Summing.{add, single}
 use Rattle.mcs51_decode.specs.declared.instr.CodeBase.{CodeBase}
 use Rattle.mcs51_decode.specs.declared.instr.CodeBase.TheVariants.{ProgramCounter, DataPointer}
 use Rattle.mcs51_state.specs.Known.{Known, any_byte, byte_of}
+use Rattle.mcs51_operands.specs.Joined.{any_of}
 use Rattle.mcs51_operands.specs.Operands.{jump_targets}
 use Rattle.mcs51_stores.specs.Writing.{accumulator_written}
 
@@ -26,18 +26,9 @@ byte_set (Some byte) = single byte
 abbrev pub code_set : List (Option ℕ) → (at : ℕ) → Form
 code_set image at = byte_set (byte_at image at)
 
--- those of several addresses: the sets joined in this order
-abbrev pub codes_joined : List (Option ℕ) → Form → List ℕ → Form
-codes_joined image set [] = set
-codes_joined image set (at ∷ rest) = codes_joined image (join 256 set (code_set image at)) rest
-
-abbrev pub list_codes : List (Option ℕ) → List ℕ → Form
-list_codes image [] = any_byte
-list_codes image (at ∷ rest) = codes_joined image (code_set image at) rest
-
 -- of more than 256 addresses nothing is read
 unfoldable pub code_values : List (Option ℕ) → Form → Form
-code_values image set = if nat_lt 256 (length (members 65536 set)) then any_byte else list_codes image (members 65536 set)
+code_values image set = if nat_lt 256 (length (members 65536 set)) then any_byte else any_of (code_set image) (members 65536 set)
 
 -- MOVC
 

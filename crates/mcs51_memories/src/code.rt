@@ -2,6 +2,7 @@
 
 ghost use Rattle.std.specs.Prelude.{◌≡◌, ◌++◌, OnOk, drop, length};
 ghost use Rattle.value_set.specs.Form.{members};
+ghost use Rattle.mcs51_operands.specs.Joined.{all_joined};
 ghost use Rattle.mcs51_memories.specs.Codes as codes;
 
 use call_context::{Item, Sequence, Set, Space};
@@ -28,7 +29,7 @@ fn code_set(image: &Image, at: u16) -> Vs8
 /// The bytes from the second address on, joined with the first one.
 fn joined(image: &Image, at: &Vs16, count: u32, first: Vs8) -> Vs8
     requires { count ≡ length (members 65536 at.now) }
-    ensures { result ≡ codes.codes_joined image.now first (drop 1 (members 65536 at.now)) }
+    ensures { result ≡ all_joined (codes.code_set image.now) first (drop 1 (members 65536 at.now)) }
 {
     let mut set = first;
     for place in 1..count {
@@ -38,7 +39,7 @@ fn joined(image: &Image, at: &Vs16, count: u32, first: Vs8) -> Vs8
 }
 
 /// What a byte of the program may be at one of some addresses.
-#[tactic(auto, unfolding(crate::specs::Codes::code_values), using(crate::proofs::CodeLists::list_is))]
+#[tactic(auto, unfolding(crate::specs::Codes::code_values), using(mcs51_operands::specs::JoinedFacts::any_is))]
 fn code_values(image: &Image, at: &Vs16) -> Vs8
     ensures { result ≡ codes.code_values image.now at.now }
 {

@@ -16,21 +16,24 @@ use Rattle.mcs51_decode.specs.Fitting.{IsMemory}
 use Rattle.mcs51_chip.specs.declared.state.ChipState.{ChipState}
 use Rattle.mcs51_chip.specs.Memory.{address_of, address_reads}
 use Rattle.mcs51_chip.specs.Step.{digit_exchanged_with, effect_of, exchanged_with}
+use Rattle.mcs51_state.specs.FormFacts.{byte_form}
 use Rattle.mcs51_state.specs.Forms.{IsKnown}
 use Rattle.mcs51_state.specs.Known.{Known, byte_of}
 use Rattle.mcs51_state.specs.Under.{IsUnder}
 use Rattle.mcs51_operands.specs.Operands.{addresses_of}
 use Rattle.mcs51_operands.specs.Showing.{address_accesses}
 use Rattle.mcs51_stores.specs.Following.{IsValue}
+use Rattle.mcs51_stores.specs.ValueFacts.{plain_value}
 use Rattle.mcs51_operands.specs.Doing.{DoesSo}
 use Rattle.mcs51_operands.specs.Accesses.{update_items}
 use Rattle.mcs51_moves.specs.Moves.{byte_at, digit_exchanged, digits_joined, exchanged, pointed}
 use Rattle.mcs51_moves.specs.Premises.{Premises}
-use Rattle.mcs51_moves.proofs.Written.{accumulator_value, both_form, both_lead, memory_placed, plain_form, plain_value, read_value}
+use Rattle.mcs51_moves.proofs.Written.{accumulator_value, both_form, both_lead, memory_placed, read_value}
 
 -- XCH
 
-pub exchange_so : (laws : Premises) (framed : Bool) (a : Known) (s : ChipState) (first : Option ChipState) (image : List (Option ℕ)) (pc : ℕ) (m : Memory) → IsUnder framed a s first → IsMemory m
+pub exchange_so : (laws : Premises) (framed : Bool) (a : Known) (s : ChipState) (first : Option ChipState) (image : List (Option ℕ)) (pc : ℕ) (m : Memory)
+    → IsUnder framed a s first → IsMemory m
     → Gives (DoesSo framed first (update_items pc a m) pc (exchanged framed m a) s) (effect_of image s (Exchange m))
 unfolding exchanged effect_of
 exchange_so laws framed a s first image pc m under is =
@@ -62,7 +65,8 @@ joined_normal laws high low high_is low_is =
     (laws.known.bits.logic_normal 8 And high (single 240) high_is (laws.known.sets.single 256 240 (omega arith)).0)
     (laws.known.bits.logic_normal 8 And low (single 15) low_is (laws.known.sets.single 256 15 (omega arith)).0)
 
-joined_has : (laws : Premises) (high low : Form) (x y : ℕ) → IsNormal 256 high → IsNormal 256 low → Has 256 high x → Has 256 low y → Has 256 (digits_joined high low) (x / 16 * 16 + y % 16)
+joined_has : (laws : Premises) (high low : Form) (x y : ℕ) → IsNormal 256 high → IsNormal 256 low → Has 256 high x → Has 256 low y
+    → Has 256 (digits_joined high low) (x / 16 * 16 + y % 16)
 joined_has laws high low x y high_is low_is high_has low_has =
     let upper = laws.known.sets.single 256 240 (omega arith) in
     let lower = laws.known.sets.single 256 15 (omega arith) in
@@ -104,5 +108,5 @@ exchange_digit_form laws framed a i form =
     let are = laws.operands.stands.operand_form framed a form m tt in
     let byte_is = (laws.operands.reads.form framed a form (addresses_of a m) are).normal in
     both_form laws framed a (addresses_of a m) (byte_of (digits_joined byte.set a.a.set)) (byte_of (digits_joined a.a.set byte.set)) form are
-    (plain_form framed (digits_joined byte.set a.a.set) (joined_normal laws byte.set a.a.set byte_is form.a.normal))
-    (plain_form framed (digits_joined a.a.set byte.set) (joined_normal laws a.a.set byte.set form.a.normal byte_is))
+    (byte_form framed (digits_joined byte.set a.a.set) (joined_normal laws byte.set a.a.set byte_is form.a.normal))
+    (byte_form framed (digits_joined a.a.set byte.set) (joined_normal laws a.a.set byte.set form.a.normal byte_is))

@@ -22,7 +22,8 @@ use Rattle.mcs51_state.specs.Under.{IsUnder}
 use Rattle.mcs51_operands.specs.Operands.{direct_addresses}
 use Rattle.mcs51_operands.specs.Reading.{read_byte}
 use Rattle.mcs51_results.specs.declared.made.Operand.{Operand}
-use Rattle.mcs51_results.specs.Holding.{AreOperands, IsOperand, IsStatus}
+use Rattle.mcs51_results.specs.Holding.{AreOperands, IsOperand}
+use Rattle.mcs51_results.specs.HoldingFacts.{status_of_known}
 use Rattle.mcs51_results.specs.Results.{masked_made}
 use Rattle.mcs51_results.specs.StatusBytes.{masked_status}
 use Rattle.mcs51_stores.specs.Following.{IsValue}
@@ -39,13 +40,15 @@ mask_is : (framed : Bool) (a : Known) (by : Mask) → IsKnown framed a → IsMas
 mask_is framed a mask.Accumulator form is = form.a.normal
 mask_is framed a (mask.Immediate value) form is = is
 
-mask_so : (framed : Bool) (a : Known) (s : ChipState) (first : Option ChipState) (by : Mask) → IsUnder framed a s first → IsMask by → IsOperand (mask_operand a by) (mask_value s by)
+mask_so : (framed : Bool) (a : Known) (s : ChipState) (first : Option ChipState) (by : Mask) → IsUnder framed a s first → IsMask by
+    → IsOperand (mask_operand a by) (mask_value s by)
 mask_so framed a s first mask.Accumulator under is = record { normal = under.form.a.normal; has = under.holds.parts.a.0 }
 mask_so framed a s first (mask.Immediate value) under is = (is, refl)
 
 -- BYTES
 
-masked_value : (laws : Premises) (framed : Bool) (first : Option ChipState) (done : Logic) (byte : Byte) (operand : Operand) (x m : ℕ) → IsValue framed first byte x → AreOperands operand → IsOperand operand m
+masked_value : (laws : Premises) (framed : Bool) (first : Option ChipState) (done : Logic) (byte : Byte) (operand : Operand) (x m : ℕ)
+    → IsValue framed first byte x → AreOperands operand → IsOperand operand m
     → IsValue framed first (masked_made done byte operand) (masked done x m)
 masked_value laws framed first done byte operand x m value are is = record {
   form = laws.results.changes.masked_form framed done byte operand value.form are;
@@ -54,14 +57,12 @@ masked_value laws framed first done byte operand x m value are is = record {
 
 -- PSW
 
-status_is : (framed : Bool) (a : Known) → IsKnown framed a → IsStatus framed a.psw
-status_is framed a form = record { bits = form.bits; entry = form.psw }
-
-status_leads : (laws : Premises) (framed : Bool) (a : Known) (s : ChipState) (first : Option ChipState) (done : Logic) (operand : Operand) (x m : ℕ) → IsUnder framed a s first → AreOperands operand → IsOperand operand m
+status_leads : (laws : Premises) (framed : Bool) (a : Known) (s : ChipState) (first : Option ChipState) (done : Logic) (operand : Operand) (x m : ℕ)
+    → IsUnder framed a s first → AreOperands operand → IsOperand operand m
     → MayRead s (InSfr 0xD0) x → masked done x m < 256 → LeadsSo framed first (status_written (masked_status done a.psw operand) a) s (write (InSfr 0xD0) (masked done x m) s)
 unfolding write
 status_leads laws framed a s first done operand x m under are is may small =
-    let held = status_is framed a under.form in
+    let held = status_of_known framed a under.form in
     let status = masked_status done a.psw operand in
     let form = laws.results.statuses.masked_form framed done a.psw operand held are in
     record {
@@ -72,7 +73,8 @@ status_leads laws framed a s first done operand x m under are is may small =
 
 -- THE INSTRUCTION
 
-masked_leads : (laws : Premises) (framed : Bool) (a : Known) (s : ChipState) (first : Option ChipState) (done : Logic) (direct : ℕ) (by : Mask) (x : ℕ) → IsUnder framed a s first → direct < 256 → IsMask by
+masked_leads : (laws : Premises) (framed : Bool) (a : Known) (s : ChipState) (first : Option ChipState) (done : Logic) (direct : ℕ) (by : Mask) (x : ℕ)
+    → IsUnder framed a s first → direct < 256 → IsMask by
     → MayRead s (direct_address direct) x → LeadsSo framed first (direct_masked framed done direct by a) s (write (direct_address direct) (masked done x (mask_value s by)) s)
 unfolding direct_masked
 masked_leads laws framed a s first done direct by x under small is may =
@@ -101,14 +103,15 @@ mask_direct_so laws framed a s first image pc done direct by under small is =
     (λ x. write (direct_address direct) (masked done x (mask_value s by)) s) (λ access there. absurd (omega (arith, there.1))) placed.stands placed.are
     (λ x may. masked_leads laws framed a s first done direct by x under small is may)
 
-pub mask_direct_form : (laws : Premises) (framed : Bool) (a : Known) (done : Logic) (direct : ℕ) (by : Mask) → IsKnown framed a → direct < 256 → IsMask by → IsKnown framed (direct_masked framed done direct by a)
+pub mask_direct_form : (laws : Premises) (framed : Bool) (a : Known) (done : Logic) (direct : ℕ) (by : Mask) → IsKnown framed a → direct < 256 → IsMask by
+    → IsKnown framed (direct_masked framed done direct by a)
 unfolding direct_masked
 mask_direct_form laws framed a done direct by form small is =
     let at = direct_addresses direct in
     let operand = mask_operand a by in
     let operand_are = mask_is framed a by form is in
     let are = (direct_placed laws direct small).are in
-    let status = laws.results.statuses.masked_form framed done a.psw operand (status_is framed a form) operand_are in
+    let status = laws.results.statuses.masked_form framed done a.psw operand (status_of_known framed a form) operand_are in
     cond_both (direct == 0xD0) (status_written (masked_status done a.psw operand) a) (byte_written framed at (direct_made framed done direct by a) a) (IsKnown framed)
     (λ psw. laws.stores.forms.status framed (masked_status done a.psw operand) status.bits status.entry a form)
     (λ other. laws.stores.forms.byte framed at (direct_made framed done direct by a) are

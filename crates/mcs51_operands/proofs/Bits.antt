@@ -1,8 +1,7 @@
 -- Bits of numbers that agree with what is known of them, and those of a bank's address and of PSW.
-use Rattle.std.proofs.Common.{◌≡◌, ℕ, zero, suc, ◌+◌, ◌*◌, ◌/◌, ◌%◌, ◌<◌, Bool, Option, List, [], ◌∷◌, length, get_or, sym, subst, arith}
-use Rattle.std.specs.Int.{bit_at}
-use Rattle.std.proofs.lemmas.Nat.Bits.{bit_at-lt, bit_at-suc, bit_at_lowest}
+use Rattle.std.proofs.Common.{◌≡◌, ℕ, ◌+◌, ◌*◌, ◌/◌, ◌%◌, ◌<◌, Bool, Option, List, [], ◌∷◌, length, get_or, subst, arith}
 use Rattle.std.proofs.lemmas.List.FromFn.{get_or-map-range_with_len}
+use Rattle.value_bits.specs.BitFacts.{bits_at}
 use Rattle.value_bits.specs.declared.tri.Tri.{Tri}
 use Rattle.value_bits.specs.declared.tri.Tri.TheVariants.{Either}
 use Rattle.value_bits.specs.Bits.{Agrees, IsBit, known_bit, known_bits}
@@ -13,12 +12,6 @@ use Rattle.mcs51_chip.specs.Registers.{carry_of}
 use Rattle.mcs51_state.specs.Known.{Known}
 use Rattle.mcs51_state.specs.Under.{IsUnder}
 use Rattle.mcs51_operands.specs.Reading.{carry, status_bits}
-
--- one bit of those that are known
-pub bit_agrees : (bits : List Tri) (v n : ℕ) → Agrees bits v → IsBit (get_or bits n Either) (bit_at v n)
-bit_agrees [] v n h = bit_at-lt v n
-bit_agrees (b ∷ bits) v zero h = subst (IsBit b) (sym (bit_at_lowest v)) h.0
-bit_agrees (b ∷ bits) v (suc n) h = subst (IsBit (get_or bits n Either)) (sym (bit_at-suc v n)) (bit_agrees bits (v / 2) n h.1)
 
 pub known_is : (set : Form) (place : ℕ) → place < 8 → get_or (known_bits 8 set) place Either ≡ known_bit 8 place set
 known_is set place small = get_or-map-range_with_len (λ n. known_bit 8 n set) 0 8 place place Either small (omega arith)
@@ -46,4 +39,4 @@ carry_is framed known s first under =
     let held = under.holds.parts.psw in
     let none = under.holds.state.psw_held in
     let same : s.psw + 0 ≡ s.psw = omega arith in
-    bit_agrees (status_bits known.psw.bits) s.psw 7 (subst (Agrees (status_bits known.psw.bits)) same (status_agrees known.psw.bits s.psw 0 none (omega arith) held.bits))
+    bits_at (status_bits known.psw.bits) 7 s.psw (subst (Agrees (status_bits known.psw.bits)) same (status_agrees known.psw.bits s.psw 0 none (omega arith) held.bits))

@@ -5,6 +5,7 @@ use Rattle.std.specs.Int.{bit_at}
 use Rattle.std.specs.Option.{option_map}
 use Rattle.std.proofs.lemmas.Bool.{cond_both, lt-ltb}
 use Rattle.std.proofs.lemmas.List.Elements.{All-head, All-tail}
+use Rattle.plain_lemmas.specs.Members.{in_first}
 use Rattle.entry_value.specs.declared.cells.Cell.{Cell}
 use Rattle.entry_value.specs.declared.word.Entry.{Entry}
 use Rattle.entry_value.specs.declared.word.Word.{Word}
@@ -24,22 +25,20 @@ use Rattle.mcs51_chip.specs.Leading.{MayRead, MayReadSfr}
 use Rattle.mcs51_chip.specs.Registers.{parity, sfr_at}
 use Rattle.mcs51_state.specs.declared.addresses.Addresses.{Addresses}
 use Rattle.mcs51_state.specs.declared.addresses.Addresses.TheVariants.{InRam, InSfr}
+use Rattle.mcs51_state.specs.FormFacts.{no_relation}
 use Rattle.mcs51_state.specs.Forms.{IsByte, IsChipCell, IsKnown, IsOwnRelation, IsRelation}
 use Rattle.mcs51_state.specs.Known.{Known}
 use Rattle.mcs51_state.specs.Places.{ie_place, ip_place, is_place, is_remembered, psw_place, sfr_of, suspended_of}
 use Rattle.mcs51_state.specs.Standing.{AreAddresses, MayStandAt}
 use Rattle.mcs51_state.specs.Under.{IsUnder}
 use Rattle.mcs51_operands.specs.Reading.{found_or, kept_by, kept_from, list_relation, ram_values, read_bit, read_byte, register_bit, register_byte, status_bits}
-use Rattle.mcs51_operands.proofs.Bits.{bit_agrees, known_is, status_agrees}
-use Rattle.mcs51_operands.proofs.Members.{in_first}
+use Rattle.value_bits.specs.BitFacts.{bits_at}
+use Rattle.mcs51_operands.proofs.Bits.{known_is, status_agrees}
 use Rattle.mcs51_operands.proofs.Ram.{ram_is, values_have, values_normal}
-use Rattle.mcs51_operands.proofs.Registers.{parity_small, register_is, unheld_bits}
+use Rattle.mcs51_chip.specs.NumberFacts.{parity_below}
+use Rattle.mcs51_operands.proofs.Registers.{register_is, unheld_bits}
 
 -- RELATIONS
-
-no_relation : (framed : Bool) → IsRelation framed None
-no_relation true = tt
-no_relation false = tt
 
 -- that of a register is one, where its place is
 own_relation : (framed : Bool) (place unheld : ℕ) (entry : Option Entry) → is_place place ≡ true → IsOwnRelation framed place unheld entry → IsRelation framed entry
@@ -69,7 +68,8 @@ either_relation : (framed : Bool) (own otherwise : Option Entry) → IsRelation 
 either_relation framed None otherwise own other = other
 either_relation framed (Some entry) otherwise own other = own
 
-list_form : (framed : Bool) (known : Known) → IsKnown framed known → (list : List ℕ) → ((at : ℕ) → Contains list at → at < 256) → IsRelation framed (list_relation framed known list)
+list_form : (framed : Bool) (known : Known) → IsKnown framed known → (list : List ℕ) → ((at : ℕ) → Contains list at → at < 256)
+    → IsRelation framed (list_relation framed known list)
 list_form framed known form [] small = no_relation framed
 list_form framed known form (at ∷ []) small =
     either_relation framed (read known.cells.cells at 1).entry (kept_by framed known.touched at) (read_relation framed known.cells.cells at 1 form.each_cell)
@@ -91,13 +91,15 @@ register_form laws framed known form Acc = form.a
 register_form laws framed known form B = form.b
 register_form laws framed known form Other = record { normal = laws.sets.whole_normal 256 (omega arith); entry = no_relation framed }
 
-pub byte_form : (laws : KnownLaws) (framed : Bool) (known : Known) → IsKnown framed known → (addresses : Addresses) → AreAddresses addresses → IsByte framed (read_byte framed known addresses)
+pub byte_form : (laws : KnownLaws) (framed : Bool) (known : Known) → IsKnown framed known → (addresses : Addresses) → AreAddresses addresses
+    → IsByte framed (read_byte framed known addresses)
 unfolding read_byte
 byte_form laws framed known form (InRam set) are =
     record { normal = values_normal laws known form.cells set; entry = list_form framed known form (members 256 set) (λ at has. laws.sets.below 256 at set are has) }
 byte_form laws framed known form (InSfr register) are = register_form laws framed known form (sfr_at register)
 
-pub byte_is : (laws : KnownLaws) (framed : Bool) (known : Known) (s : ChipState) (first : Option ChipState) → IsUnder framed known s first → (addresses : Addresses) (address : Address) (x : ℕ)
+pub byte_is : (laws : KnownLaws) (framed : Bool) (known : Known) (s : ChipState) (first : Option ChipState) → IsUnder framed known s first
+    → (addresses : Addresses) (address : Address) (x : ℕ)
     → MayStandAt addresses address → AreAddresses addresses → MayRead s address x → HoldsOfByte (option_map suspended_of first) (read_byte framed known addresses) x
 unfolding read_byte
 byte_is laws framed known s first under (InRam set) (AtRam at) x stands are may =
@@ -111,14 +113,16 @@ byte_is laws framed known s first under (InSfr register) (AtSfr at) x stands are
 
 set_bit : (laws : KnownLaws) (set : Form) (x place : ℕ) → IsNormal 256 set → Has 256 set x → place < 8 → IsBit (known_bit 8 place set) (bit_at x place)
 set_bit laws set x place normal has small =
-    subst (λ bit. IsBit bit (bit_at x place)) (known_is set place small) (bit_agrees (known_bits 8 set) x place (laws.bits.known 8 x set normal has))
+    subst (λ bit. IsBit bit (bit_at x place)) (known_is set place small) (bits_at (known_bits 8 set) place x (laws.bits.known 8 x set normal has))
 
-plain_bit : (laws : KnownLaws) (framed : Bool) (known : Known) (s : ChipState) (first : Option ChipState) → IsUnder framed known s first → (sfr : Sfr) (x place : ℕ) → MayReadSfr s sfr x → place < 8
+plain_bit : (laws : KnownLaws) (framed : Bool) (known : Known) (s : ChipState) (first : Option ChipState) → IsUnder framed known s first
+    → (sfr : Sfr) (x place : ℕ) → MayReadSfr s sfr x → place < 8
     → IsBit (known_bit 8 place (register_byte known sfr).set) (bit_at x place)
 plain_bit laws framed known s first under sfr x place may small =
     set_bit laws (register_byte known sfr).set x place (register_form laws framed known under.form sfr).normal (register_is laws framed known s first under sfr x may).0 small
 
-sfr_bit : (laws : KnownLaws) (framed : Bool) (known : Known) (s : ChipState) (first : Option ChipState) → IsUnder framed known s first → (sfr : Sfr) (x place : ℕ) → MayReadSfr s sfr x → place < 8
+sfr_bit : (laws : KnownLaws) (framed : Bool) (known : Known) (s : ChipState) (first : Option ChipState) → IsUnder framed known s first
+    → (sfr : Sfr) (x place : ℕ) → MayReadSfr s sfr x → place < 8
     → IsBit (register_bit known sfr place) (bit_at x place)
 sfr_bit laws framed known s first under Sp x place may small = plain_bit laws framed known s first under Sp x place may small
 sfr_bit laws framed known s first under Dpl x place may small = plain_bit laws framed known s first under Dpl x place may small
@@ -127,13 +131,14 @@ sfr_bit laws framed known s first under Ie x place may small = plain_bit laws fr
 sfr_bit laws framed known s first under Ip x place may small = plain_bit laws framed known s first under Ip x place may small
 sfr_bit laws framed known s first under Psw x place (bit, few, is) small =
     let held = under.holds.parts.psw in
-    let (y, less, same) = unheld_bits s.psw bit (parity s.a) x few (parity_small s.a) is in
-    bit_agrees (status_bits known.psw.bits) x place (subst (Agrees (status_bits known.psw.bits)) (sym same) (status_agrees known.psw.bits s.psw y under.holds.state.psw_held less held.bits))
+    let (y, less, same) = unheld_bits s.psw bit (parity s.a) x few (parity_below s.a) is in
+    bits_at (status_bits known.psw.bits) place x (subst (Agrees (status_bits known.psw.bits)) (sym same) (status_agrees known.psw.bits s.psw y under.holds.state.psw_held less held.bits))
 sfr_bit laws framed known s first under Acc x place may small = plain_bit laws framed known s first under Acc x place may small
 sfr_bit laws framed known s first under B x place may small = plain_bit laws framed known s first under B x place may small
 sfr_bit laws framed known s first under Other x place may small = plain_bit laws framed known s first under Other x place may small
 
-pub bit_is : (laws : KnownLaws) (framed : Bool) (known : Known) (s : ChipState) (first : Option ChipState) → IsUnder framed known s first → (addresses : Addresses) (address : Address) (x place : ℕ)
+pub bit_is : (laws : KnownLaws) (framed : Bool) (known : Known) (s : ChipState) (first : Option ChipState) → IsUnder framed known s first
+    → (addresses : Addresses) (address : Address) (x place : ℕ)
     → MayStandAt addresses address → AreAddresses addresses → MayRead s address x → place < 8 → IsBit (read_bit known addresses place) (bit_at x place)
 unfolding read_bit
 bit_is laws framed known s first under (InRam set) (AtRam at) x place stands are may small =

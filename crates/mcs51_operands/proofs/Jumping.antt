@@ -1,5 +1,5 @@
 -- Where JMP @A+DPTR goes.
-use Rattle.std.proofs.Common.{◌+◌, ◌*◌, ◌%◌, ◌<◌, Bool, Option, subst, arith}
+use Rattle.std.proofs.Common.{◌+◌, ◌*◌, ◌%◌, Bool, Option, subst, arith}
 use Rattle.value_bits.specs.Sets.{pair_set}
 use Rattle.value_set.specs.Form.{Has, IsNormal}
 use Rattle.value_set.specs.Summing.{single}

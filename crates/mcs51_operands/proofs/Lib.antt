@@ -3,7 +3,6 @@ mod DoingSo
 mod Forms
 mod Jumping
 pub mod Lists
-mod Members
 mod Ram
 mod Registers
 mod Relations

@@ -1,18 +1,18 @@
 -- What is read of RAM holds of what stands there.
-use Rattle.std.proofs.Common.{ℕ, ◌<◌, Bool, Option, List, [], ◌∷◌, get_or, refl, sym, subst, inl, inr, arith, Contains}
+use Rattle.std.proofs.Common.{ℕ, ◌<◌, Bool, Option, List, [], ◌∷◌, get_or, refl, sym, subst, inl, arith, Contains}
 use Rattle.std.specs.Option.{option_map}
+use Rattle.plain_lemmas.specs.Members.{in_one}
 use Rattle.entry_value.specs.Cells.{AreCells, StandsUnder, read}
 use Rattle.entry_value.specs.Words.{Suspended, HoldsOfByte, IsFromEntry}
 use Rattle.value_set.specs.declared.form.Form.{Form}
 use Rattle.value_set.specs.Form.{Has, IsNormal, members}
-use Rattle.value_set.specs.Joining.{join}
 use Rattle.irq_frames.specs.KnownLaws.{KnownLaws}
 use Rattle.mcs51_chip.specs.declared.state.ChipState.{ChipState}
 use Rattle.mcs51_state.specs.Known.{Known}
 use Rattle.mcs51_state.specs.Places.{suspended_of}
 use Rattle.mcs51_state.specs.Under.{IsUnder}
-use Rattle.mcs51_operands.specs.Reading.{kept_by, list_relation, list_set, ram_byte, ram_relation, ram_set, ram_values, sets_joined}
-use Rattle.mcs51_operands.proofs.Members.{in_cons, in_none}
+use Rattle.mcs51_operands.specs.JoinedFacts.{any_has, any_normal}
+use Rattle.mcs51_operands.specs.Reading.{kept_by, list_relation, ram_byte, ram_relation, ram_set, ram_values}
 use Rattle.mcs51_operands.proofs.Relations.{found_is, kept_is}
 
 -- ONE ADDRESS
@@ -20,52 +20,16 @@ use Rattle.mcs51_operands.proofs.Relations.{found_is, kept_is}
 pub ram_normal : (laws : KnownLaws) (known : Known) → AreCells 0 255 0 known.cells.cells → (at : ℕ) → IsNormal 256 (ram_set known at)
 ram_normal laws known cells at = laws.bits.low_normal (read known.cells.cells at 1).set (laws.cells.read_normal 0 255 0 at 1 known.cells.cells cells)
 
-ram_held : (laws : KnownLaws) (known : Known) (first : Option Suspended) (ram : ℕ → ℕ) → AreCells 0 255 0 known.cells.cells → StandsUnder first known.cells.cells ram → (at : ℕ) → at < 256
+ram_held : (laws : KnownLaws) (known : Known) (first : Option Suspended) (ram : ℕ → ℕ) → AreCells 0 255 0 known.cells.cells
+    → StandsUnder first known.cells.cells ram → (at : ℕ) → at < 256
     → HoldsOfByte first (record { set = ram_set known at; entry = (read known.cells.cells at 1).entry }) (ram at)
 ram_held laws known first ram cells stands at inside =
     laws.values.bytes.to_byte first (ram at) (read known.cells.cells at 1) (laws.cells.read_normal 0 255 0 at 1 known.cells.cells cells) (stands.0 at)
     (laws.cells.reads first ram 0 255 0 at 1 known.cells.cells cells (omega (arith, inside)) (inl refl) stands)
 
--- SEVERAL ADDRESSES
-
-joined_normal : (laws : KnownLaws) (known : Known) → AreCells 0 255 0 known.cells.cells → (set : Form) (list : List ℕ) → IsNormal 256 set → IsNormal 256 (sets_joined known set list)
-joined_normal laws known cells set [] normal = normal
-joined_normal laws known cells set (at ∷ rest) normal =
-    joined_normal laws known cells (join 256 set (ram_set known at)) rest (laws.sets.join_normal 256 set (ram_set known at) normal (ram_normal laws known cells at))
-
-joined_keeps : (laws : KnownLaws) (known : Known) → AreCells 0 255 0 known.cells.cells → (set : Form) (list : List ℕ) (v : ℕ) → IsNormal 256 set → Has 256 set v → Has 256 (sets_joined known set list) v
-joined_keeps laws known cells set [] v normal has = has
-joined_keeps laws known cells set (at ∷ rest) v normal has =
-    let next_normal = ram_normal laws known cells at in
-    joined_keeps laws known cells (join 256 set (ram_set known at)) rest v (laws.sets.join_normal 256 set (ram_set known at) normal next_normal)
-    (laws.sets.join_first 256 set (ram_set known at) normal next_normal v has)
-
-joined_has : (laws : KnownLaws) (known : Known) → AreCells 0 255 0 known.cells.cells → (set : Form) (list : List ℕ) (at v : ℕ) → IsNormal 256 set → Contains list at → Has 256 (ram_set known at) v
-    → Has 256 (sets_joined known set list) v
-joined_has laws known cells set [] at v normal there has = absurd (in_none at there)
-joined_has laws known cells set (one ∷ rest) at v normal there has =
-    let next_normal = ram_normal laws known cells one in
-    let both = laws.sets.join_normal 256 set (ram_set known one) normal next_normal in
-    elim (in_cons one rest at there) [
-      | inl same ↦ joined_keeps laws known cells (join 256 set (ram_set known one)) rest v both
-          (laws.sets.join_second 256 set (ram_set known one) normal next_normal v (subst (λ n. Has 256 (ram_set known n) v) (sym same) has))
-      | inr later ↦ joined_has laws known cells (join 256 set (ram_set known one)) rest at v both later has
-    ]
-
-list_normal : (laws : KnownLaws) (known : Known) → AreCells 0 255 0 known.cells.cells → (list : List ℕ) → IsNormal 256 (list_set known list)
-list_normal laws known cells [] = laws.sets.whole_normal 256 (omega arith)
-list_normal laws known cells (at ∷ rest) = joined_normal laws known cells (ram_set known at) rest (ram_normal laws known cells at)
-
-list_has : (laws : KnownLaws) (known : Known) → AreCells 0 255 0 known.cells.cells → (list : List ℕ) (at v : ℕ) → Contains list at → Has 256 (ram_set known at) v → Has 256 (list_set known list) v
-list_has laws known cells [] at v there has = absurd (in_none at there)
-list_has laws known cells (one ∷ rest) at v there has = elim (in_cons one rest at there) [
-  | inl same ↦ joined_keeps laws known cells (ram_set known one) rest v (ram_normal laws known cells one) (subst (λ n. Has 256 (ram_set known n) v) (sym same) has)
-  | inr later ↦ joined_has laws known cells (ram_set known one) rest at v (ram_normal laws known cells one) later has
-]
-
 pub values_normal : (laws : KnownLaws) (known : Known) → AreCells 0 255 0 known.cells.cells → (set : Form) → IsNormal 256 (ram_values known set)
 unfolding ram_values
-values_normal laws known cells set = list_normal laws known cells (members 256 set)
+values_normal laws known cells set = any_normal laws (ram_set known) (ram_normal laws known cells) (members 256 set)
 
 -- OF A STATE
 
@@ -73,21 +37,21 @@ values_normal laws known cells set = list_normal laws known cells (members 256 s
 list_related : (framed : Bool) (known : Known) (first : Option Suspended) (list : List ℕ) (at v : ℕ) → Contains list at → IsFromEntry first (ram_relation framed known at) v
     → IsFromEntry first (list_relation framed known list) v
 list_related framed known first [] at v there holds = tt
-list_related framed known first (only ∷ []) at v there holds = elim (in_cons only [] at there) [
-  | inl same ↦ subst (λ n. IsFromEntry first (ram_relation framed known n) v) (sym same) holds
-  | inr none ↦ absurd (in_none at none)
-]
+list_related framed known first (only ∷ []) at v there holds =
+    subst (λ n. IsFromEntry first (ram_relation framed known n) v) (sym (in_one only at there)) holds
 list_related framed known first (one ∷ next ∷ rest) at v there holds = tt
 
-pub values_have : (laws : KnownLaws) (framed : Bool) (known : Known) (s : ChipState) (first : Option ChipState) → IsUnder framed known s first → (set : Form) (at : ℕ) → IsNormal 256 set → Has 256 set at
+pub values_have : (laws : KnownLaws) (framed : Bool) (known : Known) (s : ChipState) (first : Option ChipState) → IsUnder framed known s first
+    → (set : Form) (at : ℕ) → IsNormal 256 set → Has 256 set at
     → Has 256 (ram_values known set) (get_or s.ram at 0)
 unfolding ram_values
 values_have laws framed known s first under set at normal has =
     let inside = laws.sets.below 256 at set normal has in
     let held = ram_held laws known (option_map suspended_of first) (λ n. get_or s.ram n 0) under.form.cells under.holds.parts.cells at inside in
-    list_has laws known under.form.cells (members 256 set) at (get_or s.ram at 0) has held.0
+    any_has laws (ram_set known) (ram_normal laws known under.form.cells) (members 256 set) at (get_or s.ram at 0) has held.0
 
-pub ram_is : (laws : KnownLaws) (framed : Bool) (known : Known) (s : ChipState) (first : Option ChipState) → IsUnder framed known s first → (set : Form) (at : ℕ) → IsNormal 256 set → Has 256 set at
+pub ram_is : (laws : KnownLaws) (framed : Bool) (known : Known) (s : ChipState) (first : Option ChipState) → IsUnder framed known s first
+    → (set : Form) (at : ℕ) → IsNormal 256 set → Has 256 set at
     → HoldsOfByte (option_map suspended_of first) (ram_byte framed known set) (get_or s.ram at 0)
 ram_is laws framed known s first under set at normal has =
     let inside = laws.sets.below 256 at set normal has in

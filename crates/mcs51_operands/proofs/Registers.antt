@@ -1,6 +1,5 @@
 -- What is read of a register holds of each number that it may be read as.
-use Rattle.std.proofs.Common.{◌≡◌, ℕ, ◌+◌, ◌*◌, ◌%◌, ◌<◌, Bool, Option, length, sym, subst, arith}
-use Rattle.std.specs.Int.{bit_at}
+use Rattle.std.proofs.Common.{◌≡◌, ℕ, ◌+◌, ◌*◌, ◌<◌, Bool, Option, length, sym, subst, arith}
 use Rattle.std.specs.Option.{option_map}
 use Rattle.entry_value.specs.Words.{HoldsOfByte}
 use Rattle.value_set.specs.Form.{Has}
@@ -9,6 +8,7 @@ use Rattle.mcs51_chip.specs.declared.place.Sfr.{Sfr}
 use Rattle.mcs51_chip.specs.declared.place.Sfr.TheVariants.{Sp, Dpl, Dph, Ie, Ip, Psw, Acc, B, Other}
 use Rattle.mcs51_chip.specs.declared.state.ChipState.{ChipState}
 use Rattle.mcs51_chip.specs.Leading.{MayReadSfr}
+use Rattle.mcs51_chip.specs.NumberFacts.{parity_below}
 use Rattle.mcs51_chip.specs.Registers.{parity}
 use Rattle.mcs51_state.specs.Known.{Known}
 use Rattle.mcs51_state.specs.Places.{suspended_of}
@@ -17,15 +17,9 @@ use Rattle.mcs51_operands.specs.Reading.{register_byte, status_bits, status_byte
 use Rattle.mcs51_operands.proofs.Bits.{status_agrees}
 use Rattle.mcs51_operands.proofs.Relations.{status_is}
 
-odd_or_even : (n : ℕ) → n % 2 < 2
-odd_or_even n = omega arith
-
 -- the bits of PSW that it doesn't hold, as it is read
 pub unheld_bits : (psw bit p x : ℕ) → bit < 2 → p < 2 → x ≡ psw + 2 * bit + p → (y : ℕ) × (y < 4) × (x ≡ psw + y)
 unheld_bits psw bit p x few less is = (2 * bit + p, omega (arith, few, less), omega (arith, is))
-
-pub parity_small : (a : ℕ) → parity a < 2
-parity_small a = odd_or_even (bit_at a 0 + bit_at a 1 + bit_at a 2 + bit_at a 3 + bit_at a 4 + bit_at a 5 + bit_at a 6 + bit_at a 7)
 
 -- PSW as a byte, whatever those bits are
 pub status_held : (laws : KnownLaws) (framed : Bool) (known : Known) (s : ChipState) (first : Option ChipState) → IsUnder framed known s first
@@ -39,7 +33,8 @@ status_held laws framed known s first under x y less is =
       status_is framed first known.psw.entry s.psw y under.form.psw none less held.entry,
     )
 
-pub register_is : (laws : KnownLaws) (framed : Bool) (known : Known) (s : ChipState) (first : Option ChipState) → IsUnder framed known s first → (sfr : Sfr) (x : ℕ) → MayReadSfr s sfr x
+pub register_is : (laws : KnownLaws) (framed : Bool) (known : Known) (s : ChipState) (first : Option ChipState) → IsUnder framed known s first
+    → (sfr : Sfr) (x : ℕ) → MayReadSfr s sfr x
     → HoldsOfByte (option_map suspended_of first) (register_byte known sfr) x
 register_is laws framed known s first under Sp x is = (subst (Has 256 known.sp) (sym is) under.holds.parts.sp, tt)
 register_is laws framed known s first under Dpl x is = subst (HoldsOfByte (option_map suspended_of first) known.dpl) (sym is) under.holds.parts.dpl
@@ -47,7 +42,7 @@ register_is laws framed known s first under Dph x is = subst (HoldsOfByte (optio
 register_is laws framed known s first under Ie x may = under.holds.parts.ie x may
 register_is laws framed known s first under Ip x may = under.holds.parts.ip x may
 register_is laws framed known s first under Psw x (bit, few, is) =
-    let (y, less, same) = unheld_bits s.psw bit (parity s.a) x few (parity_small s.a) is in
+    let (y, less, same) = unheld_bits s.psw bit (parity s.a) x few (parity_below s.a) is in
     status_held laws framed known s first under x y less same
 register_is laws framed known s first under Acc x is = subst (HoldsOfByte (option_map suspended_of first) known.a) (sym is) under.holds.parts.a
 register_is laws framed known s first under B x is = subst (HoldsOfByte (option_map suspended_of first) known.b) (sym is) under.holds.parts.b

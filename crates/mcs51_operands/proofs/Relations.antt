@@ -33,7 +33,8 @@ kept_holds touched s f at keeps inside small none =
     let all : bit_and word 255 ≡ word = and_mask word 8 ∙ omega (arith, same, small) in
     (word, (omega (arith, same, small), ap (λ n. bit_and n ((suspended_of f).held at)) (sym number)), same ∙ sym (or_zero_r (bit_and word 255) ∙ all))
 
-pub kept_is : (framed : Bool) (touched : List (ℕ × ℕ)) (s : ChipState) (first : Option ChipState) (at : ℕ) → IsFramed framed first → KeepsUntouched touched s first → at < 256 → get_or s.ram at 0 < 256
+pub kept_is : (framed : Bool) (touched : List (ℕ × ℕ)) (s : ChipState) (first : Option ChipState) (at : ℕ) → IsFramed framed first
+    → KeepsUntouched touched s first → at < 256 → get_or s.ram at 0 < 256
     → IsFromEntry (option_map suspended_of first) (kept_by framed touched at) (get_or s.ram at 0)
 kept_is false touched s first at base keeps inside small = tt
 kept_is true touched s None at base keeps inside small = absurd base
@@ -41,7 +42,8 @@ kept_is true touched s (Some f) at base keeps inside small =
     cond_both (not (has_address touched at)) (Some (kept_from at)) None (λ entry. IsFromEntry (Some (suspended_of f)) entry (get_or s.ram at 0))
     (λ none. kept_holds touched s f at keeps inside small none) (λ some. tt)
 
-pub found_is : (first : Option Suspended) (own otherwise : Option Entry) (v : ℕ) → IsFromEntry first own v → IsFromEntry first otherwise v → IsFromEntry first (found_or own otherwise) v
+pub found_is : (first : Option Suspended) (own otherwise : Option Entry) (v : ℕ) → IsFromEntry first own v → IsFromEntry first otherwise v
+    → IsFromEntry first (found_or own otherwise) v
 found_is first None otherwise v own other = other
 found_is first (Some entry) otherwise v own other = own
 

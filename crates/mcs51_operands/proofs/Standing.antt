@@ -8,9 +8,6 @@ use Rattle.irq_frames.specs.KnownLaws.{KnownLaws}
 use Rattle.mcs51_decode.specs.declared.instr.Memory.{Memory}
 use Rattle.mcs51_decode.specs.declared.instr.Memory.TheVariants.{Direct, Working as InWorking}
 use Rattle.mcs51_decode.specs.declared.instr.Pointer.{Pointer}
-use Rattle.mcs51_decode.specs.declared.instr.Pointer.TheVariants as pointer
-use Rattle.mcs51_decode.specs.declared.instr.Register.{Register as ARegister}
-use Rattle.mcs51_decode.specs.declared.instr.Register.TheVariants as register
 use Rattle.mcs51_decode.specs.declared.instr.Working.{Working}
 use Rattle.mcs51_decode.specs.declared.instr.Working.TheVariants.{Indirect, Register}
 use Rattle.mcs51_decode.specs.Encoding.{pointer_number, register_number}
@@ -19,6 +16,7 @@ use Rattle.mcs51_chip.specs.declared.place.Address.{Address}
 use Rattle.mcs51_chip.specs.declared.place.Address.TheVariants.{InRam as AtRam, InSfr as AtSfr}
 use Rattle.mcs51_chip.specs.declared.state.ChipState.{ChipState}
 use Rattle.mcs51_chip.specs.Memory.{address_of, bit_address, direct_address, pointer_address, working_address}
+use Rattle.mcs51_chip.specs.NumberFacts.{pointer_below, register_below}
 use Rattle.mcs51_chip.specs.Registers.{register_address}
 use Rattle.mcs51_state.specs.Forms.{IsKnown}
 use Rattle.mcs51_state.specs.Known.{Known}
@@ -27,20 +25,6 @@ use Rattle.mcs51_state.specs.Under.{IsUnder}
 use Rattle.mcs51_operands.specs.Operands.{addresses_of, bank_bits, bank_of, bit_addresses, direct_addresses, only_at, pointer_addresses, register_addresses, working_addresses}
 use Rattle.mcs51_operands.proofs.Bits.{bank_agrees}
 use Rattle.mcs51_operands.proofs.Ram.{values_have, values_normal}
-
-register_small : (n : ARegister) → register_number n < 8
-register_small register.R0 = omega arith
-register_small register.R1 = omega arith
-register_small register.R2 = omega arith
-register_small register.R3 = omega arith
-register_small register.R4 = omega arith
-register_small register.R5 = omega arith
-register_small register.R6 = omega arith
-register_small register.R7 = omega arith
-
-pub pointer_small : (i : Pointer) → pointer_number i < 8
-pointer_small pointer.R0 = omega arith
-pointer_small pointer.R1 = omega arith
 
 -- WORKING REGISTERS
 
@@ -62,7 +46,7 @@ registers_have laws framed known s first under n small =
 
 pub pointers_have : (laws : KnownLaws) (framed : Bool) (known : Known) (s : ChipState) (first : Option ChipState) → IsUnder framed known s first → (i : Pointer)
     → Has 256 (pointer_addresses known i) (pointer_address s i)
-pointers_have laws framed known s first under i = registers_have laws framed known s first under (pointer_number i) (pointer_small i)
+pointers_have laws framed known s first under i = registers_have laws framed known s first under (pointer_number i) (pointer_below i)
 
 -- ONE ADDRESS
 
@@ -98,12 +82,12 @@ direct_may laws direct = cond_both (nat_lt direct 128) (AtRam direct) (AtSfr dir
 pub working_stands : (laws : KnownLaws) (framed : Bool) (known : Known) (s : ChipState) (first : Option ChipState) → IsUnder framed known s first → (w : Working)
     → MayStandAt (working_addresses known w) (working_address s w)
 working_stands laws framed known s first under (Indirect i) =
-    values_have laws framed known s first under (pointer_addresses known i) (pointer_address s i) (registers_normal laws known (pointer_number i) (pointer_small i)) (pointers_have laws framed known s first under i)
-working_stands laws framed known s first under (Register n) = registers_have laws framed known s first under (register_number n) (register_small n)
+    values_have laws framed known s first under (pointer_addresses known i) (pointer_address s i) (registers_normal laws known (pointer_number i) (pointer_below i)) (pointers_have laws framed known s first under i)
+working_stands laws framed known s first under (Register n) = registers_have laws framed known s first under (register_number n) (register_below n)
 
 pub working_form : (laws : KnownLaws) (framed : Bool) (known : Known) → IsKnown framed known → (w : Working) → AreAddresses (working_addresses known w)
 working_form laws framed known form (Indirect i) = values_normal laws known form.cells (pointer_addresses known i)
-working_form laws framed known form (Register n) = registers_normal laws known (register_number n) (register_small n)
+working_form laws framed known form (Register n) = registers_normal laws known (register_number n) (register_below n)
 
 pub operand_stands : (laws : KnownLaws) (framed : Bool) (known : Known) (s : ChipState) (first : Option ChipState) → IsUnder framed known s first → (m : Memory)
     → MayStandAt (addresses_of known m) (address_of s m)

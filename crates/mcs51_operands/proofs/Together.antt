@@ -1,5 +1,5 @@
 -- Accesses that are shown one by one are shown together.
-use Rattle.std.proofs.Common.{ℕ, Bool, true, false, List, [], ◌∷◌, ◌++◌, inl, inr, arith}
+use Rattle.std.proofs.Common.{ℕ, Bool, true, false, List, [], ◌∷◌, ◌++◌, inl, inr}
 use Rattle.std.proofs.lemmas.List.Elements.{Contains-append_cases, Contains-append_left, Contains-append_right}
 use Rattle.call_context.specs.declared.shown.Item.{Item}
 use Rattle.mcs51_chip.specs.declared.place.Access.{Access}
@@ -15,9 +15,6 @@ use Rattle.mcs51_operands.specs.Showing.{AreShown, access_of}
 abbrev pub ShowsEach : Type 0
 ShowsEach = (pc : ℕ) (write : Bool) (at : Addresses) (address : Address) → MayStandAt at address → AreAddresses at
     → AreShown (access_of pc write at ∷ []) pc (Internal write address ∷ [])
-
-pub none_shown : (items : List Item) (pc : ℕ) → AreShown items pc []
-none_shown items pc access there = absurd (omega (arith, there.1))
 
 pub both_shown : (items others : List Item) (pc : ℕ) (one more : List Access) → AreShown items pc one → AreShown others pc more
     → AreShown (items ++ others) pc (one ++ more)

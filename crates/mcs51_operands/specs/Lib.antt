@@ -1,7 +1,10 @@
 pub mod Accesses
 pub mod Doing
 pub mod Giving
+pub mod Joined
+pub mod JoinedFacts
 pub mod Laws
 pub mod Operands
 pub mod Reading
 pub mod Showing
+pub mod ShowingFacts

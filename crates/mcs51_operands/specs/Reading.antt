@@ -11,7 +11,6 @@ use Rattle.value_bits.specs.Bits.{known_bit, from_bits}
 use Rattle.value_bits.specs.Sets.{low_set}
 use Rattle.value_set.specs.declared.form.Form.{Form}
 use Rattle.value_set.specs.Form.{members}
-use Rattle.value_set.specs.Joining.{join}
 use Rattle.mcs51_chip.specs.declared.place.Sfr.{Sfr}
 use Rattle.mcs51_chip.specs.declared.place.Sfr.TheVariants.{Sp, Dpl, Dph, Ie, Ip, Psw, Acc, B, Other}
 use Rattle.mcs51_chip.specs.Registers.{sfr_at}
@@ -19,6 +18,7 @@ use Rattle.mcs51_state.specs.declared.addresses.Addresses.{Addresses}
 use Rattle.mcs51_state.specs.declared.addresses.Addresses.TheVariants.{InRam, InSfr}
 use Rattle.mcs51_state.specs.declared.status.Status.{Status}
 use Rattle.mcs51_state.specs.Known.{Known, any_byte, byte_of}
+use Rattle.mcs51_operands.specs.Joined.{any_of}
 
 -- RAM
 
@@ -26,18 +26,9 @@ use Rattle.mcs51_state.specs.Known.{Known, any_byte, byte_of}
 abbrev pub ram_set : Known → ℕ → Form
 ram_set known at = low_set (read known.cells.cells at 1).set
 
--- those of several addresses: the sets joined in this order
-abbrev pub sets_joined : Known → Form → List ℕ → Form
-sets_joined known set [] = set
-sets_joined known set (at ∷ rest) = sets_joined known (join 256 set (ram_set known at)) rest
-
-abbrev pub list_set : Known → List ℕ → Form
-list_set known [] = any_byte
-list_set known (at ∷ rest) = sets_joined known (ram_set known at) rest
-
 -- what a byte of RAM is, whose address is one of a set
 unfoldable pub ram_values : Known → Form → Form
-ram_values known set = list_set known (members 256 set)
+ram_values known set = any_of (ram_set known) (members 256 set)
 
 -- the relation of a byte that is what the place held when the interrupt came
 abbrev pub kept_from : ℕ → Entry

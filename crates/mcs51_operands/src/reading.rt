@@ -5,6 +5,7 @@ ghost use Rattle.value_bits.specs.Bits.{from_bits, known_bit};
 ghost use Rattle.value_bits.specs.declared.tri.Tri.TheVariants.{Either};
 ghost use Rattle.value_set.specs.Form.{members};
 ghost use Rattle.mcs51_state.specs.Known.{any_byte, byte_of};
+ghost use Rattle.mcs51_operands.specs.Joined.{all_joined};
 ghost use Rattle.mcs51_operands.specs.Reading as reading;
 
 use entry_value::{Byte, Cells, Entry};
@@ -24,7 +25,7 @@ fn ram_set<M: Cells>(state: &State<M>, at: u8) -> Vs8
 /// The sets that are read from the second address on, joined with the first one.
 fn joined<M: Cells>(state: &State<M>, at: &Vs8, count: u32, first: Vs8) -> Vs8
     requires { count ≡ length (members 256 at.now) }
-    ensures { result ≡ reading.sets_joined state.now first (drop 1 (members 256 at.now)) }
+    ensures { result ≡ all_joined (reading.ram_set state.now) first (drop 1 (members 256 at.now)) }
 {
     let mut set = first;
     for place in 1..count {
@@ -34,7 +35,7 @@ fn joined<M: Cells>(state: &State<M>, at: &Vs8, count: u32, first: Vs8) -> Vs8
 }
 
 /// What a byte of RAM may be at an address of a set.
-#[tactic(auto, unfolding(crate::specs::Reading::ram_values), using(crate::proofs::Lists::list_is))]
+#[tactic(auto, unfolding(crate::specs::Reading::ram_values), using(crate::specs::JoinedFacts::any_is))]
 pub fn ram_values<M: Cells>(state: &State<M>, at: &Vs8) -> Vs8
     ensures { result ≡ reading.ram_values state.now at.now }
 {

@@ -1,7 +1,6 @@
 -- The accumulator and PSW behind operations.
-use Rattle.std.proofs.Common.{◌≡◌, ℕ, ◌+◌, ◌-◌, ◌/◌, ◌%◌, ◌<◌, Bool, true, false, Option, None, Some, refl, sym, subst, arith}
+use Rattle.std.proofs.Common.{◌≡◌, ℕ, ◌+◌, ◌-◌, ◌/◌, ◌%◌, ◌<◌, Bool, Option, refl, sym, subst, arith}
 use Rattle.std.specs.Int.{bit_at}
-use Rattle.std.proofs.lemmas.Nat.{and_le_l, or_lt}
 use Rattle.std.proofs.lemmas.Nat.Bits.{bit_at_lowest}
 use Rattle.entry_value.specs.declared.byte.Byte.{Byte}
 use Rattle.entry_value.specs.declared.word.Entry.{Entry}
@@ -15,6 +14,7 @@ use Rattle.value_bits.specs.declared.tri.Lowest.TheVariants.{High, Given}
 use Rattle.value_bits.specs.declared.tri.Top.TheVariants.{Low, Put}
 use Rattle.value_bits.specs.declared.tri.Tri.{Tri}
 use Rattle.value_bits.specs.declared.tri.Tri.TheVariants.{Either}
+use Rattle.value_bits.specs.BitFacts.{flag_bit}
 use Rattle.value_bits.specs.Bits.{IsBit, logic_of}
 use Rattle.chip_numbers.specs.Numbers.{shifted_right, shifted_left, exchanged, decimal_adjusted, adjusted_carry}
 use Rattle.value_bits.specs.Sets.{chosen}
@@ -25,9 +25,10 @@ use Rattle.mcs51_decode.specs.declared.instr.Logic.TheVariants as logic
 use Rattle.mcs51_decode.specs.declared.instr.AccumulatorOperation.{AccumulatorOperation}
 use Rattle.mcs51_decode.specs.declared.instr.AccumulatorOperation.TheVariants.{Rr, Rrc, Rl, Rlc, Swap, Da, Clr, Cpl}
 use Rattle.mcs51_chip.specs.declared.state.ChipState.{ChipState}
-use Rattle.mcs51_chip.specs.Arithmetic.{accumulated, added, subtracted, changed, masked, carries, borrows, differ}
+use Rattle.mcs51_chip.specs.Arithmetic.{accumulated, added, changed, masked, carries, differ}
 use Rattle.mcs51_chip.specs.Registers.{bit_of, carry_of, half_carry_of}
 use Rattle.mcs51_state.specs.declared.status.Status.{Status}
+use Rattle.mcs51_state.specs.FormFacts.{and_form, byte_form, or_form}
 use Rattle.mcs51_state.specs.Forms.{IsByte, IsRelation}
 use Rattle.mcs51_state.specs.Holding.{HoldsOfStatus}
 use Rattle.mcs51_state.specs.Known.{byte_of}
@@ -36,10 +37,10 @@ use Rattle.mcs51_results.specs.declared.made.Made.{Made}
 use Rattle.mcs51_results.specs.declared.made.Operand.{Operand}
 use Rattle.mcs51_results.specs.declared.made.Operand.TheVariants.{Constant, Among}
 use Rattle.mcs51_results.specs.Holding.{IsResult, AreOperands, IsOperand, IsStatus, IsMade, HoldsOfMade, StandsMade}
-use Rattle.mcs51_results.specs.Results.{carry_in, half_carry_in, known_flag, set_of, add_carry, sub_carry, sum_flags, difference_flags, twice_flags, twice_made, bitwise, masked_entry, masked_made, accumulated_made, changed_set, changed_flags, changed_made}
+use Rattle.mcs51_results.specs.Results.{carry_in, half_carry_in, known_flag, set_of, add_carry, sub_carry, sum_rules, difference_rules, twice_rules, twice_flags, twice_made, bitwise, masked_entry, masked_made, accumulated_made, changed_set, changed_flags, changed_made}
 use Rattle.mcs51_results.specs.Rules.{flag_by}
 use Rattle.mcs51_results.proofs.SetLemmas.{single_is, zero_is, chosen_is, member, operand_value, operand_is, add_is, sub_is, carry_is, borrow_is, logic_is}
-use Rattle.mcs51_results.proofs.StatusLemmas.{flag_bit, equal_bit, carry_bit, half_carry_bit, flagged_holds, carried_holds}
+use Rattle.mcs51_results.proofs.StatusLemmas.{flag_is, flags_row, equal_bit, carry_bit, half_carry_bit, flagged_holds, carried_holds}
 
 -- BYTES
 
@@ -50,9 +51,6 @@ byte_is framed first byte x form holds = record { normal = form.normal; has = ho
 pub plain_holds : (first : Option Suspended) (set : Form) (v : ℕ) → IsResult 256 set v → HoldsOfByte first (byte_of set) v
 plain_holds first set v is = (is.has, tt)
 
-pub plain_form : (framed : Bool) (set : Form) → IsNormal 256 set → IsByte framed (byte_of set)
-plain_form framed set normal = record { normal = normal; entry = tt }
-
 -- LOGIC
 
 pub masked_logic : (done : Logic) (x mask : ℕ) → logic_of (bitwise done) x mask ≡ masked done x mask
@@ -60,7 +58,8 @@ masked_logic logic.Orl x mask = refl
 masked_logic logic.Anl x mask = refl
 masked_logic logic.Xrl x mask = refl
 
-pub entry_holds : (laws : KnownLaws) (first : Option Suspended) (done : Logic) (operand : Operand) (entry : Option Entry) (x mask : ℕ) → IsOperand operand mask → IsFromEntry first entry x
+pub entry_holds : (laws : KnownLaws) (first : Option Suspended) (done : Logic) (operand : Operand) (entry : Option Entry) (x mask : ℕ) → IsOperand operand mask
+    → IsFromEntry first entry x
     → IsFromEntry first (masked_entry done operand entry) (masked done x mask)
 entry_holds laws first logic.Orl (Constant m) entry x mask (small, is) holds = rw is (laws.values.entries.or first entry x m holds)
 entry_holds laws first logic.Anl (Constant m) entry x mask (small, is) holds = rw is (laws.values.entries.and first entry x m holds)
@@ -69,19 +68,17 @@ entry_holds laws first logic.Orl (Among set) entry x mask is holds = tt
 entry_holds laws first logic.Anl (Among set) entry x mask is holds = tt
 entry_holds laws first logic.Xrl (Among set) entry x mask is holds = tt
 
-pub entry_form : (framed : Bool) (done : Logic) (operand : Operand) (entry : Option Entry) → AreOperands operand → IsRelation framed entry → IsRelation framed (masked_entry done operand entry)
-entry_form framed logic.Orl (Constant m) None small form = tt
-entry_form false logic.Orl (Constant m) (Some e) small form = absurd form
-entry_form true logic.Orl (Constant m) (Some e) small (place, ands, ors) = (place, ands, or_lt 8 e.or m ors small)
-entry_form framed logic.Anl (Constant m) None small form = tt
-entry_form false logic.Anl (Constant m) (Some e) small form = absurd form
-entry_form true logic.Anl (Constant m) (Some e) small (place, ands, ors) = (place, omega (arith, and_le_l e.and m, ands), omega (arith, and_le_l e.or m, ors))
+pub entry_form : (framed : Bool) (done : Logic) (operand : Operand) (entry : Option Entry) → AreOperands operand → IsRelation framed entry
+    → IsRelation framed (masked_entry done operand entry)
+entry_form framed logic.Orl (Constant m) entry small form = or_form framed m entry small form
+entry_form framed logic.Anl (Constant m) entry small form = and_form framed m entry form
 entry_form framed logic.Xrl (Constant m) entry small form = tt
 entry_form framed logic.Orl (Among set) entry small form = tt
 entry_form framed logic.Anl (Among set) entry small form = tt
 entry_form framed logic.Xrl (Among set) entry small form = tt
 
-pub masked_holds : (laws : KnownLaws) (framed : Bool) (first : Option Suspended) (done : Logic) (byte : Byte) (operand : Operand) (x mask : ℕ) → IsByte framed byte → HoldsOfByte first byte x → IsOperand operand mask
+pub masked_holds : (laws : KnownLaws) (framed : Bool) (first : Option Suspended) (done : Logic) (byte : Byte) (operand : Operand) (x mask : ℕ)
+    → IsByte framed byte → HoldsOfByte first byte x → IsOperand operand mask
     → HoldsOfByte first (masked_made done byte operand) (masked done x mask)
 masked_holds laws framed first done byte operand x mask form holds is =
     let set_is = logic_is laws (bitwise done) x mask byte.set (set_of operand) (byte_is framed first byte x form holds) (operand_is laws operand mask is) in
@@ -91,35 +88,14 @@ operand_normal : (laws : KnownLaws) (operand : Operand) → AreOperands operand 
 operand_normal laws (Constant m) small = (laws.sets.single 256 m small).0
 operand_normal laws (Among set) normal = normal
 
-pub masked_form : (laws : KnownLaws) (framed : Bool) (done : Logic) (byte : Byte) (operand : Operand) → IsByte framed byte → AreOperands operand → IsByte framed (masked_made done byte operand)
+pub masked_form : (laws : KnownLaws) (framed : Bool) (done : Logic) (byte : Byte) (operand : Operand) → IsByte framed byte → AreOperands operand
+    → IsByte framed (masked_made done byte operand)
 masked_form laws framed done byte operand form are = record {
   normal = laws.bits.logic_normal 8 (bitwise done) byte.set (set_of operand) form.normal (operand_normal laws operand are);
   entry = entry_form framed done operand byte.entry are form.entry;
 }
 
 -- SUMS AND DIFFERENCES
-
-sum_row : (laws : KnownLaws) (first : Option Suspended) (set a b c : Form) (psw : Status) (x z : ℕ) (s : ChipState) → IsResult 256 set ((s.a + x + z) % 256) → HoldsOfStatus first psw s.psw
-    → Has 256 a s.a → Has 256 b x → Has 256 c z → HoldsOfMade first (record { a = byte_of set; psw = sum_flags a b c psw }) (added x z s)
-sum_row laws first set a b c psw x z s is holds h k l = record {
-  a = plain_holds first set ((s.a + x + z) % 256) is;
-  psw = flagged_holds first psw s.psw (bit_of (carries 256 s.a x z)) (bit_of (carries 16 s.a x z)) (bit_of (differ (carries 256 s.a x z) (carries 128 s.a x z)))
-      (known_flag flag.Carry a b c) (known_flag flag.HalfCarry a b c) (known_flag flag.SumOverflow a b c) holds
-      (flag_bit (known_flag flag.Carry a b c) (carries 256 s.a x z) (laws.bits.flags 256 s.a x z (flag_by flag.Carry) a b c h k l))
-      (flag_bit (known_flag flag.HalfCarry a b c) (carries 16 s.a x z) (laws.bits.flags 256 s.a x z (flag_by flag.HalfCarry) a b c h k l))
-      (flag_bit (known_flag flag.SumOverflow a b c) (differ (carries 256 s.a x z) (carries 128 s.a x z)) (laws.bits.flags 256 s.a x z (flag_by flag.SumOverflow) a b c h k l));
-}
-
-difference_row : (laws : KnownLaws) (first : Option Suspended) (set a b c : Form) (psw : Status) (x z : ℕ) (s : ChipState) → IsResult 256 set ((s.a + 256 - x - z) % 256) → HoldsOfStatus first psw s.psw
-    → Has 256 a s.a → Has 256 b x → Has 256 c z → HoldsOfMade first (record { a = byte_of set; psw = difference_flags a b c psw }) (subtracted x z s)
-difference_row laws first set a b c psw x z s is holds h k l = record {
-  a = plain_holds first set ((s.a + 256 - x - z) % 256) is;
-  psw = flagged_holds first psw s.psw (bit_of (borrows 256 s.a x z)) (bit_of (borrows 16 s.a x z)) (bit_of (differ (borrows 256 s.a x z) (borrows 128 s.a x z)))
-      (known_flag flag.Borrow a b c) (known_flag flag.HalfBorrow a b c) (known_flag flag.DifferenceOverflow a b c) holds
-      (flag_bit (known_flag flag.Borrow a b c) (borrows 256 s.a x z) (laws.bits.flags 256 s.a x z (flag_by flag.Borrow) a b c h k l))
-      (flag_bit (known_flag flag.HalfBorrow a b c) (borrows 16 s.a x z) (laws.bits.flags 256 s.a x z (flag_by flag.HalfBorrow) a b c h k l))
-      (flag_bit (known_flag flag.DifferenceOverflow a b c) (differ (borrows 256 s.a x z) (borrows 128 s.a x z)) (laws.bits.flags 256 s.a x z (flag_by flag.DifferenceOverflow) a b c h k l));
-}
 
 no_carry : (x y : ℕ) → (x + y) % 256 ≡ (x + y + 0) % 256
 no_carry x y = omega arith
@@ -129,41 +105,48 @@ pub accumulated_holds : (laws : KnownLaws) (framed : Bool) (first : Option Suspe
 accumulated_holds laws framed first Add made operand x s stands is =
     let a = byte_is framed first made.a s.a stands.form.a stands.holds.a in
     let b = operand_is laws operand x is in
-    sum_row laws first (add 256 made.a.set (set_of operand)) made.a.set (set_of operand) (single 0) made.psw x 0 s
-    (subst (IsResult 256 (add 256 made.a.set (set_of operand))) (no_carry s.a x) (add_is laws 256 s.a x made.a.set (set_of operand) a b)) stands.holds.psw a.has b.has (zero_is laws).has
+    let sum = subst (IsResult 256 (add 256 made.a.set (set_of operand))) (no_carry s.a x) (add_is laws 256 s.a x made.a.set (set_of operand) a b) in record {
+      a = (sum.has, tt);
+      psw = flags_row laws first sum_rules made.a.set (set_of operand) (single 0) made.psw s.psw s.a x 0 stands.holds.psw a.has b.has (zero_is laws).has;
+    }
 accumulated_holds laws framed first Addc made operand x s stands is =
     let a = byte_is framed first made.a s.a stands.form.a stands.holds.a in
     let b = operand_is laws operand x is in
     let bit = carry_bit first made.psw s.psw stands.holds.psw in
-    sum_row laws first (add_carry made.a.set (set_of operand) (carry_in made.psw)) made.a.set (set_of operand) (chosen (carry_in made.psw)) made.psw x (carry_of s) s
-    (carry_is laws s.a x (carry_of s) made.a.set (set_of operand) (carry_in made.psw) a b bit) stands.holds.psw a.has b.has (chosen_is laws (carry_of s) (carry_in made.psw) bit).has
+    let carry = (chosen_is laws (carry_of s) (carry_in made.psw) bit).has in record {
+      a = ((carry_is laws s.a x (carry_of s) made.a.set (set_of operand) (carry_in made.psw) a b bit).has, tt);
+      psw = flags_row laws first sum_rules made.a.set (set_of operand) (chosen (carry_in made.psw)) made.psw s.psw s.a x (carry_of s) stands.holds.psw a.has b.has carry;
+    }
 accumulated_holds laws framed first Subb made operand x s stands is =
     let a = byte_is framed first made.a s.a stands.form.a stands.holds.a in
     let b = operand_is laws operand x is in
     let bit = carry_bit first made.psw s.psw stands.holds.psw in
-    difference_row laws first (sub_carry made.a.set (set_of operand) (carry_in made.psw)) made.a.set (set_of operand) (chosen (carry_in made.psw)) made.psw x (carry_of s) s
-    (borrow_is laws s.a x (carry_of s) made.a.set (set_of operand) (carry_in made.psw) a b bit) stands.holds.psw a.has b.has (chosen_is laws (carry_of s) (carry_in made.psw) bit).has
+    let carry = (chosen_is laws (carry_of s) (carry_in made.psw) bit).has in record {
+      a = ((borrow_is laws s.a x (carry_of s) made.a.set (set_of operand) (carry_in made.psw) a b bit).has, tt);
+      psw = flags_row laws first difference_rules made.a.set (set_of operand) (chosen (carry_in made.psw)) made.psw s.psw s.a x (carry_of s) stands.holds.psw a.has b.has carry;
+    }
 accumulated_holds laws framed first Orl made operand x s stands is = record { a = masked_holds laws framed first logic.Orl made.a operand s.a x stands.form.a stands.holds.a is; psw = stands.holds.psw }
 accumulated_holds laws framed first Anl made operand x s stands is = record { a = masked_holds laws framed first logic.Anl made.a operand s.a x stands.form.a stands.holds.a is; psw = stands.holds.psw }
 accumulated_holds laws framed first Xrl made operand x s stands is = record { a = masked_holds laws framed first logic.Xrl made.a operand s.a x stands.form.a stands.holds.a is; psw = stands.holds.psw }
 
-pub accumulated_form : (laws : KnownLaws) (framed : Bool) (done : Operation) (made : Made) (operand : Operand) → IsMade framed made → AreOperands operand → IsMade framed (accumulated_made done made.a operand made.psw)
+pub accumulated_form : (laws : KnownLaws) (framed : Bool) (done : Operation) (made : Made) (operand : Operand) → IsMade framed made → AreOperands operand
+    → IsMade framed (accumulated_made done made.a operand made.psw)
 accumulated_form laws framed Add made operand form are = record {
-  a = plain_form framed (add 256 made.a.set (set_of operand)) (laws.sets.add_normal 256 made.a.set (set_of operand) form.a.normal (operand_normal laws operand are));
+  a = byte_form framed (add 256 made.a.set (set_of operand)) (laws.sets.add_normal 256 made.a.set (set_of operand) form.a.normal (operand_normal laws operand are));
   psw = record { bits = refl; entry = tt };
 }
 accumulated_form laws framed Addc made operand form are =
     let (x, a) = member laws 256 made.a.set form.a.normal in
     let (y, is) = operand_value laws operand are in
     let (z, bit) = laws.bits.bit_some (carry_in made.psw) in record {
-      a = plain_form framed (add_carry made.a.set (set_of operand) (carry_in made.psw)) (carry_is laws x y z made.a.set (set_of operand) (carry_in made.psw) a (operand_is laws operand y is) bit).normal;
+      a = byte_form framed (add_carry made.a.set (set_of operand) (carry_in made.psw)) (carry_is laws x y z made.a.set (set_of operand) (carry_in made.psw) a (operand_is laws operand y is) bit).normal;
       psw = record { bits = refl; entry = tt };
     }
 accumulated_form laws framed Subb made operand form are =
     let (x, a) = member laws 256 made.a.set form.a.normal in
     let (y, is) = operand_value laws operand are in
     let (z, bit) = laws.bits.bit_some (carry_in made.psw) in record {
-      a = plain_form framed (sub_carry made.a.set (set_of operand) (carry_in made.psw)) (borrow_is laws x y z made.a.set (set_of operand) (carry_in made.psw) a (operand_is laws operand y is) bit).normal;
+      a = byte_form framed (sub_carry made.a.set (set_of operand) (carry_in made.psw)) (borrow_is laws x y z made.a.set (set_of operand) (carry_in made.psw) a (operand_is laws operand y is) bit).normal;
       psw = record { bits = refl; entry = tt };
     }
 accumulated_form laws framed Orl made operand form are = record { a = masked_form laws framed logic.Orl made.a operand form.a are; psw = form.psw }
@@ -176,17 +159,13 @@ twice_psw : (laws : KnownLaws) (first : Option Suspended) (set : Form) (psw : St
     → HoldsOfStatus first (twice_flags set psw) (added s.a 0 s).psw
 twice_psw laws first (Values xs) psw s h holds =
     let none = (zero_is laws).has in
-    flagged_holds first psw s.psw (bit_of (carries 256 s.a s.a 0)) (bit_of (carries 16 s.a s.a 0)) (bit_of (differ (carries 256 s.a s.a 0) (carries 128 s.a s.a 0)))
-    (known_flag flag.TwiceCarry (Values xs) (single 0) (single 0)) (known_flag flag.TwiceHalfCarry (Values xs) (single 0) (single 0)) (known_flag flag.TwiceOverflow (Values xs) (single 0) (single 0)) holds
-    (flag_bit (known_flag flag.TwiceCarry (Values xs) (single 0) (single 0)) (carries 256 s.a s.a 0) (laws.bits.flags 256 s.a 0 0 (flag_by flag.TwiceCarry) (Values xs) (single 0) (single 0) h none none))
-    (flag_bit (known_flag flag.TwiceHalfCarry (Values xs) (single 0) (single 0)) (carries 16 s.a s.a 0) (laws.bits.flags 256 s.a 0 0 (flag_by flag.TwiceHalfCarry) (Values xs) (single 0) (single 0) h none none))
-    (flag_bit (known_flag flag.TwiceOverflow (Values xs) (single 0) (single 0)) (differ (carries 256 s.a s.a 0) (carries 128 s.a s.a 0))
-    (laws.bits.flags 256 s.a 0 0 (flag_by flag.TwiceOverflow) (Values xs) (single 0) (single 0) h none none))
+    flags_row laws first twice_rules (Values xs) (single 0) (single 0) psw s.psw s.a 0 0 holds h none none
 twice_psw laws first (Run p) psw s h holds =
     flagged_holds first psw s.psw (bit_of (carries 256 s.a s.a 0)) (bit_of (carries 16 s.a s.a 0)) (bit_of (differ (carries 256 s.a s.a 0) (carries 128 s.a s.a 0))) Either Either Either holds
     (flag_bit Either (carries 256 s.a s.a 0) tt) (flag_bit Either (carries 16 s.a s.a 0) tt) (flag_bit Either (differ (carries 256 s.a s.a 0) (carries 128 s.a s.a 0)) tt)
 
-pub twice_holds : (laws : KnownLaws) (framed : Bool) (first : Option Suspended) (made : Made) (s : ChipState) → StandsMade framed first made s → HoldsOfMade first (twice_made made.a made.psw) (accumulated Add s.a s)
+pub twice_holds : (laws : KnownLaws) (framed : Bool) (first : Option Suspended) (made : Made) (s : ChipState) → StandsMade framed first made s
+    → HoldsOfMade first (twice_made made.a made.psw) (accumulated Add s.a s)
 twice_holds laws framed first made s stands = record {
   a = (subst (Has 256 (twice 256 made.a.set)) (no_carry s.a s.a) (laws.sets.twice 256 s.a made.a.set stands.form.a.normal stands.holds.a.0), tt);
   psw = twice_psw laws first made.a.set made.psw s stands.holds.a.0 stands.holds.psw;
@@ -198,7 +177,7 @@ twice_status framed (Run p) psw = record { bits = refl; entry = tt }
 
 pub twice_form : (laws : KnownLaws) (framed : Bool) (made : Made) → IsMade framed made → IsMade framed (twice_made made.a made.psw)
 twice_form laws framed made form = record {
-  a = plain_form framed (twice 256 made.a.set) (laws.sets.twice_normal 256 made.a.set form.a.normal);
+  a = byte_form framed (twice 256 made.a.set) (laws.sets.twice_normal 256 made.a.set form.a.normal);
   psw = twice_status framed made.a.set made.psw;
 }
 
@@ -249,7 +228,8 @@ low_bit x = omega arith
 high_bit : (x : ℕ) → x < 256 → x / 128 < 2
 high_bit x small = omega (arith, small)
 
-changed_psw : (laws : KnownLaws) (first : Option Suspended) (done : AccumulatorOperation) (a : Form) (psw : Status) (s : ChipState) → IsResult 256 a s.a → HoldsOfStatus first psw s.psw
+changed_psw : (laws : KnownLaws) (first : Option Suspended) (done : AccumulatorOperation) (a : Form) (psw : Status) (s : ChipState) → IsResult 256 a s.a
+    → HoldsOfStatus first psw s.psw
     → HoldsOfStatus first (changed_flags done a psw) (changed done s).psw
 changed_psw laws first Rr a psw s is holds = holds
 changed_psw laws first Rl a psw s is holds = holds
@@ -272,7 +252,7 @@ changed_psw laws first Da a psw s is holds =
     let carry = chosen_is laws (carry_of s) c (carry_bit first psw s.psw holds) in
     let half = chosen_is laws (half_carry_of s) h (half_carry_bit first psw s.psw holds) in
     carried_holds first psw s.psw (bit_of (adjusted_carry s.a (carry_of s) (half_carry_of s))) t holds
-    (flag_bit t (adjusted_carry s.a (carry_of s) (half_carry_of s)) (laws.bits.flags 256 s.a (carry_of s) (half_carry_of s) (flag_by flag.Adjusted) a (chosen c) (chosen h) is.has carry.has half.has))
+    (flag_is laws flag.Adjusted s.a (carry_of s) (half_carry_of s) a (chosen c) (chosen h) is.has carry.has half.has)
 
 pub changed_holds : (laws : KnownLaws) (framed : Bool) (first : Option Suspended) (done : AccumulatorOperation) (made : Made) (s : ChipState) → StandsMade framed first made s
     → HoldsOfMade first (changed_made done made.a made.psw) (changed done s)
@@ -299,7 +279,7 @@ changed_form laws framed done made form =
     let (x, a) = member laws 256 made.a.set form.a.normal in
     let (c, carry) = laws.bits.bit_some (carry_in made.psw) in
     let (h, half) = laws.bits.bit_some (half_carry_in made.psw) in record {
-      a = plain_form framed (changed_set done made.a.set (carry_in made.psw) (half_carry_in made.psw))
+      a = byte_form framed (changed_set done made.a.set (carry_in made.psw) (half_carry_in made.psw))
           (changed_is laws done made.a.set (carry_in made.psw) (half_carry_in made.psw) x c h a carry half).normal;
       psw = changed_status framed done made.a.set made.psw form.psw;
     }

@@ -1,12 +1,12 @@
 -- A bit of a byte, of PSW, and CY.
-use Rattle.std.proofs.Common.{◌≡◌, ℕ, zero, suc, ◌+◌, ◌-◌, ◌*◌, ◌/◌, ◌%◌, ◌^◌, ◌<◌, ◌≤◌, ◌⊎◌, inl, inr, Bool, true, false, min, max, Option, None, Some, List, [], ◌∷◌, length, set, refl, sym, ap, ◌∙◌, subst, arith, bit_and, bit_or}
+use Rattle.std.proofs.Common.{◌≡◌, ℕ, zero, suc, ◌+◌, ◌-◌, ◌*◌, ◌/◌, ◌%◌, ◌^◌, ◌<◌, ◌≤◌, ◌⊎◌, inl, inr, Bool, min, max, Option, None, List, [], ◌∷◌, length, set, refl, sym, ap, ◌∙◌, subst, arith, bit_and, bit_or}
 use Rattle.std.specs.Int.{bit_at}
 use Rattle.std.specs.Int.Bits.{or_add_and}
 use Rattle.std.specs.Option.{option_map}
 use Rattle.std.proofs.Math.Nat.{pow-suc}
 use Rattle.std.proofs.lemmas.List.{length-set}
 use Rattle.std.proofs.lemmas.List.FromFn.{length-map-range_with_len}
-use Rattle.std.proofs.lemmas.Nat.{and_comm, and_le_l, and-not, or_lt, pow_below}
+use Rattle.std.proofs.lemmas.Nat.{and_comm, and_le_l, and-not, pow_below}
 use Rattle.std.proofs.lemmas.Nat.Bits.{and_pow, bit_at-suc}
 use Rattle.entry_value.specs.declared.byte.Byte.{Byte}
 use Rattle.entry_value.specs.declared.word.Entry.{Entry}
@@ -16,7 +16,7 @@ use Rattle.value_set.specs.declared.form.Form.{Form}
 use Rattle.value_set.specs.Form.{Has, IsNormal}
 use Rattle.value_set.specs.Summing.{single}
 use Rattle.value_bits.specs.declared.tri.Tri.{Tri}
-use Rattle.value_bits.specs.declared.tri.Tri.TheVariants.{Zero, One, Either}
+use Rattle.value_bits.specs.BitFacts.{and_bit, bit_below, bit_not, bits_at, or_bit}
 use Rattle.value_bits.specs.Bits.{IsBit, Agrees, from_bits, known_bit, known_bits, tri_and, tri_not, tri_or}
 use Rattle.mcs51_decode.specs.declared.instr.BitOperation.{BitOperation}
 use Rattle.mcs51_decode.specs.declared.instr.BitOperation.TheVariants as bit
@@ -28,30 +28,27 @@ use Rattle.mcs51_chip.specs.declared.place.Sfr.TheVariants.{Psw}
 use Rattle.mcs51_chip.specs.declared.state.ChipState.{ChipState}
 use Rattle.mcs51_chip.specs.Arithmetic.{bit_after, carry_after, carry_with}
 use Rattle.mcs51_chip.specs.Leading.{MayReadSfr}
+use Rattle.mcs51_chip.specs.NumberFacts.{bit_after_below, bit_put}
 use Rattle.mcs51_chip.specs.Registers.{carry_of, with_bit, with_carry, write_sfr}
 use Rattle.mcs51_chip.specs.State.{IsChipState}
 use Rattle.mcs51_state.specs.declared.status.Status.{Status}
+use Rattle.mcs51_state.specs.FormFacts.{and_form, or_form}
 use Rattle.mcs51_state.specs.Forms.{IsByte, IsRelation}
 use Rattle.mcs51_state.specs.Holding.{HoldsOfStatus}
 use Rattle.mcs51_state.specs.Places.{suspended_of}
-use Rattle.mcs51_results.specs.BitRules.{after_below, bit_put, bit_stays}
+use Rattle.mcs51_results.specs.BitRules.{bit_stays}
 use Rattle.mcs51_results.specs.Holding.{IsResult, IsStatus}
 use Rattle.mcs51_results.specs.Results.{carry_in}
 use Rattle.mcs51_results.specs.StatusBytes.{all_bits, upper, bit_of_set, bit_of_status, carry_changed, carry_joined, carry_made, carry_bit_made, bit_made, bit_entry, bit_answer, bit_carries, bits_made, byte_with_bit, status_with_bit}
-use Rattle.mcs51_results.proofs.SetLemmas.{combined, zero_is, chosen_is, bit_below, member}
-use Rattle.mcs51_results.proofs.StatusLemmas.{bit_agrees, carry_bit, carried_holds}
+use Rattle.mcs51_results.proofs.SetLemmas.{combined, zero_is, chosen_is, member}
+use Rattle.mcs51_results.proofs.StatusLemmas.{carry_bit, carried_holds}
 use Rattle.mcs51_results.proofs.Accumulations.{byte_is}
-use Rattle.mcs51_results.proofs.StatusWrites.{and_bit, or_bit, own_holds, own_form, own_is, read_entry, read_quarter, status_agrees, upper_agree, write_quarter}
+use Rattle.mcs51_results.proofs.StatusWrites.{own_holds, own_form, own_is, read_entry, read_quarter, status_agrees, upper_agree, write_quarter}
 
 -- CY
 
-not_bit : (b : Tri) (x : ℕ) → IsBit b x → IsBit (tri_not b) (1 - x)
-not_bit Zero x h = omega (arith, h)
-not_bit One x h = omega (arith, h)
-not_bit Either x h = omega (arith, h)
-
 carry_after_is : (done : CarryOperation) (c : Tri) (x : ℕ) → IsBit c x → IsBit (carry_changed done c) (carry_after done x)
-carry_after_is carry.Cpl c x h = not_bit c x h
+carry_after_is carry.Cpl c x h = bit_not c x h
 carry_after_is carry.Clr c x h = refl
 carry_after_is carry.Setb c x h = refl
 
@@ -87,8 +84,8 @@ some_is c b x y h k = subst (IsBit (tri_or c b)) (sym (or_small x y (small_bits 
 carry_with_is : (done : CarryByBit) (c b : Tri) (x y : ℕ) → IsBit c x → IsBit b y → IsBit (carry_joined done c b) (carry_with done x y)
 carry_with_is by_bit.Orl c b x y h k = some_is c b x y h k
 carry_with_is by_bit.Anl c b x y h k = both_is c b x y h k
-carry_with_is by_bit.OrlComplement c b x y h k = some_is c (tri_not b) x (1 - y) h (not_bit b y k)
-carry_with_is by_bit.AnlComplement c b x y h k = both_is c (tri_not b) x (1 - y) h (not_bit b y k)
+carry_with_is by_bit.OrlComplement c b x y h k = some_is c (tri_not b) x (1 - y) h (bit_not b y k)
+carry_with_is by_bit.AnlComplement c b x y h k = both_is c (tri_not b) x (1 - y) h (bit_not b y k)
 carry_with_is by_bit.Mov c b x y h k = k
 
 pub carry_bit_holds : (first : Option Suspended) (done : CarryByBit) (psw : Status) (b : Tri) (y : ℕ) (s : ChipState) → HoldsOfStatus first psw s.psw → IsBit b y
@@ -100,7 +97,7 @@ carry_bit_holds first done psw b y s holds is =
 
 bit_is : (done : BitOperation) (c b : Tri) (x y : ℕ) → IsBit c x → IsBit b y → IsBit (bit_made done c b) (bit_after done x y)
 bit_is bit.MovCarry c b x y h k = h
-bit_is bit.Cpl c b x y h k = not_bit b y k
+bit_is bit.Cpl c b x y h k = bit_not b y k
 bit_is bit.Clr c b x y h k = refl
 bit_is bit.Setb c b x y h k = refl
 
@@ -162,12 +159,8 @@ bit_entry_holds laws first bit.Setb n entry x c b lt small holds = subst (IsFrom
 pub bit_entry_form : (framed : Bool) (done : BitOperation) (n : ℕ) (entry : Option Entry) → n < 8 → IsRelation framed entry → IsRelation framed (bit_entry done n entry)
 bit_entry_form framed bit.MovCarry n entry lt form = tt
 bit_entry_form framed bit.Cpl n entry lt form = tt
-bit_entry_form framed bit.Clr n None lt form = tt
-bit_entry_form false bit.Clr n (Some e) lt form = absurd form
-bit_entry_form true bit.Clr n (Some e) lt (place, ands, ors) = (place, omega (arith, and_le_l e.and (255 - 2 ^ n), ands), omega (arith, and_le_l e.or (255 - 2 ^ n), ors))
-bit_entry_form framed bit.Setb n None lt form = tt
-bit_entry_form false bit.Setb n (Some e) lt form = absurd form
-bit_entry_form true bit.Setb n (Some e) lt (place, ands, ors) = (place, ands, or_lt 8 e.or (2 ^ n) ors (weight_below n lt))
+bit_entry_form framed bit.Clr n entry lt form = and_form framed (255 - 2 ^ n) entry form
+bit_entry_form framed bit.Setb n entry lt form = or_form framed (2 ^ n) entry (weight_below n lt) form
 
 -- A BIT OF A BYTE
 
@@ -204,7 +197,7 @@ byte_set_is laws done at t set x c is bit =
     let n = at % 8 in
     let agrees = laws.bits.known 8 x set is.normal is.has in
     let long = known_length 8 set in
-    let old : IsBit (bit_of_set set n) (bit_at x n) = bit_agrees (known_bits 8 set) x n agrees in
+    let old : IsBit (bit_of_set set n) (bit_at x n) = bits_at (known_bits 8 set) n x agrees in
     let new = bits_made done n t set in
     let count : length new ≡ 8 = length-set (known_bits 8 set) n (bit_made done t (bit_of_set set n)) ∙ long in
     let value = with_bit x n (bit_after done c (bit_at x n)) in
@@ -215,7 +208,8 @@ byte_set_is laws done at t set x c is bit =
     (combined laws (bit_answer done at) set (single 0) (bit_carries done t) (from_bits 8 new) x 0 (taken done c) (bit_stays done at) is (zero_is laws) (taken_is laws done t c bit)
     (subst (IsResult 256 (from_bits 8 new)) (sym same) rest))
 
-pub byte_bit_holds : (laws : KnownLaws) (framed : Bool) (first : Option Suspended) (done : BitOperation) (at : ℕ) (t : Tri) (byte : Byte) (x c : ℕ) → IsByte framed byte → HoldsOfByte first byte x → IsBit t c
+pub byte_bit_holds : (laws : KnownLaws) (framed : Bool) (first : Option Suspended) (done : BitOperation) (at : ℕ) (t : Tri) (byte : Byte) (x c : ℕ)
+    → IsByte framed byte → HoldsOfByte first byte x → IsBit t c
     → HoldsOfByte first (byte_with_bit done at t byte) (with_bit x (at % 8) (bit_after done c (bit_at x (at % 8))))
 byte_bit_holds laws framed first done at t byte x c form holds bit =
     let is = byte_is framed first byte x form holds in (
@@ -230,15 +224,16 @@ byte_bit_form laws framed done at t byte form =
     record { normal = (byte_set_is laws done at t byte.set x c is bit).normal; entry = bit_entry_form framed done (at % 8) byte.entry (place_below at) form.entry }
 
 pub bit_known : (laws : KnownLaws) (at : ℕ) (set : Form) (x : ℕ) → IsNormal 256 set → Has 256 set x → IsBit (bit_of_set set (at % 8)) (bit_at x (at % 8))
-bit_known laws at set x normal has = bit_agrees (known_bits 8 set) x (at % 8) (laws.bits.known 8 x set normal has)
+bit_known laws at set x normal has = bits_at (known_bits 8 set) (at % 8) x (laws.bits.known 8 x set normal has)
 
 -- A BIT OF PSW
 
 pub status_bit_known : (first : Option Suspended) (at : ℕ) (psw : Status) (s : ChipState) (x : ℕ) → IsChipState s
     → HoldsOfStatus first psw s.psw → MayReadSfr s Psw x → IsBit (bit_of_status psw (at % 8)) (bit_at x (at % 8))
-status_bit_known first at psw s x state holds may = bit_agrees (all_bits psw) x (at % 8) (status_agrees first psw s x state holds may)
+status_bit_known first at psw s x state holds may = bits_at (all_bits psw) (at % 8) x (status_agrees first psw s x state holds may)
 
-pub status_bit_holds : (laws : KnownLaws) (framed : Bool) (first : Option ChipState) (done : BitOperation) (at : ℕ) (psw : Status) (s : ChipState) (x : ℕ) → IsChipState s → IsStatus framed psw
+pub status_bit_holds : (laws : KnownLaws) (framed : Bool) (first : Option ChipState) (done : BitOperation) (at : ℕ) (psw : Status) (s : ChipState) (x : ℕ)
+    → IsChipState s → IsStatus framed psw
     → HoldsOfStatus (option_map suspended_of first) psw s.psw → MayReadSfr s Psw x
     → HoldsOfStatus (option_map suspended_of first) (status_with_bit done at psw) (write_sfr Psw (with_bit x (at % 8) (bit_after done (carry_of s) (bit_at x (at % 8)))) s).psw
 status_bit_holds laws framed first done at psw s x state form holds may =
@@ -246,14 +241,14 @@ status_bit_holds laws framed first done at psw s x state form holds may =
     let n = at % 8 in
     let (same, small) = read_quarter s x state may in
     let agrees = status_agrees under psw s x state holds may in
-    let old = bit_agrees (all_bits psw) x n agrees in
+    let old = bits_at (all_bits psw) n x agrees in
     let t = bit_made done (carry_in psw) (bit_of_status psw n) in
     let c = bit_after done (carry_of s) (bit_at x n) in
     let few = carry_bit under psw s.psw holds in
     let long : length (all_bits psw) ≡ 8 = refl in
     let made : Agrees (set (all_bits psw) n t) (with_bit x n c) =
     set_agrees (all_bits psw) x n c t (omega (arith, long, place_below at)) agrees (bit_is done (carry_in psw) (bit_of_status psw n) (carry_of s) (bit_at x n) few old) in
-    let below = bit_put x n c (place_below at) small (after_below done (carry_of s) (bit_at x n) (bit_below (carry_in psw) (carry_of s) few)) in
+    let below = bit_put x n c (place_below at) small (bit_after_below done (carry_of s) (bit_at x n) (bit_below (carry_in psw) (carry_of s) few)) in
     record {
       bits = subst (Agrees (upper (set (all_bits psw) n t))) (write_quarter (with_bit x n c)) (upper_agree (set (all_bits psw) n t) (with_bit x n c) below made);
       entry = own_holds framed first (bit_entry done n psw.entry) (with_bit x n c) (bit_entry_form framed done n psw.entry (place_below at) (own_is framed psw.entry form.entry))

@@ -23,13 +23,14 @@ use Rattle.mcs51_results.specs.declared.flags.FlagRule.TheVariants as flag
 use Rattle.mcs51_results.specs.declared.made.MadePair.{MadePair}
 use Rattle.mcs51_results.specs.Holding.{IsResult, IsPair, HoldsOfPair, StandsPair}
 use Rattle.mcs51_results.specs.Results.{half_carry_in, known_flag, multiplied_made, divided_set, divided_made}
-use Rattle.mcs51_results.specs.Rules.{answer_by, answer_stays, flag_by}
+use Rattle.mcs51_results.specs.Rules.{answer_by, answer_stays}
 use Rattle.mcs51_results.proofs.SetLemmas.{combined, zero_is, any_is, member}
-use Rattle.mcs51_results.proofs.StatusLemmas.{flag_bit, half_carry_bit, flagged_holds}
+use Rattle.mcs51_results.proofs.StatusLemmas.{flag_is, half_carry_bit, flagged_holds}
 use Rattle.mcs51_results.proofs.Accumulations.{byte_is}
 
 -- a rule's result over all combinations, or any number
-ruled : (laws : KnownLaws) (rule : NumberRule) (a b : Form) (x y : ℕ) → IsResult 256 a x → IsResult 256 b y → IsResult 256 (combine_or 256 (answer_by rule) a b (single 0) any_byte) (answer_by rule x y 0)
+ruled : (laws : KnownLaws) (rule : NumberRule) (a b : Form) (x y : ℕ) → IsResult 256 a x → IsResult 256 b y
+    → IsResult 256 (combine_or 256 (answer_by rule) a b (single 0) any_byte) (answer_by rule x y 0)
 ruled laws rule a b x y h k =
     let small = answer_stays rule x y 0 (laws.sets.below 256 x a h.normal h.has) (laws.sets.below 256 y b k.normal k.has) (omega arith) in
     combined laws (answer_by rule) a b (single 0) any_byte x y 0 (answer_stays rule) h k (zero_is laws) (any_is laws (answer_by rule x y 0) small)
@@ -45,7 +46,7 @@ multiplied_holds laws framed first made s stands =
       a = ((ruled laws ProductLow made.a.set made.b.set s.a s.b a b).has, tt);
       b = ((ruled laws ProductHigh made.a.set made.b.set s.a s.b a b).has, tt);
       psw = flagged_holds first made.psw s.psw 0 (half_carry_of s) (bit_of (nat_lt 255 (s.a * s.b))) Zero (half_carry_in made.psw) t stands.holds.psw refl (half_carry_bit first made.psw s.psw stands.holds.psw)
-          (flag_bit t (nat_lt 255 (s.a * s.b)) (laws.bits.flags 256 s.a s.b 0 (flag_by flag.Exceeding) made.a.set made.b.set (single 0) a.has b.has (zero_is laws).has));
+          (flag_is laws flag.Exceeding s.a s.b 0 made.a.set made.b.set (single 0) a.has b.has (zero_is laws).has);
     }
 
 ruled_normal : (laws : KnownLaws) (rule : NumberRule) (a b : Form) → IsNormal 256 a → IsNormal 256 b → IsNormal 256 (combine_or 256 (answer_by rule) a b (single 0) any_byte)
@@ -89,7 +90,7 @@ overflow_psw laws framed first made s stands =
     let b = byte_is framed first made.b s.b stands.form.b stands.holds.b in
     let t = known_flag flag.ByZero made.a.set made.b.set (single 0) in
     flagged_holds first made.psw s.psw 0 (half_carry_of s) (bit_of (s.b == 0)) Zero (half_carry_in made.psw) t stands.holds.psw refl (half_carry_bit first made.psw s.psw stands.holds.psw)
-    (flag_bit t (s.b == 0) (laws.bits.flags 256 s.a s.b 0 (flag_by flag.ByZero) made.a.set made.b.set (single 0) a.has b.has (zero_is laws).has))
+    (flag_is laws flag.ByZero s.a s.b 0 made.a.set made.b.set (single 0) a.has b.has (zero_is laws).has)
 
 by_number : (laws : KnownLaws) (framed : Bool) (first : Option Suspended) (made : MadePair) (s : ChipState) → StandsPair framed first made s → (s.b == 0) ≡ false
     → HoldsOfPair first (divided_made made.a made.b made.psw) (divided s)
@@ -112,7 +113,8 @@ by_number laws framed first made s stands some =
       psw = subst (λ bit. HoldsOfStatus first (divided_made made.a made.b made.psw).psw (s.psw / 8 % 8 * 8 + 128 * 0 + 64 * half_carry_of s + 4 * bit)) (ap bit_of some) (overflow_psw laws framed first made s stands);
     }
 
-by_zero : (laws : KnownLaws) (framed : Bool) (first : Option Suspended) (made : MadePair) (s : ChipState) (a b : ℕ) → StandsPair framed first made s → (s.b == 0) ≡ true → a < 256 → b < 256
+by_zero : (laws : KnownLaws) (framed : Bool) (first : Option Suspended) (made : MadePair) (s : ChipState) (a b : ℕ) → StandsPair framed first made s
+    → (s.b == 0) ≡ true → a < 256 → b < 256
     → HoldsOfPair first (divided_made made.a made.b made.psw) (divided_by_zero a b s)
 by_zero laws framed first made s a b stands none small less =
     let is_zero : s.b ≡ 0 = eqb-true s.b 0 none in
@@ -122,12 +124,14 @@ by_zero laws framed first made s a b stands none small less =
       psw = subst (λ bit. HoldsOfStatus first (divided_made made.a made.b made.psw).psw (s.psw / 8 % 8 * 8 + 128 * 0 + 64 * half_carry_of s + 4 * bit)) (ap bit_of none) (overflow_psw laws framed first made s stands);
     }
 
-divided_by : (laws : KnownLaws) (framed : Bool) (first : Option Suspended) (made : MadePair) (s : ChipState) (effect : Effect) (by : Bool) → StandsPair framed first made s → (s.b == 0) ≡ by → MayDivide by s effect
+divided_by : (laws : KnownLaws) (framed : Bool) (first : Option Suspended) (made : MadePair) (s : ChipState) (effect : Effect) (by : Bool)
+    → StandsPair framed first made s → (s.b == 0) ≡ by → MayDivide by s effect
     → HoldsOfPair first (divided_made made.a made.b made.psw) effect.1
 divided_by laws framed first made s effect true stands is (a, b, small, less, e) = subst (λ (e : Effect). HoldsOfPair first (divided_made made.a made.b made.psw) e.1) (sym e) (by_zero laws framed first made s a b stands is small less)
 divided_by laws framed first made s effect false stands is e = subst (λ (e : Effect). HoldsOfPair first (divided_made made.a made.b made.psw) e.1) (sym e) (by_number laws framed first made s stands is)
 
-pub divided_holds : (laws : KnownLaws) (framed : Bool) (first : Option Suspended) (made : MadePair) (s : ChipState) (effect : Effect) → StandsPair framed first made s → MayDivide (s.b == 0) s effect
+pub divided_holds : (laws : KnownLaws) (framed : Bool) (first : Option Suspended) (made : MadePair) (s : ChipState) (effect : Effect)
+    → StandsPair framed first made s → MayDivide (s.b == 0) s effect
     → HoldsOfPair first (divided_made made.a made.b made.psw) effect.1
 divided_holds laws framed first made s effect stands may = divided_by laws framed first made s effect (s.b == 0) stands refl may
 

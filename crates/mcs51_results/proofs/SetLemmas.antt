@@ -10,7 +10,7 @@ use Rattle.value_set.specs.Operations.{StaysBelow, HasResultsBelow}
 use Rattle.value_set.specs.Summing.{add, combine, count_of, single, sub}
 use Rattle.value_bits.specs.declared.tri.Logic.{Logic}
 use Rattle.value_bits.specs.declared.tri.Tri.{Tri}
-use Rattle.value_bits.specs.declared.tri.Tri.TheVariants.{Zero, One, Either}
+use Rattle.value_bits.specs.BitFacts.{bit_below}
 use Rattle.value_bits.specs.Bits.{IsBit, logic_of}
 use Rattle.value_bits.specs.Sets.{chosen, combine_or, logic_set}
 use Rattle.mcs51_state.specs.Known.{any_byte}
@@ -45,11 +45,6 @@ any_is laws v small = record { normal = laws.sets.whole_normal 256 (omega arith)
 pub chosen_is : (laws : KnownLaws) (z : ℕ) (carry : Tri) → IsBit carry z → IsResult 256 (chosen carry) z
 chosen_is laws z carry bit = record { normal = laws.bits.chosen_normal 256 carry (omega arith); has = laws.bits.chosen_has 256 z carry bit }
 
-pub bit_below : (t : Tri) (z : ℕ) → IsBit t z → z < 2
-bit_below Zero z h = omega (arith, h)
-bit_below One z h = omega (arith, h)
-bit_below Either z h = h
-
 -- some member, and some value of an operand
 pub member : (laws : KnownLaws) (m : ℕ) (set : Form) → IsNormal m set → (v : ℕ) × IsResult m set v
 member laws m set normal = let some = laws.sets.some m set normal in
@@ -74,7 +69,8 @@ sub_is laws m x y a b h k = record { normal = laws.sets.sub_normal m a b h.norma
 sum_twice : (x y z : ℕ) → ((x + y) % 256 + z) % 256 ≡ (x + y + z) % 256
 sum_twice x y z = omega arith
 
-pub carry_is : (laws : KnownLaws) (x y z : ℕ) (a b : Form) (carry : Tri) → IsResult 256 a x → IsResult 256 b y → IsBit carry z → IsResult 256 (add_carry a b carry) ((x + y + z) % 256)
+pub carry_is : (laws : KnownLaws) (x y z : ℕ) (a b : Form) (carry : Tri) → IsResult 256 a x → IsResult 256 b y → IsBit carry z
+    → IsResult 256 (add_carry a b carry) ((x + y + z) % 256)
 carry_is laws x y z a b carry h k bit =
     let c = chosen_is laws z carry bit in
     combined laws (answer_by CarrySum) a b (chosen carry) (add 256 (add 256 a b) (chosen carry)) x y z (answer_stays CarrySum) h k c
@@ -86,7 +82,8 @@ difference_twice x y z h k = omega (arith, h, k)
 difference_plain : (x y z : ℕ) → y < 256 → z < 2 → (x + 512 - y - z) % 256 ≡ (x + 256 - y - z) % 256
 difference_plain x y z h k = omega (arith, h, k)
 
-pub borrow_is : (laws : KnownLaws) (x y z : ℕ) (a b : Form) (carry : Tri) → IsResult 256 a x → IsResult 256 b y → IsBit carry z → IsResult 256 (sub_carry a b carry) ((x + 256 - y - z) % 256)
+pub borrow_is : (laws : KnownLaws) (x y z : ℕ) (a b : Form) (carry : Tri) → IsResult 256 a x → IsResult 256 b y → IsBit carry z
+    → IsResult 256 (sub_carry a b carry) ((x + 256 - y - z) % 256)
 borrow_is laws x y z a b carry h k bit =
     let c = chosen_is laws z carry bit in
     let small = laws.sets.below 256 y b k.normal k.has in

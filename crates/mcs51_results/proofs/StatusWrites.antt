@@ -1,5 +1,5 @@
 -- PSW read and written as a byte.
-use Rattle.std.proofs.Common.{◌≡◌, ℕ, ◌+◌, ◌*◌, ◌/◌, ◌%◌, ◌^◌, ◌<◌, ◌==◌, Bool, true, false, min, max, Option, None, Some, List, length, refl, sym, ap, ◌∙◌, subst, arith, bit_and, bit_or}
+use Rattle.std.proofs.Common.{◌≡◌, ℕ, ◌+◌, ◌*◌, ◌/◌, ◌%◌, ◌^◌, ◌<◌, ◌==◌, Bool, true, false, Option, None, Some, List, length, refl, sym, ap, ◌∙◌, subst, arith, bit_and, bit_or}
 use Rattle.std.specs.Prelude.{slice_index_or, if◌then◌else◌}
 use Rattle.std.specs.Int.{bit_at}
 use Rattle.std.specs.Int.Bits.{or_zero_r, and_zero_l}
@@ -15,13 +15,15 @@ use Rattle.irq_frames.specs.KnownLaws.{KnownLaws}
 use Rattle.value_bits.specs.declared.tri.Logic.{Logic as Bitwise}
 use Rattle.value_bits.specs.declared.tri.Logic.TheVariants.{And, Or, Xor}
 use Rattle.value_bits.specs.declared.tri.Tri.{Tri}
-use Rattle.value_bits.specs.declared.tri.Tri.TheVariants.{Zero, One, Either}
+use Rattle.value_bits.specs.declared.tri.Tri.TheVariants.{Either}
+use Rattle.value_bits.specs.BitFacts.{and_bit, bits_at, or_bit, xor_bit}
 use Rattle.value_bits.specs.Bits.{IsBit, Agrees, known_bits, logic_of, tri_and, tri_logic, tri_or, tri_xor}
 use Rattle.mcs51_decode.specs.declared.instr.Logic.{Logic}
 use Rattle.mcs51_chip.specs.declared.place.Sfr.TheVariants.{Psw}
 use Rattle.mcs51_chip.specs.declared.state.ChipState.{ChipState}
 use Rattle.mcs51_chip.specs.Arithmetic.{masked}
 use Rattle.mcs51_chip.specs.Leading.{MayReadSfr}
+use Rattle.mcs51_chip.specs.NumberFacts.{parity_below}
 use Rattle.mcs51_chip.specs.Registers.{parity, write_sfr}
 use Rattle.mcs51_chip.specs.State.{IsChipState}
 use Rattle.mcs51_state.specs.declared.status.Status.{Status}
@@ -33,14 +35,9 @@ use Rattle.mcs51_results.specs.declared.made.Operand.TheVariants.{Constant, Amon
 use Rattle.mcs51_results.specs.Holding.{AreOperands, IsOperand, IsStatus}
 use Rattle.mcs51_results.specs.Results.{bit_in, bitwise, masked_entry, set_of}
 use Rattle.mcs51_results.specs.StatusBytes.{all_bits, status_byte, own_entry, six, upper, bit_of_set, written_status, masked_status}
-use Rattle.mcs51_results.proofs.SetLemmas.{bit_below, operand_is}
-use Rattle.mcs51_results.proofs.StatusLemmas.{bit_agrees, six_agree}
+use Rattle.mcs51_results.proofs.SetLemmas.{operand_is}
+use Rattle.mcs51_results.proofs.StatusLemmas.{six_agree}
 use Rattle.mcs51_results.proofs.Accumulations.{entry_holds, entry_form, masked_logic}
-
--- P
-
-parity_below : (a : ℕ) → parity a < 2
-parity_below a = omega arith
 
 -- BITS
 
@@ -53,7 +50,7 @@ six_of f v small each =
 
 pub upper_agree : (bits : List Tri) (v : ℕ) → v < 256 → Agrees bits v → Agrees (upper bits) (v / 4)
 upper_agree bits v small h =
-    six_of (λ place. slice_index_or bits (2 + place) Either) (v / 4) (omega (arith, small)) (λ p. subst (IsBit (slice_index_or bits (2 + p) Either)) (upper_place v p) (bit_agrees bits v (2 + p) h))
+    six_of (λ place. slice_index_or bits (2 + place) Either) (v / 4) (omega (arith, small)) (λ p. subst (IsBit (slice_index_or bits (2 + p) Either)) (upper_place v p) (bits_at bits (2 + p) v h))
 
 -- what is written to PSW
 pub write_quarter : (v : ℕ) → v / 4 ≡ v / 4 * 4 / 4
@@ -63,7 +60,7 @@ read_agrees : (psw : Status) (p bit one : ℕ) → p < 256 → p % 4 ≡ 0 → b
     → Agrees psw.bits (p / 4) → Agrees (all_bits psw) (p + 2 * bit + one)
 read_agrees psw p bit one small held few less agrees =
     let high : p / 4 ≡ (p + 2 * bit + one) / 2 / 2 = omega (arith, held, few, less) in
-    let rest = six_of (bit_in psw) (p / 4) (omega (arith, small)) (λ place. bit_agrees psw.bits (p / 4) place agrees) in
+    let rest = six_of (bit_in psw) (p / 4) (omega (arith, small)) (λ place. bits_at psw.bits place (p / 4) agrees) in
     (omega arith, (omega arith, subst (Agrees (six (bit_in psw))) high rest))
 
 -- RELATIONS
@@ -99,7 +96,8 @@ wider_word w and or y ands ors few =
     high_masked wider and or ∙ ap (λ n. bit_or (bit_and n (and / 4)) (or / 4)) quarter ∙ sym (high_masked w and or) in
     omega (arith, low, high)
 
-relation_wider : (framed : Bool) (first : Option ChipState) (entry : Option Entry) (p y : ℕ) → p % 4 ≡ 0 → y < 4 → IsOwnRelation framed psw_place 3 entry → IsFromEntry (option_map suspended_of first) entry p
+relation_wider : (framed : Bool) (first : Option ChipState) (entry : Option Entry) (p y : ℕ) → p % 4 ≡ 0 → y < 4 → IsOwnRelation framed psw_place 3 entry
+    → IsFromEntry (option_map suspended_of first) entry p
     → IsFromEntry (option_map suspended_of first) entry (p + y)
 relation_wider framed first None p y held few form holds = tt
 relation_wider framed None (Some e) p y held few form holds = absurd holds
@@ -128,7 +126,8 @@ own_word w and or and_small or_small =
     high_masked (w / 4 * 4) (bit_or and 3) (bit_and or 252) ∙ ap₂ (λ a b. bit_or a b) (ap₂ (λ a b. bit_and a b) quarter more) rest ∙ sym (high_masked w and or) in
     omega (arith, low, high)
 
-own_by : (first : Option ChipState) (e : Entry) (x : ℕ) (same : Bool) → (e.place == psw_place) ≡ same → e.and < 256 → e.or < 256 → IsFromEntry (option_map suspended_of first) (Some e) x
+own_by : (first : Option ChipState) (e : Entry) (x : ℕ) (same : Bool) → (e.place == psw_place) ≡ same → e.and < 256 → e.or < 256
+    → IsFromEntry (option_map suspended_of first) (Some e) x
     → IsFromEntry (option_map suspended_of first) (if same then Some (record { place = e.place; and = bit_or e.and 3; or = bit_and e.or 252 }) else None) (x / 4 * 4)
 own_by first e x false is and_small or_small holds = tt
 own_by None e x true is and_small or_small holds = absurd holds
@@ -167,7 +166,8 @@ own_is true (Some e) (place, ands, high, ors, low) = (subst (λ at. is_place at 
 
 -- READING
 
-pub read_entry : (framed : Bool) (first : Option ChipState) (psw : Status) (s : ChipState) (x : ℕ) → IsChipState s → IsStatus framed psw → HoldsOfStatus (option_map suspended_of first) psw s.psw
+pub read_entry : (framed : Bool) (first : Option ChipState) (psw : Status) (s : ChipState) (x : ℕ) → IsChipState s → IsStatus framed psw
+    → HoldsOfStatus (option_map suspended_of first) psw s.psw
     → MayReadSfr s Psw x → IsFromEntry (option_map suspended_of first) psw.entry x
 read_entry framed first psw s x state form holds (bit, few, is) =
     let one = parity_below s.a in
@@ -195,7 +195,8 @@ read_form laws framed psw form =
 
 -- WRITING
 
-pub written_holds : (laws : KnownLaws) (framed : Bool) (first : Option ChipState) (byte : Byte) (s : ChipState) (x : ℕ) → IsByte framed byte → HoldsOfByte (option_map suspended_of first) byte x
+pub written_holds : (laws : KnownLaws) (framed : Bool) (first : Option ChipState) (byte : Byte) (s : ChipState) (x : ℕ) → IsByte framed byte
+    → HoldsOfByte (option_map suspended_of first) byte x
     → HoldsOfStatus (option_map suspended_of first) (written_status byte) (write_sfr Psw x s).psw
 written_holds laws framed first byte s x form holds =
     let small = laws.sets.below 256 x byte.set form.normal holds.0 in record {
@@ -207,33 +208,6 @@ pub written_form : (framed : Bool) (byte : Byte) → IsByte framed byte → IsSt
 written_form framed byte form = record { bits = refl; entry = own_form framed byte.entry form.entry }
 
 -- LOGIC
-
-pub and_bit : (a b : Tri) (x y : ℕ) → IsBit a x → IsBit b y → IsBit (tri_and a b) (min x y)
-and_bit Zero b x y h k = omega (arith, h)
-and_bit One Zero x y h k = omega (arith, h, k)
-and_bit One One x y h k = omega (arith, h, k)
-and_bit One Either x y h k = omega (arith, h, k)
-and_bit Either Zero x y h k = omega (arith, h, k)
-and_bit Either One x y h k = omega (arith, h, k)
-and_bit Either Either x y h k = omega (arith, h, k)
-
-pub or_bit : (a b : Tri) (x y : ℕ) → IsBit a x → IsBit b y → IsBit (tri_or a b) (max x y)
-or_bit Zero Zero x y h k = omega (arith, h, k)
-or_bit Zero One x y h k = omega (arith, h, k)
-or_bit Zero Either x y h k = omega (arith, h, k)
-or_bit One b x y h k = let small = bit_below b y k in omega (arith, h, small)
-or_bit Either Zero x y h k = omega (arith, h, k)
-or_bit Either One x y h k = omega (arith, h, k)
-or_bit Either Either x y h k = omega (arith, h, k)
-
-xor_bit : (a b : Tri) (x y : ℕ) → IsBit a x → IsBit b y → IsBit (tri_xor a b) ((x + y) % 2)
-xor_bit Zero Zero x y h k = omega (arith, h, k)
-xor_bit Zero One x y h k = omega (arith, h, k)
-xor_bit Zero Either x y h k = omega (arith, h, k)
-xor_bit One Zero x y h k = omega (arith, h, k)
-xor_bit One One x y h k = omega (arith, h, k)
-xor_bit One Either x y h k = omega (arith, h, k)
-xor_bit Either b x y h k = omega arith
 
 logic_bit : (l : Bitwise) (a b : Tri) (x y i : ℕ) → IsBit a (bit_at x i) → IsBit b (bit_at y i) → IsBit (tri_logic l a b) (bit_at (logic_of l x y) i)
 logic_bit And a b x y i h k = subst (IsBit (tri_and a b)) (sym (bit_at_and x y i)) (and_bit a b (bit_at x i) (bit_at y i) h k)
@@ -256,8 +230,8 @@ masked_agrees laws done psw operand x mask small agrees is =
     (six_of (λ place. tri_logic (bitwise done) (bit_in psw place) (bit_of_set (set_of operand) (2 + place))) (v / 4) (omega (arith, below))
     (λ p. subst (IsBit (tri_logic (bitwise done) (bit_in psw p) (bit_of_set (set_of operand) (2 + p)))) (upper_place v p)
     (logic_bit (bitwise done) (bit_in psw p) (bit_of_set (set_of operand) (2 + p)) x mask (2 + p)
-    (subst (IsBit (bit_in psw p)) (sym (upper_place x p)) (bit_agrees psw.bits (x / 4) p agrees))
-    (bit_agrees (known_bits 8 (set_of operand)) mask (2 + p) bits))))
+    (subst (IsBit (bit_in psw p)) (sym (upper_place x p)) (bits_at psw.bits p (x / 4) agrees))
+    (bits_at (known_bits 8 (set_of operand)) (2 + p) mask bits))))
 
 pub read_quarter : (s : ChipState) (x : ℕ) → IsChipState s → MayReadSfr s Psw x → (s.psw / 4 ≡ x / 4) × (x < 256)
 read_quarter s x state (bit, few, is) =
@@ -282,5 +256,6 @@ masked_psw_holds laws framed first done psw operand s x mask state form holds ma
           (entry_holds laws (option_map suspended_of first) done operand psw.entry x mask is (read_entry framed first psw s x state form holds may));
     }
 
-pub masked_psw_form : (framed : Bool) (done : Logic) (psw : Status) (operand : Operand) → IsStatus framed psw → AreOperands operand → IsStatus framed (masked_status done psw operand)
+pub masked_psw_form : (framed : Bool) (done : Logic) (psw : Status) (operand : Operand) → IsStatus framed psw → AreOperands operand
+    → IsStatus framed (masked_status done psw operand)
 masked_psw_form framed done psw operand form are = record { bits = refl; entry = own_form framed (masked_entry done operand psw.entry) (entry_form framed done operand psw.entry are (own_is framed psw.entry form.entry)) }

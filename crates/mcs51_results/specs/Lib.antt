@@ -1,5 +1,6 @@
 pub mod BitRules
 pub mod Holding
+pub mod HoldingFacts
 pub mod Laws
 pub mod Results
 pub mod Rules

@@ -8,6 +8,7 @@ use Rattle.value_bits.specs.AllFlags.{Place}
 use Rattle.value_bits.specs.AllFlags.Place.{First, Second, Third, Fourth}
 use Rattle.chip_numbers.specs.Numbers.{adjusted_carry}
 use Rattle.mcs51_chip.specs.Arithmetic.{carries, borrows, differ}
+use Rattle.mcs51_chip.specs.NumberFacts.{product_below}
 use Rattle.mcs51_results.specs.declared.combining.NumberRule.{NumberRule}
 use Rattle.mcs51_results.specs.declared.combining.NumberRule.TheVariants.{CarrySum, CarryDifference, ProductLow, ProductHigh, Quotient, Remainder}
 use Rattle.mcs51_results.specs.declared.flags.FlagRule.{FlagRule}
@@ -25,9 +26,6 @@ answer_by ProductHigh x y z = x * y / 256
 answer_by Quotient x y z = if y == 0 then 0 else x / y
 answer_by Remainder x y z = if y == 0 then 0 else x % y
 
-product_high : (x y : ℕ) → x < 256 → y < 256 → x * y / 256 < 256
-product_high x y h k = grind (arith, h, k)
-
 quotient_below : (x y : ℕ) (zero : Bool) → (y == 0) ≡ zero → x < 256 → (if zero then 0 else x / y) < 256
 quotient_below x y true e h = omega arith
 quotient_below x y false e h = grind (arith, e, h)
@@ -40,7 +38,7 @@ pub answer_stays : (rule : NumberRule) → StaysBelow 256 (answer_by rule)
 answer_stays CarrySum x y z h k l = mod-lt (x + y + z) {m = 256} (omega arith)
 answer_stays CarryDifference x y z h k l = mod-lt (x + 512 - y - z) {m = 256} (omega arith)
 answer_stays ProductLow x y z h k l = mod-lt (x * y) {m = 256} (omega arith)
-answer_stays ProductHigh x y z h k l = product_high x y h k
+answer_stays ProductHigh x y z h k l = product_below x y h k
 answer_stays Quotient x y z h k l = quotient_below x y (y == 0) refl h
 answer_stays Remainder x y z h k l = remainder_below x y (y == 0) h
 

@@ -90,36 +90,33 @@ pub(crate) fn set_of(operand: &Operand) -> Vs8
     }
 }
 
+/// The flags of sums.
+const SUM_RULES: ThreeFlags = ThreeFlags {
+    carry: FlagRule::Carry,
+    half: FlagRule::HalfCarry,
+    overflow: FlagRule::SumOverflow,
+};
+
+/// The flags of differences.
+const DIFFERENCE_RULES: ThreeFlags = ThreeFlags {
+    carry: FlagRule::Borrow,
+    half: FlagRule::HalfBorrow,
+    overflow: FlagRule::DifferenceOverflow,
+};
+
+/// The flags of a number added to itself.
+const TWICE_RULES: ThreeFlags = ThreeFlags {
+    carry: FlagRule::TwiceCarry,
+    half: FlagRule::TwiceHalfCarry,
+    overflow: FlagRule::TwiceOverflow,
+};
+
 /// CY, AC and OV by three rules: each combination is worked out once.
 fn three_flags(rules: ThreeFlags, a: &Vs8, b: &Vs8, carry: Tri, psw: &Status) -> Status
     ensures { result ≡ results.three_flags rules a.now b.now (chosen_set carry) psw.now }
 {
     let known = w8::all_agreed(&rules, a, b, carry);
     flagged(known.first, known.second, known.third, psw)
-}
-
-/// The flags of sums.
-fn sum_flags(a: &Vs8, b: &Vs8, carry: Tri, psw: &Status) -> Status
-    ensures { result ≡ results.sum_flags a.now b.now (chosen_set carry) psw.now }
-{
-    let rules = ThreeFlags {
-        carry: FlagRule::Carry,
-        half: FlagRule::HalfCarry,
-        overflow: FlagRule::SumOverflow,
-    };
-    three_flags(rules, a, b, carry, psw)
-}
-
-/// The flags of differences.
-fn difference_flags(a: &Vs8, b: &Vs8, carry: Tri, psw: &Status) -> Status
-    ensures { result ≡ results.difference_flags a.now b.now (chosen_set carry) psw.now }
-{
-    let rules = ThreeFlags {
-        carry: FlagRule::Borrow,
-        half: FlagRule::HalfBorrow,
-        overflow: FlagRule::DifferenceOverflow,
-    };
-    three_flags(rules, a, b, carry, psw)
 }
 
 /// ADD.
@@ -129,7 +126,7 @@ fn added(a: &Byte, b: &Vs8, psw: &Status) -> Made
 {
     Made {
         a: byte_of(a.set.add(b)),
-        psw: sum_flags(&a.set, b, Tri::Zero, psw),
+        psw: three_flags(SUM_RULES, &a.set, b, Tri::Zero, psw),
     }
 }
 
@@ -141,7 +138,7 @@ fn added_with_carry(a: &Byte, b: &Vs8, psw: &Status) -> Made
     let carry = carry_in(psw);
     Made {
         a: byte_of(add_carry(&a.set, b, carry)),
-        psw: sum_flags(&a.set, b, carry, psw),
+        psw: three_flags(SUM_RULES, &a.set, b, carry, psw),
     }
 }
 
@@ -153,7 +150,7 @@ fn subtracted(a: &Byte, b: &Vs8, psw: &Status) -> Made
     let carry = carry_in(psw);
     Made {
         a: byte_of(sub_carry(&a.set, b, carry)),
-        psw: difference_flags(&a.set, b, carry, psw),
+        psw: three_flags(DIFFERENCE_RULES, &a.set, b, carry, psw),
     }
 }
 
@@ -215,13 +212,8 @@ pub fn accumulated_made(operation: Operation, a: &Byte, operand: &Operand, psw: 
 fn twice_flags(a: &Vs8, psw: &Status) -> Status
     ensures { result ≡ results.twice_flags a.now psw.now }
 {
-    let rules = ThreeFlags {
-        carry: FlagRule::TwiceCarry,
-        half: FlagRule::TwiceHalfCarry,
-        overflow: FlagRule::TwiceOverflow,
-    };
     match a.form() {
-        Form::Values(_) => three_flags(rules, a, &Vs8::one(0), Tri::Zero, psw),
+        Form::Values(_) => three_flags(TWICE_RULES, a, &Vs8::one(0), Tri::Zero, psw),
         Form::Run(_) => flagged(Tri::Either, Tri::Either, Tri::Either, psw),
     }
 }

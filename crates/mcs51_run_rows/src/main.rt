@@ -8,7 +8,6 @@
 #![tactic(auto)]
 
 mod ends;
-mod form;
 mod holding;
 mod names;
 mod numbers;

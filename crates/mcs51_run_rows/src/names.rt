@@ -2,9 +2,9 @@
 
 ghost use Rattle.mcs51_chip.specs.State.{IsChipState};
 
-use crate::form::has_form;
 use crate::numbers::number_of;
 use mcs51_chip::{ChipState, Sfr};
+use mcs51_emu::{has_form, write_sfr};
 
 /// The register of a name; others are bytes of RAM.
 fn sfr_named(name: &str) -> Option<Sfr> {
@@ -49,25 +49,6 @@ pub fn value_of(s: &ChipState, name: &str) -> Option<u16> {
     }
 }
 
-/// Sets the bits of a register that it holds.
-fn set_sfr(s: &mut ChipState, sfr: Sfr, x: u8)
-    requires { IsChipState s.old }
-    ensures { IsChipState s.new }
-{
-    match sfr {
-        Sfr::Sp => s.sp = x,
-        Sfr::Dpl => s.dpl = x,
-        Sfr::Dph => s.dph = x,
-        Sfr::Ie => s.ie = x % 64 + x / 128 * 128,
-        Sfr::Ip => s.ip = x % 64,
-        Sfr::Psw => s.psw = x / 4 * 4,
-        Sfr::Acc => s.a = x,
-        Sfr::B => s.b = x,
-        Sfr::Other => {}
-    }
-    has_form(s);
-}
-
 /// Sets what stands under a name.
 pub fn set(s: &mut ChipState, name: &str, value: u16)
     requires { IsChipState s.old }
@@ -78,7 +59,7 @@ pub fn set(s: &mut ChipState, name: &str, value: u16)
         "L" => s.serves_low = value == 1,
         "H" => s.serves_high = value == 1,
         _ => match (sfr_named(name), number_of(name)) {
-            (Some(sfr), _) => set_sfr(s, sfr, (value % 256) as u8),
+            (Some(sfr), _) => write_sfr(s, sfr, (value % 256) as u8),
             (None, Some(at)) => s.ram[at as usize % 256] = (value % 256) as u8,
             (None, None) => {}
         },

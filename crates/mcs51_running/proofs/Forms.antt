@@ -1,13 +1,13 @@
 -- What is said of each instruction is in form.
-use Rattle.std.proofs.Common.{◌≡◌, ℕ, ◌+◌, ◌%◌, ◌<◌, Bool, true, false, Option, None, Some, List, refl, arith}
-use Rattle.std.specs.Prelude.{All, IfSome, nat_lt}
-use Rattle.std.proofs.lemmas.Bool.{cond_both}
+use Rattle.std.proofs.Common.{◌≡◌, ℕ, ◌<◌, Bool, true, false, Option, None, Some, List, refl, arith}
+use Rattle.std.specs.Prelude.{All, IfSome}
 use Rattle.image.specs.Image.{IsByte as IsImageByte}
 use Rattle.mcs51_decode.specs.declared.instr.Instr.{Instr}
 use Rattle.mcs51_decode.specs.declared.instr.Instr.TheVariants.{Nop, AbsoluteJump, AbsoluteCall, LongJump, LongCall, Return, ReturnFromInterrupt, JumpIndirect, JumpOn, JumpOnBit, CompareJump, DecrementJump, ChangeAccumulator, Increment, Decrement, IncrementDataPointer, Accumulate, DirectLogic, Multiply, Divide, ChangeCarry, CarryBit, ChangeBit, MoveImmediate, MoveToDirect, MoveFromDirect, LoadDataPointer, Load, Store, MoveCode, ReadExternal, WriteExternal, Push, Pop, Exchange, ExchangeDigit}
 use Rattle.mcs51_decode.specs.declared.instr.Place.TheVariants.{Accumulator, Memory as InMemory}
 use Rattle.mcs51_decode.specs.Fitting.{IsInstr}
 use Rattle.mcs51_decode.specs.Targets.{absolute_target, following, relative_target}
+use Rattle.mcs51_chip.specs.NumberFacts.{absolute_below, target_below}
 use Rattle.mcs51_state.specs.Forms.{IsKnown}
 use Rattle.mcs51_state.specs.Known.{Known}
 use Rattle.mcs51_jumps.specs.Jumps.{AreWays, Ways, ways_by_comparison, ways_by_counter, ways_on_bit, ways_on_condition}
@@ -16,25 +16,20 @@ use Rattle.mcs51_running.specs.Doing.{IsWay}
 use Rattle.mcs51_running.specs.Premises.{Premises}
 use Rattle.mcs51_running.specs.Running.{behind_of, items_of, ran_from, ran_of, targets_of}
 
-absolute_small : (next target : ℕ) → next < 65536 → absolute_target next target < 65536
-absolute_small next target small = omega (arith, small)
-
-relative_small : (next rel : ℕ) → relative_target next rel < 65536
-relative_small next rel = cond_both (nat_lt rel 128) ((next + rel) % 65536) ((next + rel + 65280) % 65536) (λ n. n < 65536) (λ e. omega arith) (λ e. omega arith)
-
 some_form : (framed : Bool) (way : Option Known) → ((a : Known) → way ≡ Some a → IsKnown framed a) → IfSome way (IsKnown framed)
 some_form framed None each = tt
 some_form framed (Some a) each = each a refl
 
 both_ways : (framed : Bool) (next rel : ℕ) (ways : Ways) → AreWays framed ways → IsWay framed (Goes (relative_target next rel) ways.on ways.jumped)
-both_ways framed next rel ways are = (relative_small next rel, some_form framed ways.on are.on, some_form framed ways.jumped are.jumped)
+both_ways framed next rel ways are = (target_below next rel, some_form framed ways.on are.on, some_form framed ways.jumped are.jumped)
 
-way_form : (laws : Premises) (framed : Bool) (a : Known) (image : List (Option ℕ)) (pc next : ℕ) (instr : Instr) → next < 65536 → IsKnown framed a → IsInstr instr → All IsImageByte image
+way_form : (laws : Premises) (framed : Bool) (a : Known) (image : List (Option ℕ)) (pc next : ℕ) (instr : Instr) → next < 65536 → IsKnown framed a
+    → IsInstr instr → All IsImageByte image
     → IsWay framed (ran_from image framed pc next a instr).way
 unfolding ran_from items_of targets_of behind_of
 way_form laws framed a image pc next Nop small form is bytes = ((laws.known.sets.single 65536 next small).0, form)
-way_form laws framed a image pc next (AbsoluteJump target) small form is bytes = ((laws.known.sets.single 65536 (absolute_target next target) (absolute_small next target small)).0, form)
-way_form laws framed a image pc next (AbsoluteCall target) small form is bytes = ((laws.known.sets.single 65536 (absolute_target next target) (absolute_small next target small)).0, laws.stores.forms.push_address framed next small a form)
+way_form laws framed a image pc next (AbsoluteJump target) small form is bytes = ((laws.known.sets.single 65536 (absolute_target next target) (absolute_below next target small)).0, form)
+way_form laws framed a image pc next (AbsoluteCall target) small form is bytes = ((laws.known.sets.single 65536 (absolute_target next target) (absolute_below next target small)).0, laws.stores.forms.push_address framed next small a form)
 way_form laws framed a image pc next (LongJump target) small form is bytes = ((laws.known.sets.single 65536 target is).0, form)
 way_form laws framed a image pc next (LongCall target) small form is bytes = ((laws.known.sets.single 65536 target is).0, laws.stores.forms.push_address framed next small a form)
 way_form laws framed a image pc next Return small form is bytes = (laws.returns.targets framed a form, laws.returns.form framed a form)

@@ -22,7 +22,8 @@ use Rattle.mcs51_running.specs.Premises.{Premises}
 use Rattle.mcs51_running.specs.Running.{behind_of, items_of, ran_from, ran_of, targets_of}
 
 -- one that goes on behind itself lands there
-onward : (laws : Premises) {framed : Bool} {first : Option ChipState} {items : List Item} {pc : ℕ} {a behind : Known} {s : ChipState} {asking : Asking Effect} → IsUnder framed a s first
+onward : (laws : Premises) {framed : Bool} {first : Option ChipState} {items : List Item} {pc : ℕ} {a behind : Known} {s : ChipState} {asking : Asking Effect}
+    → IsUnder framed a s first
     → Gives (DoesSo framed first items pc behind s) asking → Gives (LandsSo framed first items pc (single s.pc) behind) asking
 onward laws {framed} {first} {items} {pc} {a} {behind} {s} {asking} under does =
     weaken (DoesSo framed first items pc behind s) (LandsSo framed first items pc (single s.pc) behind) asking
@@ -36,7 +37,8 @@ nop_lands laws framed a s first image pc under =
     (record { shown = λ access there. absurd (omega (arith, there.1)); target = (laws.known.sets.single 65536 s.pc under.holds.state.pc).1; under = under })
 
 -- in the state s, PC is the following address
-runs_from : (laws : Premises) (framed : Bool) (a : Known) (s : ChipState) (first : Option ChipState) (image : List (Option ℕ)) (pc : ℕ) (instr : Instr) → IsUnder framed a s first → IsInstr instr → All IsImageByte image
+runs_from : (laws : Premises) (framed : Bool) (a : Known) (s : ChipState) (first : Option ChipState) (image : List (Option ℕ)) (pc : ℕ) (instr : Instr)
+    → IsUnder framed a s first → IsInstr instr → All IsImageByte image
     → Gives (RunsSo framed first pc (ran_from image framed pc s.pc a instr) s) (effect_of image s instr)
 unfolding ran_from items_of targets_of behind_of
 runs_from laws framed a s first image pc Nop under is bytes = nop_lands laws framed a s first image pc under

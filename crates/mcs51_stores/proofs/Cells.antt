@@ -1,34 +1,24 @@
 -- The cells of RAM behind a write of a byte.
-use Rattle.std.proofs.Common.{◌≡◌, ℕ, suc, ◌+◌, ◌%◌, ◌<◌, ◌==◌, ◌&&◌, not, Bool, true, false, Option, None, Some, List, [], ◌∷◌, length, get_or, set, refl, sym, ap, ◌∙◌, subst, inl, inr, arith, All, Contains, get_or-set_same, get_or-set_other}
+use Rattle.std.proofs.Common.{◌≡◌, ℕ, suc, ◌+◌, ◌%◌, ◌<◌, ◌==◌, ◌&&◌, not, Bool, Option, Some, List, [], ◌∷◌, length, get_or, set, refl, sym, ap, ◌∙◌, subst, inl, inr, arith, All, Contains, get_or-set_same, get_or-set_other}
 use Rattle.std.specs.Prelude.{nat_lt, ◌||◌, ◌-◌, slice_index}
 use Rattle.std.specs.List.{filter}
 use Rattle.std.proofs.lemmas.Bool.{cond_both, cond-true, cond-false, cases_eq, cases_lt, eq-eqb, ne_eqb}
 use Rattle.std.proofs.lemmas.List.{get_or_past}
 use Rattle.std.proofs.lemmas.List.Elements.{All-cons, All-head, All-tail, All-filter, All-get_or}
+use Rattle.plain_lemmas.specs.Members.{in_none, in_cons}
 use Rattle.entry_value.specs.declared.byte.Byte.{Byte}
 use Rattle.entry_value.specs.declared.cells.Cell.{Cell}
-use Rattle.entry_value.specs.declared.word.Entry.{Entry}
 use Rattle.entry_value.specs.declared.word.Word.{Word}
 use Rattle.entry_value.specs.Cells.{CellMap, AreCells, StandsUnder, cell_at, found_or, put_together, read, meets, insert, is_nothing, with_cell, write_one, written}
-use Rattle.entry_value.specs.Words.{Suspended, HoldsOfWord, is_same_entry, common_entry, word_join}
+use Rattle.entry_value.specs.RelationFacts.{common_entry_keeps}
+use Rattle.entry_value.specs.Words.{Suspended, HoldsOfWord, word_join}
 use Rattle.value_set.specs.Form.{Has, IsNormal}
 use Rattle.irq_frames.specs.KnownLaws.{KnownLaws}
 use Rattle.mcs51_chip.specs.declared.state.ChipState.{ChipState}
 use Rattle.mcs51_chip.specs.State.{IsChipState}
+use Rattle.mcs51_state.specs.FormFacts.{no_relation}
 use Rattle.mcs51_state.specs.Forms.{IsByte, IsChipCell, IsRelation}
 use Rattle.mcs51_stores.specs.Writing.{word_of_byte, cell_joined, cells_joined, cells_written}
-use Rattle.mcs51_stores.proofs.Members.{in_none, in_cons}
-
--- RELATIONS
-
-pub no_relation : (framed : Bool) → IsRelation framed None
-no_relation true = tt
-no_relation false = tt
-
-pub common_relation : (framed : Bool) (a b : Option Entry) → IsRelation framed a → IsRelation framed (common_entry a b)
-common_relation framed None b is = is
-common_relation framed (Some a) None is = no_relation framed
-common_relation framed (Some a) (Some b) is = cond_both (is_same_entry a b) (Some a) None (IsRelation framed) (λ e. is) (λ e. no_relation framed)
 
 -- FORM
 
@@ -63,7 +53,8 @@ with_cell_all P lo hi cell cells one all =
     cond_both (nat_lt cell.place lo || nat_lt hi (cell.place + cell.size - 1) || is_nothing cell.size cell.word) cells (insert cell cells) (All P)
     (λ e. all) (λ e. inserted P cell cells one all)
 
-written_each : (framed : Bool) (map : CellMap) (at : ℕ) (word : Word) → IsStored framed word → All (IsChipCell framed) map.cells → All (IsChipCell framed) (write_one map at 1 word).cells
+written_each : (framed : Bool) (map : CellMap) (at : ℕ) (word : Word) → IsStored framed word → All (IsChipCell framed) map.cells
+    → All (IsChipCell framed) (write_one map at 1 word).cells
 unfolding write_one
 written_each framed map at word is all =
     with_cell_all (IsChipCell framed) map.lo map.hi (record { place = at; size = 1; word = word }) (filter (λ cell. not (meets at 1 cell)) map.cells)
@@ -77,7 +68,8 @@ whole_cells framed map are =
 top_of_ram : (framed : Bool) (map : CellMap) → AreByteCells framed map → map.hi < 65536
 top_of_ram framed map are = omega (arith, are.up_to)
 
-pub one_form : (laws : KnownLaws) (framed : Bool) (map : CellMap) (at : ℕ) (word : Word) → IsStored framed word → AreByteCells framed map → AreByteCells framed (write_one map at 1 word)
+pub one_form : (laws : KnownLaws) (framed : Bool) (map : CellMap) (at : ℕ) (word : Word) → IsStored framed word → AreByteCells framed map
+    → AreByteCells framed (write_one map at 1 word)
 one_form laws framed map at word is are =
     let form = laws.cells.write_form map.lo at 1 map word (top_of_ram framed map are) (omega arith) (whole_cells framed map are) (inl refl) is.normal (λ e. is.byte) in
     record {
@@ -87,7 +79,8 @@ one_form laws framed map at word is are =
       each = written_each framed map at word is are.each;
     }
 
-found_entry : (framed : Bool) (at : ℕ) (otherwise : Word) (cells : List Cell) → IsRelation framed otherwise.entry → All (IsChipCell framed) cells → IsRelation framed (found_or (cell_at cells at 1) otherwise).entry
+found_entry : (framed : Bool) (at : ℕ) (otherwise : Word) (cells : List Cell) → IsRelation framed otherwise.entry → All (IsChipCell framed) cells
+    → IsRelation framed (found_or (cell_at cells at 1) otherwise).entry
 found_entry framed at otherwise [] none all = none
 found_entry framed at otherwise (cell ∷ cells) none all =
     cond_both ((cell.place == at) && (cell.size == 1)) (Some cell.word) (cell_at cells at 1) (λ found. IsRelation framed (found_or found otherwise).entry)
@@ -98,31 +91,36 @@ read_entry : (framed : Bool) (at : ℕ) (cells : List Cell) → All (IsChipCell 
 unfolding read
 read_entry framed at cells all = found_entry framed at (put_together cells at 1) cells (no_relation framed) all
 
-joined_stored : (laws : KnownLaws) (framed : Bool) (map : CellMap) (at : ℕ) (word : Word) → IsStored framed word → AreByteCells framed map → IsStored framed (word_join (read map.cells at 1) word)
+joined_stored : (laws : KnownLaws) (framed : Bool) (map : CellMap) (at : ℕ) (word : Word) → IsStored framed word → AreByteCells framed map
+    → IsStored framed (word_join (read map.cells at 1) word)
 joined_stored laws framed map at word is are =
     let held = read map.cells at 1 in
     let normal = laws.cells.read_normal 0 255 0 at 1 map.cells are.cells in
     record {
       normal = laws.values.words.join_normal held word normal is.normal;
       byte = laws.sets.join_below 256 65536 held.set word.set (omega arith) normal is.normal (laws.cells.read_byte 0 255 0 at 1 map.cells are.cells refl) is.byte;
-      entry = common_relation framed held.entry word.entry (read_entry framed at map.cells are.each);
+      entry = common_entry_keeps (IsRelation framed) held.entry word.entry (no_relation framed) (read_entry framed at map.cells are.each);
     }
 
-joined_one_form : (laws : KnownLaws) (framed : Bool) (map : CellMap) (at : ℕ) (word : Word) → IsStored framed word → AreByteCells framed map → AreByteCells framed (cell_joined map at word)
+joined_one_form : (laws : KnownLaws) (framed : Bool) (map : CellMap) (at : ℕ) (word : Word) → IsStored framed word → AreByteCells framed map
+    → AreByteCells framed (cell_joined map at word)
 joined_one_form laws framed map at word is are = one_form laws framed map at (word_join (read map.cells at 1) word) (joined_stored laws framed map at word is are) are
 
-joined_form : (laws : KnownLaws) (framed : Bool) (map : CellMap) (list : List ℕ) (word : Word) → IsStored framed word → AreByteCells framed map → AreByteCells framed (cells_joined map list word)
+joined_form : (laws : KnownLaws) (framed : Bool) (map : CellMap) (list : List ℕ) (word : Word) → IsStored framed word → AreByteCells framed map
+    → AreByteCells framed (cells_joined map list word)
 joined_form laws framed map [] word is are = are
 joined_form laws framed map (at ∷ rest) word is are = joined_form laws framed (cell_joined map at word) rest word is (joined_one_form laws framed map at word is are)
 
-pub cells_form : (laws : KnownLaws) (framed : Bool) (map : CellMap) (list : List ℕ) (word : Word) → IsStored framed word → AreByteCells framed map → AreByteCells framed (cells_written map list word)
+pub cells_form : (laws : KnownLaws) (framed : Bool) (map : CellMap) (list : List ℕ) (word : Word) → IsStored framed word → AreByteCells framed map
+    → AreByteCells framed (cells_written map list word)
 cells_form laws framed map [] word is are = are
 cells_form laws framed map (at ∷ []) word is are = one_form laws framed map at word is are
 cells_form laws framed map (at ∷ next ∷ rest) word is are = joined_form laws framed map (at ∷ next ∷ rest) word is are
 
 -- WHAT STANDS UNDER THEM
 
-one_covers : (laws : KnownLaws) (first : Option Suspended) (framed : Bool) (ram : ℕ → ℕ) (map : CellMap) (at v : ℕ) (word : Word) → at < 256 → IsStored framed word → AreByteCells framed map
+one_covers : (laws : KnownLaws) (first : Option Suspended) (framed : Bool) (ram : ℕ → ℕ) (map : CellMap) (at v : ℕ) (word : Word) → at < 256
+    → IsStored framed word → AreByteCells framed map
     → StandsUnder first map.cells ram → HoldsOfWord first word v → StandsUnder first (write_one map at 1 word).cells (written ram at 1 v)
 one_covers laws first framed ram map at v word low is are stands holds =
     laws.cells.write first ram map.lo at 1 v map word (top_of_ram framed map are) (whole_cells framed map are) (omega (arith, low)) (inl refl) is.normal (λ e. is.byte) stands holds
@@ -135,7 +133,8 @@ written_same ram at b small = elim (cases_eq b at) [
 ]
 
 -- a cell that isn't written holds what it held
-stays_under : (laws : KnownLaws) (first : Option Suspended) (framed : Bool) (ram : ℕ → ℕ) (map : CellMap) (at : ℕ) (word : Word) → at < 256 → IsStored framed word → AreByteCells framed map
+stays_under : (laws : KnownLaws) (first : Option Suspended) (framed : Bool) (ram : ℕ → ℕ) (map : CellMap) (at : ℕ) (word : Word) → at < 256
+    → IsStored framed word → AreByteCells framed map
     → StandsUnder first map.cells ram → StandsUnder first (cell_joined map at word).cells ram
 stays_under laws first framed ram map at word low is are stands =
     let held = read map.cells at 1 in
@@ -146,7 +145,8 @@ stays_under laws first framed ram map at word low is are stands =
     let form = joined_one_form laws framed map at word is are in
     laws.cells.agree first (written ram at 1 (ram at)) ram 0 255 0 (cell_joined map at word).cells (omega arith) form.cells stands.0 (λ b from to. written_same ram at b (stands.0 at)) behind
 
-joins_under : (laws : KnownLaws) (first : Option Suspended) (framed : Bool) (ram : ℕ → ℕ) (map : CellMap) (at v : ℕ) (word : Word) → at < 256 → IsStored framed word → AreByteCells framed map
+joins_under : (laws : KnownLaws) (first : Option Suspended) (framed : Bool) (ram : ℕ → ℕ) (map : CellMap) (at v : ℕ) (word : Word) → at < 256
+    → IsStored framed word → AreByteCells framed map
     → StandsUnder first map.cells ram → HoldsOfWord first word v → StandsUnder first (cell_joined map at word).cells (written ram at 1 v)
 joins_under laws first framed ram map at v word low is are stands holds =
     let held = read map.cells at 1 in
@@ -163,15 +163,18 @@ rest_low at rest low v h = low v (suc h.0, omega (arith, h.1), h.2)
 pub first_low : (at : ℕ) (rest : List ℕ) → AreLow (at ∷ rest) → at < 256
 first_low at rest low = low at (0, omega arith, refl)
 
-stay_under : (laws : KnownLaws) (first : Option Suspended) (framed : Bool) (ram : ℕ → ℕ) (map : CellMap) (list : List ℕ) (word : Word) → AreLow list → IsStored framed word → AreByteCells framed map
+stay_under : (laws : KnownLaws) (first : Option Suspended) (framed : Bool) (ram : ℕ → ℕ) (map : CellMap) (list : List ℕ) (word : Word) → AreLow list
+    → IsStored framed word → AreByteCells framed map
     → StandsUnder first map.cells ram → StandsUnder first (cells_joined map list word).cells ram
 stay_under laws first framed ram map [] word low is are stands = stands
 stay_under laws first framed ram map (at ∷ rest) word low is are stands =
     stay_under laws first framed ram (cell_joined map at word) rest word (rest_low at rest low) is (joined_one_form laws framed map at word is are)
     (stays_under laws first framed ram map at word (first_low at rest low) is are stands)
 
-joined_covers : (laws : KnownLaws) (first : Option Suspended) (framed : Bool) (ram : ℕ → ℕ) (map : CellMap) (list : List ℕ) (address v : ℕ) (word : Word) → AreLow list → Contains list address
-    → IsStored framed word → AreByteCells framed map → StandsUnder first map.cells ram → HoldsOfWord first word v → StandsUnder first (cells_joined map list word).cells (written ram address 1 v)
+joined_covers : (laws : KnownLaws) (first : Option Suspended) (framed : Bool) (ram : ℕ → ℕ) (map : CellMap) (list : List ℕ) (address v : ℕ) (word : Word)
+    → AreLow list → Contains list address
+    → IsStored framed word → AreByteCells framed map → StandsUnder first map.cells ram → HoldsOfWord first word v
+    → StandsUnder first (cells_joined map list word).cells (written ram address 1 v)
 joined_covers laws first framed ram map [] address v word low there is are stands holds = absurd (in_none address there)
 joined_covers laws first framed ram map (at ∷ rest) address v word low there is are stands holds =
     let form = joined_one_form laws framed map at word is are in
@@ -185,8 +188,10 @@ joined_covers laws first framed ram map (at ∷ rest) address v word low there i
           (stays_under laws first framed ram map at word (first_low at rest low) is are stands) holds
     ]
 
-list_covers : (laws : KnownLaws) (first : Option Suspended) (framed : Bool) (ram : ℕ → ℕ) (map : CellMap) (list : List ℕ) (address v : ℕ) (word : Word) → AreLow list → Contains list address
-    → IsStored framed word → AreByteCells framed map → StandsUnder first map.cells ram → HoldsOfWord first word v → StandsUnder first (cells_written map list word).cells (written ram address 1 v)
+list_covers : (laws : KnownLaws) (first : Option Suspended) (framed : Bool) (ram : ℕ → ℕ) (map : CellMap) (list : List ℕ) (address v : ℕ) (word : Word)
+    → AreLow list → Contains list address
+    → IsStored framed word → AreByteCells framed map → StandsUnder first map.cells ram → HoldsOfWord first word v
+    → StandsUnder first (cells_written map list word).cells (written ram address 1 v)
 list_covers laws first framed ram map [] address v word low there is are stands holds = absurd (in_none address there)
 list_covers laws first framed ram map (at ∷ []) address v word low there is are stands holds = elim (in_cons at [] address there) [
   | inl same ↦ subst (λ n. StandsUnder first (write_one map at 1 word).cells (written ram n 1 v)) same (one_covers laws first framed ram map at v word (first_low at [] low) is are stands holds)

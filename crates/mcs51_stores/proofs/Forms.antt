@@ -1,9 +1,12 @@
 -- What is known keeps its form behind writes.
-use Rattle.std.proofs.Common.{◌≡◌, ℕ, zero, suc, ◌-◌, ◌/◌, ◌%◌, ◌<◌, ◌≤◌, ◌==◌, Bool, true, false, Option, None, Some, List, [], ◌∷◌, length, drop, set, bit_and, refl, sym, ap, ◌∙◌, subst, arith, Contains}
-use Rattle.std.proofs.lemmas.Bool.{cond_both, eqb-true}
+use Rattle.std.proofs.Common.{◌≡◌, ℕ, ◌-◌, ◌/◌, ◌%◌, ◌<◌, ◌≤◌, ◌==◌, Bool, true, false, Option, None, Some, List, length, drop, set, refl, ap, ◌∙◌, arith, Contains}
+use Rattle.std.specs.List.{list_any}
+use Rattle.std.specs.Prelude.{nat_le}
+use Rattle.std.proofs.lemmas.Bool.{cond_both, eqb-true, leb-false}
 use Rattle.std.proofs.lemmas.List.{length-set, length-drop}
 use Rattle.std.proofs.lemmas.List.FromFn.{length-map-range_with_len}
 use Rattle.std.proofs.lemmas.Nat.{and_le_l, or_lt}
+use Rattle.plain_lemmas.specs.AnyOf.{none_passes}
 use Rattle.entry_value.specs.declared.byte.Byte.{Byte}
 use Rattle.entry_value.specs.declared.word.Entry.{Entry}
 use Rattle.value_bits.specs.declared.tri.Logic.TheVariants.{And, Or}
@@ -24,15 +27,17 @@ use Rattle.mcs51_state.specs.declared.fact.Compared.{Compared}
 use Rattle.mcs51_state.specs.declared.fact.LinearFact.{LinearFact}
 use Rattle.mcs51_state.specs.declared.fact.CarryFact.{CarryFact}
 use Rattle.mcs51_state.specs.declared.status.Status.{Status}
+use Rattle.mcs51_state.specs.FormFacts.{no_own_relation, byte_form as plain_byte}
 use Rattle.mcs51_state.specs.Forms.{IsByte, IsOwnByte, IsOwnRelation, IsRelation, IsLinear, IsCarry, IsKnown}
 use Rattle.mcs51_state.specs.Known.{Known, byte_of}
 use Rattle.mcs51_state.specs.Places.{ie_place, ip_place, psw_place}
 use Rattle.mcs51_state.specs.Standing.{AreAddresses}
 use Rattle.mcs51_stores.specs.Following.{KeepsForm}
 use Rattle.mcs51_stores.specs.Stack.{raised, lowered, byte_pushed, pair_pushed, address_pushed, byte_popped}
+use Rattle.mcs51_stores.specs.ValueFacts.{lowered_normal, raised_normal}
 use Rattle.mcs51_stores.specs.Writing.{linear_beside, is_compared_in, is_accumulator, carry_unless, word_of_byte, cells_written, ram_written, own_masks, own_entry, own_byte, status_of_byte, status_written, accumulator_written, register_written, byte_written, data_pointer_written, carry_set, flags_set}
-use Rattle.mcs51_stores.proofs.Bits.{Parted, gained, lost, ie_parted, ip_parted, psw_parted}
-use Rattle.mcs51_stores.proofs.Cells.{AreByteCells, cells_form, byte_stored, no_relation}
+use Rattle.mcs51_stores.proofs.Bits.{gained, lost, ie_others, ip_others}
+use Rattle.mcs51_stores.proofs.Cells.{AreByteCells, cells_form, byte_stored}
 use Rattle.mcs51_stores.proofs.Touching.{touched_form, touched_none}
 
 -- FACTS
@@ -47,7 +52,7 @@ carry_form is_written (Some fact) is = cond_both (is_written fact.compared) None
 
 -- RAM
 
-known_cells : (framed : Bool) (known : Known) → IsKnown framed known → AreByteCells framed known.cells
+pub known_cells : (framed : Bool) (known : Known) → IsKnown framed known → AreByteCells framed known.cells
 known_cells framed known form = record { from = form.from; up_to = form.up_to; cells = form.cells; each = form.each_cell }
 
 pub stored_cells : (laws : KnownLaws) (framed : Bool) (at : Form) (byte : Byte) → IsByte framed byte → (known : Known) → IsKnown framed known
@@ -67,28 +72,19 @@ ram_form laws framed at byte normal is known form =
 
 -- REGISTERS
 
-no_own : (framed : Bool) (place unheld : ℕ) → IsOwnRelation framed place unheld None
-no_own true place unheld = tt
-no_own false place unheld = tt
-
-masks_own : (framed : Bool) (place unheld held : ℕ) (entry : Entry) → Parted unheld held → held ≡ 65535 - unheld → entry.place ≡ place → IsRelation framed (Some entry)
+masks_own : (framed : Bool) (place unheld : ℕ) (entry : Entry) → unheld < 256 → entry.place ≡ place → IsRelation framed (Some entry)
     → IsOwnRelation framed place unheld (Some (own_masks unheld entry))
-masks_own false place unheld held entry parted is_held same is = absurd is
-masks_own true place unheld held entry parted is_held same is = (
-  same,
-  or_lt 8 entry.and unheld is.1 parted.below,
-  gained entry.and unheld,
-  omega (arith, and_le_l entry.or (65535 - unheld), is.2),
-  subst (λ h. bit_and (bit_and entry.or h) unheld ≡ 0) is_held (lost entry.or unheld held parted),
-)
+masks_own false place unheld entry below same is = absurd is
+masks_own true place unheld entry below same is =
+    (same, or_lt 8 entry.and unheld is.1 below, gained entry.and unheld, omega (arith, and_le_l entry.or (65535 - unheld), is.2), lost entry.or unheld below)
 
-pub entry_own : (framed : Bool) (place unheld held : ℕ) (entry : Option Entry) → Parted unheld held → held ≡ 65535 - unheld → IsRelation framed entry
+pub entry_own : (framed : Bool) (place unheld : ℕ) (entry : Option Entry) → unheld < 256 → IsRelation framed entry
     → IsOwnRelation framed place unheld (own_entry place unheld entry)
-entry_own framed place unheld held None parted is_held is = no_own framed place unheld
-entry_own framed place unheld held (Some entry) parted is_held is =
+entry_own framed place unheld None below is = no_own_relation framed place unheld
+entry_own framed place unheld (Some entry) below is =
     cond_both (entry.place == place) (Some (own_masks unheld entry)) None (IsOwnRelation framed place unheld)
-    (λ e. masks_own framed place unheld held entry parted is_held (eqb-true entry.place place e) is)
-    (λ e. no_own framed place unheld)
+    (λ e. masks_own framed place unheld entry below (eqb-true entry.place place e) is)
+    (λ e. no_own_relation framed place unheld)
 
 pub own_normal : (laws : KnownLaws) (unheld : ℕ) (others : List ℕ) (set_so : Form) → 1 ≤ length others → ((v : ℕ) → Contains others v → v < 256) → IsNormal 256 set_so
     → IsNormal 256 (logic_set 8 Or (logic_set 8 And set_so (single (255 - unheld))) (gather 256 others))
@@ -97,30 +93,21 @@ own_normal laws unheld others set_so some low normal =
     (laws.bits.logic_normal 8 And set_so (single (255 - unheld)) normal (laws.sets.single 256 (255 - unheld) (omega arith)).0)
     (laws.sets.gather_normal 256 others some low)
 
-own_form : (laws : KnownLaws) (framed : Bool) (place unheld held : ℕ) (others : List ℕ) (byte : Byte) → Parted unheld held → held ≡ 65535 - unheld → 1 ≤ length others
+pub own_form : (laws : KnownLaws) (framed : Bool) (place unheld : ℕ) (others : List ℕ) (byte : Byte) → unheld < 256 → 1 ≤ length others
     → ((v : ℕ) → Contains others v → v < 256) → IsByte framed byte → IsOwnByte framed place unheld (own_byte place unheld others byte)
-own_form laws framed place unheld held others byte parted is_held some low is = record {
+own_form laws framed place unheld others byte below some low is = record {
   normal = own_normal laws unheld others byte.set some low is.normal;
-  entry = entry_own framed place unheld held byte.entry parted is_held is.entry;
+  entry = entry_own framed place unheld byte.entry below is.entry;
 }
 
-low_of_two : (v : ℕ) → Contains (0 ∷ 64 ∷ []) v → v < 256
-low_of_two v (zero, inside, is) = omega (arith, sym is)
-low_of_two v (suc zero, inside, is) = omega (arith, sym is)
-low_of_two v (suc (suc k), inside, is) = absurd (omega (arith, inside))
+each_low : (others : List ℕ) → list_any (nat_le 256) others ≡ false → (v : ℕ) → Contains others v → v < 256
+each_low others none v h = leb-false 256 v (none_passes (nat_le 256) others none v h)
 
-low_of_four : (v : ℕ) → Contains (0 ∷ 64 ∷ 128 ∷ 192 ∷ []) v → v < 256
-low_of_four v (zero, inside, is) = omega (arith, sym is)
-low_of_four v (suc zero, inside, is) = omega (arith, sym is)
-low_of_four v (suc (suc zero), inside, is) = omega (arith, sym is)
-low_of_four v (suc (suc (suc zero)), inside, is) = omega (arith, sym is)
-low_of_four v (suc (suc (suc (suc k))), inside, is) = absurd (omega (arith, inside))
+pub ie_bytes : (v : ℕ) → Contains ie_others v → v < 256
+ie_bytes = each_low ie_others refl
 
-pub ie_bytes : (v : ℕ) → Contains (0 ∷ 64 ∷ []) v → v < 256
-ie_bytes = low_of_two
-
-pub ip_bytes : (v : ℕ) → Contains (0 ∷ 64 ∷ 128 ∷ 192 ∷ []) v → v < 256
-ip_bytes = low_of_four
+pub ip_bytes : (v : ℕ) → Contains ip_others v → v < 256
+ip_bytes = each_low ip_others refl
 
 pub status_form : (framed : Bool) (status : Status) → length status.bits ≡ 6 → IsOwnRelation framed psw_place 3 status.entry → KeepsForm framed (status_written status)
 status_form framed status count own known form = let none : IsCarry None = tt in assumption (form, count, own, none)
@@ -139,35 +126,28 @@ accumulator_form framed byte is known form =
 pub sp_form : (framed : Bool) (set_so : Form) → IsNormal 256 set_so → KeepsForm framed (λ known. record known { sp = set_so })
 sp_form framed set_so normal known form = assumption (form, normal)
 
-b_form : (framed : Bool) (byte : Byte) → IsByte framed byte → KeepsForm framed (λ known. record known { b = byte })
-b_form framed byte is known form = assumption (form, is)
-
 pub data_pointer_form : (framed : Bool) (low high : Byte) → IsByte framed low → IsByte framed high → KeepsForm framed (data_pointer_written low high)
 data_pointer_form framed low high is also known form = assumption (form, is, also)
-
-ie_form : (framed : Bool) (byte : Byte) → IsOwnByte framed ie_place 64 byte → KeepsForm framed (λ known. record known { ie = byte })
-ie_form framed byte is known form = assumption (form, is)
-
-ip_form : (framed : Bool) (byte : Byte) → IsOwnByte framed ip_place 192 byte → KeepsForm framed (λ known. record known { ip = byte })
-ip_form framed byte is known form = assumption (form, is)
 
 pub register_form : (laws : KnownLaws) (framed : Bool) (register : Sfr) (byte : Byte) → IsByte framed byte → KeepsForm framed (register_written register byte)
 unfolding register_written
 register_form laws framed Sp byte is known form = sp_form framed byte.set is.normal known form
-register_form laws framed Dpl byte is known form = data_pointer_form framed byte known.dph is form.dph known form
-register_form laws framed Dph byte is known form = data_pointer_form framed known.dpl byte form.dpl is known form
+register_form laws framed Dpl byte is known form = assumption (form, is)
+register_form laws framed Dph byte is known form = assumption (form, is)
 register_form laws framed Ie byte is known form =
-    ie_form framed (own_byte ie_place 64 (0 ∷ 64 ∷ []) byte) (own_form laws framed ie_place 64 (65535 - 64) (0 ∷ 64 ∷ []) byte ie_parted refl (omega arith) low_of_two is) known form
+    let own = own_form laws framed ie_place 64 ie_others byte (omega arith) (omega arith) ie_bytes is in
+    assumption (form, own)
 register_form laws framed Ip byte is known form =
-    ip_form framed (own_byte ip_place 192 (0 ∷ 64 ∷ 128 ∷ 192 ∷ []) byte)
-    (own_form laws framed ip_place 192 (65535 - 192) (0 ∷ 64 ∷ 128 ∷ 192 ∷ []) byte ip_parted refl (omega arith) low_of_four is) known form
+    let own = own_form laws framed ip_place 192 ip_others byte (omega arith) (omega arith) ip_bytes is in
+    assumption (form, own)
 register_form laws framed Psw byte is known form =
-    status_form framed (status_of_byte byte) (six_bits byte.set) (entry_own framed psw_place 3 (65535 - 3) byte.entry psw_parted refl is.entry) known form
+    status_form framed (status_of_byte byte) (six_bits byte.set) (entry_own framed psw_place 3 byte.entry (omega arith) is.entry) known form
 register_form laws framed Acc byte is known form = accumulator_form framed byte is known form
-register_form laws framed B byte is known form = b_form framed byte is known form
+register_form laws framed B byte is known form = assumption (form, is)
 register_form laws framed Other byte is known form = form
 
-pub byte_form : (laws : KnownLaws) (framed : Bool) (addresses : Addresses) (byte : Byte) → AreAddresses addresses → IsByte framed byte → KeepsForm framed (byte_written framed addresses byte)
+pub byte_form : (laws : KnownLaws) (framed : Bool) (addresses : Addresses) (byte : Byte) → AreAddresses addresses → IsByte framed byte
+    → KeepsForm framed (byte_written framed addresses byte)
 unfolding byte_written
 byte_form laws framed (InRam at) byte are is known form = ram_form laws framed at byte are is known form
 byte_form laws framed (InSfr register) byte are is known form = register_form laws framed (sfr_at register) byte is known form
@@ -176,22 +156,20 @@ byte_form laws framed (InSfr register) byte are is known form = register_form la
 
 pub carry_set_form : (framed : Bool) (carry : Tri) → KeepsForm framed (carry_set carry)
 carry_set_form framed carry known form =
-    status_form framed (record { bits = set known.psw.bits 5 carry; entry = None }) (length-set known.psw.bits 5 carry ∙ form.bits) (no_own framed psw_place 3) known form
+    status_form framed (record { bits = set known.psw.bits 5 carry; entry = None }) (length-set known.psw.bits 5 carry ∙ form.bits) (no_own_relation framed psw_place 3) known form
+
+pub three_long : (bits : List Tri) (carry half overflow : Tri) → length bits ≡ 6 → length (set (set (set bits 0 overflow) 4 half) 5 carry) ≡ 6
+three_long bits carry half overflow six =
+    let one = set bits 0 overflow in
+    let two = set one 4 half in
+    length-set two 5 carry ∙ length-set one 4 half ∙ length-set bits 0 overflow ∙ six
 
 pub flags_set_form : (framed : Bool) (carry half overflow : Tri) → KeepsForm framed (flags_set carry half overflow)
 flags_set_form framed carry half overflow known form =
-    let one = set known.psw.bits 0 overflow in
-    let two = set one 4 half in
-    status_form framed (record { bits = set two 5 carry; entry = None })
-    (length-set two 5 carry ∙ length-set one 4 half ∙ length-set known.psw.bits 0 overflow ∙ form.bits) (no_own framed psw_place 3) known form
+    let bits = set (set (set known.psw.bits 0 overflow) 4 half) 5 carry in
+    status_form framed (record { bits = bits; entry = None }) (three_long known.psw.bits carry half overflow form.bits) (no_own_relation framed psw_place 3) known form
 
 -- THE STACK
-
-pub raised_normal : (laws : KnownLaws) (sp : Form) → IsNormal 256 sp → IsNormal 256 (raised sp)
-raised_normal laws sp normal = laws.sets.add_normal 256 sp (single 1) normal (laws.sets.single 256 1 (omega arith)).0
-
-pub lowered_normal : (laws : KnownLaws) (sp : Form) → IsNormal 256 sp → IsNormal 256 (lowered sp)
-lowered_normal laws sp normal = laws.sets.sub_normal 256 sp (single 1) normal (laws.sets.single 256 1 (omega arith)).0
 
 pub push_form : (laws : KnownLaws) (framed : Bool) (byte : Byte) → IsByte framed byte → KeepsForm framed (byte_pushed framed byte)
 unfolding byte_pushed
@@ -203,7 +181,7 @@ pub pair_form : (laws : KnownLaws) (framed : Bool) (low high : Byte) → IsByte 
 pair_form laws framed low high is also known form = push_form laws framed high also (byte_pushed framed low known) (push_form laws framed low is known form)
 
 pub number_form : (laws : KnownLaws) (framed : Bool) (n : ℕ) → n < 256 → IsByte framed (byte_of (single n))
-number_form laws framed n low = record { normal = (laws.sets.single 256 n low).0; entry = no_relation framed }
+number_form laws framed n low = plain_byte framed (single n) (laws.sets.single 256 n low).0
 
 pub address_form : (laws : KnownLaws) (framed : Bool) (address : ℕ) → address < 65536 → KeepsForm framed (address_pushed framed address)
 address_form laws framed address below =

@@ -1,6 +1,5 @@
 mod Bits
 mod Cells
 mod Forms
-mod Members
 mod Parts
 mod Touching

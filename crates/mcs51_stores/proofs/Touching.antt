@@ -1,13 +1,14 @@
 -- The bytes that a write touches.
-use Rattle.std.proofs.Common.{◌≡◌, ℕ, ◌+◌, ◌-◌, ◌*◌, ◌%◌, ◌<◌, ◌≤◌, Bool, true, false, Option, None, Some, List, [], ◌∷◌, set, sym, ◌∙◌, subst, inl, inr, arith, Contains, get_or-set_other}
+use Rattle.std.proofs.Common.{◌≡◌, ℕ, ◌+◌, ◌-◌, ◌*◌, ◌<◌, ◌≤◌, Bool, true, false, Option, None, Some, List, [], ◌∷◌, set, sym, ◌∙◌, subst, inl, inr, arith, Contains, get_or-set_other}
 use Rattle.std.specs.Prelude.{nat_le, if◌then◌else◌, slice_index}
 use Rattle.std.proofs.lemmas.Bool.{and_from, or_right, or_left, cond_both, leb-false, le-leb, false_from_ne_true, both_ways}
 use Rattle.std.proofs.Math.Nat.{mod-eq_of_lt, mul-le-mul_right}
-use Rattle.std.proofs.lemmas.List.FromFn.{length-map-range_with_len, get_or-map-range_with_len}
+use Rattle.plain_lemmas.specs.Members.{in_none, in_cons}
 use Rattle.irq_frames.specs.Ranges.{AreRanges, has_address, lies_in, with_range}
 use Rattle.value_set.specs.declared.form.Form.{Form}
 use Rattle.value_set.specs.declared.form.Form.TheVariants.{Values, Run}
-use Rattle.value_set.specs.Form.{Has, IsNormal, steps}
+use Rattle.value_set.specs.Form.{Has, IsNormal}
+use Rattle.value_set.specs.StepFacts.{steps_from}
 use Rattle.value_set.specs.Joining.{reach}
 use Rattle.irq_frames.specs.KnownLaws.{KnownLaws}
 use Rattle.mcs51_chip.specs.declared.state.ChipState.{ChipState}
@@ -15,7 +16,6 @@ use Rattle.mcs51_state.specs.Holding.{KeepsUntouched}
 use Rattle.mcs51_state.specs.Under.{IsFramed}
 use Rattle.mcs51_stores.specs.Writing.{touch_each, touched_behind}
 use Rattle.mcs51_stores.proofs.Cells.{AreLow, rest_low, first_low}
-use Rattle.mcs51_stores.proofs.Members.{in_none, in_cons}
 
 -- ranges in RAM that have what was touched before
 pub record Grows (before after : List (ℕ × ℕ)) : Type 0 where
@@ -42,7 +42,8 @@ each_grows laws (at ∷ rest) touched low are =
     grows_on touched (with_range at at touched) (touch_each rest (with_range at at touched)) one
     (each_grows laws rest (with_range at at touched) (rest_low at rest low) one.form)
 
-each_touched : (laws : KnownLaws) (b : ℕ) (list : List ℕ) (touched : List (ℕ × ℕ)) → AreLow list → AreRanges 0 255 touched → Contains list b → has_address (touch_each list touched) b ≡ true
+each_touched : (laws : KnownLaws) (b : ℕ) (list : List ℕ) (touched : List (ℕ × ℕ)) → AreLow list → AreRanges 0 255 touched → Contains list b
+    → has_address (touch_each list touched) b ≡ true
 each_touched laws b [] touched low are there = absurd (in_none b there)
 each_touched laws b (at ∷ rest) touched low are there =
     let one = range_grows laws at at touched (omega arith) (omega (arith, first_low at rest low)) are in
@@ -61,14 +62,8 @@ behind_grows laws (Run p) touched normal are =
     (λ e. let once : p.base + reach p < 256 = leb-false 256 (p.base + reach p) e in
     range_grows laws p.base (p.base + reach p) touched (omega arith) (omega (arith, once)) are)
 
-steps_from : (m base stride count v : ℕ) → Contains (steps m base stride count) v → (i : ℕ) × (i < count) × (v ≡ (base + i * stride) % m)
-unfolding steps
-steps_from m base stride count v h =
-    let f : ℕ → ℕ = λ k. (base + k * stride) % m in
-    let inside : h.0 < count = rw (length-map-range_with_len f 0 count) at h.1 in
-    (h.0, inside, sym h.2 ∙ get_or-map-range_with_len f 0 count h.0 h.0 v inside (omega arith))
-
-pub behind_touched : (laws : KnownLaws) (b : ℕ) (at : Form) (touched : List (ℕ × ℕ)) → IsNormal 256 at → AreRanges 0 255 touched → Has 256 at b → has_address (touched_behind at touched) b ≡ true
+pub behind_touched : (laws : KnownLaws) (b : ℕ) (at : Form) (touched : List (ℕ × ℕ)) → IsNormal 256 at → AreRanges 0 255 touched → Has 256 at b
+    → has_address (touched_behind at touched) b ≡ true
 behind_touched laws b (Values xs) touched normal are there = each_touched laws b xs touched (λ v h. laws.sets.below 256 v (Values xs) normal h) are there
 behind_touched laws b (Run p) touched normal are there =
     let (i, inside, is) = steps_from 256 p.base p.stride p.count b there in
@@ -85,7 +80,8 @@ pub touched_form : (laws : KnownLaws) (framed : Bool) (at : Form) (touched : Lis
 touched_form laws true at touched normal are = let grown = behind_grows laws at touched normal are in grown.form
 touched_form laws false at touched normal are = are
 
-pub touched_none : (framed : Bool) (at : Form) (touched : List (ℕ × ℕ)) → (framed ≡ false → touched ≡ []) → framed ≡ false → (if framed then touched_behind at touched else touched) ≡ []
+pub touched_none : (framed : Bool) (at : Form) (touched : List (ℕ × ℕ)) → (framed ≡ false → touched ≡ []) → framed ≡ false
+    → (if framed then touched_behind at touched else touched) ≡ []
 touched_none true at touched none base = absurd (cc)
 touched_none false at touched none base = none base
 
@@ -98,7 +94,8 @@ stays_untouched laws s f at touched address x b normal are there keeps none =
     (subst (λ n. has_address (touched_behind at touched) n ≡ true) (sym e) (behind_touched laws address at touched normal are there)) in
     get_or-set_other s.ram address b x 0 other ∙ keeps b before
 
-pub untouched_stay : (laws : KnownLaws) (framed : Bool) (s : ChipState) (first : Option ChipState) (at : Form) (touched : List (ℕ × ℕ)) (address x : ℕ) → IsFramed framed first → IsNormal 256 at
+pub untouched_stay : (laws : KnownLaws) (framed : Bool) (s : ChipState) (first : Option ChipState) (at : Form) (touched : List (ℕ × ℕ)) (address x : ℕ)
+    → IsFramed framed first → IsNormal 256 at
     → AreRanges 0 255 touched → Has 256 at address → KeepsUntouched touched s first
     → KeepsUntouched (if framed then touched_behind at touched else touched) (record s { ram = set s.ram address x }) first
 untouched_stay laws framed s None at touched address x base normal are there keeps = tt

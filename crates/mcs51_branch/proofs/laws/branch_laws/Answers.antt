@@ -1,7 +1,4 @@
 use Rattle.mcs51_branch.proofs.laws.branch_laws.Goals as goal
 
 pub returns : goal.returns
-returns c = record {
-  ways = c.jumps_hold.ensures;
-  bits = c.bits_hold.ensures;
-}
+returns c = assumption c

@@ -1,4 +1,5 @@
-use Rattle.mcs51_operands.proofs.Together.{both_shown, none_shown, read_shown, update_shown, write_shown}
+use Rattle.mcs51_operands.specs.ShowingFacts.{none_shown}
+use Rattle.mcs51_operands.proofs.Together.{both_shown, read_shown, update_shown, write_shown}
 use Rattle.mcs51_operands.proofs.formats.accesses_add_up.Goals as goal
 
 pub returns : goal.returns

@@ -4,12 +4,12 @@ use Rattle.mcs51_operands.proofs.formats.formats_do.Goals as goal
 pub returns : goal.returns
 returns c =
     let shows = c.accesses_are_shown.ensures.operand in
-    let leads = c.formats_lead.ensures in
+    let chip = c.formats_lead.ensures in
     record {
       implied = implied_does;
-      reading = reading_does shows leads.reading;
+      reading = reading_does shows chip;
       writing = writing_does shows;
-      updating = updating_does shows leads.updating;
-      moving = moving_does shows leads.moving;
+      updating = updating_does shows chip;
+      moving = moving_does shows chip;
       write_keeps = write_keeps;
     }

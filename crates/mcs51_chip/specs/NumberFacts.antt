@@ -1,6 +1,8 @@
--- Results are bytes, and targets are addresses.
-use Rattle.std.proofs.Common.{◌≡◌, ℕ, ◌+◌, ◌-◌, ◌*◌, ◌/◌, ◌%◌, ◌<◌, ◌==◌, Bool, true, false, cond, nat_lt, zero, suc, bit_and, bit_or, bit_xor, arith}
+-- Results are bytes, and targets are addresses: lemmas, also for the proofs of crates above.
+use Rattle.std.proofs.Common.{◌≡◌, ℕ, ◌+◌, ◌-◌, ◌*◌, ◌/◌, ◌%◌, ◌<◌, ◌==◌, Bool, true, false, nat_lt, zero, suc, bit_and, bit_or, bit_xor, arith}
 use Rattle.std.proofs.lemmas.Nat.{and_le_l, or_lt, xor_lt}
+use Rattle.std.proofs.lemmas.Nat.Bits.{bit_at-lt}
+use Rattle.std.proofs.lemmas.Bool.{cond_both}
 use Rattle.chip_numbers.specs.Numbers.{shifted_right, shifted_left, exchanged, decimal_adjusted}
 use Rattle.mcs51_decode.specs.declared.instr.Logic.{Logic}
 use Rattle.mcs51_decode.specs.declared.instr.Logic.TheVariants as logic
@@ -10,9 +12,15 @@ use Rattle.mcs51_decode.specs.declared.instr.CarryByBit.{CarryByBit}
 use Rattle.mcs51_decode.specs.declared.instr.CarryByBit.TheVariants as by_bit
 use Rattle.mcs51_decode.specs.declared.instr.BitOperation.{BitOperation}
 use Rattle.mcs51_decode.specs.declared.instr.BitOperation.TheVariants as bit
+use Rattle.mcs51_decode.specs.declared.instr.Pointer.{Pointer}
+use Rattle.mcs51_decode.specs.declared.instr.Pointer.TheVariants as pointer
+use Rattle.mcs51_decode.specs.declared.instr.Register.{Register}
+use Rattle.mcs51_decode.specs.declared.instr.Register.TheVariants as register
+use Rattle.mcs51_decode.specs.Encoding.{pointer_number, register_number}
 use Rattle.mcs51_decode.specs.Targets.{relative_target, absolute_target}
+use Rattle.mcs51_chip.specs.declared.state.ChipState.{ChipState}
 use Rattle.mcs51_chip.specs.Arithmetic.{masked, carry_after, carry_with, bit_after}
-use Rattle.mcs51_chip.specs.Registers.{bit_of, parity, with_bit}
+use Rattle.mcs51_chip.specs.Registers.{bit_of, carry_of, parity, with_bit}
 
 pub or_below : (x y : ℕ) → x < 256 → y < 256 → bit_or x y < 256
 or_below x y h g = or_lt 8 x y h g
@@ -27,6 +35,9 @@ pub masked_below : (operation : Logic) (x mask : ℕ) → x < 256 → mask < 256
 masked_below logic.Orl x mask h g = or_below x mask h g
 masked_below logic.Anl x mask h g = and_below x mask 256 h
 masked_below logic.Xrl x mask h g = xor_below x mask h g
+
+pub carry_below : (s : ChipState) → carry_of s < 2
+carry_below s = bit_at-lt s.psw 7
 
 pub flag_below : (flag : Bool) → bit_of flag < 2
 flag_below true = omega arith
@@ -53,16 +64,22 @@ bit_after_below bit.Cpl c b h = omega arith
 bit_after_below bit.Clr c b h = omega arith
 bit_after_below bit.Setb c b h = omega arith
 
-bit_put : (x n b : ℕ) → n < 8 → x < 256 → b < 2 → with_bit x n b < 256
-bit_put x zero b n h g = omega (arith, h, g)
-bit_put x (suc zero) b n h g = omega (arith, h, g)
-bit_put x (suc (suc zero)) b n h g = omega (arith, h, g)
-bit_put x (suc (suc (suc zero))) b n h g = omega (arith, h, g)
-bit_put x (suc (suc (suc (suc zero)))) b n h g = omega (arith, h, g)
-bit_put x (suc (suc (suc (suc (suc zero))))) b n h g = omega (arith, h, g)
-bit_put x (suc (suc (suc (suc (suc (suc zero)))))) b n h g = omega (arith, h, g)
-bit_put x (suc (suc (suc (suc (suc (suc (suc zero))))))) b n h g = omega (arith, h, g)
-bit_put x (suc (suc (suc (suc (suc (suc (suc (suc more)))))))) b n h g = absurd (omega (arith, n))
+-- what holds of each of the eight places of a byte
+pub of_eight : (P : ℕ → Type 0) → P 0 → P 1 → P 2 → P 3 → P 4 → P 5 → P 6 → P 7 → (n : ℕ) → n < 8 → P n
+of_eight P a b c d e f g h zero low = a
+of_eight P a b c d e f g h (suc zero) low = b
+of_eight P a b c d e f g h (suc (suc zero)) low = c
+of_eight P a b c d e f g h (suc (suc (suc zero))) low = d
+of_eight P a b c d e f g h (suc (suc (suc (suc zero)))) low = e
+of_eight P a b c d e f g h (suc (suc (suc (suc (suc zero))))) low = f
+of_eight P a b c d e f g h (suc (suc (suc (suc (suc (suc zero)))))) low = g
+of_eight P a b c d e f g h (suc (suc (suc (suc (suc (suc (suc zero))))))) low = h
+of_eight P a b c d e f g h (suc (suc (suc (suc (suc (suc (suc (suc more)))))))) low = absurd (omega (arith, low))
+
+pub bit_put : (x n b : ℕ) → n < 8 → x < 256 → b < 2 → with_bit x n b < 256
+bit_put x n b low h g = of_eight (λ n. with_bit x n b < 256)
+    (omega (arith, h, g)) (omega (arith, h, g)) (omega (arith, h, g)) (omega (arith, h, g))
+    (omega (arith, h, g)) (omega (arith, h, g)) (omega (arith, h, g)) (omega (arith, h, g)) n low
 
 pub with_bit_below : (x bit b : ℕ) → x < 256 → b < 2 → with_bit x (bit % 8) b < 256
 with_bit_below x bit b h g = bit_put x (bit % 8) b (omega arith) h g
@@ -88,12 +105,25 @@ quotient_below a b h some = grind (arith, h, some)
 pub remainder_below : (a b : ℕ) → a < 256 → a % b < 256
 remainder_below a b h = grind (arith, h)
 
-target_by : (forward : Bool) (next rel : ℕ) → cond forward ((next + rel) % 65536) ((next + rel + 65280) % 65536) < 65536
-target_by true next rel = omega arith
-target_by false next rel = omega arith
+-- REGISTERS AND TARGETS
+
+pub pointer_below : (i : Pointer) → pointer_number i < 8
+pointer_below pointer.R0 = omega arith
+pointer_below pointer.R1 = omega arith
+
+pub register_below : (n : Register) → register_number n < 8
+register_below register.R0 = omega arith
+register_below register.R1 = omega arith
+register_below register.R2 = omega arith
+register_below register.R3 = omega arith
+register_below register.R4 = omega arith
+register_below register.R5 = omega arith
+register_below register.R6 = omega arith
+register_below register.R7 = omega arith
 
 pub target_below : (next rel : ℕ) → relative_target next rel < 65536
-target_below next rel = target_by (nat_lt rel 128) next rel
+target_below next rel =
+    cond_both (nat_lt rel 128) ((next + rel) % 65536) ((next + rel + 65280) % 65536) (λ target. target < 65536) (λ e. omega arith) (λ e. omega arith)
 
 pub absolute_below : (next target : ℕ) → next < 65536 → absolute_target next target < 65536
 absolute_below next target h = omega (arith, h)
