@@ -1,5 +1,5 @@
 -- Bits of results, of as many places as SR has.
-use Rattle.std.proofs.Common.{◌≡◌, true, false, ℕ, zero, suc, ◌-◌, ◌+◌, ◌*◌, ◌/◌, ◌%◌, ◌^◌, ◌<◌, ◌≤◌, List, [], ◌∷◌, length, take, set, replicate, refl, sym, ap, ◌∙◌, subst, arith}
+use Rattle.std.proofs.Common.{◌≡◌, true, false, ℕ, zero, suc, ◌-◌, ◌+◌, ◌*◌, ◌/◌, ◌%◌, ◌^◌, ◌<◌, ◌≤◌, List, [], ◌∷◌, length, take, set, refl, sym, ap, ◌∙◌, subst, arith}
 use Rattle.std.specs.Prelude.{bit_and, bit_or}
 use Prim.Native.Nat.{min, max}
 use Rattle.std.specs.Int.Bits.{and_step, or_step}
@@ -7,7 +7,8 @@ use Rattle.std.proofs.Math.Nat.{pow-suc}
 use Rattle.std.proofs.lemmas.List.{length-set, length-replicate}
 use Rattle.std.proofs.lemmas.Nat.{and_le_l, or_lt}
 use Rattle.value_bits.specs.declared.tri.Tri.{Tri}
-use Rattle.value_bits.specs.declared.tri.Tri.TheVariants.{Zero, One, Either}
+use Rattle.value_bits.specs.declared.tri.Tri.TheVariants.{Zero, Either}
+use Rattle.value_bits.specs.BitFacts.{and_bit, bit_not, bits_any, or_bit}
 use Rattle.value_bits.specs.Bits.{IsBit, Agrees, tri_and, tri_not, tri_or}
 use Rattle.msp430_decode.specs.declared.instr.Operation.{Operation}
 use Rattle.msp430_decode.specs.declared.instr.Operation.TheVariants as operation
@@ -66,33 +67,8 @@ below_clear (suc n) (b ∷ bs) v long small h =
 
 -- ONE BIT
 
-and_bit : (a b : Tri) (x y : ℕ) → IsBit a x → IsBit b y → IsBit (tri_and a b) (min x y)
-and_bit Zero b x y h k = omega (arith, h)
-and_bit One Zero x y h k = omega (arith, h, k)
-and_bit One One x y h k = omega (arith, h, k)
-and_bit One Either x y h k = omega (arith, h, k)
-and_bit Either Zero x y h k = omega (arith, h, k)
-and_bit Either One x y h k = omega (arith, h, k)
-and_bit Either Either x y h k = omega (arith, h, k)
-
-pub bit_small : (a : Tri) (x : ℕ) → IsBit a x → x < 2
-bit_small Zero x h = omega (arith, h)
-bit_small One x h = omega (arith, h)
-bit_small Either x h = omega (arith, h)
-
-or_bit : (a b : Tri) (x y : ℕ) → IsBit a x → IsBit b y → IsBit (tri_or a b) (max x y)
-or_bit Zero Zero x y h k = omega (arith, h, k)
-or_bit Zero One x y h k = omega (arith, h, k)
-or_bit Zero Either x y h k = omega (arith, h, k)
-or_bit One b x y h k = let small = bit_small b y k in omega (arith, h, small)
-or_bit Either Zero x y h k = omega (arith, h, k)
-or_bit Either One x y h k = omega (arith, h, k)
-or_bit Either Either x y h k = omega (arith, h, k)
-
 not_bit : (b : Tri) (x y : ℕ) → x + y ≡ 1 → IsBit b x → IsBit (tri_not b) y
-not_bit Zero x y e h = omega (arith, e, h)
-not_bit One x y e h = omega (arith, e, h)
-not_bit Either x y e h = omega (arith, e, h)
+not_bit b x y e h = let other : 1 - x ≡ y = omega (arith, e) in subst (IsBit (tri_not b)) other (bit_not b x h)
 
 -- ALL BITS, of a source x and of what SR held, y
 
@@ -152,29 +128,13 @@ below_behind : (done : Operation) (n k : ℕ) (xs ys : List Tri) (x y z : ℕ) �
 below_behind operation.Mov n k xs ys x y z none le other h held = below_first (bit_behind operation.Mov) (λ a b. refl) n xs ys x h
 below_behind operation.Bic n k xs ys x y z none le other h held = below_clear_of n k xs ys x y z le other h (held refl)
 below_behind operation.Bis n k xs ys x y z none le other h held = below_or n xs ys x y h (held refl)
-below_behind operation.Add n k xs ys x y z none le other h held = absurd (cc)
-below_behind operation.Addc n k xs ys x y z none le other h held = absurd (cc)
-below_behind operation.Subc n k xs ys x y z none le other h held = absurd (cc)
-below_behind operation.Sub n k xs ys x y z none le other h held = absurd (cc)
-below_behind operation.Cmp n k xs ys x y z none le other h held = absurd (cc)
-below_behind operation.Dadd n k xs ys x y z none le other h held = absurd (cc)
-below_behind operation.Bit n k xs ys x y z none le other h held = absurd (cc)
-below_behind operation.Xor n k xs ys x y z none le other h held = absurd (cc)
-below_behind operation.And n k xs ys x y z none le other h held = absurd (cc)
+below_behind other n k xs ys x y z none le one h held = absurd (cc)
 
 byte_behind : (done : Operation) (x y z : ℕ) → sets_flags done ≡ false → x < 256 → (reads_destination done ≡ true → y < 256) → number_behind done x y z < 256
 byte_behind operation.Mov x y z none small few = small
 byte_behind operation.Bic x y z none small few = let under = and_le_l y z in let less = few refl in omega (arith, under, less)
 byte_behind operation.Bis x y z none small few = or_lt 8 y x (few refl) small
-byte_behind operation.Add x y z none small few = absurd (cc)
-byte_behind operation.Addc x y z none small few = absurd (cc)
-byte_behind operation.Subc x y z none small few = absurd (cc)
-byte_behind operation.Sub x y z none small few = absurd (cc)
-byte_behind operation.Cmp x y z none small few = absurd (cc)
-byte_behind operation.Dadd x y z none small few = absurd (cc)
-byte_behind operation.Bit x y z none small few = absurd (cc)
-byte_behind operation.Xor x y z none small few = absurd (cc)
-byte_behind operation.And x y z none small few = absurd (cc)
+byte_behind other x y z none small few = absurd (cc)
 
 pub length_moved : (done : Operation) (width : Width) (given held : List Tri) → length given ≡ 9 → length held ≡ 9 → length (moved_bits done width given held) ≡ 9
 length_moved done Words given held long nine = length-each_with (bit_behind done) given held (long ∙ sym nine) ∙ nine
@@ -187,7 +147,8 @@ places Words = 9
 places Byte = 8
 
 -- SR as an operand of a width, with any bits above those that it holds
-pub held_agrees : (width : Width) (held : List Tri) (y sr above : ℕ) → Agrees held sr → y ≡ sr % modulus width + 512 * above → (width ≡ Byte → above ≡ 0) → AgreesBelow (places width) held y
+pub held_agrees : (width : Width) (held : List Tri) (y sr above : ℕ) → Agrees held sr → y ≡ sr % modulus width + 512 * above → (width ≡ Byte → above ≡ 0)
+    → AgreesBelow (places width) held y
 held_agrees Words held y sr above agrees is bytes = below_same 9 held sr y above (sr / 65536 * 128) (omega (arith, is)) (below_of 9 held sr agrees)
 held_agrees Byte held y sr above agrees is bytes =
     let no_more = bytes refl in
@@ -197,7 +158,8 @@ pub taken_agrees : (width : Width) (bits : List Tri) (x : ℕ) → Agrees bits x
 taken_agrees width bits x agrees = below_take 9 (places width) bits x (below_of (places width) bits x agrees)
 
 pub moved_agrees : (done : Operation) (width : Width) (given held : List Tri) (x y : ℕ) → sets_flags done ≡ false → length given ≡ 9 → length held ≡ 9
-    → x < modulus width → AgreesBelow (places width) given x → (reads_destination done ≡ true → AgreesBelow (places width) held y) → (reads_destination done ≡ true → width ≡ Byte → y < 256)
+    → x < modulus width → AgreesBelow (places width) given x → (reads_destination done ≡ true → AgreesBelow (places width) held y)
+    → (reads_destination done ≡ true → width ≡ Byte → y < 256)
     → Agrees (moved_bits done width given held) (number_behind done x y (complement width x) % 512)
 moved_agrees done Words given held x y none long nine small first second bytes =
     let r = number_behind done x y (complement Words x) in
@@ -217,14 +179,8 @@ moved_agrees done Byte given held x y none long nine small first second bytes =
 
 -- BITS THAT MAY BE ANY
 
-any_agree : (n v : ℕ) → v < 2 ^ n → Agrees (replicate n Either) v
-any_agree zero v small = omega (arith, small)
-any_agree (suc n) v small =
-    let power : 2 ^ suc n ≡ 2 ^ n * 2 = pow-suc 2 n in
-    (omega arith, any_agree n (v / 2) (omega (arith, small, power)))
-
 pub free_agree : (v : ℕ) → v < 512 → Agrees free_bits v
-free_agree v small = any_agree 9 v small
+free_agree = bits_any 9
 
 pub length_free : length free_bits ≡ 9
 length_free = length-replicate 9 Either
