@@ -18,7 +18,7 @@ use Rattle.msp430_state.specs.Forms.{AreEvenWords}
 use Rattle.msp430_results.specs.FlagSets.{IsResult}
 use Rattle.msp430_alu.specs.Memory.{canonical_by, located, moved, of_both}
 use Rattle.msp430_alu.specs.Premises.{Premises}
-use Rattle.msp430_alu.specs.NumberFacts.{add_is, join_first_is, join_second_is, single_is, even_parts_is, even_parts_form, sum_even}
+use Rattle.msp430_alu.specs.NumberFacts.{add_is, moved_normal, join_first_is, join_second_is, single_is, even_parts_is, even_parts_form, sum_even}
 
 -- PARTS OF A SET
 
@@ -55,7 +55,7 @@ record IsKept (P : Form → Type 0) : Type 0 where
 normal_kept : (laws : Premises) → IsKept (IsNormal 65536)
 normal_kept laws = record {
   cuts = λ set part low len small is normal. laws.known.sets.cut_normal 65536 low len set part normal small is;
-  moves = λ set by small no_bit normal. laws.known.sets.add_normal 65536 set (single by) normal (laws.known.sets.single 65536 by small).0;
+  moves = λ set by small no_bit. moved_normal laws.known set by small;
   joins = laws.known.sets.join_normal 65536;
 }
 

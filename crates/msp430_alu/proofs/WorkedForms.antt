@@ -1,6 +1,6 @@
 -- What is made of a state has the form of states.
 use Rattle.msp430_state.specs.FormFacts.{and_form, no_relation, or_form}
-use Rattle.msp430_alu.specs.NumberFacts.{even_parts_form}
+use Rattle.msp430_alu.specs.NumberFacts.{even_parts_form, moved_normal}
 use Rattle.std.proofs.Common.{◌≡◌, ℕ, ◌+◌, ◌-◌, ◌%◌, ◌<◌, ◌==◌, ◌&&◌, ◌++◌, Bool, true, false, Option, None, Some, List, [], ◌∷◌, length, replicate, refl, ap, ◌∙◌, subst, arith, Contains}
 use Rattle.std.specs.Prelude.{nat_le}
 use Rattle.std.proofs.lemmas.Bool.{cond_both}
@@ -84,15 +84,13 @@ register_word_form laws {a} counted form normal {register} (General is) = rw (ge
 
 abbrev pub IsReachNormal : Reach → Type 0
 IsReachNormal (InMemory set_so) = IsNormal 65536 set_so
-IsReachNormal (InRegister register) = Unit {0}
-IsReachNormal (Fixed value) = Unit {0}
+IsReachNormal other = Unit {0}
 
 beside_form : (laws : Premises) {lo hi : ℕ} {framed : Bool} {a : Known} (counted : Form) → IsKnown lo hi framed a → IsNormal 65536 counted → (register : Register) (offset : ℕ)
     → offset < 65536
     → IsNormal 65536 (beside a counted register offset)
 beside_form laws {a} counted form normal register offset small =
-    laws.known.sets.add_normal 65536 (register_word a counted register).set (single offset) (register_word_form laws counted form normal (laws.kinds register)).normal
-    (laws.known.sets.single 65536 offset small).0
+    moved_normal laws.known (register_word a counted register).set offset small (register_word_form laws counted form normal (laws.kinds register)).normal
 
 pub source_form : (laws : Premises) {lo hi : ℕ} {framed : Bool} {a : Known} (counted : Form) → IsKnown lo hi framed a → IsNormal 65536 counted → (pc : ℕ) (origin : Source)
     → IsSource origin
@@ -119,8 +117,8 @@ pub grown_form : (laws : Premises) {lo hi : ℕ} {framed : Bool} {a : Known} (co
 grown_form laws {framed} {a} counted form normal width (source.IndirectIncrement register) =
     let more = growth width register in
     register_form laws (laws.kinds register) (record {
-      normal = laws.known.sets.add_normal 65536 (register_word a counted register).set (single more) (register_word_form laws counted form normal (laws.kinds register)).normal
-          (laws.known.sets.single 65536 more (growth_small width register)).0;
+      normal = moved_normal laws.known (register_word a counted register).set more (growth_small width register)
+          (register_word_form laws counted form normal (laws.kinds register)).normal;
       entry = no_relation framed;
     }) form
 grown_form laws counted form normal width other = form
@@ -168,8 +166,7 @@ list_relation {framed} device {a} width (one ∷ next ∷ rest) form =
 
 abbrev pub IsReachSmall : Reach → Type 0
 IsReachSmall (Fixed value) = value < 65536
-IsReachSmall (InMemory set_so) = Unit {0}
-IsReachSmall (InRegister register) = Unit {0}
+IsReachSmall other = Unit {0}
 
 pub source_small : (pc : ℕ) (a : Known) (counted : Form) (origin : Source) → IsSource origin → IsReachSmall (source_reach pc a counted origin)
 source_small pc a counted (source.Immediate value) is = is
@@ -230,16 +227,19 @@ pub record IsWritable (framed : Bool) (width : Width) (word : Word) : Type 0 whe
   pub word_so : IsWord framed word
   pub cell : IsCellWord framed width word
 
-pub written_form : (laws : Premises) (framed : Bool) (width : Width) (set_so : Form) (entry : Option Entry) → IsNormal (modulus width) set_so → IsRelation framed entry
-    → IsWritable framed width (written_word width set_so entry)
-written_form laws framed Words set_so entry normal form = record {
-  word_so = record { normal = normal; entry = form };
+word_writable : {framed : Bool} {word : Word} → IsWord framed word → IsWritable framed Words word
+word_writable is = record {
+  word_so = is;
   cell = record {
-    storable = record { normal = normal; byte = λ e. absurd (omega (arith, e)) };
+    storable = record { normal = is.normal; byte = λ e. absurd (omega (arith, e)) };
     byte = λ e. absurd (omega (arith, e));
-    entry = form;
+    entry = is.entry;
   };
 }
+
+pub written_form : (laws : Premises) (framed : Bool) (width : Width) (set_so : Form) (entry : Option Entry) → IsNormal (modulus width) set_so → IsRelation framed entry
+    → IsWritable framed width (written_word width set_so entry)
+written_form laws framed Words set_so entry normal form = word_writable (record { normal = normal; entry = form })
 written_form laws framed Byte set_so entry normal form =
     let paired = laws.known.bits.pair_normal set_so (single 0) normal (laws.known.sets.single 256 0 (omega arith)).0 in
     record {
@@ -283,9 +283,7 @@ parts_next laws ahead set_so normal = let parts = even_parts_form laws.known set
 
 next_form : (laws : Premises) (reach : Reach) (word : Word) (ahead : ℕ) → IsNormal 65536 word.set → ahead < 65536 → AreNext ahead (next_by reach word ahead)
 next_form laws (InRegister Pc) word ahead normal small = parts_next laws ahead word.set normal
-next_form laws (InRegister register) word ahead normal small = ahead_next laws ahead small
-next_form laws (InMemory set_so) word ahead normal small = ahead_next laws ahead small
-next_form laws (Fixed value) word ahead normal small = ahead_next laws ahead small
+next_form laws other word ahead normal small = ahead_next laws ahead small
 
 next_if_form : (laws : Premises) (writes : Bool) (reach : Reach) (word : Word) (ahead : ℕ) → IsNormal 65536 word.set → ahead < 65536
     → AreNext ahead (next_if writes reach word ahead)
@@ -421,24 +419,14 @@ single_worked_form laws pc len done width operand is form from_so fits =
 
 lowered_form : (laws : Premises) {lo hi : ℕ} {framed : Bool} {a : Known} → IsKnown lo hi framed a → IsKnown lo hi framed (lowered_known a)
 lowered_form laws {a} form =
-    sp_form laws (add 65536 a.sp (single 65534)) (laws.known.sets.add_normal 65536 a.sp (single 65534) form.sp.normal (laws.known.sets.single 65536 65534 (omega arith)).0) form
+    sp_form laws (add 65536 a.sp (single 65534)) (moved_normal laws.known a.sp 65534 (omega arith) form.sp.normal) form
 
 forming_form : (laws : Premises) {lo hi : ℕ} {framed : Bool} {a : Known} (operand : Source) → IsKnown lo hi framed a → IsKnown lo hi framed (forming_known operand a)
 forming_form laws {lo} {hi} {framed} {a} operand form =
     let less = add 65536 a.sp (single 65534) in
-    let less_normal = laws.known.sets.add_normal 65536 a.sp (single 65534) form.sp.normal (laws.known.sets.single 65536 65534 (omega arith)).0 in
+    let less_normal = moved_normal laws.known a.sp 65534 (omega arith) form.sp.normal in
     cond_both (is_formed_by_stack operand) (with_sp a (join 65536 a.sp less)) a (IsKnown lo hi framed)
     (λ e. sp_form laws (join 65536 a.sp less) (laws.known.sets.join_normal 65536 a.sp less form.sp.normal less_normal) form) (λ e. form)
-
-word_writable : {framed : Bool} {word : Word} → IsWord framed word → IsWritable framed Words word
-word_writable is = record {
-  word_so = is;
-  cell = record {
-    storable = record { normal = is.normal; byte = λ e. absurd (omega (arith, e)) };
-    byte = λ e. absurd (omega (arith, e));
-    entry = is.entry;
-  };
-}
 
 byte_form : (laws : Premises) {framed : Bool} {x : Word} → IsWord framed x → IsWord framed (record { set = pair_set (values_of Byte x) (make 256 0 1 256); entry = None })
 byte_form laws {framed} {x} is = record {

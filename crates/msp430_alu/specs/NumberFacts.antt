@@ -24,6 +24,9 @@ single_is laws m v small = let is = laws.sets.single m v small in record { norma
 pub add_is : (laws : KnownLaws) (m x y : ℕ) (a b : Form) → IsResult m a x → IsResult m b y → IsResult m (add m a b) ((x + y) % m)
 add_is laws m x y a b h k = record { normal = laws.sets.add_normal m a b h.normal k.normal; has = laws.sets.add m x y a b h.normal k.normal h.has k.has }
 
+pub moved_normal : (laws : KnownLaws) (set : Form) (by : ℕ) → by < 65536 → IsNormal 65536 set → IsNormal 65536 (add 65536 set (single by))
+moved_normal laws set by small normal = laws.sets.add_normal 65536 set (single by) normal (laws.sets.single 65536 by small).0
+
 pub join_first_is : (laws : KnownLaws) (m v : ℕ) (a b : Form) → IsResult m a v → IsNormal m b → IsResult m (join m a b) v
 join_first_is laws m v a b h normal = record { normal = laws.sets.join_normal m a b h.normal normal; has = laws.sets.join_first m a b h.normal normal v h.has }
 
@@ -67,8 +70,7 @@ even_parts_form laws set normal =
 -- an even number added to even ones
 pub sum_even : (laws : KnownLaws) (set : Form) (n : ℕ) → n < 65536 → n % 2 ≡ 0 → AreEvenWords set → AreEvenWords (add 65536 set (single n))
 sum_even laws set n small rest is =
-    let one = (laws.sets.single 65536 n small).0 in
     record {
-      normal = laws.sets.add_normal 65536 set (single n) is.normal one;
-      even = laws.sets.add_rest 65536 2 0 0 set (single n) refl is.normal one is.even (laws.sets.single_rest 65536 2 0 n rest);
+      normal = moved_normal laws set n small is.normal;
+      even = laws.sets.add_rest 65536 2 0 0 set (single n) refl is.normal (laws.sets.single 65536 n small).0 is.even (laws.sets.single_rest 65536 2 0 n rest);
     }
