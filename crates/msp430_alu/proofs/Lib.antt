@@ -1,4 +1,3 @@
-pub mod Numbers
 pub mod Parts
 pub mod WhereAccesses
 pub mod StatusWord
@@ -15,6 +14,5 @@ pub mod SingleLaw
 pub mod PushLaw
 pub mod Showing
 pub mod ReadLists
-pub mod Members
 pub mod WrittenWords
 pub mod WordsInMemory

@@ -1,23 +1,17 @@
 -- What is known of the registers behind a write holds of them.
-use Rattle.std.proofs.Common.{◌≡◌, ℕ, zero, suc, ◌+◌, ◌-◌, ◌*◌, ◌/◌, ◌%◌, ◌<◌, ◌==◌, Bool, true, false, Option, None, Some, List, [], ◌∷◌, length, get_or, set, refl, sym, ap, ◌∙◌, subst, inl, inr, arith, get_or-set_same, get_or-set_other}
-use Rattle.std.specs.Prelude.{bit_and}
+use Rattle.std.proofs.Common.{◌≡◌, ℕ, zero, suc, ◌+◌, ◌-◌, ◌*◌, ◌/◌, ◌%◌, ◌^◌, ◌<◌, ◌==◌, Option, None, Some, List, [], ◌∷◌, length, get_or, set, refl, sym, ap, ◌∙◌, subst, inl, inr, arith, get_or-set_same, get_or-set_other}
+use Rattle.std.proofs.Math.Nat.{pow-suc}
+use Rattle.std.proofs.lemmas.List.{length-set, set-get_or}
 use Rattle.std.specs.Option.{option_map}
 use Rattle.std.proofs.lemmas.Bool.{cond_both, cases_eq, eqb-false}
-use Rattle.std.proofs.lemmas.Nat.Bits.{and_high_mask}
 use Rattle.entry_value.specs.declared.word.Word.{Word}
 use Rattle.entry_value.specs.Cells.{unknown}
 use Rattle.entry_value.specs.Words.{HoldsOfWord}
 use Rattle.value_set.specs.declared.form.Form.{Form}
-use Rattle.value_set.specs.Form.{Has, IsNormal}
-use Rattle.value_set.specs.Joining.{is_within}
-use Rattle.value_set.specs.Remainders.{HasRemainder}
-use Rattle.value_set.specs.Summing.{single}
-use Rattle.value_bits.specs.declared.tri.Logic.TheVariants.{And}
+use Rattle.value_set.specs.Form.{Has}
 use Rattle.value_bits.specs.declared.tri.Tri.{Tri}
-use Rattle.value_bits.specs.declared.tri.Tri.TheVariants.{Zero, One, Either}
+use Rattle.value_bits.specs.BitFacts.{bit_below, flag_bit}
 use Rattle.value_bits.specs.Bits.{IsBit, Agrees}
-use Rattle.value_bits.specs.Flags.{IsFlag}
-use Rattle.value_bits.specs.Sets.{logic_set}
 use Rattle.msp430_decode.specs.declared.instr.Width.TheVariants.{Byte}
 use Rattle.msp430_chip.specs.declared.device.Device.{Device}
 use Rattle.msp430_chip.specs.declared.place.Flags.{Flags}
@@ -25,12 +19,12 @@ use Rattle.msp430_chip.specs.declared.state.ChipState.{ChipState}
 use Rattle.msp430_chip.specs.Arithmetic.{modulus, bit_from, with_flags, with_made_flags}
 use Rattle.msp430_chip.specs.State.{even}
 use Rattle.msp430_state.specs.declared.fact.FlagFact.{FlagFact}
-use Rattle.msp430_state.specs.Forms.{AreEvenWords, IsFact}
+use Rattle.msp430_state.specs.Forms.{IsFact}
 use Rattle.msp430_state.specs.Holding.{suspended_of, HasFlagsOf, HoldsOfStatus, HoldsOfFact, HoldsOfParts}
-use Rattle.msp430_state.specs.Known.{Known, even_words, word_of}
+use Rattle.msp430_state.specs.Known.{Known, word_of}
 use Rattle.msp430_results.specs.declared.flag_bits.FlagBits.{FlagBits}
-use Rattle.msp430_results.specs.FlagSets.{AreFlags, HoldsOfFlags, IsResult}
-use Rattle.msp430_alu.specs.Premises.{Premises}
+use Rattle.msp430_results.specs.FlagSets.{AreFlags, HoldsOfFlags}
+use Rattle.msp430_alu.specs.StateFacts.{status_written}
 use Rattle.msp430_alu.specs.Registers.{even_parts, fact_without, with_word, with_sp, put_flags, with_flag_bits}
 
 -- REGISTERS THAT ARE ALIKE
@@ -39,18 +33,19 @@ abbrev SaysOf : FlagFact → (value sr : ℕ) → Type 0
 SaysOf fact value sr = HasFlagsOf fact.width ((value + fact.added) % modulus fact.width) fact.compared sr × (fact.width ≡ Byte → value < 256)
 
 -- a fact speaks of SR and of one of R4 to R15
-fact_alike : (fact : Option FlagFact) (one other : List ℕ) → IsFact fact → ((r : ℕ) → 0 < r → get_or one r 0 ≡ get_or other r 0) → HoldsOfFact fact one → HoldsOfFact fact other
+fact_alike : (fact : Option FlagFact) (one other : List ℕ) → IsFact fact → ((r : ℕ) → 1 < r → get_or one r 0 ≡ get_or other r 0) → HoldsOfFact fact one → HoldsOfFact fact other
 fact_alike None one other form same holds = tt
 fact_alike (Some fact) one other form same holds =
     let value = same fact.register (omega (arith, form.0)) in
     let status = same 2 (omega arith) in
     subst (SaysOf fact (get_or other fact.register 0)) status (subst (λ v. SaysOf fact v (get_or one 2 0)) value holds)
 
--- what is known of registers holds of others that are alike, but for PC
-pub parts_alike : (device : Device) (a : Known) (first : Option ChipState) (one other ram : List ℕ) → IsFact a.fact → ((r : ℕ) → 0 < r → get_or one r 0 ≡ get_or other r 0)
-    → HoldsOfParts device a first one ram → HoldsOfParts device a first other ram
-parts_alike device a first one other ram form same holds = record {
-  sp = subst (Has 65536 a.sp) (same 1 (omega arith)) holds.sp;
+-- what is known of registers holds of others that are alike, but for PC, and for SP which is known apart
+parts_alike : {device : Device} {a : Known} {first : Option ChipState} {one : List ℕ} (other : List ℕ) {ram : List ℕ} (sp : Form) → IsFact a.fact
+    → ((r : ℕ) → 1 < r → get_or one r 0 ≡ get_or other r 0)
+    → Has 65536 sp (get_or other 1 0) → HoldsOfParts device a first one ram → HoldsOfParts device (record a { sp = sp }) first other ram
+parts_alike {a} {first} {one} other sp form same has holds = record {
+  sp = has;
   status = subst (HoldsOfStatus (option_map suspended_of first) a.status) (same 2 (omega arith)) holds.status;
   words = λ register low high. subst (HoldsOfWord (option_map suspended_of first) (word_of a register)) (same register (omega (arith, low))) (holds.words register low high);
   fact = fact_alike a.fact one other form same holds.fact;
@@ -58,14 +53,16 @@ parts_alike device a first one other ram form same holds = record {
   untouched = holds.untouched;
 }
 
-pub parts_counted : (device : Device) (a : Known) (first : Option ChipState) (registers ram : List ℕ) (pc : ℕ) → IsFact a.fact
+pub parts_counted : {device : Device} {a : Known} {first : Option ChipState} {registers ram : List ℕ} (pc : ℕ) → IsFact a.fact
     → HoldsOfParts device a first registers ram → HoldsOfParts device a first (set registers 0 pc) ram
-parts_counted device a first registers ram pc form holds =
-    parts_alike device a first registers (set registers 0 pc) ram form (λ r some. sym (get_or-set_other registers 0 r pc 0 (λ e. omega (arith, e, some)))) holds
+parts_counted {a} {registers} pc form holds =
+    parts_alike (set registers 0 pc) a.sp form (λ r some. sym (get_or-set_other registers 0 r pc 0 (λ e. omega (arith, e, some))))
+    (subst (Has 65536 a.sp) (sym (get_or-set_other registers 0 1 pc 0 (λ e. omega (arith, e)))) holds.sp) holds
 
 -- ONE OF R4 TO R15
 
-fact_kept : (register value : ℕ) (fact : Option FlagFact) (registers : List ℕ) → 3 < register → HoldsOfFact fact registers → HoldsOfFact (fact_without register fact) (set registers register value)
+fact_kept : (register value : ℕ) (fact : Option FlagFact) (registers : List ℕ) → 3 < register → HoldsOfFact fact registers
+    → HoldsOfFact (fact_without register fact) (set registers register value)
 fact_kept register value None registers low holds = tt
 fact_kept register value (Some fact) registers low holds =
     cond_both (fact.register == register) None (Some fact) (λ left. HoldsOfFact left (set registers register value)) (λ e. tt)
@@ -74,10 +71,11 @@ fact_kept register value (Some fact) registers low holds =
     let status : get_or registers 2 0 ≡ get_or (set registers register value) 2 0 = sym (get_or-set_other registers register 2 value 0 (λ same. omega (arith, same, low))) in
     subst (SaysOf fact (get_or (set registers register value) fact.register 0)) status (subst (λ v. SaysOf fact v (get_or registers 2 0)) kept holds))
 
-pub word_written : (device : Device) (a : Known) (first : Option ChipState) (registers ram : List ℕ) (register value : ℕ) (word : Word) → length registers ≡ 16 → length a.registers ≡ 12
+pub word_written : {device : Device} {a : Known} {first : Option ChipState} {registers ram : List ℕ} (register value : ℕ) (word : Word) → length registers ≡ 16
+    → length a.registers ≡ 12
     → 3 < register → register < 16 → HoldsOfWord (option_map suspended_of first) word value
     → HoldsOfParts device a first registers ram → HoldsOfParts device (with_word a register word) first (set registers register value) ram
-word_written device a first registers ram register value word long as_long low high is holds =
+word_written {a} {first} {registers} register value word long as_long low high is holds =
     let under = option_map suspended_of first in
     let inside : register < length registers = omega arith in
     let place : register - 4 < length a.registers = omega arith in
@@ -90,7 +88,8 @@ word_written device a first registers ram register value word long as_long low h
             (subst (HoldsOfWord under word) (sym (get_or-set_same registers register value 0 inside)) is))
         | inr other ↦
             let elsewhere : r - 4 ≡ register - 4 → ⊥ = λ e. other (omega (arith, e, above, low)) in
-            subst (λ held. HoldsOfWord under held (get_or (set registers register value) r 0)) (sym (get_or-set_other a.registers (register - 4) (r - 4) word (unknown 2) elsewhere))
+            subst (λ held. HoldsOfWord under held (get_or (set registers register value) r 0))
+            (sym (get_or-set_other a.registers (register - 4) (r - 4) word (unknown 2) elsewhere))
             (subst (HoldsOfWord under (word_of a r)) (sym (get_or-set_other registers register r value 0 other)) (holds.words r above below))
       ];
       fact = fact_kept register value a.fact registers low holds.fact;
@@ -100,178 +99,85 @@ word_written device a first registers ram register value word long as_long low h
 
 -- SP
 
-without_bit : (v : ℕ) → v < 65536 → bit_and v 65534 ≡ v - v % 2
-without_bit v small =
-    let masked : bit_and v 65534 ≡ v / 2 * 2 = and_high_mask 16 1 (omega arith) v small in
-    masked ∙ omega arith
-
-even_word : (laws : Premises) (v : ℕ) → Has 65536 even_words v → v % 2 ≡ 0
-even_word laws = laws.known.sets.run_remainder 65536 2 0 2 32768 refl refl
-
--- a number without bit 0 is one of the even parts, which are even
-pub even_parts_is : (laws : Premises) (set : Form) (v : ℕ) → IsResult 65536 set v → IsResult 65536 (even_parts set) (even v)
-even_parts_is laws set v is =
-    let small : v < 65536 = laws.known.sets.below 65536 v set is.normal is.has in
-    let mask = laws.known.sets.single 65536 65534 (omega arith) in
-    cond_both (is_within 65536 set even_words) set (logic_set 16 And set (single 65534)) (λ parts. IsResult 65536 parts (even v))
-    (λ e. let no_bit : v % 2 ≡ 0 = even_word laws v ((laws.known.sets.tested 65536 set even_words).0 e v is.has) in
-    let same : v ≡ v - v % 2 = omega (arith, no_bit) in
-    record { normal = is.normal; has = subst (Has 65536 set) same is.has })
-    (λ e. record {
-      normal = laws.known.bits.logic_normal 16 And set (single 65534) is.normal mask.0;
-      has = subst (Has 65536 (logic_set 16 And set (single 65534))) (without_bit v small) (laws.known.bits.logic 16 v 65534 And set (single 65534) is.normal mask.0 is.has mask.1);
-    })
-
-mask_even : HasRemainder 65536 2 0 (single 65534)
-mask_even v (zero, lt, is) = let same : 65534 ≡ v = is in subst (λ n. n % 2 ≡ 0) same refl
-mask_even v (suc k, lt, is) = absurd (omega (arith, lt))
-
-pub even_parts_form : (laws : Premises) (set : Form) → IsNormal 65536 set → AreEvenWords (even_parts set)
-even_parts_form laws set normal =
-    let mask = laws.known.sets.single 65536 65534 (omega arith) in
-    cond_both (is_within 65536 set even_words) set (logic_set 16 And set (single 65534)) AreEvenWords
-    (λ e. record { normal = normal; even = λ v h. even_word laws v ((laws.known.sets.tested 65536 set even_words).0 e v h) })
-    (λ e. record {
-      normal = laws.known.bits.logic_normal 16 And set (single 65534) normal mask.0;
-      even = laws.known.bits.even_and 16 set (single 65534) (omega arith) normal mask.0 mask_even;
-    })
-
-fact_beside_sp : (fact : Option FlagFact) (registers : List ℕ) (value : ℕ) → IsFact fact → HoldsOfFact fact registers → HoldsOfFact fact (set registers 1 value)
-fact_beside_sp None registers value form holds = tt
-fact_beside_sp (Some fact) registers value form holds =
-    let kept : get_or registers fact.register 0 ≡ get_or (set registers 1 value) fact.register 0 = sym (get_or-set_other registers 1 fact.register value 0 (λ e. omega (arith, e, form.0))) in
-    let status : get_or registers 2 0 ≡ get_or (set registers 1 value) 2 0 = sym (get_or-set_other registers 1 2 value 0 (λ e. omega (arith, e))) in
-    subst (SaysOf fact (get_or (set registers 1 value) fact.register 0)) status (subst (λ v. SaysOf fact v (get_or registers 2 0)) kept holds)
-
-pub sp_written : (device : Device) (a : Known) (first : Option ChipState) (registers ram : List ℕ) (value : ℕ) (set_so : Form) → length registers ≡ 16 → IsFact a.fact
+pub sp_written : {device : Device} {a : Known} {first : Option ChipState} {registers ram : List ℕ} (value : ℕ) (set_so : Form) → length registers ≡ 16 → IsFact a.fact
     → Has 65536 (even_parts set_so) (even value)
     → HoldsOfParts device a first registers ram → HoldsOfParts device (with_sp a set_so) first (set registers 1 (even value)) ram
-sp_written device a first registers ram value set_so long form has holds =
-    let under = option_map suspended_of first in
-    let stored : get_or (set registers 1 (even value)) 1 0 ≡ even value = get_or-set_same registers 1 (even value) 0 (omega (arith, long)) in
-    record {
-      sp = subst (Has 65536 (even_parts set_so)) (sym stored) has;
-      status = subst (HoldsOfStatus under a.status) (sym (get_or-set_other registers 1 2 (even value) 0 (λ e. omega (arith, e)))) holds.status;
-      words = λ register low high.
-          subst (HoldsOfWord under (word_of a register)) (sym (get_or-set_other registers 1 register (even value) 0 (λ e. omega (arith, e, low)))) (holds.words register low high);
-      fact = fact_beside_sp a.fact registers (even value) form holds.fact;
-      cells = holds.cells;
-      untouched = holds.untouched;
-    }
+sp_written {registers} value set_so long form has holds =
+    parts_alike (set registers 1 (even value)) (even_parts set_so) form (λ r some. sym (get_or-set_other registers 1 r (even value) 0 (λ e. omega (arith, e, some))))
+    (subst (Has 65536 (even_parts set_so)) (sym (get_or-set_same registers 1 (even value) 0 (omega (arith, long)))) has) holds
 
 -- FLAGS
 
-step : (n : ℕ) (bits : List Tri) → length bits ≡ suc n → (bit : Tri) × (rest : List Tri) × (bits ≡ bit ∷ rest) × (length rest ≡ n)
-step n [] long = absurd (omega arith)
-step n (bit ∷ rest) long = (bit, rest, refl, omega arith)
+agrees_below : (bits : List Tri) (v : ℕ) → Agrees bits v → v < 2 ^ length bits
+agrees_below [] v h = omega (arith, h)
+agrees_below (bit ∷ bits) v h =
+    let power : 2 ^ suc (length bits) ≡ 2 ^ length bits * 2 = pow-suc 2 (length bits) in
+    let rest = agrees_below bits (v / 2) h.1 in
+    omega (arith, power, rest)
 
-bit_of_flag : (t : Tri) (flag : Bool) → IsFlag t flag → IsBit t (bit_from flag)
-bit_of_flag Zero flag h = ap bit_from h
-bit_of_flag One flag h = ap bit_from h
-bit_of_flag Either true h = omega arith
-bit_of_flag Either false h = omega arith
+-- a number with one bit in the place of another
+set_agrees : (bits : List Tri) (place low old new high : ℕ) (t : Tri) → place < length bits → low < 2 ^ place → old < 2 → IsBit t new
+    → Agrees bits (low + 2 ^ place * (old + 2 * high)) → Agrees (set bits place t) (low + 2 ^ place * (new + 2 * high))
+set_agrees [] place low old new high t inside small bit is agrees = absurd (omega (arith, inside))
+set_agrees (held ∷ bits) zero low old new high t inside small bit is agrees =
+    let below = bit_below t new is in
+    let first : new ≡ (low + 2 ^ 0 * (new + 2 * high)) % 2 = omega (arith, small, below) in
+    let rest : (low + 2 ^ 0 * (old + 2 * high)) / 2 ≡ (low + 2 ^ 0 * (new + 2 * high)) / 2 = omega (arith, small, bit, below) in
+    (subst (IsBit t) first is, subst (Agrees bits) rest agrees.1)
+set_agrees (held ∷ bits) (suc place) low old new high t inside small bit is agrees =
+    let power : 2 ^ suc place ≡ 2 ^ place * 2 = pow-suc 2 place in
+    let before : 2 ^ suc place * (old + 2 * high) ≡ 2 * (2 ^ place * (old + 2 * high)) = omega (arith, ap (λ (n : ℕ). n * (old + 2 * high)) power) in
+    let after : 2 ^ suc place * (new + 2 * high) ≡ 2 * (2 ^ place * (new + 2 * high)) = omega (arith, ap (λ (n : ℕ). n * (new + 2 * high)) power) in
+    let first : (low + 2 ^ suc place * (old + 2 * high)) % 2 ≡ (low + 2 ^ suc place * (new + 2 * high)) % 2 = omega (arith, before, after) in
+    let half : (low + 2 ^ suc place * (old + 2 * high)) / 2 ≡ low / 2 + 2 ^ place * (old + 2 * high) = omega (arith, before) in
+    let other : low / 2 + 2 ^ place * (new + 2 * high) ≡ (low + 2 ^ suc place * (new + 2 * high)) / 2 = omega (arith, after) in
+    let rest = set_agrees bits place (low / 2) old new high t (omega (arith, inside)) (omega (arith, small, power)) bit is (subst (Agrees bits) half agrees.1) in
+    (subst (IsBit held) first agrees.0, subst (Agrees (set bits place t)) other rest)
 
-flag_small : (flag : Bool) → bit_from flag < 2
-flag_small true = omega arith
-flag_small false = omega arith
-
-nine_flags : (b0 b1 b2 b3 b4 b5 b6 b7 b8 : Tri) (bits : FlagBits) (sr : ℕ) (flags : Flags) → AreFlags bits flags → Agrees (b0 ∷ b1 ∷ b2 ∷ b3 ∷ b4 ∷ b5 ∷ b6 ∷ b7 ∷ b8 ∷ []) sr
-    → Agrees (bits.carry ∷ bits.zero ∷ bits.negative ∷ b3 ∷ b4 ∷ b5 ∷ b6 ∷ b7 ∷ bits.overflow ∷ []) (with_flags sr flags)
-nine_flags b0 b1 b2 b3 b4 b5 b6 b7 b8 bits sr flags are (h0, (h1, (h2, (h3, (h4, (h5, (h6, (h7, (h8, end))))))))) =
+put_agrees : (bits : List Tri) (flags_so : FlagBits) (sr : ℕ) (flags : Flags) → length bits ≡ 9 → AreFlags flags_so flags → Agrees bits sr
+    → Agrees (put_flags bits flags_so) (with_flags sr flags)
+put_agrees bits flags_so sr flags long are agrees =
     let c = bit_from flags.carry in
     let z = bit_from flags.zero in
     let n = bit_from flags.negative in
     let v = bit_from flags.overflow in
-    let cs : c < 2 = flag_small flags.carry in
-    let zs : z < 2 = flag_small flags.zero in
-    let ns : n < 2 = flag_small flags.negative in
-    let vs : v < 2 = flag_small flags.overflow in
-    let w = with_flags sr flags in
-    let e0 : c ≡ w % 2 = omega arith in
-    let e1 : z ≡ w / 2 % 2 = omega arith in
-    let e2 : n ≡ w / 2 / 2 % 2 = omega arith in
-    let e3 : sr / 2 / 2 / 2 % 2 ≡ w / 2 / 2 / 2 % 2 = omega arith in
-    let e4 : sr / 2 / 2 / 2 / 2 % 2 ≡ w / 2 / 2 / 2 / 2 % 2 = omega arith in
-    let e5 : sr / 2 / 2 / 2 / 2 / 2 % 2 ≡ w / 2 / 2 / 2 / 2 / 2 % 2 = omega arith in
-    let e6 : sr / 2 / 2 / 2 / 2 / 2 / 2 % 2 ≡ w / 2 / 2 / 2 / 2 / 2 / 2 % 2 = omega arith in
-    let e7 : sr / 2 / 2 / 2 / 2 / 2 / 2 / 2 % 2 ≡ w / 2 / 2 / 2 / 2 / 2 / 2 / 2 % 2 = omega arith in
-    let e8 : v ≡ w / 2 / 2 / 2 / 2 / 2 / 2 / 2 / 2 % 2 = omega arith in
-    let e9 : w / 2 / 2 / 2 / 2 / 2 / 2 / 2 / 2 / 2 ≡ 0 = omega arith in (
-      subst (IsBit bits.carry) e0 (bit_of_flag bits.carry flags.carry are.carry),
-      (
-        subst (IsBit bits.zero) e1 (bit_of_flag bits.zero flags.zero are.zero),
-        (
-          subst (IsBit bits.negative) e2 (bit_of_flag bits.negative flags.negative are.negative),
-          (
-            subst (IsBit b3) e3 h3,
-            (
-              subst (IsBit b4) e4 h4,
-              (
-                subst (IsBit b5) e5 h5,
-                (
-                  subst (IsBit b6) e6 h6,
-                  (
-                    subst (IsBit b7) e7 h7,
-                    (
-                      subst (IsBit bits.overflow) e8 (bit_of_flag bits.overflow flags.overflow are.overflow),
-                      e9,
-                    ),
-                  ),
-                ),
-              ),
-            ),
-          ),
-        ),
-      ),
-    )
-
-no_items : (bits : List Tri) → length bits ≡ 0 → bits ≡ []
-no_items [] long = refl
-no_items (bit ∷ bits) long = absurd (omega arith)
-
-set_itself : (registers : List ℕ) (at r : ℕ) → at < length registers → get_or (set registers at (get_or registers at 0)) r 0 ≡ get_or registers r 0
-set_itself registers at r inside = elim (cases_eq r at) [
-  | inl same ↦ subst (λ n. get_or (set registers at (get_or registers at 0)) n 0 ≡ get_or registers n 0) (sym same) (get_or-set_same registers at (get_or registers at 0) 0 inside)
-  | inr other ↦ get_or-set_other registers at r (get_or registers at 0) 0 other
-]
-
-put_agrees : (bits : List Tri) (flags_so : FlagBits) (sr : ℕ) (flags : Flags) → length bits ≡ 9 → AreFlags flags_so flags → Agrees bits sr → Agrees (put_flags bits flags_so) (with_flags sr flags)
-put_agrees bits flags_so sr flags long are agrees =
-    let (b0, r0, e0, l0) = step 8 bits long in
-    let (b1, r1, e1, l1) = step 7 r0 l0 in
-    let (b2, r2, e2, l2) = step 6 r1 l1 in
-    let (b3, r3, e3, l3) = step 5 r2 l2 in
-    let (b4, r4, e4, l4) = step 4 r3 l3 in
-    let (b5, r5, e5, l5) = step 3 r4 l4 in
-    let (b6, r6, e6, l6) = step 2 r5 l5 in
-    let (b7, r7, e7, l7) = step 1 r6 l6 in
-    let (b8, r8, e8, l8) = step 0 r7 l7 in
-    let none : r8 ≡ [] = no_items r8 l8 in
-    let all : bits ≡ b0 ∷ b1 ∷ b2 ∷ b3 ∷ b4 ∷ b5 ∷ b6 ∷ b7 ∷ b8 ∷ [] =
-    e0 ∙ ap (λ r. b0 ∷ r) (e1 ∙ ap (λ r. b1 ∷ r) (e2 ∙ ap (λ r. b2 ∷ r) (e3 ∙ ap (λ r. b3 ∷ r) (e4 ∙ ap (λ r. b4 ∷ r) (e5 ∙ ap (λ r. b5 ∷ r) (e6 ∙ ap (λ r. b6 ∷ r) (e7 ∙ ap (λ r. b7 ∷ r) (e8 ∙ ap (λ r. b8 ∷ r) none)))))))) in
-    subst (λ (list : List Tri). Agrees (put_flags list flags_so) (with_flags sr flags)) (sym all)
-    (nine_flags b0 b1 b2 b3 b4 b5 b6 b7 b8 flags_so sr flags are (subst (λ (list : List Tri). Agrees list sr) all agrees))
+    let carry = flag_bit flags_so.carry flags.carry are.carry in
+    let zero_so = flag_bit flags_so.zero flags.zero are.zero in
+    let negative = flag_bit flags_so.negative flags.negative are.negative in
+    let overflow = flag_bit flags_so.overflow flags.overflow are.overflow in
+    let cs = bit_below flags_so.carry c carry in
+    let zs = bit_below flags_so.zero z zero_so in
+    let ns = bit_below flags_so.negative n negative in
+    let small : sr < 512 = subst (λ (k : ℕ). sr < 2 ^ k) long (agrees_below bits sr agrees) in
+    let middle = 8 * (sr / 8 % 32) in
+    let one = set bits 0 flags_so.carry in
+    let two = set one 1 flags_so.zero in
+    let three = set two 2 flags_so.negative in
+    let one_long : length one ≡ 9 = length-set bits 0 flags_so.carry ∙ long in
+    let two_long : length two ≡ 9 = length-set one 1 flags_so.zero ∙ one_long in
+    let three_long : length three ≡ 9 = length-set two 2 flags_so.negative ∙ two_long in
+    let e0 : sr ≡ 0 + 2 ^ 0 * (sr % 2 + 2 * (sr / 2)) = omega arith in
+    let e1 : 0 + 2 ^ 0 * (c + 2 * (sr / 2)) ≡ c + 2 ^ 1 * (sr / 2 % 2 + 2 * (sr / 4)) = omega arith in
+    let e2 : c + 2 ^ 1 * (z + 2 * (sr / 4)) ≡ c + 2 * z + 2 ^ 2 * (sr / 4 % 2 + 2 * (sr / 8)) = omega arith in
+    let e8 : c + 2 * z + 2 ^ 2 * (n + 2 * (sr / 8)) ≡ c + 2 * z + 4 * n + middle + 2 ^ 8 * (sr / 256 + 2 * 0) = omega (arith, small) in
+    let end : c + 2 * z + 4 * n + middle + 2 ^ 8 * (v + 2 * 0) ≡ with_flags sr flags = omega arith in
+    let a1 = set_agrees bits 0 0 (sr % 2) c (sr / 2) flags_so.carry (omega (arith, long)) (omega arith) (omega arith) carry (subst (Agrees bits) e0 agrees) in
+    let a2 = set_agrees one 1 c (sr / 2 % 2) z (sr / 4) flags_so.zero (omega (arith, one_long)) (omega (arith, cs)) (omega arith) zero_so (subst (Agrees one) e1 a1) in
+    let a3 = set_agrees two 2 (c + 2 * z) (sr / 4 % 2) n (sr / 8) flags_so.negative (omega (arith, two_long)) (omega (arith, cs, zs)) (omega arith) negative
+    (subst (Agrees two) e2 a2) in
+    let a4 = set_agrees three 8 (c + 2 * z + 4 * n + middle) (sr / 256) v 0 flags_so.overflow (omega (arith, three_long)) (omega (arith, cs, zs, ns))
+    (omega (arith, small)) overflow (subst (Agrees three) e8 a3) in
+    subst (Agrees (put_flags bits flags_so)) end a4
 
 -- SR behind a result
-pub flags_written : (device : Device) (a : Known) (first : Option ChipState) (registers ram : List ℕ) (flags_so : Option FlagBits) (flags : Option Flags) → length registers ≡ 16 → length a.status.bits ≡ 9 → IsFact a.fact
+pub flags_written : {device : Device} {a : Known} {first : Option ChipState} {registers ram : List ℕ} (flags_so : Option FlagBits) (flags : Option Flags) → length registers ≡ 16
+    → length a.status.bits ≡ 9 → IsFact a.fact
     → HoldsOfFlags flags_so flags → HoldsOfParts device a first registers ram
     → HoldsOfParts device (with_flag_bits a flags_so) first (set registers 2 (with_made_flags (get_or registers 2 0) flags)) ram
-flags_written device a first registers ram None None long as_long form are holds =
-    parts_alike device a first registers (set registers 2 (get_or registers 2 0)) ram form (λ r some. sym (set_itself registers 2 r (omega (arith, long)))) holds
-flags_written device a first registers ram None (Some flags) long as_long form are holds = absurd are
-flags_written device a first registers ram (Some flags_so) None long as_long form are holds = absurd are
-flags_written device a first registers ram (Some flags_so) (Some flags) long as_long form are holds =
-    let under = option_map suspended_of first in
+flags_written {registers} None None long as_long form are holds = rw (set-get_or registers 2 0) holds
+flags_written None (Some flags) long as_long form are holds = absurd are
+flags_written (Some flags_so) None long as_long form are holds = absurd are
+flags_written {a} {registers} (Some flags_so) (Some flags) long as_long form are holds =
     let sr = get_or registers 2 0 in
-    let stored : get_or (set registers 2 (with_flags sr flags)) 2 0 ≡ with_flags sr flags = get_or-set_same registers 2 (with_flags sr flags) 0 (omega (arith, long)) in
-    let after : HoldsOfStatus under (record { bits = put_flags a.status.bits flags_so; entry = None }) (with_flags sr flags) =
-    record { bits = put_agrees a.status.bits flags_so sr flags as_long are holds.status.bits; entry = tt } in
-    record {
-      sp = subst (Has 65536 a.sp) (sym (get_or-set_other registers 2 1 (with_flags sr flags) 0 (λ e. omega (arith, e)))) holds.sp;
-      status = subst (HoldsOfStatus under (record { bits = put_flags a.status.bits flags_so; entry = None })) (sym stored) after;
-      words = λ register low high.
-          subst (HoldsOfWord under (word_of a register)) (sym (get_or-set_other registers 2 register (with_flags sr flags) 0 (λ e. omega (arith, e, low)))) (holds.words register low high);
-      fact = tt;
-      cells = holds.cells;
-      untouched = holds.untouched;
-    }
+    status_written registers (put_flags a.status.bits flags_so) (with_flags sr flags) long (put_agrees a.status.bits flags_so sr flags as_long are holds.status.bits)
+    (λ r low. refl) holds

@@ -22,6 +22,7 @@ use Rattle.msp430_chip.specs.Kinds.{Kind}
 use Rattle.msp430_chip.specs.Kinds.Kind.{Counter, Stack, Status, Empty, General}
 use Rattle.msp430_chip.specs.Memory.{size_of}
 use Rattle.msp430_chip.specs.Operands.{is_status, with_register}
+use Rattle.msp430_chip.specs.Registers.{kept_at}
 use Rattle.msp430_chip.specs.State.{even}
 use Rattle.msp430_chip.specs.Step.{Left, put, put_if}
 use Rattle.msp430_state.specs.Forms.{IsKnown}
@@ -31,13 +32,13 @@ use Rattle.msp430_alu.specs.declared.reach.Reach.{Reach}
 use Rattle.msp430_alu.specs.declared.reach.Reach.TheVariants.{InRegister, InMemory, Fixed}
 use Rattle.msp430_results.specs.FlagSets.{IsResult}
 use Rattle.msp430_alu.specs.Formats.{put_known, put_known_if, next_by, next_if}
-use Rattle.msp430_alu.specs.Memory.{IsDevice, IsRam, located}
+use Rattle.msp430_alu.specs.Memory.{IsDevice, IsRam}
 use Rattle.msp430_alu.specs.Operands.{IsReached}
 use Rattle.msp430_alu.specs.Premises.{Premises}
-use Rattle.msp430_alu.specs.Registers.{AreRegisters, even_parts, put_register, with_word}
+use Rattle.msp430_alu.specs.Registers.{AreRegisters, put_register, with_word}
 use Rattle.msp430_alu.proofs.WhereAccesses.{located_is}
-use Rattle.msp430_alu.proofs.Numbers.{single_is}
-use Rattle.msp430_alu.proofs.Parts.{parts_counted, word_written, sp_written, even_parts_is}
+use Rattle.msp430_alu.specs.NumberFacts.{single_is, even_parts_is}
+use Rattle.msp430_alu.proofs.Parts.{parts_counted, word_written, sp_written}
 use Rattle.msp430_alu.proofs.ReadingLemmas.{IsHeld}
 use Rattle.msp430_alu.proofs.Storing.{IsStorable, store_holds}
 
@@ -53,58 +54,36 @@ general_put a other word low = refl
 even_small : (v : ℕ) → v < 65536 → even v < 65536
 even_small v small = omega (arith, small)
 
--- another register leaves a property of each one that it isn't
-set_kept : (P : ℕ → Type 0) (registers : List ℕ) (register value at : ℕ) → (at ≡ register → ⊥) → P (get_or registers at 0) → P (get_or (set registers register value) at 0)
-set_kept P registers register value at other h = subst P (sym (get_or-set_other registers register at value 0 other)) h
-
-pub counted_are : (registers : List ℕ) (pc : ℕ) → pc < 65536 → AreRegisters registers → AreRegisters (set registers 0 pc)
-counted_are registers pc small are = record {
-  count = length-set registers 0 pc ∙ are.count;
-  words = All-set (λ r. r < 65536) registers 0 pc small are.words;
-  even_sp = set_kept (λ r. r % 2 ≡ 0) registers 0 pc 1 (λ e. omega (arith, e)) are.even_sp;
-  status = set_kept (λ r. r < 512) registers 0 pc 2 (λ e. omega (arith, e)) are.status;
-  nothing = set_kept (λ r. r ≡ 0) registers 0 pc 3 (λ e. omega (arith, e)) are.nothing;
+-- the registers behind a write, by what stands in SP, SR and R3
+set_are : {registers : List ℕ} (i value : ℕ) → value < 65536 → (i ≡ 1 → value % 2 ≡ 0) → (i ≡ 2 → value < 512) → (i ≡ 3 → value ≡ 0) → AreRegisters registers
+    → AreRegisters (set registers i value)
+set_are {registers} i value small even_so status nothing are = record {
+  count = length-set registers i value ∙ are.count;
+  words = All-set (λ r. r < 65536) registers i value small are.words;
+  even_sp = kept_at (λ r. r % 2 ≡ 0) registers i value 1 (omega (arith, are.count)) (λ e. even_so (sym e)) are.even_sp;
+  status = kept_at (λ r. r < 512) registers i value 2 (omega (arith, are.count)) (λ e. status (sym e)) are.status;
+  nothing = kept_at (λ r. r ≡ 0) registers i value 3 (omega (arith, are.count)) (λ e. nothing (sym e)) are.nothing;
 }
 
-general_are : (registers : List ℕ) (register value : ℕ) → 3 < register → value < 65536 → AreRegisters registers → AreRegisters (set registers register value)
-general_are registers register value low small are = record {
-  count = length-set registers register value ∙ are.count;
-  words = All-set (λ r. r < 65536) registers register value small are.words;
-  even_sp = set_kept (λ r. r % 2 ≡ 0) registers register value 1 (λ e. omega (arith, e, low)) are.even_sp;
-  status = set_kept (λ r. r < 512) registers register value 2 (λ e. omega (arith, e, low)) are.status;
-  nothing = set_kept (λ r. r ≡ 0) registers register value 3 (λ e. omega (arith, e, low)) are.nothing;
-}
+pub counted_are : {registers : List ℕ} (pc : ℕ) → pc < 65536 → AreRegisters registers → AreRegisters (set registers 0 pc)
+counted_are pc small = set_are 0 pc small (λ e. omega (arith, e)) (λ e. omega (arith, e)) (λ e. omega (arith, e))
 
-pub sp_are : (registers : List ℕ) (value : ℕ) → value < 65536 → AreRegisters registers → AreRegisters (set registers 1 (even value))
-sp_are registers value small are =
-    let stored : get_or (set registers 1 (even value)) 1 0 ≡ even value = get_or-set_same registers 1 (even value) 0 (omega (arith, are.count)) in
-    let no_bit : even value % 2 ≡ 0 = omega arith in
-    record {
-      count = length-set registers 1 (even value) ∙ are.count;
-      words = All-set (λ r. r < 65536) registers 1 (even value) (even_small value small) are.words;
-      even_sp = subst (λ r. r % 2 ≡ 0) (sym stored) no_bit;
-      status = set_kept (λ r. r < 512) registers 1 (even value) 2 (λ e. omega (arith, e)) are.status;
-      nothing = set_kept (λ r. r ≡ 0) registers 1 (even value) 3 (λ e. omega (arith, e)) are.nothing;
-    }
+general_are : {registers : List ℕ} (register value : ℕ) → 3 < register → value < 65536 → AreRegisters registers → AreRegisters (set registers register value)
+general_are register value low small = set_are register value small (λ e. omega (arith, e, low)) (λ e. omega (arith, e, low)) (λ e. omega (arith, e, low))
 
-status_are : (registers : List ℕ) (value : ℕ) → AreRegisters registers → AreRegisters (set registers 2 (value % 512))
-status_are registers value are =
-    let stored : get_or (set registers 2 (value % 512)) 2 0 ≡ value % 512 = get_or-set_same registers 2 (value % 512) 0 (omega (arith, are.count)) in
-    let few : value % 512 < 512 = omega arith in
-    record {
-      count = length-set registers 2 (value % 512) ∙ are.count;
-      words = All-set (λ r. r < 65536) registers 2 (value % 512) (omega arith) are.words;
-      even_sp = set_kept (λ r. r % 2 ≡ 0) registers 2 (value % 512) 1 (λ e. omega (arith, e)) are.even_sp;
-      status = subst (λ r. r < 512) (sym stored) few;
-      nothing = set_kept (λ r. r ≡ 0) registers 2 (value % 512) 3 (λ e. omega (arith, e)) are.nothing;
-    }
+pub sp_are : {registers : List ℕ} (value : ℕ) → value < 65536 → AreRegisters registers → AreRegisters (set registers 1 (even value))
+sp_are value small = set_are 1 (even value) (even_small value small) (λ e. omega arith) (λ e. omega (arith, e)) (λ e. omega (arith, e))
 
-pub written_are : (registers : List ℕ) (register : Register) (value : ℕ) → value < 65536 → Kind register → AreRegisters registers → AreRegisters (with_register registers register value)
-written_are registers register value small (Counter e) are = subst (λ r. AreRegisters (with_register registers r value)) (sym e) (counted_are registers (even value) (even_small value small) are)
-written_are registers register value small (Stack e) are = subst (λ r. AreRegisters (with_register registers r value)) (sym e) (sp_are registers value small are)
-written_are registers register value small (Status e) are = subst (λ r. AreRegisters (with_register registers r value)) (sym e) (status_are registers value are)
-written_are registers register value small (Empty e) are = subst (λ r. AreRegisters (with_register registers r value)) (sym e) are
-written_are registers register value small (General is) are = subst AreRegisters (sym (is.set registers value)) (general_are registers (number register) value is.above small are)
+status_are : {registers : List ℕ} (value : ℕ) → AreRegisters registers → AreRegisters (set registers 2 (value % 512))
+status_are value = set_are 2 (value % 512) (omega arith) (λ e. omega (arith, e)) (λ e. omega arith) (λ e. omega (arith, e))
+
+pub written_are : {registers : List ℕ} {register : Register} (value : ℕ) → value < 65536 → Kind register → AreRegisters registers
+    → AreRegisters (with_register registers register value)
+written_are value small (Counter e) are = rw e (counted_are (even value) (even_small value small) are)
+written_are value small (Stack e) are = rw e (sp_are value small are)
+written_are value small (Status e) are = rw e (status_are value are)
+written_are value small (Empty e) are = rw e are
+written_are {registers} {register} value small (General is) are = rw (is.set registers value) (general_are (number register) value is.above small are)
 
 -- WRITES TO A PLACE
 
@@ -113,32 +92,30 @@ pub record IsWritten (first : Option Suspended) (width : Width) (word : Word) (v
   pub held : IsHeld first word value
   pub byte : size_of width ≡ 1 → (n : ℕ) → Has 65536 word.set n → n < 256
 
-pub register_put : (laws : Premises) (device : Device) (framed : Bool) (a : Known) (first : Option ChipState) (registers ram : List ℕ) (register : Register) (word : Word) (value : ℕ) → IsKnown device.ram.lo device.ram.hi framed a
+pub register_put : (laws : Premises) {device : Device} {framed : Bool} {a : Known} {first : Option ChipState} {registers ram : List ℕ} {register : Register} {word : Word}
+    {value : ℕ} → IsKnown device.ram.lo device.ram.hi framed a
     → AreRegisters registers → is_status (place.InRegister register) ≡ false → Kind register → IsHeld (option_map suspended_of first) word value
     → HoldsOfParts device a first registers ram → HoldsOfParts device (put_register a register word) first (with_register registers register value) ram
-register_put laws device framed a first registers ram register word value form are no_status (Counter e) held holds =
-    subst (λ r. HoldsOfParts device (put_register a r word) first (with_register registers r value) ram) (sym e) (parts_counted device a first registers ram (even value) form.fact holds)
-register_put laws device framed a first registers ram register word value form are no_status (Stack e) held holds =
-    let parts = even_parts_is laws word.set value (record { normal = held.normal; has = held.holds.0 }) in
-    subst (λ r. HoldsOfParts device (put_register a r word) first (with_register registers r value) ram) (sym e) (sp_written device a first registers ram value word.set are.count form.fact parts.has holds)
-register_put laws device framed a first registers ram register word value form are no_status (Status e) held holds =
-    let yes : is_status (place.InRegister register) ≡ true = ap (λ r. is_status (place.InRegister r)) e in absurd (cc)
-register_put laws device framed a first registers ram register word value form are no_status (Empty e) held holds =
-    subst (λ r. HoldsOfParts device (put_register a r word) first (with_register registers r value) ram) (sym e) holds
-register_put laws device framed a first registers ram register word value form are no_status (General is) held holds =
-    subst (λ b. HoldsOfParts device b first (with_register registers register value) ram) (sym (general_put a register word is.above))
-    (subst (λ list. HoldsOfParts device (with_word a (number register) word) first list ram) (sym (is.set registers value))
-    (word_written device a first registers ram (number register) value word are.count form.count is.above is.below held.holds holds))
+register_put laws {value} form are no_status (Counter e) held holds = rw e (parts_counted (even value) form.fact holds)
+register_put laws {word} {value} form are no_status (Stack e) held holds =
+    let parts = even_parts_is laws.known word.set value (record { normal = held.normal; has = held.holds.0 }) in
+    rw e (sp_written value word.set are.count form.fact parts.has holds)
+register_put laws {register} form are no_status (Status e) held holds =
+    let yes : is_status (place.InRegister register) ≡ true = rw e refl in absurd (cc)
+register_put laws form are no_status (Empty e) held holds = rw e holds
+register_put laws {a} {registers} {register} {word} {value} form are no_status (General is) held holds =
+    rw (general_put a register word is.above, is.set registers value)
+    (word_written (number register) value word are.count form.count is.above is.below held.holds holds)
 
-value_below : (laws : Premises) (first : Option Suspended) (width : Width) (word : Word) (value : ℕ) → IsWritten first width word value → value < modulus width
-value_below laws first Words word value is = laws.known.sets.below 65536 value word.set is.held.normal is.held.holds.0
-value_below laws first Byte word value is = is.byte refl value is.held.holds.0
+value_below : (laws : Premises) {first : Option Suspended} (width : Width) {word : Word} {value : ℕ} → IsWritten first width word value → value < modulus width
+value_below laws Words {word} {value} is = laws.known.sets.below 65536 value word.set is.held.normal is.held.holds.0
+value_below laws Byte {value} is = is.byte refl value is.held.holds.0
 
-storable_is : (first : Option Suspended) (width : Width) (word : Word) (value : ℕ) → IsWritten first width word value → IsStorable width word
-storable_is first width word value is = record { normal = is.held.normal; byte = is.byte }
+storable_is : {first : Option Suspended} {width : Width} {word : Word} {value : ℕ} → IsWritten first width word value → IsStorable width word
+storable_is is = record { normal = is.held.normal; byte = is.byte }
 
 -- what a write leaves
-pub record IsPut (laws : Premises) (device : Device) (after : Known) (first : Option ChipState) (next : Form) (left : Left) : Type 0 where
+pub record IsPut (device : Device) (after : Known) (first : Option ChipState) (next : Form) (left : Left) : Type 0 where
   pub are : AreRegisters left.registers
   pub next_is : IsResult 65536 next (get_or left.registers 0 0)
   pub parts : HoldsOfParts device after first left.registers left.ram
@@ -150,26 +127,21 @@ general_next Sr word behind_so low = refl
 general_next R3 word behind_so low = refl
 general_next other word behind_so low = refl
 
-register_next : (laws : Premises) (first : Option Suspended) (registers : List ℕ) (register : Register) (word : Word) (value behind_so : ℕ) → AreRegisters registers → get_or registers 0 0 ≡ behind_so → behind_so < 65536
+register_next : (laws : Premises) {first : Option Suspended} {registers : List ℕ} {register : Register} {word : Word} {value : ℕ} (behind_so : ℕ) → AreRegisters registers
+    → get_or registers 0 0 ≡ behind_so → behind_so < 65536
     → Kind register → IsHeld first word value → IsResult 65536 (next_by (InRegister register) word behind_so) (get_or (with_register registers register value) 0 0)
-register_next laws first registers register word value behind_so are pc small (Counter e) held =
-    let parts = even_parts_is laws word.set value (record { normal = held.normal; has = held.holds.0 }) in
-    subst (λ r. IsResult 65536 (next_by (InRegister r) word behind_so) (get_or (with_register registers r value) 0 0)) (sym e)
-    (subst (IsResult 65536 (even_parts word.set)) (sym (get_or-set_same registers 0 (even value) 0 (omega (arith, are.count)))) parts)
-register_next laws first registers register word value behind_so are pc small (Stack e) held =
-    subst (λ r. IsResult 65536 (next_by (InRegister r) word behind_so) (get_or (with_register registers r value) 0 0)) (sym e)
-    (subst (IsResult 65536 (single behind_so)) (sym (get_or-set_other registers 1 0 (even value) 0 (λ f. omega (arith, f)) ∙ pc)) (single_is laws 65536 behind_so small))
-register_next laws first registers register word value behind_so are pc small (Status e) held =
-    subst (λ r. IsResult 65536 (next_by (InRegister r) word behind_so) (get_or (with_register registers r value) 0 0)) (sym e)
-    (subst (IsResult 65536 (single behind_so)) (sym (get_or-set_other registers 2 0 (value % 512) 0 (λ f. omega (arith, f)) ∙ pc)) (single_is laws 65536 behind_so small))
-register_next laws first registers register word value behind_so are pc small (Empty e) held =
-    subst (λ r. IsResult 65536 (next_by (InRegister r) word behind_so) (get_or (with_register registers r value) 0 0)) (sym e)
-    (subst (IsResult 65536 (single behind_so)) (sym pc) (single_is laws 65536 behind_so small))
-register_next laws first registers register word value behind_so are pc small (General is) held =
-    let kept : get_or (with_register registers register value) 0 0 ≡ behind_so =
-    ap (λ list. get_or list 0 0) (is.set registers value) ∙ get_or-set_other registers (number register) 0 value 0 (λ f. let low = is.above in omega (arith, f, low)) ∙ pc in
-    subst (λ set_so. IsResult 65536 set_so (get_or (with_register registers register value) 0 0)) (sym (general_next register word behind_so is.above))
-    (subst (IsResult 65536 (single behind_so)) (sym kept) (single_is laws 65536 behind_so small))
+register_next laws {registers} {word} {value} behind_so are pc small (Counter e) held =
+    let parts = even_parts_is laws.known word.set value (record { normal = held.normal; has = held.holds.0 }) in
+    rw (e, get_or-set_same registers 0 (even value) 0 (omega (arith, are.count))) parts
+register_next laws {registers} {value} behind_so are pc small (Stack e) held =
+    rw (e, get_or-set_other registers 1 0 (even value) 0 (λ f. omega (arith, f)), pc) (single_is laws.known 65536 behind_so small)
+register_next laws {registers} {value} behind_so are pc small (Status e) held =
+    rw (e, get_or-set_other registers 2 0 (value % 512) 0 (λ f. omega (arith, f)), pc) (single_is laws.known 65536 behind_so small)
+register_next laws behind_so are pc small (Empty e) held = rw (e, pc) (single_is laws.known 65536 behind_so small)
+register_next laws {registers} {register} {word} {value} behind_so are pc small (General is) held =
+    let low = is.above in
+    rw (general_next register word behind_so low, is.set registers value, get_or-set_other registers (number register) 0 value 0 (λ f. omega (arith, f, low)), pc)
+    (single_is laws.known 65536 behind_so small)
 
 -- the state in which a write is done
 pub record IsReady (device : Device) (framed : Bool) (a : Known) (first : Option ChipState) (registers ram : List ℕ) (behind_so : ℕ) : Type 0 where
@@ -182,44 +154,42 @@ pub record IsReady (device : Device) (framed : Bool) (a : Known) (first : Option
   pub small : behind_so < 65536
   pub parts : HoldsOfParts device a first registers ram
 
-pub put_is : (laws : Premises) (device : Device) (framed : Bool) (a : Known) (first : Option ChipState) (registers ram : List ℕ) (behind_so : ℕ) → IsReady device framed a first registers ram behind_so
-    → ((register : Register) → Kind register) → (width : Width) (reach : Reach) (stands : Place) (word : Word) (value : ℕ) → IsReached reach stands → is_status stands ≡ false
+pub put_is : (laws : Premises) {device : Device} {framed : Bool} {a : Known} {first : Option ChipState} {registers ram : List ℕ} {behind_so : ℕ}
+    → IsReady device framed a first registers ram behind_so
+    → {width : Width} (reach : Reach) (stands : Place) {word : Word} {value : ℕ} → IsReached reach stands → is_status stands ≡ false
     → IsWritten (option_map suspended_of first) width word value
-    → IsPut laws device (put_known device framed a width reach word) first (next_by reach word behind_so) (put device registers ram width stands value)
-put_is laws device framed a first registers ram behind_so ready kinds width (InRegister register) (place.InRegister other) word value reached no_status is =
-    subst (λ r. IsPut laws device (put_register a register word) first (next_by (InRegister register) word behind_so) (put device registers ram width (place.InRegister r) value)) reached record {
-      are = written_are registers register value (laws.known.sets.below 65536 value word.set is.held.normal is.held.holds.0) (kinds register) ready.are;
-      next_is = register_next laws (option_map suspended_of first) registers register word value behind_so ready.are ready.pc ready.small (kinds register) is.held;
-      parts = register_put laws device framed a first registers ram register word value ready.form ready.are (ap (λ r. is_status (place.InRegister r)) reached ∙ no_status) (kinds register) is.held ready.parts;
+    → IsPut device (put_known device framed a width reach word) first (next_by reach word behind_so) (put device registers ram width stands value)
+put_is laws {device} {a} {first} {registers} {ram} {behind_so} ready {width} (InRegister register) (place.InRegister other) {word} {value} reached no_status is =
+    subst (λ r. IsPut device (put_register a register word) first (next_by (InRegister register) word behind_so)
+    (put device registers ram width (place.InRegister r) value)) reached record {
+      are = written_are value (laws.known.sets.below 65536 value word.set is.held.normal is.held.holds.0) (laws.kinds register) ready.are;
+      next_is = register_next laws behind_so ready.are ready.pc ready.small (laws.kinds register) is.held;
+      parts = register_put laws ready.form ready.are (ap (λ r. is_status (place.InRegister r)) reached ∙ no_status) (laws.kinds register) is.held ready.parts;
     }
-put_is laws device framed a first registers ram behind_so ready kinds width (InMemory set_so) (place.InMemory address) word value reached no_status is = record {
+put_is laws {behind_so} ready {width} (InMemory set_so) (place.InMemory address) {value} reached no_status is = record {
   are = ready.are;
-  next_is = subst (IsResult 65536 (single behind_so)) (sym ready.pc) (single_is laws 65536 behind_so ready.small);
-  parts = store_holds laws device framed a first registers ram width address value (located device width set_so) word ready.device_so ready.ram_is ready.base ready.form
-      (laws.known.sets.below 65536 address set_so reached.normal reached.has) (located_is laws device ready.device_so.ram width set_so address reached) (value_below laws (option_map suspended_of first) width word value is)
-      (storable_is (option_map suspended_of first) width word value is) is.held.holds ready.parts;
+  next_is = subst (IsResult 65536 (single behind_so)) (sym ready.pc) (single_is laws.known 65536 behind_so ready.small);
+  parts = store_holds laws address value ready.device_so ready.ram_is ready.base ready.form
+      (laws.known.sets.below 65536 address set_so reached.normal reached.has) (located_is laws ready.device_so.ram width reached) (value_below laws width is)
+      (storable_is is) is.held.holds ready.parts;
 }
-put_is laws device framed a first registers ram behind_so ready kinds width (Fixed fixed) (place.Fixed other) word value reached no_status is = record {
+put_is laws {behind_so} ready (Fixed fixed) (place.Fixed other) reached no_status is = record {
   are = ready.are;
-  next_is = subst (IsResult 65536 (single behind_so)) (sym ready.pc) (single_is laws 65536 behind_so ready.small);
+  next_is = subst (IsResult 65536 (single behind_so)) (sym ready.pc) (single_is laws.known 65536 behind_so ready.small);
   parts = ready.parts;
 }
-put_is laws device framed a first registers ram behind_so ready kinds width (InRegister register) (place.InMemory address) word value reached no_status is = absurd reached
-put_is laws device framed a first registers ram behind_so ready kinds width (InRegister register) (place.Fixed other) word value reached no_status is = absurd reached
-put_is laws device framed a first registers ram behind_so ready kinds width (InMemory set_so) (place.InRegister other) word value reached no_status is = absurd reached
-put_is laws device framed a first registers ram behind_so ready kinds width (InMemory set_so) (place.Fixed other) word value reached no_status is = absurd reached
-put_is laws device framed a first registers ram behind_so ready kinds width (Fixed fixed) (place.InRegister other) word value reached no_status is = absurd reached
-put_is laws device framed a first registers ram behind_so ready kinds width (Fixed fixed) (place.InMemory address) word value reached no_status is = absurd reached
+put_is laws ready reach stands reached no_status is = absurd reached
 
 -- the same, where the result is written
-pub put_if_is : (laws : Premises) (device : Device) (framed : Bool) (a : Known) (first : Option ChipState) (registers ram : List ℕ) (behind_so : ℕ) → IsReady device framed a first registers ram behind_so
-    → ((register : Register) → Kind register) → (writes : Bool) (width : Width) (reach : Reach) (stands : Place) (word : Word) (value : ℕ) → IsReached reach stands → is_status stands ≡ false
+pub put_if_is : (laws : Premises) {device : Device} {framed : Bool} {a : Known} {first : Option ChipState} {registers ram : List ℕ} {behind_so : ℕ}
+    → IsReady device framed a first registers ram behind_so
+    → (writes : Bool) {width : Width} (reach : Reach) (stands : Place) {word : Word} {value : ℕ} → IsReached reach stands → is_status stands ≡ false
     → IsWritten (option_map suspended_of first) width word value
-    → IsPut laws device (put_known_if writes device framed a width reach word) first (next_if writes reach word behind_so) (put_if writes device registers ram width stands value)
-put_if_is laws device framed a first registers ram behind_so ready kinds true width reach stands word value reached no_status is =
-    put_is laws device framed a first registers ram behind_so ready kinds width reach stands word value reached no_status is
-put_if_is laws device framed a first registers ram behind_so ready kinds false width reach stands word value reached no_status is = record {
+    → IsPut device (put_known_if writes device framed a width reach word) first (next_if writes reach word behind_so) (put_if writes device registers ram width stands value)
+put_if_is laws ready true reach stands reached no_status is =
+    put_is laws ready reach stands reached no_status is
+put_if_is laws {behind_so} ready false reach stands reached no_status is = record {
   are = ready.are;
-  next_is = subst (IsResult 65536 (single behind_so)) (sym ready.pc) (single_is laws 65536 behind_so ready.small);
+  next_is = subst (IsResult 65536 (single behind_so)) (sym ready.pc) (single_is laws.known 65536 behind_so ready.small);
   parts = ready.parts;
 }

@@ -39,7 +39,8 @@ pub list_many : (device : Device) (a : Known) (width : Width) (ms : List ℕ) �
 list_many device a width [] many = refl
 list_many device a width (m ∷ []) many = absurd (omega (arith, many))
 list_many device a width (m ∷ next ∷ rest) many =
-    cond_both (nat_le (length rest) 254) (record { set = read_each device a width (read_one device a width m).set (next ∷ rest); entry = None }) (unknown (size_of width)) (λ (word : Word). word ≡ unknown (size_of width))
+    cond_both (nat_le (length rest) 254) (record { set = read_each device a width (read_one device a width m).set (next ∷ rest); entry = None }) (unknown (size_of width))
+    (λ (word : Word). word ≡ unknown (size_of width))
     (λ e. let fits = leb-true (length rest) 254 e in absurd (omega (arith, many, fits))) (λ e. refl)
 
 pub list_one : (device : Device) (a : Known) (width : Width) (ms : List ℕ) (d : ℕ) → length ms ≡ 1 → read_list device a width ms ≡ read_one device a width (get_or ms 0 d)
@@ -57,6 +58,7 @@ list_few device a width (m ∷ next ∷ rest) d some few =
     (λ e. let fits : length rest ≤ 254 = omega (arith, few) in absurd (false≢true (sym e ∙ le-leb (length rest) 254 fits)))
 
 -- the number at a place is a member
-pub member_fits : (set : Form) (place size n : ℕ) → place < length (members 65536 set) → n ≡ get_or (members 65536 set) place 0 → ((v : ℕ) → Has 65536 set v → v + size ≤ 65536) → n + size ≤ 65536
+pub member_fits : (set : Form) (place size n : ℕ) → place < length (members 65536 set) → n ≡ get_or (members 65536 set) place 0 → ((v : ℕ) → Has 65536 set v → v + size ≤ 65536)
+    → n + size ≤ 65536
 member_fits set place size n inside is fits =
     subst (λ m. m + size ≤ 65536) (sym is) (fits (get_or (members 65536 set) place 0) (Contains-get_or (members 65536 set) place 0 inside))

@@ -1,8 +1,7 @@
 -- SR as a word: its bits 9 to 15 may be any, and its relation holds whatever they are.
-use Rattle.std.proofs.Common.{◌≡◌, ℕ, zero, suc, ◌+◌, ◌*◌, ◌/◌, ◌%◌, ◌^◌, ◌<◌, Bool, true, false, Option, None, Some, List, [], ◌∷◌, ◌++◌, length, replicate, refl, sym, ap, ◌∙◌, subst, arith}
+use Rattle.std.proofs.Common.{◌≡◌, ℕ, ◌+◌, ◌*◌, ◌/◌, ◌%◌, ◌^◌, ◌<◌, Bool, true, false, Option, None, Some, ◌++◌, length, replicate, refl, sym, ap, ◌∙◌, subst, arith}
 use Rattle.std.specs.Prelude.{bit_and, bit_or}
 use Rattle.std.specs.Int.Bits.{or_zero_r}
-use Rattle.std.proofs.Math.Nat.{pow-suc}
 use Rattle.std.proofs.Math.Path.{ap₂}
 use Rattle.std.proofs.lemmas.List.{length-append, length-replicate}
 use Rattle.std.proofs.lemmas.Nat.{and_mask, and_mod, and_shr, or_mod, or_shr}
@@ -10,9 +9,9 @@ use Rattle.std.proofs.lemmas.Nat.Bits.{and_high_mask}
 use Rattle.entry_value.specs.declared.word.Entry.{Entry}
 use Rattle.entry_value.specs.Words.{Suspended, IsFromEntry, HoldsOfWord}
 use Rattle.value_set.specs.Form.{IsNormal}
-use Rattle.value_bits.specs.declared.tri.Tri.{Tri}
 use Rattle.value_bits.specs.declared.tri.Tri.TheVariants.{Either}
-use Rattle.value_bits.specs.Bits.{IsBit, Agrees}
+use Rattle.value_bits.specs.BitFacts.{bits_any, bits_append}
+use Rattle.value_bits.specs.Bits.{Agrees}
 use Rattle.msp430_chip.specs.declared.state.ChipState.{ChipState}
 use Rattle.msp430_state.specs.declared.status.Status.{Status}
 use Rattle.msp430_state.specs.Forms.{IsStatusRelation}
@@ -21,25 +20,9 @@ use Rattle.std.specs.Option.{option_map}
 use Rattle.msp430_alu.specs.Premises.{Premises}
 use Rattle.msp430_alu.specs.Registers.{status_set}
 
--- bits behind others
-append_agrees : (bits more : List Tri) (v y : ℕ) → Agrees bits v → Agrees more y → Agrees (bits ++ more) (v + 2 ^ length bits * y)
-append_agrees [] more v y h k =
-    let same : y ≡ v + 2 ^ 0 * y = omega (arith, h) in subst (Agrees more) same k
-append_agrees (bit ∷ bits) more v y h k =
-    let power : 2 ^ suc (length bits) ≡ 2 ^ length bits * 2 = pow-suc 2 (length bits) in
-    let double : 2 ^ suc (length bits) * y ≡ 2 * (2 ^ length bits * y) = omega (arith, ap (λ n. n * y) power) in
-    let low : v % 2 ≡ (v + 2 ^ suc (length bits) * y) % 2 = omega (arith, double) in
-    let high : v / 2 + 2 ^ length bits * y ≡ (v + 2 ^ suc (length bits) * y) / 2 = omega (arith, double) in
-    (subst (IsBit bit) low h.0, subst (Agrees (bits ++ more)) high (append_agrees bits more (v / 2) y h.1 k))
-
-any_agree : (n y : ℕ) → y < 2 ^ n → Agrees (replicate n Either) y
-any_agree zero y small = omega (arith, small)
-any_agree (suc n) y small =
-    let power : 2 ^ suc n ≡ 2 ^ n * 2 = pow-suc 2 n in
-    (omega arith, any_agree n (y / 2) (omega (arith, small, power)))
-
 -- the relation of SR with other bits 9 to 15
-relation_wider : (framed : Bool) (f : Suspended) (entry : Option Entry) (sr x : ℕ) → f.held 2 ≡ 511 → IsStatusRelation framed entry → sr < 512 → x < 128 → IsFromEntry (Some f) entry sr
+relation_wider : (framed : Bool) (f : Suspended) (entry : Option Entry) (sr x : ℕ) → f.held 2 ≡ 511 → IsStatusRelation framed entry → sr < 512 → x < 128
+    → IsFromEntry (Some f) entry sr
     → IsFromEntry (Some f) entry (sr + 512 * x)
 relation_wider framed f None sr x held form small few holds = tt
 relation_wider false f (Some entry) sr x held form small few holds = absurd form
@@ -72,7 +55,8 @@ relation_under framed (Some f) entry sr x form small few holds = relation_wider 
 relation_under framed None None sr x form small few holds = tt
 relation_under framed None (Some entry) sr x form small few holds = absurd holds
 
-pub status_set_is : (laws : Premises) (framed : Bool) (first : Option ChipState) (status : Status) (sr x : ℕ) → length status.bits ≡ 9 → IsStatusRelation framed status.entry → sr < 512 → x < 128
+pub status_set_is : (laws : Premises) (framed : Bool) (first : Option ChipState) (status : Status) (sr x : ℕ) → length status.bits ≡ 9 → IsStatusRelation framed status.entry
+    → sr < 512 → x < 128
     → HoldsOfStatus (option_map suspended_of first) status sr
     → IsNormal 65536 (status_set status) × HoldsOfWord (option_map suspended_of first) (record { set = status_set status; entry = status.entry }) (sr + 512 * x)
 status_set_is laws framed first status sr x long form small few holds =
@@ -80,7 +64,7 @@ status_set_is laws framed first status sr x long form small few holds =
     let count : length bits ≡ 16 = length-append status.bits (replicate 7 Either) ∙ omega (arith, long, length-replicate 7 Either) in
     let power : 2 ^ length status.bits ≡ 512 = ap (λ n. 2 ^ n) long in
     let number : sr + 2 ^ length status.bits * x ≡ sr + 512 * x = ap (λ n. sr + n * x) power in
-    let agrees : Agrees bits (sr + 512 * x) = subst (Agrees bits) number (append_agrees status.bits (replicate 7 Either) sr x holds.bits (any_agree 7 x few)) in (
+    let agrees : Agrees bits (sr + 512 * x) = subst (Agrees bits) number (bits_append status.bits (replicate 7 Either) sr x holds.bits (bits_any 7 x few)) in (
       laws.known.bits.from_normal 16 bits count,
       (laws.known.bits.from 16 (sr + 512 * x) bits count agrees, relation_under framed first status.entry sr x form small few holds.entry),
     )

@@ -4,17 +4,17 @@ use Rattle.std.specs.Prelude.{◌⊎◌, nat_le, nat_lt, if◌then◌else◌}
 use Rattle.std.specs.Option.{option_map}
 use Rattle.std.proofs.lemmas.Bool.{and_parts, and_from, or_right, or_left, or_from, or_parts, cond_both, cond-true, cond-false, cases_Bool, cases_eq, leb-true, leb-false, le-leb, ltb-false, le-ltb, eq-eqb, ne_eqb, false_from_ne_true, both_ways}
 use Rattle.std.proofs.Math.Nat.{mod-eq_of_lt, mul-le-mul_right}
-use Rattle.std.proofs.lemmas.List.FromFn.{length-map-range_with_len, get_or-map-range_with_len}
 use Rattle.std.proofs.lemmas.List.{length-set}
 use Rattle.std.proofs.lemmas.List.Elements.{All-get_or, All-set}
 use Rattle.msp430_alu.proofs.WhereAccesses.{aligned_fits}
-use Rattle.msp430_alu.proofs.Members.{in_none, in_cons}
+use Rattle.plain_lemmas.specs.Members.{in_none, in_cons}
 use Rattle.entry_value.specs.declared.word.Word.{Word}
 use Rattle.entry_value.specs.Cells.{CellMap, AreCells, StandsUnder, write_any, written}
 use Rattle.entry_value.specs.Words.{Suspended, HoldsOfWord}
 use Rattle.value_set.specs.declared.form.Form.{Form}
 use Rattle.value_set.specs.declared.form.Form.TheVariants.{Values, Run}
-use Rattle.value_set.specs.Form.{Has, IsNormal, steps}
+use Rattle.value_set.specs.Form.{Has, IsNormal}
+use Rattle.value_set.specs.StepFacts.{steps_from}
 use Rattle.value_set.specs.Joining.{reach}
 use Rattle.msp430_decode.specs.declared.instr.Width.{Width}
 use Rattle.msp430_decode.specs.declared.instr.Width.TheVariants.{Word as Words, Byte}
@@ -45,18 +45,19 @@ with_byte_unfolded : (device : Device) (ram : List ℕ) (at byte : ℕ) → with
 unfolding with_byte
 with_byte_unfolded device ram at byte = refl
 
-byte_ram : (device : Device) (ram : List ℕ) (at byte : ℕ) → byte < 256 → IsRam device ram → IsRam device (with_byte device ram at byte)
-byte_ram device ram at byte small is = subst (IsRam device) (sym (with_byte_unfolded device ram at byte))
+byte_ram : {device : Device} {ram : List ℕ} (at byte : ℕ) → byte < 256 → IsRam device ram → IsRam device (with_byte device ram at byte)
+byte_ram {device} {ram} at byte small is = subst (IsRam device) (sym (with_byte_unfolded device ram at byte))
     (cond_both (is_ram device at) (set ram (at - device.ram.lo) byte) ram (IsRam device)
     (λ e. record { count = length-set ram (at - device.ram.lo) byte ∙ is.count; bytes = All-set (λ b. b < 256) ram (at - device.ram.lo) byte small is.bytes }) (λ e. is))
 
 -- the written byte, where it lies in RAM
-byte_there : (device : Device) (ram : List ℕ) (at byte : ℕ) → is_ram device at ≡ true → IsRam device ram → ram_byte device (with_byte device ram at byte) at ≡ byte
-byte_there device ram at byte inside is =
+byte_there : {device : Device} {ram : List ℕ} (at byte : ℕ) → is_ram device at ≡ true → IsRam device ram → ram_byte device (with_byte device ram at byte) at ≡ byte
+byte_there {device} {ram} at byte inside is =
     let low = ram_low device at inside in
     let high = ram_high device at inside in
     let place : at - device.ram.lo < length ram = omega (arith, is.count) in
-    let stored : with_byte device ram at byte ≡ set ram (at - device.ram.lo) byte = with_byte_unfolded device ram at byte ∙ cond-true (is_ram device at) (set ram (at - device.ram.lo) byte) ram inside in
+    let stored : with_byte device ram at byte ≡ set ram (at - device.ram.lo) byte = with_byte_unfolded device ram at byte ∙ cond-true (is_ram device at)
+    (set ram (at - device.ram.lo) byte) ram inside in
     ap (λ bytes. ram_byte device bytes at) stored
     ∙ cond-true (is_ram device at) (get_or (set ram (at - device.ram.lo) byte) (at - device.ram.lo) 0) 0 inside
     ∙ get_or-set_same ram (at - device.ram.lo) byte 0 place
@@ -66,10 +67,13 @@ byte_elsewhere : (device : Device) (ram : List ℕ) (at byte b : ℕ) → (b ≡
 byte_elsewhere device ram at byte b other = elim (cases_Bool (is_ram device at)) [
   | inr outside ↦ ap (λ bytes. ram_byte device bytes b) (with_byte_unfolded device ram at byte ∙ cond-false (is_ram device at) (set ram (at - device.ram.lo) byte) ram outside)
   | inl inside ↦
-      let stored : with_byte device ram at byte ≡ set ram (at - device.ram.lo) byte = with_byte_unfolded device ram at byte ∙ cond-true (is_ram device at) (set ram (at - device.ram.lo) byte) ram inside in
+      let stored : with_byte device ram at byte ≡ set ram (at - device.ram.lo) byte = with_byte_unfolded device ram at byte ∙ cond-true (is_ram device at)
+      (set ram (at - device.ram.lo) byte) ram inside in
       ap (λ bytes. ram_byte device bytes b) stored ∙
       elim (cases_Bool (is_ram device b)) [
-        | inr past ↦ cond-false (is_ram device b) (get_or (set ram (at - device.ram.lo) byte) (b - device.ram.lo) 0) 0 past ∙ sym (cond-false (is_ram device b) (get_or ram (b - device.ram.lo) 0) 0 past)
+        | inr past ↦
+            cond-false (is_ram device b) (get_or (set ram (at - device.ram.lo) byte) (b - device.ram.lo) 0) 0 past
+            ∙ sym (cond-false (is_ram device b) (get_or ram (b - device.ram.lo) 0) 0 past)
         | inl there ↦
             let low = ram_low device at inside in
             let also = ram_low device b there in
@@ -80,36 +84,38 @@ byte_elsewhere device ram at byte b other = elim (cases_Bool (is_ram device at))
       ]
 ]
 
-ram_small : (device : Device) (ram : List ℕ) → IsRam device ram → (at : ℕ) → ram_byte device ram at < 256
-ram_small device ram is at =
+ram_small : {device : Device} {ram : List ℕ} → IsRam device ram → (at : ℕ) → ram_byte device ram at < 256
+ram_small {device} {ram} is at =
     cond_both (is_ram device at) (get_or ram (at - device.ram.lo) 0) 0 (λ b. b < 256)
     (λ e. let low = ram_low device at e in let high = ram_high device at e in
     All-get_or (λ b. b < 256) ram (at - device.ram.lo) 0 (omega (arith, is.count, low, high)) is.bytes)
     (λ e. omega arith)
 
-pub stored_ram : (device : Device) (ram : List ℕ) (width : Width) (address value : ℕ) → value < modulus width → IsRam device ram → IsRam device (with_stored device ram width address value)
+pub stored_ram : (device : Device) (ram : List ℕ) (width : Width) (address value : ℕ) → value < modulus width → IsRam device ram
+    → IsRam device (with_stored device ram width address value)
 stored_ram device ram Words address value small is =
     let at = aligned device Words address in
-    byte_ram device (with_byte device ram at (value % 256)) (at + 1) (value / 256) (omega (arith, small)) (byte_ram device ram at (value % 256) (omega arith) is)
-stored_ram device ram Byte address value small is = byte_ram device ram (aligned device Byte address) value small is
+    byte_ram (at + 1) (value / 256) (omega (arith, small)) (byte_ram at (value % 256) (omega arith) is)
+stored_ram device ram Byte address value small is = byte_ram (aligned device Byte address) value small is
 
 -- a RAM behind a store and behind a write of cells agree
-agrees_there : (laws : Premises) (device : Device) → HasRam device → (ram : List ℕ) (width : Width) (address value : ℕ) → address < 65536 → value < modulus width → IsRam device ram → (b : ℕ) → device.ram.lo ≤ b → b ≤ device.ram.hi
+agrees_there : (laws : Premises) {device : Device} → HasRam device → {ram : List ℕ} (width : Width) (address value : ℕ) → address < 65536 → value < modulus width
+    → IsRam device ram → (b : ℕ) → device.ram.lo ≤ b → b ≤ device.ram.hi
     → written (ram_byte device ram) (aligned device width address) (size_of width) value b ≡ ram_byte device (with_stored device ram width address value) b
 unfolding written
-agrees_there laws device where_so ram Byte address value below small is b low high =
+agrees_there laws {device} where_so {ram} Byte address value below small is b low high =
     let at = aligned device Byte address in
     elim (cases_eq b at) [
       | inl same ↦
           let inside : is_ram device at ≡ true = in_ram device at (subst (λ n. device.ram.lo ≤ n) same low) (subst (λ n. n ≤ device.ram.hi) same high) in
           let whole : value % 256 ≡ value = omega (arith, small) in
           cond-true (b == at) (value % 256) (ram_byte device ram b) (eq-eqb b at same)
-          ∙ whole ∙ sym (byte_there device ram at value inside is) ∙ ap (ram_byte device (with_byte device ram at value)) (sym same)
+          ∙ whole ∙ sym (byte_there at value inside is) ∙ ap (ram_byte device (with_byte device ram at value)) (sym same)
       | inr other ↦ cond-false (b == at) (value % 256) (ram_byte device ram b) (ne_eqb b at other) ∙ sym (byte_elsewhere device ram at value b other)
     ]
-agrees_there laws device where_so ram Words address value below small is b low high =
+agrees_there laws {device} where_so {ram} Words address value below small is b low high =
     let at = aligned device Words address in
-    let fits = aligned_fits laws device where_so Words address below in
+    let fits = aligned_fits laws where_so Words address below in
     let next : (at + 1) % 65536 ≡ at + 1 = omega (arith, fits) in
     let first = with_byte device ram at (value % 256) in
     let rest = if b == (at + 1) % 65536 then value / 256 else ram_byte device ram b in
@@ -117,7 +123,7 @@ agrees_there laws device where_so ram Words address value below small is b low h
       | inl same ↦
           let inside : is_ram device at ≡ true = in_ram device at (subst (λ n. device.ram.lo ≤ n) same low) (subst (λ n. n ≤ device.ram.hi) same high) in
           cond-true (b == at) (value % 256) rest (eq-eqb b at same)
-          ∙ sym (byte_there device ram at (value % 256) inside is) ∙ ap (ram_byte device first) (sym same)
+          ∙ sym (byte_there at (value % 256) inside is) ∙ ap (ram_byte device first) (sym same)
           ∙ sym (byte_elsewhere device first (at + 1) (value / 256) b (λ e. omega (arith, e, same)))
       | inr other ↦
           cond-false (b == at) (value % 256) rest (ne_eqb b at other) ∙
@@ -126,7 +132,7 @@ agrees_there laws device where_so ram Words address value below small is b low h
                 let inside : is_ram device (at + 1) ≡ true = in_ram device (at + 1) (subst (λ n. device.ram.lo ≤ n) same low) (subst (λ n. n ≤ device.ram.hi) same high) in
                 let small_low : value % 256 < 256 = omega arith in
                 cond-true (b == (at + 1) % 65536) (value / 256) (ram_byte device ram b) (eq-eqb b ((at + 1) % 65536) (same ∙ sym next))
-                ∙ sym (byte_there device first (at + 1) (value / 256) inside (byte_ram device ram at (value % 256) small_low is))
+                ∙ sym (byte_there (at + 1) (value / 256) inside (byte_ram at (value % 256) small_low is))
                 ∙ ap (ram_byte device (with_byte device first (at + 1) (value / 256))) (sym same)
             | inr apart ↦
                 cond-false (b == (at + 1) % 65536) (value / 256) (ram_byte device ram b) (ne_eqb b ((at + 1) % 65536) (λ e. apart (e ∙ next)))
@@ -146,24 +152,29 @@ pub record IsStorable (width : Width) (word : Word) : Type 0 where
   pub normal : IsNormal 65536 word.set
   pub byte : size_of width ≡ 1 → (n : ℕ) → Has 65536 word.set n → n < 256
 
-cells_stored : (laws : Premises) (device : Device) (map : CellMap) (first : Option Suspended) (ram : List ℕ) (width : Width) (set_so : Form) (address value : ℕ) (word : Word) → IsDevice device → IsRam device ram
-    → map.lo ≡ device.ram.lo → map.hi ≡ device.ram.hi → AreCells device.ram.lo device.ram.hi device.ram.lo map.cells → address < 65536 → IsResult 65536 set_so (aligned device width address)
+cells_stored : (laws : Premises) {device : Device} (map : CellMap) (first : Option Suspended) {ram : List ℕ} {width : Width} {set_so : Form} (address value : ℕ) {word : Word}
+    → IsDevice device → IsRam device ram
+    → map.lo ≡ device.ram.lo → map.hi ≡ device.ram.hi → AreCells device.ram.lo device.ram.hi device.ram.lo map.cells → address < 65536
+    → IsResult 65536 set_so (aligned device width address)
     → value < modulus width → IsStorable width word → HoldsOfWord first word value → StandsUnder first map.cells (ram_byte device ram)
     → StandsUnder first (write_any map set_so (size_of width) word).cells (ram_byte device (with_stored device ram width address value))
-cells_stored laws device map first ram width set_so address value word is ram_is from up_to cells below at small storable holds stands =
+cells_stored laws {device} map first {ram} {width} {set_so} address value {word} is ram_is from up_to cells below at small storable holds stands =
     let size = size_of width in
     let top : map.hi < 65536 = subst (λ n. n < 65536) (sym up_to) is.ram.top in
     let are : AreCells map.lo map.hi map.lo map.cells =
     subst (λ lo. AreCells lo map.hi lo map.cells) (sym from) (subst (λ hi. AreCells device.ram.lo hi device.ram.lo map.cells) (sym up_to) cells) in
     let after = laws.known.cells.store_form map.lo size map set_so word top (omega arith) are (size_is width) storable.normal storable.byte in
-    let written_so = laws.known.cells.store first (ram_byte device ram) map.lo size (aligned device width address) value map set_so word top are at.normal (size_is width) storable.normal storable.byte stands at.has holds in
-    laws.known.cells.agree first (written (ram_byte device ram) (aligned device width address) size value) (ram_byte device (with_stored device ram width address value)) map.lo map.hi map.lo
-    (write_any map set_so size word).cells top after (ram_small device (with_stored device ram width address value) (stored_ram device ram width address value small ram_is))
-    (λ b low high. agrees_there laws device is.ram ram width address value below small ram_is b (subst (λ n. n ≤ b) from low) (subst (λ n. b ≤ n) up_to high)) written_so
+    let written_so = laws.known.cells.store first (ram_byte device ram) map.lo size (aligned device width address) value map set_so word top are at.normal
+    (size_is width) storable.normal storable.byte stands at.has holds in
+    laws.known.cells.agree first (written (ram_byte device ram) (aligned device width address) size value)
+    (ram_byte device (with_stored device ram width address value)) map.lo map.hi map.lo
+    (write_any map set_so size word).cells top after (ram_small (stored_ram device ram width address value small ram_is))
+    (λ b low high. agrees_there laws is.ram width address value below small ram_is b (subst (λ n. n ≤ b) from low) (subst (λ n. b ≤ n) up_to high)) written_so
 
 -- TOUCHED BYTES
 
-has_more : (from hi b low high : ℕ) (ranges : List (ℕ × ℕ)) → (laws : Premises) → low ≤ high → AreRanges from hi ranges → has_address ranges b ≡ true → has_address (with_range low high ranges) b ≡ true
+has_more : (from hi b low high : ℕ) (ranges : List (ℕ × ℕ)) → (laws : Premises) → low ≤ high → AreRanges from hi ranges → has_address ranges b ≡ true
+    → has_address (with_range low high ranges) b ≡ true
 has_more from hi b low high ranges laws le are has = laws.known.ranges.add from hi b low high ranges le are ∙ or_left (has_address ranges b) (lies_in (b, b) (low, high)) has
 
 has_new : (from hi b low high : ℕ) (ranges : List (ℕ × ℕ)) → (laws : Premises) → AreRanges from hi ranges → low ≤ b → b ≤ high → has_address (with_range low high ranges) b ≡ true
@@ -175,10 +186,11 @@ pub record Grows (lo hi : ℕ) (before after : List (ℕ × ℕ)) : Type 0 where
   pub form : AreRanges lo hi after
   pub keeps : (b : ℕ) → has_address before b ≡ true → has_address after b ≡ true
 
-grows_on : (lo hi : ℕ) (one two three : List (ℕ × ℕ)) → Grows lo hi one two → Grows lo hi two three → Grows lo hi one three
-grows_on lo hi one two three h k = record { form = k.form; keeps = λ b has. k.keeps b (h.keeps b has) }
+grows_on : {lo hi : ℕ} {one two three : List (ℕ × ℕ)} → Grows lo hi one two → Grows lo hi two three → Grows lo hi one three
+grows_on h k = record { form = k.form; keeps = λ b has. k.keeps b (h.keeps b has) }
 
-touch_grows : (laws : Premises) (lo hi first last : ℕ) (touched : List (ℕ × ℕ)) → lo ≤ hi → first ≤ last → AreRanges lo hi touched → Grows lo hi touched (touch lo hi first last touched)
+touch_grows : (laws : Premises) (lo hi first last : ℕ) (touched : List (ℕ × ℕ)) → lo ≤ hi → first ≤ last → AreRanges lo hi touched
+    → Grows lo hi touched (touch lo hi first last touched)
 touch_grows laws lo hi first last touched le up are =
     cond_both (nat_lt last lo || nat_lt hi first) touched (with_range (max lo first) (min hi last) touched) (Grows lo hi touched)
     (λ e. record { form = are; keeps = λ b has. has })
@@ -198,20 +210,22 @@ no_meeting lo hi first last b low high after before e =
     let both : (nat_lt last lo || nat_lt hi first) ≡ false = or_from (nat_lt last lo) (nat_lt hi first) one two in
     absurd (cc)
 
-touch_has : (laws : Premises) (lo hi first last b : ℕ) (touched : List (ℕ × ℕ)) → AreRanges lo hi touched → lo ≤ b → b ≤ hi → first ≤ b → b ≤ last → has_address (touch lo hi first last touched) b ≡ true
+touch_has : (laws : Premises) (lo hi first last b : ℕ) (touched : List (ℕ × ℕ)) → AreRanges lo hi touched → lo ≤ b → b ≤ hi → first ≤ b → b ≤ last
+    → has_address (touch lo hi first last touched) b ≡ true
 touch_has laws lo hi first last b touched are low high after before =
     cond_both (nat_lt last lo || nat_lt hi first) touched (with_range (max lo first) (min hi last) touched) (λ ranges. has_address ranges b ≡ true)
     (λ e. absurd (no_meeting lo hi first last b low high after before e))
     (λ e. has_new lo hi b (max lo first) (min hi last) touched laws are (omega arith) (omega arith))
 
-each_grows : (laws : Premises) (lo hi size : ℕ) (list : List ℕ) (touched : List (ℕ × ℕ)) → lo ≤ hi → 1 ≤ size → AreRanges lo hi touched → Grows lo hi touched (touch_each lo hi size list touched)
+each_grows : (laws : Premises) (lo hi size : ℕ) (list : List ℕ) (touched : List (ℕ × ℕ)) → lo ≤ hi → 1 ≤ size → AreRanges lo hi touched
+    → Grows lo hi touched (touch_each lo hi size list touched)
 each_grows laws lo hi size [] touched le some are = record { form = are; keeps = λ b has. has }
 each_grows laws lo hi size (at ∷ rest) touched le some are =
     let one = touch_grows laws lo hi at (at + size - 1) touched le (omega arith) are in
-    grows_on lo hi touched (touch lo hi at (at + size - 1) touched) (touch_each lo hi size rest (touch lo hi at (at + size - 1) touched)) one
-    (each_grows laws lo hi size rest (touch lo hi at (at + size - 1) touched) le some one.form)
+    grows_on one (each_grows laws lo hi size rest (touch lo hi at (at + size - 1) touched) le some one.form)
 
-each_touched : (laws : Premises) (lo hi size at b : ℕ) (list : List ℕ) (touched : List (ℕ × ℕ)) → 1 ≤ size → AreRanges lo hi touched → Contains list at → lo ≤ b → b ≤ hi → at ≤ b → b ≤ at + size - 1
+each_touched : (laws : Premises) (lo hi size at b : ℕ) (list : List ℕ) (touched : List (ℕ × ℕ)) → 1 ≤ size → AreRanges lo hi touched → Contains list at → lo ≤ b → b ≤ hi → at ≤ b
+    → b ≤ at + size - 1
     → has_address (touch_each lo hi size list touched) b ≡ true
 each_touched laws lo hi size at b [] touched some are there low high after before = absurd (in_none at there)
 each_touched laws lo hi size at b (first ∷ rest) touched some are there low high after before =
@@ -224,21 +238,16 @@ each_touched laws lo hi size at b (first ∷ rest) touched some are there low hi
       | inr later ↦ each_touched laws lo hi size at b rest next some one.form later low high after before
     ]
 
-pub behind_grows : (laws : Premises) (lo hi size : ℕ) (set_so : Form) (touched : List (ℕ × ℕ)) → lo ≤ hi → 1 ≤ size → AreRanges lo hi touched → Grows lo hi touched (touched_behind lo hi size set_so touched)
+pub behind_grows : (laws : Premises) (lo hi size : ℕ) (set_so : Form) (touched : List (ℕ × ℕ)) → lo ≤ hi → 1 ≤ size → AreRanges lo hi touched
+    → Grows lo hi touched (touched_behind lo hi size set_so touched)
 behind_grows laws lo hi size (Values xs) touched le some are = each_grows laws lo hi size xs touched le some are
 behind_grows laws lo hi size (Run p) touched le some are =
     cond_both (nat_le 65536 (p.base + reach p)) (with_range lo hi touched) (touch lo hi p.base (p.base + reach p + size - 1) touched) (Grows lo hi touched)
     (λ e. record { form = laws.known.ranges.add_form lo hi lo hi touched (omega arith) le (omega arith) are; keeps = λ b has. has_more lo hi b lo hi touched laws le are has })
     (λ e. touch_grows laws lo hi p.base (p.base + reach p + size - 1) touched le (omega arith) are)
 
-steps_from : (m base stride count v : ℕ) → Contains (steps m base stride count) v → (i : ℕ) × (i < count) × (v ≡ (base + i * stride) % m)
-unfolding steps
-steps_from m base stride count v h =
-    let f : ℕ → ℕ = λ k. (base + k * stride) % m in
-    let inside : h.0 < count = rw (length-map-range_with_len f 0 count) at h.1 in
-    (h.0, inside, sym h.2 ∙ get_or-map-range_with_len f 0 count h.0 h.0 v inside (omega arith))
-
-behind_touched : (laws : Premises) (lo hi size at b : ℕ) (set_so : Form) (touched : List (ℕ × ℕ)) → 1 ≤ size → AreRanges lo hi touched → Has 65536 set_so at → lo ≤ b → b ≤ hi → at ≤ b → b ≤ at + size - 1
+behind_touched : (laws : Premises) (lo hi size at b : ℕ) (set_so : Form) (touched : List (ℕ × ℕ)) → 1 ≤ size → AreRanges lo hi touched → Has 65536 set_so at → lo ≤ b → b ≤ hi
+    → at ≤ b → b ≤ at + size - 1
     → has_address (touched_behind lo hi size set_so touched) b ≡ true
 behind_touched laws lo hi size at b (Values xs) touched some are there low high after before = each_touched laws lo hi size at b xs touched some are there low high after before
 behind_touched laws lo hi size at b (Run p) touched some are there low high after before =
@@ -267,12 +276,15 @@ pub some_size : (width : Width) → 1 ≤ size_of width
 some_size Words = omega arith
 some_size Byte = omega arith
 
-stays_untouched : (laws : Premises) (device : Device) (ram : List ℕ) (width : Width) (address value : ℕ) (set_so : Form) (touched : List (ℕ × ℕ)) (f : ChipState) → IsDevice device
+stays_untouched : (laws : Premises) {device : Device} (ram : List ℕ) (width : Width) (address value : ℕ) (set_so : Form) (touched : List (ℕ × ℕ)) (f : ChipState)
+    → IsDevice device
     → AreRanges device.ram.lo device.ram.hi touched → Has 65536 set_so (aligned device width address) → KeepsUntouched device touched ram (Some f) → (b : ℕ)
-    → has_address (touched_behind device.ram.lo device.ram.hi (size_of width) set_so touched) b ≡ false → ram_byte device (with_stored device ram width address value) b ≡ ram_byte device f.ram b
-stays_untouched laws device ram width address value set_so touched f is are has keeps b none =
+    → has_address (touched_behind device.ram.lo device.ram.hi (size_of width) set_so touched) b ≡ false
+    → ram_byte device (with_stored device ram width address value) b ≡ ram_byte device f.ram b
+stays_untouched laws {device} ram width address value set_so touched f is are has keeps b none =
     let grows = behind_grows laws device.ram.lo device.ram.hi (size_of width) set_so touched (omega (arith, is.ram.some)) (some_size width) are in
-    let before : has_address touched b ≡ false = false_from_ne_true (has_address touched b) (λ there. both_ways (has_address (touched_behind device.ram.lo device.ram.hi (size_of width) set_so touched) b) none (grows.keeps b there)) in
+    let before : has_address touched b ≡ false = false_from_ne_true (has_address touched b)
+    (λ there. both_ways (has_address (touched_behind device.ram.lo device.ram.hi (size_of width) set_so touched) b) none (grows.keeps b there)) in
     let same : ram_byte device (with_stored device ram width address value) b ≡ ram_byte device ram b = elim (cases_Bool (is_ram device b)) [
       | inr outside ↦ outside_same device (with_stored device ram width address value) ram b outside
       | inl inside ↦ unwritten device ram width address value b (λ after last.
@@ -281,23 +293,23 @@ stays_untouched laws device ram width address value set_so touched f is are has 
     ] in
     same ∙ keeps b before
 
-store_untouched : (laws : Premises) (device : Device) (framed : Bool) (ram : List ℕ) (width : Width) (address value : ℕ) (set_so : Form) (touched : List (ℕ × ℕ)) (first : Option ChipState) → IsDevice device
+store_untouched : (laws : Premises) {device : Device} (framed : Bool) (ram : List ℕ) (width : Width) (address value : ℕ) (set_so : Form) (touched : List (ℕ × ℕ))
+    (first : Option ChipState) → IsDevice device
     → (framed ≡ false → first ≡ None) → AreRanges device.ram.lo device.ram.hi touched → Has 65536 set_so (aligned device width address) → KeepsUntouched device touched ram first
-    → KeepsUntouched device (if framed then touched_behind device.ram.lo device.ram.hi (size_of width) set_so touched else touched) (with_stored device ram width address value) first
-store_untouched laws device framed ram width address value set_so touched None is base are has keeps = tt
-store_untouched laws device true ram width address value set_so touched (Some f) is base are has keeps = stays_untouched laws device ram width address value set_so touched f is are has keeps
-store_untouched laws device false ram width address value set_so touched (Some f) is base are has keeps = let none = base refl in absurd (cc)
+    → KeepsUntouched device (if framed then touched_behind device.ram.lo device.ram.hi (size_of width) set_so touched else touched)
+    (with_stored device ram width address value) first
+store_untouched laws framed ram width address value set_so touched None is base are has keeps = tt
+store_untouched laws true ram width address value set_so touched (Some f) is base are has keeps = stays_untouched laws ram width address value set_so touched f is are has keeps
+store_untouched laws false ram width address value set_so touched (Some f) is base are has keeps = let none = base refl in absurd (cc)
 
 -- what is known behind a store holds behind it
-pub store_holds : (laws : Premises) (device : Device) (framed : Bool) (a : Known) (first : Option ChipState) (registers ram : List ℕ) (width : Width) (address value : ℕ) (set_so : Form) (word : Word) → IsDevice device → IsRam device ram
-    → (framed ≡ false → first ≡ None) → IsKnown device.ram.lo device.ram.hi framed a → address < 65536 → IsResult 65536 set_so (aligned device width address) → value < modulus width → IsStorable width word
+pub store_holds : (laws : Premises) {device : Device} {framed : Bool} {a : Known} {first : Option ChipState} {registers ram : List ℕ} {width : Width} (address value : ℕ)
+    {set_so : Form} {word : Word} → IsDevice device → IsRam device ram
+    → (framed ≡ false → first ≡ None) → IsKnown device.ram.lo device.ram.hi framed a → address < 65536 → IsResult 65536 set_so (aligned device width address)
+    → value < modulus width → IsStorable width word
     → HoldsOfWord (option_map suspended_of first) word value → HoldsOfParts device a first registers ram
     → HoldsOfParts device (with_store device framed a width set_so word) first registers (with_stored device ram width address value)
-store_holds laws device framed a first registers ram width address value set_so word is ram_is base form below at small storable has holds = record {
-  sp = holds.sp;
-  status = holds.status;
-  words = holds.words;
-  fact = holds.fact;
-  cells = cells_stored laws device a.cells (option_map suspended_of first) ram width set_so address value word is ram_is form.from form.up_to form.cells below at small storable has holds.cells;
-  untouched = store_untouched laws device framed ram width address value set_so a.touched first is base form.touched at.has holds.untouched;
-}
+store_holds laws {framed} {a} {first} {ram} {width} address value {set_so} is ram_is base form below at small storable has holds =
+    let cells = cells_stored laws a.cells (option_map suspended_of first) address value is ram_is form.from form.up_to form.cells below at small storable has holds.cells in
+    let untouched = store_untouched laws framed ram width address value set_so a.touched first is base form.touched at.has holds.untouched in
+    assumption (cells, untouched, holds)

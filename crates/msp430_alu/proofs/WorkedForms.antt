@@ -1,18 +1,16 @@
 -- What is made of a state has the form of states.
-use Rattle.std.proofs.Common.{◌≡◌, ℕ, ◌+◌, ◌-◌, ◌%◌, ◌<◌, ◌==◌, ◌&&◌, ◌++◌, Bool, true, false, Option, None, Some, List, [], ◌∷◌, length, replicate, refl, sym, ap, ◌∙◌, subst, inl, inr, arith, Contains}
+use Rattle.msp430_state.specs.FormFacts.{and_form, no_relation, or_form}
+use Rattle.msp430_alu.specs.NumberFacts.{even_parts_form, moved_normal}
+use Rattle.std.proofs.Common.{◌≡◌, ℕ, ◌+◌, ◌-◌, ◌%◌, ◌<◌, ◌==◌, ◌&&◌, ◌++◌, Bool, true, false, Option, None, Some, List, [], ◌∷◌, length, replicate, refl, ap, ◌∙◌, subst, arith, Contains}
 use Rattle.std.specs.Prelude.{nat_le}
-use Rattle.std.specs.Option.{option_map}
-use Rattle.std.proofs.lemmas.Bool.{cond_both, cases_lt}
-use Rattle.std.proofs.lemmas.List.{length-append, length-replicate, get_or_past}
-use Rattle.std.proofs.lemmas.List.Elements.{All-get_or}
-use Rattle.std.proofs.lemmas.Nat.{and_le_l, or_lt}
+use Rattle.std.proofs.lemmas.Bool.{cond_both}
+use Rattle.std.proofs.lemmas.List.{length-append, length-replicate}
 use Rattle.std.proofs.lemmas.Option.{same_Some}
-use Rattle.msp430_alu.proofs.Members.{in_cons, in_first, in_none, in_rest}
+use Rattle.plain_lemmas.specs.Members.{in_first, in_rest}
 use Rattle.entry_value.specs.declared.cells.Cell.{Cell}
 use Rattle.entry_value.specs.declared.word.Entry.{Entry}
 use Rattle.entry_value.specs.declared.word.Word.{Word}
 use Rattle.entry_value.specs.Cells.{cell_at, found_or, put_together, read, unknown}
-use Rattle.entry_value.specs.Words.{entry_and, entry_or}
 use Rattle.value_set.specs.declared.form.Form.{Form}
 use Rattle.value_set.specs.Form.{IsNormal, make, members}
 use Rattle.value_set.specs.Joining.{join}
@@ -28,7 +26,7 @@ use Rattle.msp430_decode.specs.declared.instr.Operation.TheVariants as operation
 use Rattle.msp430_decode.specs.declared.instr.Register.{Register}
 use Rattle.msp430_decode.specs.declared.instr.Register.TheVariants.{Pc}
 use Rattle.msp430_decode.specs.declared.instr.SingleOperation.{SingleOperation}
-use Rattle.msp430_decode.specs.declared.instr.SingleOperation.TheVariants.{Rrc, Swpb, Rra, Sxt, Push, Call}
+use Rattle.msp430_decode.specs.declared.instr.SingleOperation.TheVariants.{Call}
 use Rattle.msp430_decode.specs.declared.instr.Source.{Source}
 use Rattle.msp430_decode.specs.declared.instr.Source.TheVariants as source
 use Rattle.msp430_decode.specs.declared.instr.Width.{Width}
@@ -44,7 +42,7 @@ use Rattle.msp430_chip.specs.Operands.{growth}
 use Rattle.msp430_chip.specs.Step.{reads_counter, is_formed_by_stack}
 use Rattle.msp430_state.specs.declared.status.Status.{Status as StatusBits}
 use Rattle.msp430_state.specs.Forms.{is_place, IsRelation, IsStatusRelation, IsWord, IsChipCell, IsKnown}
-use Rattle.msp430_state.specs.Known.{Known, word_of}
+use Rattle.msp430_state.specs.Known.{Known}
 use Rattle.msp430_alu.specs.declared.reach.Reach.{Reach}
 use Rattle.msp430_alu.specs.declared.reach.Reach.TheVariants.{InRegister, InMemory, Fixed}
 use Rattle.msp430_alu.specs.Formats.{lowered_known, forming_known, pushed_known, called_next, push_worked, single_worked, double_worked, constant_of, relation_of, masked_and, masked_clear, masked_or, counter_set, is_doubled, carry_of, destination_word, made_of, put_known, put_known_if, next_by, next_if, double_worked}
@@ -56,11 +54,10 @@ use Rattle.msp430_alu.specs.Premises.{Premises}
 use Rattle.msp430_alu.specs.Registers.{even_parts, status_set, register_word, with_flag_bits, with_sp}
 use Rattle.msp430_results.specs.Results.{double_made, single_made, twice_flags, HasWidth}
 use Rattle.msp430_alu.proofs.Growth.{growth_small}
-use Rattle.msp430_alu.proofs.OperandLemmas.{AreKinds, constant_small, general_word}
+use Rattle.msp430_alu.proofs.OperandLemmas.{constant_small, general_word, word_of_form}
 use Rattle.msp430_alu.proofs.WhereAccesses.{located_even, located_normal}
-use Rattle.msp430_alu.proofs.Parts.{even_parts_form}
 use Rattle.msp430_alu.proofs.ReadingLemmas.{read_known_normal}
-use Rattle.msp430_alu.proofs.Shapes.{IsCellWord, no_relation, register_form, sp_form, flags_form, store_form}
+use Rattle.msp430_alu.proofs.Shapes.{IsCellWord, register_form, sp_form, flags_form, store_form}
 
 -- REGISTERS AS OPERANDS
 
@@ -74,69 +71,57 @@ status_relation framed None form = tt
 status_relation false (Some entry) form = form
 status_relation true (Some entry) (place, and_small, high, or_small) = (ap is_place place, and_small, omega (arith, or_small))
 
-word_of_form : (laws : Premises) (lo hi : ℕ) (framed : Bool) (a : Known) → IsKnown lo hi framed a → (register : ℕ) → IsWord framed (word_of a register)
-word_of_form laws lo hi framed a form register = elim (cases_lt (register - 4) (length a.registers)) [
-  | inl inside ↦ All-get_or (IsWord framed) a.registers (register - 4) (unknown 2) inside form.registers
-  | inr past ↦ subst (IsWord framed) (sym (get_or_past a.registers (register - 4) (unknown 2) past)) (record { normal = laws.known.sets.whole_normal 65536 (omega arith); entry = no_relation framed })
-]
-
-register_word_form : (laws : Premises) (lo hi : ℕ) (framed : Bool) (a : Known) (counted : Form) → IsKnown lo hi framed a → IsNormal 65536 counted → (register : Register) → Kind register → IsWord framed (register_word a counted register)
-register_word_form laws lo hi framed a counted form normal register (Counter e) = subst (λ r. IsWord framed (register_word a counted r)) (sym e) (record { normal = normal; entry = no_relation framed })
-register_word_form laws lo hi framed a counted form normal register (Stack e) = subst (λ r. IsWord framed (register_word a counted r)) (sym e) (record { normal = form.sp.normal; entry = no_relation framed })
-register_word_form laws lo hi framed a counted form normal register (Status e) =
-    subst (λ r. IsWord framed (register_word a counted r)) (sym e) (record { normal = status_normal laws a.status form.bits; entry = status_relation framed a.status.entry form.status })
-register_word_form laws lo hi framed a counted form normal register (Empty e) =
-    subst (λ r. IsWord framed (register_word a counted r)) (sym e) (record { normal = (laws.known.sets.single 65536 0 (omega arith)).0; entry = no_relation framed })
-register_word_form laws lo hi framed a counted form normal register (General is) =
-    subst (IsWord framed) (sym (general_word a counted register is.above)) (word_of_form laws lo hi framed a form (number register))
+register_word_form : (laws : Premises) {lo hi : ℕ} {framed : Bool} {a : Known} (counted : Form) → IsKnown lo hi framed a → IsNormal 65536 counted → {register : Register}
+    → Kind register → IsWord framed (register_word a counted register)
+register_word_form laws {framed} counted form normal (Counter e) = rw e (record { normal = normal; entry = no_relation framed })
+register_word_form laws {framed} counted form normal (Stack e) = rw e (record { normal = form.sp.normal; entry = no_relation framed })
+register_word_form laws {framed} {a} counted form normal (Status e) =
+    rw e (record { normal = status_normal laws a.status form.bits; entry = status_relation framed a.status.entry form.status })
+register_word_form laws {framed} counted form normal (Empty e) = rw e (record { normal = (laws.known.sets.single 65536 0 (omega arith)).0; entry = no_relation framed })
+register_word_form laws {a} counted form normal {register} (General is) = rw (general_word a counted register is.above) (word_of_form laws form (number register))
 
 -- WHERE OPERANDS STAND
 
 abbrev pub IsReachNormal : Reach → Type 0
 IsReachNormal (InMemory set_so) = IsNormal 65536 set_so
-IsReachNormal (InRegister register) = Unit {0}
-IsReachNormal (Fixed value) = Unit {0}
+IsReachNormal other = Unit {0}
 
-beside_form : (laws : Premises) (lo hi : ℕ) (framed : Bool) (a : Known) (counted : Form) → IsKnown lo hi framed a → IsNormal 65536 counted → AreKinds → (register : Register) (offset : ℕ) → offset < 65536
+beside_form : (laws : Premises) {lo hi : ℕ} {framed : Bool} {a : Known} (counted : Form) → IsKnown lo hi framed a → IsNormal 65536 counted → (register : Register) (offset : ℕ)
+    → offset < 65536
     → IsNormal 65536 (beside a counted register offset)
-beside_form laws lo hi framed a counted form normal kinds register offset small =
-    laws.known.sets.add_normal 65536 (register_word a counted register).set (single offset) (register_word_form laws lo hi framed a counted form normal register (kinds register)).normal (laws.known.sets.single 65536 offset small).0
+beside_form laws {a} counted form normal register offset small =
+    moved_normal laws.known (register_word a counted register).set offset small (register_word_form laws counted form normal (laws.kinds register)).normal
 
-pub source_form : (laws : Premises) (lo hi : ℕ) (framed : Bool) (a : Known) (counted : Form) → IsKnown lo hi framed a → IsNormal 65536 counted → AreKinds → (pc : ℕ) (origin : Source) → IsSource origin
+pub source_form : (laws : Premises) {lo hi : ℕ} {framed : Bool} {a : Known} (counted : Form) → IsKnown lo hi framed a → IsNormal 65536 counted → (pc : ℕ) (origin : Source)
+    → IsSource origin
     → IsReachNormal (source_reach pc a counted origin)
-source_form laws lo hi framed a counted form normal kinds pc (source.Register register) is = tt
-source_form laws lo hi framed a counted form normal kinds pc (source.Indexed register offset) is = beside_form laws lo hi framed a counted form normal kinds register offset is.1
-source_form laws lo hi framed a counted form normal kinds pc (source.Indirect register) is = (register_word_form laws lo hi framed a counted form normal register (kinds register)).normal
-source_form laws lo hi framed a counted form normal kinds pc (source.IndirectIncrement register) is = (register_word_form laws lo hi framed a counted form normal register (kinds register)).normal
-source_form laws lo hi framed a counted form normal kinds pc (source.Immediate value) is = tt
-source_form laws lo hi framed a counted form normal kinds pc (source.Symbolic offset) is = (laws.known.sets.single 65536 ((pc + 2 + offset) % 65536) (omega arith)).0
-source_form laws lo hi framed a counted form normal kinds pc (source.Absolute address) is = (laws.known.sets.single 65536 address is).0
-source_form laws lo hi framed a counted form normal kinds pc (source.Constant constant) is = tt
+source_form laws counted form normal pc (source.Register register) is = tt
+source_form laws counted form normal pc (source.Indexed register offset) is = beside_form laws counted form normal register offset is.1
+source_form laws counted form normal pc (source.Indirect register) is = (register_word_form laws counted form normal (laws.kinds register)).normal
+source_form laws counted form normal pc (source.IndirectIncrement register) is = (register_word_form laws counted form normal (laws.kinds register)).normal
+source_form laws counted form normal pc (source.Immediate value) is = tt
+source_form laws counted form normal pc (source.Symbolic offset) is = (laws.known.sets.single 65536 ((pc + 2 + offset) % 65536) (omega arith)).0
+source_form laws counted form normal pc (source.Absolute address) is = (laws.known.sets.single 65536 address is).0
+source_form laws counted form normal pc (source.Constant constant) is = tt
 
-pub destination_form : (laws : Premises) (lo hi : ℕ) (framed : Bool) (a : Known) (counted : Form) → IsKnown lo hi framed a → IsNormal 65536 counted → AreKinds → (pc len : ℕ) (target : Destination) → IsDestination target
+pub destination_form : (laws : Premises) {lo hi : ℕ} {framed : Bool} {a : Known} (counted : Form) → IsKnown lo hi framed a → IsNormal 65536 counted
+    → (pc len : ℕ) (target : Destination) → IsDestination target
     → IsReachNormal (destination_reach pc len a counted target)
-destination_form laws lo hi framed a counted form normal kinds pc len (destination.Register register) is = tt
-destination_form laws lo hi framed a counted form normal kinds pc len (destination.Indexed register offset) is = beside_form laws lo hi framed a counted form normal kinds register offset is.1
-destination_form laws lo hi framed a counted form normal kinds pc len (destination.Symbolic offset) is = (laws.known.sets.single 65536 ((pc + len - 2 + offset) % 65536) (omega arith)).0
-destination_form laws lo hi framed a counted form normal kinds pc len (destination.Absolute address) is = (laws.known.sets.single 65536 address is).0
+destination_form laws counted form normal pc len (destination.Register register) is = tt
+destination_form laws counted form normal pc len (destination.Indexed register offset) is = beside_form laws counted form normal register offset is.1
+destination_form laws counted form normal pc len (destination.Symbolic offset) is = (laws.known.sets.single 65536 ((pc + len - 2 + offset) % 65536) (omega arith)).0
+destination_form laws counted form normal pc len (destination.Absolute address) is = (laws.known.sets.single 65536 address is).0
 
-pub grown_form : (laws : Premises) (lo hi : ℕ) (framed : Bool) (a : Known) (counted : Form) → IsKnown lo hi framed a → IsNormal 65536 counted → AreKinds → (width : Width) (origin : Source)
+pub grown_form : (laws : Premises) {lo hi : ℕ} {framed : Bool} {a : Known} (counted : Form) → IsKnown lo hi framed a → IsNormal 65536 counted → (width : Width) (origin : Source)
     → IsKnown lo hi framed (grown_known a counted width origin)
-grown_form laws lo hi framed a counted form normal kinds width (source.IndirectIncrement register) =
+grown_form laws {framed} {a} counted form normal width (source.IndirectIncrement register) =
     let more = growth width register in
-    register_form laws lo hi framed a register (record { set = add 65536 (register_word a counted register).set (single more); entry = None }) (kinds register)
-    (record {
-      normal = laws.known.sets.add_normal 65536 (register_word a counted register).set (single more) (register_word_form laws lo hi framed a counted form normal register (kinds register)).normal
-          (laws.known.sets.single 65536 more (growth_small width register (kinds register))).0;
+    register_form laws (laws.kinds register) (record {
+      normal = moved_normal laws.known (register_word a counted register).set more (growth_small width register)
+          (register_word_form laws counted form normal (laws.kinds register)).normal;
       entry = no_relation framed;
     }) form
-grown_form laws lo hi framed a counted form normal kinds width (source.Register register) = form
-grown_form laws lo hi framed a counted form normal kinds width (source.Indexed register offset) = form
-grown_form laws lo hi framed a counted form normal kinds width (source.Indirect register) = form
-grown_form laws lo hi framed a counted form normal kinds width (source.Immediate value) = form
-grown_form laws lo hi framed a counted form normal kinds width (source.Symbolic offset) = form
-grown_form laws lo hi framed a counted form normal kinds width (source.Absolute address) = form
-grown_form laws lo hi framed a counted form normal kinds width (source.Constant constant) = form
+grown_form laws counted form normal width other = form
 
 -- WHAT THEY HOLD
 
@@ -165,65 +150,48 @@ program_relation : (framed : Bool) (device : Device) (width : Width) (at : ℕ) 
 program_relation framed device Words at = word_relation framed _ _
 program_relation framed device Byte at = byte_relation framed _
 
-one_relation : (framed : Bool) (device : Device) (a : Known) (width : Width) (at : ℕ) → IsKnown device.ram.lo device.ram.hi framed a → IsRelation framed (read_one device a width at).entry
-one_relation framed device a width at form =
+one_relation : {framed : Bool} (device : Device) {a : Known} (width : Width) (at : ℕ) → IsKnown device.ram.lo device.ram.hi framed a
+    → IsRelation framed (read_one device a width at).entry
+one_relation {framed} device {a} width at form =
     cond_both (is_ram device at) (read a.cells.cells at (size_of width)) (program_word device width at) (λ word. IsRelation framed word.entry)
     (λ e. read_relation framed a.cells.cells at (size_of width) form.each_cell) (λ e. program_relation framed device width at)
 
-pub list_relation : (framed : Bool) (device : Device) (a : Known) (width : Width) (list : List ℕ) → IsKnown device.ram.lo device.ram.hi framed a → IsRelation framed (read_list device a width list).entry
-list_relation framed device a width [] form = no_relation framed
-list_relation framed device a width (only ∷ []) form = one_relation framed device a width only form
-list_relation framed device a width (one ∷ next ∷ rest) form =
-    cond_both (nat_le (length rest) 254) (record { set = read_each device a width (read_one device a width one).set (next ∷ rest); entry = None }) (unknown (size_of width)) (λ word. IsRelation framed word.entry) (λ e. no_relation framed) (λ e. no_relation framed)
+pub list_relation : {framed : Bool} (device : Device) {a : Known} (width : Width) (list : List ℕ) → IsKnown device.ram.lo device.ram.hi framed a
+    → IsRelation framed (read_list device a width list).entry
+list_relation {framed} device width [] form = no_relation framed
+list_relation device width (only ∷ []) form = one_relation device width only form
+list_relation {framed} device {a} width (one ∷ next ∷ rest) form =
+    cond_both (nat_le (length rest) 254) (record { set = read_each device a width (read_one device a width one).set (next ∷ rest); entry = None }) (unknown (size_of width))
+    (λ word. IsRelation framed word.entry) (λ e. no_relation framed) (λ e. no_relation framed)
 
 abbrev pub IsReachSmall : Reach → Type 0
 IsReachSmall (Fixed value) = value < 65536
-IsReachSmall (InMemory set_so) = Unit {0}
-IsReachSmall (InRegister register) = Unit {0}
+IsReachSmall other = Unit {0}
 
 pub source_small : (pc : ℕ) (a : Known) (counted : Form) (origin : Source) → IsSource origin → IsReachSmall (source_reach pc a counted origin)
-source_small pc a counted (source.Register register) is = tt
-source_small pc a counted (source.Indexed register offset) is = tt
-source_small pc a counted (source.Indirect register) is = tt
-source_small pc a counted (source.IndirectIncrement register) is = tt
 source_small pc a counted (source.Immediate value) is = is
-source_small pc a counted (source.Symbolic offset) is = tt
-source_small pc a counted (source.Absolute address) is = tt
 source_small pc a counted (source.Constant constant) is = constant_small constant
+source_small pc a counted other is = tt
 
 pub destination_small : (pc len : ℕ) (a : Known) (counted : Form) (target : Destination) → IsReachSmall (destination_reach pc len a counted target)
 destination_small pc len a counted (destination.Register register) = tt
-destination_small pc len a counted (destination.Indexed register offset) = tt
-destination_small pc len a counted (destination.Symbolic offset) = tt
-destination_small pc len a counted (destination.Absolute address) = tt
+destination_small pc len a counted other = tt
 
-pub operand_form : (laws : Premises) (device : Device) (framed : Bool) (a : Known) (counted : Form) → IsDevice device → IsKnown device.ram.lo device.ram.hi framed a → IsNormal 65536 counted → AreKinds → (width : Width) (reach : Reach)
+pub operand_form : (laws : Premises) {device : Device} {framed : Bool} {a : Known} (counted : Form) → IsDevice device → IsKnown device.ram.lo device.ram.hi framed a
+    → IsNormal 65536 counted → (width : Width) (reach : Reach)
     → IsReachSmall reach → IsWord framed (operand_word device a counted width reach)
-operand_form laws device framed a counted is form normal kinds width (InRegister register) small = register_word_form laws device.ram.lo device.ram.hi framed a counted form normal register (kinds register)
-operand_form laws device framed a counted is form normal kinds width (InMemory set_so) small = record {
-  normal = read_known_normal laws device a is form.cells width (located device width set_so);
-  entry = list_relation framed device a width (members 65536 (located device width set_so)) form;
+operand_form laws counted is form normal width (InRegister register) small = register_word_form laws counted form normal (laws.kinds register)
+operand_form laws {device} {a} counted is form normal width (InMemory set_so) small = record {
+  normal = read_known_normal laws a is form.cells width (located device width set_so);
+  entry = list_relation device width (members 65536 (located device width set_so)) form;
 }
-operand_form laws device framed a counted is form normal kinds width (Fixed value) small = record { normal = (laws.known.sets.single 65536 value small).0; entry = no_relation framed }
+operand_form laws {framed} counted is form normal width (Fixed value) small = record { normal = (laws.known.sets.single 65536 value small).0; entry = no_relation framed }
 
-pub values_form : (laws : Premises) (framed : Bool) (width : Width) (word : Word) → IsWord framed word → IsNormal (modulus width) (values_of width word)
-values_form laws framed Words word is = is.normal
-values_form laws framed Byte word is = laws.known.bits.low_normal word.set is.normal
+pub values_form : (laws : Premises) {framed : Bool} (width : Width) {word : Word} → IsWord framed word → IsNormal (modulus width) (values_of width word)
+values_form laws Words is = is.normal
+values_form laws Byte {word} is = laws.known.bits.low_normal word.set is.normal
 
 -- RELATIONS OF RESULTS
-
-and_form : (framed : Bool) (m : ℕ) (entry : Option Entry) → IsRelation framed entry → IsRelation framed (option_map (entry_and m) entry)
-and_form framed m None form = no_relation framed
-and_form false m (Some entry) form = form
-and_form true m (Some entry) (place, and_small, or_small) =
-    let one = and_le_l entry.and m in
-    let other = and_le_l entry.or m in
-    (place, omega (arith, one, and_small), omega (arith, other, or_small))
-
-or_form : (framed : Bool) (m : ℕ) (entry : Option Entry) → m < 65536 → IsRelation framed entry → IsRelation framed (option_map (entry_or m) entry)
-or_form framed m None small form = no_relation framed
-or_form false m (Some entry) small form = form
-or_form true m (Some entry) small (place, and_small, or_small) = (place, and_small, or_lt 16 entry.or m or_small small)
 
 masked_and_form : (framed : Bool) (constant : Option ℕ) (entry : Option Entry) → IsRelation framed entry → IsRelation framed (masked_and constant entry)
 masked_and_form framed None entry form = no_relation framed
@@ -233,34 +201,24 @@ masked_clear_form : (framed : Bool) (constant : Option ℕ) (entry : Option Entr
 masked_clear_form framed None entry form = no_relation framed
 masked_clear_form framed (Some m) entry form = and_form framed (65535 - m) entry form
 
-masked_or_form : (framed : Bool) (constant : Option ℕ) (entry : Option Entry) → ((m : ℕ) → constant ≡ Some m → m < 65536) → IsRelation framed entry → IsRelation framed (masked_or constant entry)
+masked_or_form : (framed : Bool) (constant : Option ℕ) (entry : Option Entry) → ((m : ℕ) → constant ≡ Some m → m < 65536) → IsRelation framed entry
+    → IsRelation framed (masked_or constant entry)
 masked_or_form framed None entry small form = no_relation framed
 masked_or_form framed (Some m) entry small form = or_form framed m entry (small m refl) form
 
-relation_form : (framed : Bool) (done : Operation) (constant : Option ℕ) (one other : Option Entry) → ((m : ℕ) → constant ≡ Some m → m < 65536) → IsRelation framed one → IsRelation framed other
+relation_form : (framed : Bool) (done : Operation) (constant : Option ℕ) (one other : Option Entry) → ((m : ℕ) → constant ≡ Some m → m < 65536) → IsRelation framed one
+    → IsRelation framed other
     → IsRelation framed (relation_of done constant one other)
 relation_form framed operation.Mov constant one other small h k = h
 relation_form framed operation.And constant one other small h k = masked_and_form framed constant other k
 relation_form framed operation.Bic constant one other small h k = masked_clear_form framed constant other k
 relation_form framed operation.Bis constant one other small h k = masked_or_form framed constant other small k
-relation_form framed operation.Add constant one other small h k = no_relation framed
-relation_form framed operation.Addc constant one other small h k = no_relation framed
-relation_form framed operation.Subc constant one other small h k = no_relation framed
-relation_form framed operation.Sub constant one other small h k = no_relation framed
-relation_form framed operation.Cmp constant one other small h k = no_relation framed
-relation_form framed operation.Dadd constant one other small h k = no_relation framed
-relation_form framed operation.Bit constant one other small h k = no_relation framed
-relation_form framed operation.Xor constant one other small h k = no_relation framed
+relation_form framed other constant one two small h k = no_relation framed
 
 constant_below : (origin : Source) (m : ℕ) → IsSource origin → constant_of origin ≡ Some m → m < 65536
 constant_below (source.Immediate value) m is e = subst (λ n. n < 65536) (same_Some value m e) is
 constant_below (source.Constant constant) m is e = subst (λ n. n < 65536) (same_Some (constant_value constant) m e) (constant_small constant)
-constant_below (source.Register register) m is e = absurd (cc)
-constant_below (source.Indexed register offset) m is e = absurd (cc)
-constant_below (source.Indirect register) m is e = absurd (cc)
-constant_below (source.IndirectIncrement register) m is e = absurd (cc)
-constant_below (source.Symbolic offset) m is e = absurd (cc)
-constant_below (source.Absolute address) m is e = absurd (cc)
+constant_below other m is e = absurd (cc)
 
 -- WRITES
 
@@ -269,15 +227,19 @@ pub record IsWritable (framed : Bool) (width : Width) (word : Word) : Type 0 whe
   pub word_so : IsWord framed word
   pub cell : IsCellWord framed width word
 
-pub written_form : (laws : Premises) (framed : Bool) (width : Width) (set_so : Form) (entry : Option Entry) → IsNormal (modulus width) set_so → IsRelation framed entry → IsWritable framed width (written_word width set_so entry)
-written_form laws framed Words set_so entry normal form = record {
-  word_so = record { normal = normal; entry = form };
+word_writable : {framed : Bool} {word : Word} → IsWord framed word → IsWritable framed Words word
+word_writable is = record {
+  word_so = is;
   cell = record {
-    storable = record { normal = normal; byte = λ e. absurd (omega (arith, e)) };
+    storable = record { normal = is.normal; byte = λ e. absurd (omega (arith, e)) };
     byte = λ e. absurd (omega (arith, e));
-    entry = form;
+    entry = is.entry;
   };
 }
+
+pub written_form : (laws : Premises) (framed : Bool) (width : Width) (set_so : Form) (entry : Option Entry) → IsNormal (modulus width) set_so → IsRelation framed entry
+    → IsWritable framed width (written_word width set_so entry)
+written_form laws framed Words set_so entry normal form = word_writable (record { normal = normal; entry = form })
 written_form laws framed Byte set_so entry normal form =
     let paired = laws.known.bits.pair_normal set_so (single 0) normal (laws.known.sets.single 256 0 (omega arith)).0 in
     record {
@@ -289,18 +251,21 @@ written_form laws framed Byte set_so entry normal form =
       };
     }
 
-pub put_form : (laws : Premises) (device : Device) (framed : Bool) (a : Known) → IsDevice device → IsKnown device.ram.lo device.ram.hi framed a → AreKinds → (width : Width) (reach : Reach) (word : Word) → IsReachNormal reach
+pub put_form : (laws : Premises) {device : Device} {framed : Bool} {a : Known} → IsDevice device → IsKnown device.ram.lo device.ram.hi framed a
+    → {width : Width} (reach : Reach) {word : Word} → IsReachNormal reach
     → IsWritable framed width word → IsKnown device.ram.lo device.ram.hi framed (put_known device framed a width reach word)
-put_form laws device framed a is form kinds width (InRegister register) word normal writable = register_form laws device.ram.lo device.ram.hi framed a register word (kinds register) writable.word_so form
-put_form laws device framed a is form kinds width (InMemory set_so) word normal writable =
-    let there = located_normal laws device is.ram width set_so normal in
-    store_form laws device framed a width (located device width set_so) word is (laws.known.sets.some 65536 (located device width set_so) there) (located_even laws device is.ram width set_so normal) writable.cell form
-put_form laws device framed a is form kinds width (Fixed value) word normal writable = form
+put_form laws is form (InRegister register) normal writable = register_form laws (laws.kinds register) writable.word_so form
+put_form laws {device} is form {width} (InMemory set_so) normal writable =
+    let there = located_normal laws is.ram width set_so normal in
+    store_form laws (located device width set_so) is (laws.known.sets.some 65536 (located device width set_so) there)
+    (located_even laws is.ram width set_so normal) writable.cell form
+put_form laws is form (Fixed value) normal writable = form
 
-pub put_if_form : (laws : Premises) (device : Device) (framed : Bool) (a : Known) → IsDevice device → IsKnown device.ram.lo device.ram.hi framed a → AreKinds → (writes : Bool) (width : Width) (reach : Reach) (word : Word) → IsReachNormal reach
+pub put_if_form : (laws : Premises) {device : Device} {framed : Bool} {a : Known} → IsDevice device → IsKnown device.ram.lo device.ram.hi framed a
+    → (writes : Bool) {width : Width} (reach : Reach) {word : Word} → IsReachNormal reach
     → IsWritable framed width word → IsKnown device.ram.lo device.ram.hi framed (put_known_if writes device framed a width reach word)
-put_if_form laws device framed a is form kinds true width reach word normal writable = put_form laws device framed a is form kinds width reach word normal writable
-put_if_form laws device framed a is form kinds false width reach word normal writable = form
+put_if_form laws is form true reach normal writable = put_form laws is form reach normal writable
+put_if_form laws is form false reach normal writable = form
 
 -- the next addresses are in one form, and even where the address behind is
 pub record AreNext (ahead : ℕ) (next : Form) : Type 0 where
@@ -310,22 +275,18 @@ pub record AreNext (ahead : ℕ) (next : Form) : Type 0 where
 ahead_next : (laws : Premises) (ahead : ℕ) → ahead < 65536 → AreNext ahead (single ahead)
 ahead_next laws ahead small = record {
   normal = (laws.known.sets.single 65536 ahead small).0;
-  even = λ even v h. elim (in_cons ahead [] v h) [
-    | inl same ↦ subst (λ n. n % 2 ≡ 0) same even
-    | inr none ↦ absurd (in_none v none)
-  ];
+  even = laws.known.sets.single_rest 65536 2 0 ahead;
 }
 
 parts_next : (laws : Premises) (ahead : ℕ) (set_so : Form) → IsNormal 65536 set_so → AreNext ahead (even_parts set_so)
-parts_next laws ahead set_so normal = let parts = even_parts_form laws set_so normal in record { normal = parts.normal; even = λ even. parts.even }
+parts_next laws ahead set_so normal = let parts = even_parts_form laws.known set_so normal in record { normal = parts.normal; even = λ even. parts.even }
 
 next_form : (laws : Premises) (reach : Reach) (word : Word) (ahead : ℕ) → IsNormal 65536 word.set → ahead < 65536 → AreNext ahead (next_by reach word ahead)
 next_form laws (InRegister Pc) word ahead normal small = parts_next laws ahead word.set normal
-next_form laws (InRegister register) word ahead normal small = ahead_next laws ahead small
-next_form laws (InMemory set_so) word ahead normal small = ahead_next laws ahead small
-next_form laws (Fixed value) word ahead normal small = ahead_next laws ahead small
+next_form laws other word ahead normal small = ahead_next laws ahead small
 
-next_if_form : (laws : Premises) (writes : Bool) (reach : Reach) (word : Word) (ahead : ℕ) → IsNormal 65536 word.set → ahead < 65536 → AreNext ahead (next_if writes reach word ahead)
+next_if_form : (laws : Premises) (writes : Bool) (reach : Reach) (word : Word) (ahead : ℕ) → IsNormal 65536 word.set → ahead < 65536
+    → AreNext ahead (next_if writes reach word ahead)
 next_if_form laws true reach word ahead normal small = next_form laws reach word ahead normal small
 next_if_form laws false reach word ahead normal small = ahead_next laws ahead small
 
@@ -336,32 +297,34 @@ counter_form laws pc len origin target =
     let one = laws.known.sets.single 65536 ((pc + 2) % 65536) (omega arith) in
     let two = laws.known.sets.single 65536 ((pc + 4) % 65536) (omega arith) in
     cond_both (reads_counter origin target) (join 65536 (single ((pc + 2) % 65536)) (single ((pc + 4) % 65536))) (single ((pc + len) % 65536)) (IsNormal 65536)
-    (λ e. laws.known.sets.join_normal 65536 (single ((pc + 2) % 65536)) (single ((pc + 4) % 65536)) one.0 two.0) (λ e. (laws.known.sets.single 65536 ((pc + len) % 65536) (omega arith)).0)
+    (λ e. laws.known.sets.join_normal 65536 (single ((pc + 2) % 65536)) (single ((pc + 4) % 65536)) one.0 two.0)
+    (λ e. (laws.known.sets.single 65536 ((pc + len) % 65536) (omega arith)).0)
 
-target_form : (laws : Premises) (device : Device) (framed : Bool) (a : Known) (counted : Form) → IsDevice device → IsKnown device.ram.lo device.ram.hi framed a → IsNormal 65536 counted → AreKinds → (done : Operation) (width : Width) (reach : Reach)
+target_form : (laws : Premises) {device : Device} {framed : Bool} {a : Known} (counted : Form) → IsDevice device → IsKnown device.ram.lo device.ram.hi framed a
+    → IsNormal 65536 counted → (done : Operation) (width : Width) (reach : Reach)
     → IsReachSmall reach → IsWord framed (destination_word device a counted done width reach)
-target_form laws device framed a counted is form normal kinds done width reach small =
+target_form laws {device} {framed} {a} counted is form normal done width reach small =
     cond_both (reads_destination done) (operand_word device a counted width reach) (record { set = single 0; entry = None }) (IsWord framed)
-    (λ e. operand_form laws device framed a counted is form normal kinds width reach small)
+    (λ e. operand_form laws counted is form normal width reach small)
     (λ e. record { normal = (laws.known.sets.single 65536 0 (omega arith)).0; entry = no_relation framed })
 
-made_form : (laws : Premises) (framed : Bool) (done : Operation) (width : Width) (origin : Source) (target : Destination) (one other : Word) (c : Tri) → IsWord framed one → IsWord framed other
+made_form : (laws : Premises) {framed : Bool} (done : Operation) (width : Width) (origin : Source) (target : Destination) {one other : Word} (c : Tri) → IsWord framed one
+    → IsWord framed other
     → IsNormal (modulus width) (made_of done width origin target one other c).0
-made_form laws framed done width origin target one other c h k =
-    cond_both (is_doubled done origin target) (twice_flags width (values_of width other)) (double_made done width (values_of width one) (values_of width other) c) (λ (made_so : MadeSet). IsNormal (modulus width) made_so.0)
-    (λ e. laws.results.twice_normal width (values_of width other) (values_form laws framed width other k))
-    (λ e. laws.results.double_normal done width (values_of width one) (values_of width other) c (values_form laws framed width one h) (values_form laws framed width other k))
+made_form laws done width origin target {one} {other} c h k =
+    cond_both (is_doubled done origin target) (twice_flags width (values_of width other)) (double_made done width (values_of width one) (values_of width other) c)
+    (λ (made_so : MadeSet). IsNormal (modulus width) made_so.0)
+    (λ e. laws.results.twice_normal width (values_of width other) (values_form laws width k))
+    (λ e. laws.results.double_normal done width (values_of width one) (values_of width other) c (values_form laws width h) (values_form laws width k))
 
--- the parts of what an instruction with two operands makes of a state
-pub record DoubleForms (device : Device) (framed : Bool) (width : Width) (one other word : Word) (put_so after : Known) (ahead : ℕ) (next : Form) : Type 0 where
-  pub source : IsWord framed one
-  pub target_so : IsWord framed other
-  pub writable : IsWritable framed width word
+-- the parts of what an instruction with operands makes of a state: behind the write of its result, and behind its flags
+pub record AreMade (device : Device) (framed : Bool) (put_so after : Known) (ahead : ℕ) (next : Form) : Type 0 where
   pub put : IsKnown device.ram.lo device.ram.hi framed put_so
   pub after_so : IsKnown device.ram.lo device.ram.hi framed after
   pub next_so : AreNext ahead next
 
-pub double_forms : (laws : Premises) (device : Device) (framed : Bool) (a : Known) → IsDevice device → IsKnown device.ram.lo device.ram.hi framed a → AreKinds → (pc len : ℕ) (done : Operation) (width : Width) (origin : Source) (target : Destination)
+pub double_forms : (laws : Premises) {device : Device} {framed : Bool} {a : Known} → IsDevice device → IsKnown device.ram.lo device.ram.hi framed a
+    → (pc len : ℕ) (done : Operation) (width : Width) (origin : Source) (target : Destination)
     → IsSource origin → IsDestination target
     → let counted = counter_set pc len origin target in
     let grown_so = grown_known a counted width origin in
@@ -371,32 +334,28 @@ pub double_forms : (laws : Premises) (device : Device) (framed : Bool) (a : Know
     let made_so = made_of done width origin target one other (carry_of a) in
     let word = written_word width made_so.0 (relation_of done (constant_of origin) one.entry other.entry) in
     let put_so = put_known_if (writes_result done) device framed grown_so width to word in
-    DoubleForms device framed width one other word put_so (with_flag_bits put_so made_so.1) ((pc + len) % 65536) (next_if (writes_result done) to word ((pc + len) % 65536))
-double_forms laws device framed a is form kinds pc len done width origin target from_so to_so =
+    AreMade device framed put_so (with_flag_bits put_so made_so.1) ((pc + len) % 65536) (next_if (writes_result done) to word ((pc + len) % 65536))
+double_forms laws {device} {framed} {a} is form pc len done width origin target from_so to_so =
     let counted = counter_set pc len origin target in
     let counted_so = counter_form laws pc len origin target in
     let grown_so = grown_known a counted width origin in
-    let grown_is = grown_form laws device.ram.lo device.ram.hi framed a counted form counted_so kinds width origin in
+    let grown_is = grown_form laws counted form counted_so width origin in
     let from = source_reach pc a counted origin in
     let to = destination_reach pc len grown_so counted target in
     let one = operand_word device a counted width from in
     let other = destination_word device grown_so counted done width to in
-    let one_is = operand_form laws device framed a counted is form counted_so kinds width from (source_small pc a counted origin from_so) in
-    let other_is = target_form laws device framed grown_so counted is grown_is counted_so kinds done width to (destination_small pc len grown_so counted target) in
+    let one_is = operand_form laws counted is form counted_so width from (source_small pc a counted origin from_so) in
+    let other_is = target_form laws counted is grown_is counted_so done width to (destination_small pc len grown_so counted target) in
     let made_so = made_of done width origin target one other (carry_of a) in
     let relation = relation_of done (constant_of origin) one.entry other.entry in
     let word = written_word width made_so.0 relation in
-    let writable = written_form laws framed width made_so.0 relation (made_form laws framed done width origin target one other (carry_of a) one_is other_is)
+    let writable = written_form laws framed width made_so.0 relation (made_form laws done width origin target (carry_of a) one_is other_is)
     (relation_form framed done (constant_of origin) one.entry other.entry (λ m e. constant_below origin m from_so e) one_is.entry other_is.entry) in
-    let put_is = put_if_form laws device framed grown_so is grown_is kinds (writes_result done) width to word
-    (destination_form laws device.ram.lo device.ram.hi framed grown_so counted grown_is counted_so kinds pc len target to_so) writable in
+    let put_is = put_if_form laws is grown_is (writes_result done) to (destination_form laws counted grown_is counted_so pc len target to_so) writable in
     let put_so = put_known_if (writes_result done) device framed grown_so width to word in
     record {
-      source = one_is;
-      target_so = other_is;
-      writable = writable;
       put = put_is;
-      after_so = flags_form device.ram.lo device.ram.hi framed put_so made_so.1 put_is;
+      after_so = flags_form made_so.1 put_is;
       next_so = next_if_form laws (writes_result done) to word ((pc + len) % 65536) writable.word_so.normal (omega arith);
     }
 
@@ -405,23 +364,20 @@ pub record WorkedForm (device : Device) (framed : Bool) (after : Known) (ahead :
   pub after_so : IsKnown device.ram.lo device.ram.hi framed after
   pub next_so : AreNext ahead next
 
-pub double_worked_form : (laws : Premises) → AreKinds → (device : Device) (framed : Bool) (a : Known) (pc len : ℕ) (done : Operation) (width : Width) (origin : Source) (target : Destination) → IsDevice device
+pub double_worked_form : (laws : Premises)
+    → {device : Device} {framed : Bool} {a : Known} (pc len : ℕ) (done : Operation) (width : Width) (origin : Source) (target : Destination) → IsDevice device
     → IsKnown device.ram.lo device.ram.hi framed a → IsSource origin → IsDestination target
-    → WorkedForm device framed (double_worked device framed a pc len done width origin target).after ((pc + len) % 65536) (double_worked device framed a pc len done width origin target).next
+    → WorkedForm device framed (double_worked device framed a pc len done width origin target).after ((pc + len) % 65536)
+    (double_worked device framed a pc len done width origin target).next
 unfolding double_worked
-double_worked_form laws kinds device framed a pc len done width origin target is form from_so to_so =
-    let forms = double_forms laws device framed a is form kinds pc len done width origin target from_so to_so in
+double_worked_form laws pc len done width origin target is form from_so to_so =
+    let forms = double_forms laws is form pc len done width origin target from_so to_so in
     record { after_so = forms.after_so; next_so = forms.next_so }
 
 -- ONE OPERAND
 
--- the parts of what an instruction with one operand makes of a state
-pub record SingleForms (device : Device) (framed : Bool) (put_so after : Known) (ahead : ℕ) (next : Form) : Type 0 where
-  pub put : IsKnown device.ram.lo device.ram.hi framed put_so
-  pub after_so : IsKnown device.ram.lo device.ram.hi framed after
-  pub next_so : AreNext ahead next
-
-pub single_forms : (laws : Premises) (device : Device) (framed : Bool) (a : Known) → IsDevice device → IsKnown device.ram.lo device.ram.hi framed a → AreKinds → (pc len : ℕ) (done : SingleOperation) (width : Width) (operand : Source)
+pub single_forms : (laws : Premises) {device : Device} {framed : Bool} {a : Known} → IsDevice device → IsKnown device.ram.lo device.ram.hi framed a
+    → (pc len : ℕ) (done : SingleOperation) (width : Width) (operand : Source)
     → IsSource operand → HasWidth done width
     → let counted = single ((pc + len) % 65536) in
     let grown_so = grown_known a counted width operand in
@@ -429,100 +385,88 @@ pub single_forms : (laws : Premises) (device : Device) (framed : Bool) (a : Know
     let made_so = single_made done width (values_of width (operand_word device a counted width from)) (carry_of a) in
     let word = written_word width made_so.0 None in
     let put_so = put_known device framed grown_so width from word in
-    SingleForms device framed put_so (with_flag_bits put_so made_so.1) ((pc + len) % 65536) (next_by from word ((pc + len) % 65536))
-single_forms laws device framed a is form kinds pc len done width operand from_so fits =
+    AreMade device framed put_so (with_flag_bits put_so made_so.1) ((pc + len) % 65536) (next_by from word ((pc + len) % 65536))
+single_forms laws {device} {framed} {a} is form pc len done width operand from_so fits =
     let counted = single ((pc + len) % 65536) in
     let counted_so = (laws.known.sets.single 65536 ((pc + len) % 65536) (omega arith)).0 in
     let grown_so = grown_known a counted width operand in
-    let grown_is = grown_form laws device.ram.lo device.ram.hi framed a counted form counted_so kinds width operand in
+    let grown_is = grown_form laws counted form counted_so width operand in
     let from = source_reach pc a counted operand in
     let one = operand_word device a counted width from in
-    let one_is = operand_form laws device framed a counted is form counted_so kinds width from (source_small pc a counted operand from_so) in
+    let one_is = operand_form laws counted is form counted_so width from (source_small pc a counted operand from_so) in
     let made_so = single_made done width (values_of width one) (carry_of a) in
     let word = written_word width made_so.0 None in
-    let writable = written_form laws framed width made_so.0 None (laws.results.single_normal done width (values_of width one) (carry_of a) fits (values_form laws framed width one one_is)) (no_relation framed) in
-    let put_is = put_form laws device framed grown_so is grown_is kinds width from word (source_form laws device.ram.lo device.ram.hi framed a counted form counted_so kinds pc operand from_so) writable in
+    let writable = written_form laws framed width made_so.0 None (laws.results.single_normal done width (values_of width one) (carry_of a) fits (values_form laws width one_is))
+    (no_relation framed) in
+    let put_is = put_form laws is grown_is from (source_form laws counted form counted_so pc operand from_so) writable in
     let put_so = put_known device framed grown_so width from word in
     record {
       put = put_is;
-      after_so = flags_form device.ram.lo device.ram.hi framed put_so made_so.1 put_is;
+      after_so = flags_form made_so.1 put_is;
       next_so = next_form laws from word ((pc + len) % 65536) writable.word_so.normal (omega arith);
     }
 
-pub single_worked_form : (laws : Premises) → AreKinds → (device : Device) (framed : Bool) (a : Known) (pc len : ℕ) (done : SingleOperation) (width : Width) (operand : Source) → IsDevice device
+pub single_worked_form : (laws : Premises) → {device : Device} {framed : Bool} {a : Known} (pc len : ℕ) (done : SingleOperation) (width : Width) (operand : Source)
+    → IsDevice device
     → IsKnown device.ram.lo device.ram.hi framed a → IsSource operand → HasWidth done width
     → WorkedForm device framed (single_worked device framed a pc len done width operand).after ((pc + len) % 65536) (single_worked device framed a pc len done width operand).next
 unfolding single_worked
-single_worked_form laws kinds device framed a pc len done width operand is form from_so fits =
-    let forms = single_forms laws device framed a is form kinds pc len done width operand from_so fits in
+single_worked_form laws pc len done width operand is form from_so fits =
+    let forms = single_forms laws is form pc len done width operand from_so fits in
     record { after_so = forms.after_so; next_so = forms.next_so }
 
 -- PUSH AND CALL
 
-lowered_form : (laws : Premises) (lo hi : ℕ) (framed : Bool) (a : Known) → IsKnown lo hi framed a → IsKnown lo hi framed (lowered_known a)
-lowered_form laws lo hi framed a form = sp_form laws lo hi framed a (add 65536 a.sp (single 65534)) (laws.known.sets.add_normal 65536 a.sp (single 65534) form.sp.normal (laws.known.sets.single 65536 65534 (omega arith)).0) form
+lowered_form : (laws : Premises) {lo hi : ℕ} {framed : Bool} {a : Known} → IsKnown lo hi framed a → IsKnown lo hi framed (lowered_known a)
+lowered_form laws {a} form =
+    sp_form laws (add 65536 a.sp (single 65534)) (moved_normal laws.known a.sp 65534 (omega arith) form.sp.normal) form
 
-forming_form : (laws : Premises) (lo hi : ℕ) (framed : Bool) (a : Known) (operand : Source) → IsKnown lo hi framed a → IsKnown lo hi framed (forming_known operand a)
-forming_form laws lo hi framed a operand form =
+forming_form : (laws : Premises) {lo hi : ℕ} {framed : Bool} {a : Known} (operand : Source) → IsKnown lo hi framed a → IsKnown lo hi framed (forming_known operand a)
+forming_form laws {lo} {hi} {framed} {a} operand form =
     let less = add 65536 a.sp (single 65534) in
-    let less_normal = laws.known.sets.add_normal 65536 a.sp (single 65534) form.sp.normal (laws.known.sets.single 65536 65534 (omega arith)).0 in
+    let less_normal = moved_normal laws.known a.sp 65534 (omega arith) form.sp.normal in
     cond_both (is_formed_by_stack operand) (with_sp a (join 65536 a.sp less)) a (IsKnown lo hi framed)
-    (λ e. sp_form laws lo hi framed a (join 65536 a.sp less) (laws.known.sets.join_normal 65536 a.sp less form.sp.normal less_normal) form) (λ e. form)
+    (λ e. sp_form laws (join 65536 a.sp less) (laws.known.sets.join_normal 65536 a.sp less form.sp.normal less_normal) form) (λ e. form)
 
-word_writable : (framed : Bool) (word : Word) → IsWord framed word → IsWritable framed Words word
-word_writable framed word is = record {
-  word_so = is;
-  cell = record {
-    storable = record { normal = is.normal; byte = λ e. absurd (omega (arith, e)) };
-    byte = λ e. absurd (omega (arith, e));
-    entry = is.entry;
-  };
-}
-
-byte_form : (laws : Premises) (framed : Bool) (x : Word) → IsWord framed x → IsWord framed (record { set = pair_set (values_of Byte x) (make 256 0 1 256); entry = None })
-byte_form laws framed x is = record {
-  normal = laws.known.bits.pair_normal (values_of Byte x) (make 256 0 1 256) (values_form laws framed Byte x is) (laws.known.sets.whole_normal 256 (omega arith));
+byte_form : (laws : Premises) {framed : Bool} {x : Word} → IsWord framed x → IsWord framed (record { set = pair_set (values_of Byte x) (make 256 0 1 256); entry = None })
+byte_form laws {framed} {x} is = record {
+  normal = laws.known.bits.pair_normal (values_of Byte x) (make 256 0 1 256) (values_form laws Byte is) (laws.known.sets.whole_normal 256 (omega arith));
   entry = no_relation framed;
 }
 
-pushed_form : (laws : Premises) (framed : Bool) (done : SingleOperation) (width : Width) (x : Word) (after : ℕ) → after < 65536 → IsWord framed x → IsWord framed (pushed_known done width x after)
-pushed_form laws framed Call width x after small is = record { normal = (laws.known.sets.single 65536 after small).0; entry = no_relation framed }
-pushed_form laws framed Push Words x after small is = is
-pushed_form laws framed Rrc Words x after small is = is
-pushed_form laws framed Swpb Words x after small is = is
-pushed_form laws framed Rra Words x after small is = is
-pushed_form laws framed Sxt Words x after small is = is
-pushed_form laws framed Push Byte x after small is = byte_form laws framed x is
-pushed_form laws framed Rrc Byte x after small is = byte_form laws framed x is
-pushed_form laws framed Swpb Byte x after small is = byte_form laws framed x is
-pushed_form laws framed Rra Byte x after small is = byte_form laws framed x is
-pushed_form laws framed Sxt Byte x after small is = byte_form laws framed x is
+pushed_form : (laws : Premises) {framed : Bool} (done : SingleOperation) (width : Width) {x : Word} (after : ℕ) → after < 65536 → IsWord framed x
+    → IsWord framed (pushed_known done width x after)
+pushed_form laws {framed} Call width after small is = record { normal = (laws.known.sets.single 65536 after small).0; entry = no_relation framed }
+pushed_form laws other Words after small is = is
+pushed_form laws other Byte after small is = byte_form laws is
 
-called_form : (laws : Premises) (framed : Bool) (done : SingleOperation) (width : Width) (x : Word) (after : ℕ) → after < 65536 → IsWord framed x → AreNext after (called_next done width x after)
-called_form laws framed Call width x after small is =
+called_form : (laws : Premises) {framed : Bool} (done : SingleOperation) (width : Width) {x : Word} (after : ℕ) → after < 65536 → IsWord framed x
+    → AreNext after (called_next done width x after)
+called_form laws {framed} Call width {x} after small is =
     let target = written_word width (values_of width x) None in
-    parts_next laws after target.set (written_form laws framed width (values_of width x) None (values_form laws framed width x is) (no_relation framed)).word_so.normal
-called_form laws framed other width x after small is = ahead_next laws after small
+    parts_next laws after target.set (written_form laws framed width (values_of width x) None (values_form laws width is) (no_relation framed)).word_so.normal
+called_form laws other width after small is = ahead_next laws after small
 
-pub push_worked_form : (laws : Premises) → AreKinds → (device : Device) (framed : Bool) (a : Known) (pc len : ℕ) (done : SingleOperation) (width : Width) (operand : Source) → IsDevice device
+pub push_worked_form : (laws : Premises) → {device : Device} {framed : Bool} {a : Known} (pc len : ℕ) (done : SingleOperation) (width : Width) (operand : Source)
+    → IsDevice device
     → IsKnown device.ram.lo device.ram.hi framed a → IsSource operand
     → WorkedForm device framed (push_worked device framed a pc len done width operand).after ((pc + len) % 65536) (push_worked device framed a pc len done width operand).next
 unfolding push_worked
-push_worked_form laws kinds device framed a pc len done width operand is form from_so =
+push_worked_form laws {device} {a} pc len done width operand is form from_so =
     let after = (pc + len) % 65536 in
     let small : after < 65536 = omega arith in
     let counted = single after in
     let counted_so = (laws.known.sets.single 65536 after small).0 in
     let forming = forming_known operand a in
-    let forming_is = forming_form laws device.ram.lo device.ram.hi framed a operand form in
+    let forming_is = forming_form laws operand form in
     let from = source_reach pc forming counted operand in
     let x = operand_word device forming counted width from in
-    let x_is = operand_form laws device framed forming counted is forming_is counted_so kinds width from (source_small pc forming counted operand from_so) in
+    let x_is = operand_form laws counted is forming_is counted_so width from (source_small pc forming counted operand from_so) in
     let grown_so = grown_known a counted width operand in
     let at = lowered_known grown_so in
-    let at_is = lowered_form laws device.ram.lo device.ram.hi framed grown_so (grown_form laws device.ram.lo device.ram.hi framed a counted form counted_so kinds width operand) in
+    let at_is = lowered_form laws (grown_form laws counted form counted_so width operand) in
     record {
-      after_so = put_form laws device framed at is at_is kinds Words (InMemory at.sp) (pushed_known done width x after) at_is.sp.normal
-          (word_writable framed (pushed_known done width x after) (pushed_form laws framed done width x after small x_is));
-      next_so = called_form laws framed done width x after small x_is;
+      after_so = put_form laws is at_is (InMemory at.sp) at_is.sp.normal
+          (word_writable (pushed_form laws done width after small x_is));
+      next_so = called_form laws done width after small x_is;
     }

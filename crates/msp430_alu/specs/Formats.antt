@@ -61,9 +61,7 @@ put_known_if false device framed a width reach word = a
 -- the next address: where PC is written, what is written there, and else what follows
 abbrev pub next_by : Reach → Word → (behind : ℕ) → Form
 next_by (InRegister Pc) word behind = even_parts word.set
-next_by (InRegister other) word behind = single behind
-next_by (InMemory set) word behind = single behind
-next_by (Fixed value) word behind = single behind
+next_by other word behind = single behind
 
 abbrev pub next_if : Bool → Reach → Word → (behind : ℕ) → Form
 next_if true reach word behind = next_by reach word behind
@@ -136,8 +134,7 @@ pub record Worked : Type 0 where
 
 abbrev pub access_of : Device → (pc : ℕ) → (write : Bool) → Width → Reach → List Item
 access_of device pc write width (InMemory set) = Access pc Mem write (size_of width) (W (located device width set)) ∷ []
-access_of device pc write width (InRegister register) = []
-access_of device pc write width (Fixed value) = []
+access_of device pc write width other = []
 
 abbrev pub access_if : Bool → Device → (pc : ℕ) → (write : Bool) → Width → Reach → List Item
 access_if true device pc write width reach = access_of device pc write width reach
@@ -145,8 +142,7 @@ access_if false device pc write width reach = []
 
 abbrev pub store_of : Bool → Device → Width → Reach → Option Form
 store_of true device width (InMemory set) = Some (located device width set)
-store_of true device width (InRegister register) = None
-store_of true device width (Fixed value) = None
+store_of true device width other = None
 store_of false device width reach = None
 
 -- by the stages: where the operands stand, what they hold, the result, and what it leaves

@@ -113,12 +113,7 @@ touched_behind lo hi size (Run p) touched =
 
 -- a value stored at one of the addresses of a set; touched bytes are kept in an interrupt's frame alone
 abbrev pub with_store : Device → (framed : Bool) → Known → Width → Form → Word → Known
-with_store device framed a width at word = record {
-  sp = a.sp;
-  status = a.status;
-  late = a.late;
-  registers = a.registers;
-  fact = a.fact;
+with_store device framed a width at word = record a {
   cells = write_any a.cells at (size_of width) word;
   touched = if framed then touched_behind device.ram.lo device.ram.hi (size_of width) at a.touched else a.touched;
 }

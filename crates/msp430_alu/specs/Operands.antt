@@ -48,12 +48,7 @@ abbrev pub IsReached : Reach → Place → Type 0
 IsReached (InRegister register) (place.InRegister other) = register ≡ other
 IsReached (InMemory set) (place.InMemory address) = IsResult 65536 set address
 IsReached (Fixed value) (place.Fixed other) = (value ≡ other) × (value < 65536)
-IsReached (InRegister register) (place.InMemory address) = ⊥
-IsReached (InRegister register) (place.Fixed other) = ⊥
-IsReached (InMemory set) (place.InRegister other) = ⊥
-IsReached (InMemory set) (place.Fixed other) = ⊥
-IsReached (Fixed value) (place.InRegister other) = ⊥
-IsReached (Fixed value) (place.InMemory address) = ⊥
+IsReached reach stands = ⊥
 
 -- GROWTH
 

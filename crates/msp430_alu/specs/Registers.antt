@@ -56,27 +56,11 @@ fact_without register (Some fact) = if fact.register == register then None else 
 
 -- one of R4 to R15 has another value
 abbrev pub with_word : Known → (register : ℕ) → Word → Known
-with_word a register word = record {
-  sp = a.sp;
-  status = a.status;
-  late = a.late;
-  registers = slice_set a.registers (register - 4) word;
-  fact = fact_without register a.fact;
-  cells = a.cells;
-  touched = a.touched;
-}
+with_word a register word = record a { registers = slice_set a.registers (register - 4) word; fact = fact_without register a.fact }
 
 -- SP has another value, which loses bit 0
 abbrev pub with_sp : Known → Form → Known
-with_sp a set = record {
-  sp = even_parts set;
-  status = a.status;
-  late = a.late;
-  registers = a.registers;
-  fact = a.fact;
-  cells = a.cells;
-  touched = a.touched;
-}
+with_sp a set = record a { sp = even_parts set }
 
 -- a write to PC is a jump, and R3 holds nothing
 abbrev pub put_register : Known → Register → Word → Known
@@ -93,12 +77,4 @@ put_flags bits flags = slice_set (slice_set (slice_set (slice_set bits 0 flags.c
 -- Flags that are set drop the relation of SR and the fact.
 abbrev pub with_flag_bits : Known → Option FlagBits → Known
 with_flag_bits a None = a
-with_flag_bits a (Some flags) = record {
-  sp = a.sp;
-  status = record { bits = put_flags a.status.bits flags; entry = None };
-  late = a.late;
-  registers = a.registers;
-  fact = None;
-  cells = a.cells;
-  touched = a.touched;
-}
+with_flag_bits a (Some flags) = record a { status = record { bits = put_flags a.status.bits flags; entry = None }; fact = None }

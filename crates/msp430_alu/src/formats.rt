@@ -86,7 +86,7 @@ pub(crate) fn store_of(device: &Device, width: Width, reach: &Reach) -> Option<V
 }
 
 /// Adds the access to a place, if that is in memory.
-pub(crate) fn show<M: Cells>(
+pub fn show<M: Cells>(
     accesses: &mut Sequence<Item>,
     here: &Here<M>,
     write: bool,

@@ -14,6 +14,7 @@ pub(crate) fn premises_hold()
     known_laws();
     operations_hold();
     accesses_are_in_memory();
+    registers_of_five_kinds();
 }
 
 /// The law of instructions with two operands, but for those that write SR: a state that stands under what is known may only
@@ -23,7 +24,6 @@ pub fn doubles_hold()
     ensures { DoublesHold }
 {
     premises_hold();
-    registers_of_five_kinds();
 }
 
 /// The same of instructions with one operand, but for those that write SR: `single_worked`.
@@ -31,7 +31,6 @@ pub fn singles_hold()
     ensures { SinglesHold }
 {
     premises_hold();
-    registers_of_five_kinds();
 }
 
 /// The same of PUSH and CALL: `push_worked`.
@@ -39,7 +38,6 @@ pub fn pushes_hold()
     ensures { PushesHold }
 {
     premises_hold();
-    registers_of_five_kinds();
 }
 
 /// The law of words in memory, and of SR as a word. An access at one of some addresses is made at one of where they are

@@ -6,7 +6,7 @@
 //! - [`source_reach`] and [`destination_reach`]: where operands may stand, as a [`Reach`]; [`located`]: where the accesses there are made.
 //! - [`register_word`], [`read_one`], [`read_known`] and [`known_operand`]: what operands may hold.
 //! - [`grow`], [`put_register`] and [`set_flag_bits`]: writes to registers and to flags. PC and SP hold the [`even_parts`].
-//! - [`store`]: stores to memory.
+//! - [`store`]: stores to memory. [`show`]: the accesses that are made there.
 //!
 //! [`double`], [`single`] and [`push`] run them around the operations of `msp430_results`, as an instruction with two operands
 //! does, one with one operand, and PUSH and CALL. [`Here`] is where it stands, with what is known of the state. What they make
@@ -33,6 +33,7 @@ mod worked;
 mod writing;
 
 pub use counting::counter_set;
+pub use formats::show;
 pub use here::Here;
 pub use laws::{doubles_hold, memory_laws, pushes_hold, singles_hold, words_in_memory};
 pub use operands::{destination_reach, located, source_reach};

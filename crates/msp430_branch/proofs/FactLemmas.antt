@@ -1,5 +1,5 @@
 -- The fact behind CMP and SUB with a constant holds of the registers that they leave.
-use Rattle.std.proofs.Common.{◌≡◌, ℕ, ◌+◌, ◌*◌, ◌%◌, ◌<◌, true, false, Option, None, Some, List, length, get_or, set, refl, sym, ap, ◌∙◌, subst, inl, inr, arith, get_or-set_same, get_or-set_other}
+use Rattle.std.proofs.Common.{◌≡◌, Bool, ℕ, ◌+◌, ◌*◌, ◌%◌, ◌<◌, true, false, Option, None, Some, List, length, get_or, set, refl, sym, ap, ◌∙◌, subst, inl, inr, arith, get_or-set_same, get_or-set_other}
 use Rattle.std.specs.Prelude.{◌⊎◌}
 use Rattle.std.proofs.Math.Nat.{mod-lt}
 use Rattle.std.proofs.lemmas.Bool.{and_right, cond_both, cond-false, false≢true}
@@ -20,10 +20,10 @@ use Rattle.msp430_decode.specs.Operands.{constant_value}
 use Rattle.msp430_chip.specs.declared.device.Device.{Device}
 use Rattle.msp430_chip.specs.declared.place.Place.TheVariants.{InRegister, Fixed}
 use Rattle.msp430_chip.specs.declared.state.ChipState.{ChipState}
-use Rattle.msp430_chip.specs.Arithmetic.{Made, complement, modulus, sum, with_made_flags}
+use Rattle.msp430_chip.specs.Arithmetic.{Made, complement, modulus, reads_destination, sum, with_made_flags}
 use Rattle.msp430_chip.specs.Kinds.{Kind, IsGeneral}
 use Rattle.msp430_chip.specs.Kinds.Kind.{Counter, Stack, Status, Empty, General}
-use Rattle.msp430_chip.specs.Leading.{MayDouble, MayLeaveDouble, MayStandAt}
+use Rattle.msp430_chip.specs.Leading.{MayDouble, MayLeaveDouble, MayStandIf}
 use Rattle.msp430_chip.specs.Leading.MayLeaveDouble.{FreeStatus, OfResult}
 use Rattle.msp430_chip.specs.Operands.{destination_place, is_status, value_in, with_free_bits}
 use Rattle.msp430_chip.specs.Outcome.{Outcome}
@@ -55,7 +55,8 @@ flagged registers made_so = set registers 2 (with_made_flags (get_or registers 2
 
 -- an instruction leads so to what its flags say of a register and a constant
 abbrev pub Compares : Device → Operation → (added : ℕ → ℕ) → Type 0
-Compares device done added = (registers ram : List ℕ) (width : Width) (register : Register) (k d carry : ℕ) (left : Left) → IsGeneral register → length registers ≡ 16 → k < modulus width
+Compares device done added =
+    (registers ram : List ℕ) (width : Width) (register : Register) (k d carry : ℕ) (left : Left) → IsGeneral register → length registers ≡ 16 → k < modulus width
     → d ≡ get_or registers (number register) 0 % modulus width → MayLeaveDouble device ram registers done width (InRegister register) k d carry left
     → HasFlagsOf width ((get_or left.registers (number register) 0 + added k) % modulus width) k (get_or left.registers 2 0)
 
@@ -77,7 +78,8 @@ cmp_compares device registers ram width register k d carry left general long sma
     let result = sum width d (complement width k) 1 in
     let r = number register in
     let sr = with_made_flags (get_or registers 2 0) result.1 in
-    let made_is : left.registers ≡ flagged registers result = ap (λ (some : Left). some.registers) left_is ∙ ap (λ (made_by : Made). flagged registers made_by) (sym (same_Some result made_so may)) in
+    let made_is : left.registers ≡ flagged registers result = ap (λ (some : Left). some.registers) left_is ∙ ap (λ (made_by : Made). flagged registers made_by)
+    (sym (same_Some result made_so may)) in
     let value : (get_or (flagged registers result) r 0 + 0) % modulus width ≡ d = ap (λ n. n % modulus width) (omega arith ∙ kept_beside registers r sr general.above) ∙ sym is in
     subst (λ list. HasFlagsOf width ((get_or list r 0 + 0) % modulus width) k (get_or list 2 0)) (sym made_is)
     (flags_of_left width registers r k d ((get_or (flagged registers result) r 0 + 0) % modulus width) (omega (arith, long)) general.above value)
@@ -93,7 +95,8 @@ sub_compares device registers ram width register k d carry left general long sma
     let inside : r < length registers = omega (arith, long, general.below) in
     let put_long : 2 < length put = omega (arith, long, length-set registers r result.0) in
     let made_is : left.registers ≡ flagged put result =
-    ap (λ (some : Left). some.registers) left_is ∙ (ap (λ (made_by : Made). flagged (put_if true device registers ram width (InRegister register) made_by.0).registers made_by) (sym (same_Some result made_so may))
+    ap (λ (some : Left). some.registers) left_is ∙
+    (ap (λ (made_by : Made). flagged (put_if true device registers ram width (InRegister register) made_by.0).registers made_by) (sym (same_Some result made_so may))
     ∙ ap (λ list. flagged list result) (general.set registers result.0)) in
     let below : d < modulus width = subst (λ n. n < modulus width) (sym is) (mod-lt (get_or registers r 0) {m = modulus width} (modulus_some width)) in
     let value : (get_or (flagged put result) r 0 + k) % modulus width ≡ d =
@@ -103,10 +106,10 @@ sub_compares device registers ram width register k d carry left general long sma
 
 -- FACTS
 
-told_byte : (laws : KnownLaws) (device : Device) (a : Known) (first : Option ChipState) (registers ram : List ℕ) (width : Width) (register : ℕ) → 3 < register → register < 16
+told_byte : (laws : KnownLaws) {device : Device} {a : Known} {first : Option ChipState} {registers ram : List ℕ} (width : Width) (register : ℕ) → 3 < register → register < 16
     → is_told width (word_of a register).set ≡ true → HoldsOfParts device a first registers ram → width ≡ Byte → get_or registers register 0 < 256
-told_byte laws device a first registers ram Word register low high told holds byte = absurd (cc)
-told_byte laws device a first registers ram Byte register low high told holds byte =
+told_byte laws Word register low high told holds byte = absurd (cc)
+told_byte laws {a} {registers} Byte register low high told holds byte =
     laws.cells.byte_any (get_or registers register 0) ((laws.sets.tested 65536 (word_of a register).set _).0 told (get_or registers register 0) (holds.words register low high).0)
 
 -- a general register has its number, and others have none
@@ -117,12 +120,12 @@ numbered Sr low = absurd (omega (arith, low))
 numbered R3 low = absurd (omega (arith, low))
 numbered other low = refl
 
-general_or : (register : Register) → Kind register → (general_number register ≡ None) ⊎ IsGeneral register
-general_or register (Counter e) = inl (ap general_number e)
-general_or register (Stack e) = inl (ap general_number e)
-general_or register (Status e) = inl (ap general_number e)
-general_or register (Empty e) = inl (ap general_number e)
-general_or register (General general) = inr general
+general_or : {register : Register} → Kind register → (general_number register ≡ None) ⊎ IsGeneral register
+general_or (Counter e) = inl (ap general_number e)
+general_or (Stack e) = inl (ap general_number e)
+general_or (Status e) = inl (ap general_number e)
+general_or (Empty e) = inl (ap general_number e)
+general_or (General general) = inr general
 
 no_free_constant : (width : Width) (n bits x : ℕ) → with_free_bits width (Fixed n) bits x ≡ x
 no_free_constant Word n bits x = refl
@@ -133,11 +136,13 @@ no_free_register Word register bits y none = cond-false (is_status (InRegister r
 no_free_register Byte register bits y none = refl
 
 -- with a constant and a register
-register_told : (laws : KnownLaws) (device : Device) (a : Known) (s : ChipState) (first : Option ChipState) (len counted : ℕ) (done : Operation) (added : ℕ → ℕ) (width : Width) (n : ℕ) (register : Register) (x y bits carry : ℕ) (left : Left)
+register_told : (laws : KnownLaws) {device : Device} {a : Known} {s : ChipState} {first : Option ChipState} (len counted : ℕ) {done : Operation} (added : ℕ → ℕ) {width : Width}
+    (n : ℕ) {register : Register} (x y bits : ℕ) {carry : ℕ} {left : Left}
     → IsChipState device s → Compares device done added → IsGeneral register → x ≡ n % modulus width → y ≡ value_in (set s.registers 0 counted) register % modulus width
-    → MayLeaveDouble device s.ram (set (set s.registers 0 counted) 0 (behind s len)) done width (InRegister register) (with_free_bits width (Fixed n) bits x) (with_free_bits width (InRegister register) bits y) carry left
+    → MayLeaveDouble device s.ram (set (set s.registers 0 counted) 0 (behind s len)) done width (InRegister register) (with_free_bits width (Fixed n) bits x)
+    (with_free_bits width (InRegister register) bits y) carry left
     → HoldsOfParts device a first left.registers left.ram → HoldsOfFact (fact_of a width (Some n) (Some (number register)) added) left.registers
-register_told laws device a s first len counted done added width n register x y bits carry left state compares general reads held leaves holds =
+register_told laws {device} {a} {s} len counted {done} added {width} n {register} x y bits {carry} {left} state compares general reads held leaves holds =
     let r = number register in
     let k = n % modulus width in
     let at = set s.registers 0 counted in
@@ -152,78 +157,70 @@ register_told laws device a s first len counted done added width n register x y 
     (subst (λ c. MayLeaveDouble device s.ram registers done width (InRegister register) c (with_free_bits width (InRegister register) bits y) carry left) first_so leaves) in
     let flags = compares registers s.ram width register k y carry left general long (mod-lt n {m = modulus width} (modulus_some width)) same leaves_so in
     cond_both (is_told width (word_of a r).set) (Some (record { register = r; added = added k; compared = k; width = width })) None (λ fact. HoldsOfFact fact left.registers)
-    (λ told. (flags, told_byte laws device a first left.registers left.ram width r general.above general.below told holds))
+    (λ told. (flags, told_byte laws width r general.above general.below told holds))
     (λ e. tt)
 
-constant_told : (laws : KnownLaws) → ((register : Register) → Kind register) → (device : Device) (a : Known) (s : ChipState) (first : Option ChipState) (len counted : ℕ) (done : Operation) (added : ℕ → ℕ) (width : Width) (n : ℕ) (target : Destination) (x y bits carry : ℕ) (left : Left)
-    → IsChipState device s → Compares device done added → x ≡ n % modulus width
-    → MayStandAt device s.ram (set s.registers 0 counted) width (destination_place (register_of s 0) len (set s.registers 0 counted) target) y
+constant_told : (laws : KnownLaws) → ((register : Register) → Kind register)
+    → {device : Device} {a : Known} {s : ChipState} {first : Option ChipState} (len counted : ℕ) {done : Operation} (added : ℕ → ℕ) {width : Width} (n : ℕ) (target : Destination)
+    (x y bits : ℕ) {carry : ℕ} {left : Left}
+    → IsChipState device s → Compares device done added → reads_destination done ≡ true → x ≡ n % modulus width
+    → MayStandIf (reads_destination done) device s.ram (set s.registers 0 counted) width (destination_place (register_of s 0) len (set s.registers 0 counted) target) y
     → MayLeaveDouble device s.ram (set (set s.registers 0 counted) 0 (behind s len)) done width (destination_place (register_of s 0) len (set s.registers 0 counted) target)
     (with_free_bits width (Fixed n) bits x) (with_free_bits width (destination_place (register_of s 0) len (set s.registers 0 counted) target) bits y) carry left
     → HoldsOfParts device a first left.registers left.ram → HoldsOfFact (fact_of a width (Some n) (compared_register target) added) left.registers
-constant_told laws kinds device a s first len counted done added width n (destination.Register register) x y bits carry left state compares reads held leaves holds = elim (general_or register (kinds register)) [
-  | inl none ↦ subst (λ named. HoldsOfFact (fact_of a width (Some n) named added) left.registers) (sym none) tt
-  | inr general ↦ subst (λ named. HoldsOfFact (fact_of a width (Some n) named added) left.registers) (sym (numbered register general.above))
-      (register_told laws device a s first len counted done added width n register x y bits carry left state compares general reads held leaves holds)
-]
-constant_told laws kinds device a s first len counted done added width n (destination.Indexed register offset) x y bits carry left state compares reads held leaves holds = tt
-constant_told laws kinds device a s first len counted done added width n (destination.Symbolic offset) x y bits carry left state compares reads held leaves holds = tt
-constant_told laws kinds device a s first len counted done added width n (destination.Absolute address) x y bits carry left state compares reads held leaves holds = tt
+constant_told laws kinds {device} {a} {s} len counted added {width} n (destination.Register register) x y bits {left} state compares both reads held leaves holds =
+    let Stands : Bool → Type 0 = λ r. MayStandIf r device s.ram (set s.registers 0 counted) width (InRegister register) y in
+    elim (general_or (kinds register)) [
+      | inl none ↦ subst (λ named. HoldsOfFact (fact_of a width (Some n) named added) left.registers) (sym none) tt
+      | inr general ↦ subst (λ named. HoldsOfFact (fact_of a width (Some n) named added) left.registers) (sym (numbered register general.above))
+          (register_told laws len counted added n x y bits state compares general reads (subst Stands both held) leaves holds)
+    ]
+constant_told laws kinds len counted added n other x y bits state compares both reads held leaves holds = tt
 
-cmp_told : (laws : KnownLaws) → ((register : Register) → Kind register) → (device : Device) (a : Known) (s : ChipState) (first : Option ChipState) (len : ℕ) (width : Width) (origin : Source) (target : Destination) (outcome : Outcome ChipState)
-    → IsChipState device s → (may : MayDouble device s len operation.Cmp width origin target outcome) → HoldsOfParts device a first may.left.registers may.left.ram
-    → HoldsOfFact (fact_behind operation.Cmp width origin target a) may.left.registers
-cmp_told laws kinds device a s first len width (source.Immediate n) target outcome state may holds =
-    constant_told laws kinds device a s first len may.counted operation.Cmp (λ n. 0) width n target may.x may.y may.bits (register_of s 2 % 2) may.left state (cmp_compares device) may.reads may.held may.leaves holds
-cmp_told laws kinds device a s first len width (source.Constant constant) target outcome state may holds =
-    constant_told laws kinds device a s first len may.counted operation.Cmp (λ n. 0) width (constant_value constant) target may.x may.y may.bits (register_of s 2 % 2) may.left state (cmp_compares device) may.reads may.held may.leaves holds
-cmp_told laws kinds device a s first len width (source.Register register) target outcome state may holds = tt
-cmp_told laws kinds device a s first len width (source.Indexed register offset) target outcome state may holds = tt
-cmp_told laws kinds device a s first len width (source.Indirect register) target outcome state may holds = tt
-cmp_told laws kinds device a s first len width (source.IndirectIncrement register) target outcome state may holds = tt
-cmp_told laws kinds device a s first len width (source.Symbolic offset) target outcome state may holds = tt
-cmp_told laws kinds device a s first len width (source.Absolute address) target outcome state may holds = tt
+-- of CMP or SUB, which leave the register less by what is added to it again
+done_told : (laws : KnownLaws) → ((register : Register) → Kind register)
+    → {device : Device} {a : Known} {s : ChipState} {first : Option ChipState} {len : ℕ} {done : Operation} (added : ℕ → ℕ) {width : Width} (origin : Source)
+    {target : Destination} {outcome : Outcome ChipState}
+    → IsChipState device s → Compares device done added → reads_destination done ≡ true → (may : MayDouble device s len done width origin target outcome)
+    → HoldsOfParts device a first may.left.registers may.left.ram
+    → HoldsOfFact (fact_of a width (constant_of origin) (compared_register target) added) may.left.registers
+done_told laws kinds {len} added (source.Immediate n) {target} state compares reads may holds =
+    constant_told laws kinds len may.counted added n target may.x may.y may.bits state compares reads may.reads may.held may.leaves holds
+done_told laws kinds {len} added (source.Constant constant) {target} state compares reads may holds =
+    constant_told laws kinds len may.counted added (constant_value constant) target may.x may.y may.bits state compares reads may.reads may.held may.leaves holds
+done_told laws kinds added other state compares reads may holds = tt
 
-sub_told : (laws : KnownLaws) → ((register : Register) → Kind register) → (device : Device) (a : Known) (s : ChipState) (first : Option ChipState) (len : ℕ) (width : Width) (origin : Source) (target : Destination) (outcome : Outcome ChipState)
-    → IsChipState device s → (may : MayDouble device s len operation.Sub width origin target outcome) → HoldsOfParts device a first may.left.registers may.left.ram
-    → HoldsOfFact (fact_behind operation.Sub width origin target a) may.left.registers
-sub_told laws kinds device a s first len width (source.Immediate n) target outcome state may holds =
-    constant_told laws kinds device a s first len may.counted operation.Sub (λ n. n) width n target may.x may.y may.bits (register_of s 2 % 2) may.left state (sub_compares device) may.reads may.held may.leaves holds
-sub_told laws kinds device a s first len width (source.Constant constant) target outcome state may holds =
-    constant_told laws kinds device a s first len may.counted operation.Sub (λ n. n) width (constant_value constant) target may.x may.y may.bits (register_of s 2 % 2) may.left state (sub_compares device) may.reads may.held may.leaves holds
-sub_told laws kinds device a s first len width (source.Register register) target outcome state may holds = tt
-sub_told laws kinds device a s first len width (source.Indexed register offset) target outcome state may holds = tt
-sub_told laws kinds device a s first len width (source.Indirect register) target outcome state may holds = tt
-sub_told laws kinds device a s first len width (source.IndirectIncrement register) target outcome state may holds = tt
-sub_told laws kinds device a s first len width (source.Symbolic offset) target outcome state may holds = tt
-sub_told laws kinds device a s first len width (source.Absolute address) target outcome state may holds = tt
-
-pub fact_holds : (laws : KnownLaws) → ((register : Register) → Kind register) → (device : Device) (a : Known) (s : ChipState) (first : Option ChipState) (len : ℕ) (done : Operation) (width : Width) (origin : Source) (target : Destination) (outcome : Outcome ChipState)
+pub fact_holds : (laws : KnownLaws) → ((register : Register) → Kind register)
+    → (device : Device) (a : Known) (s : ChipState) (first : Option ChipState) (len : ℕ) (done : Operation) (width : Width) (origin : Source) (target : Destination)
+    (outcome : Outcome ChipState)
     → IsChipState device s → (may : MayDouble device s len done width origin target outcome) → HoldsOfParts device a first may.left.registers may.left.ram
     → HoldsOfFact (fact_behind done width origin target a) may.left.registers
-fact_holds laws kinds device a s first len operation.Cmp width origin target outcome state may holds = cmp_told laws kinds device a s first len width origin target outcome state may holds
-fact_holds laws kinds device a s first len operation.Sub width origin target outcome state may holds = sub_told laws kinds device a s first len width origin target outcome state may holds
+fact_holds laws kinds device a s first len operation.Cmp width origin target outcome state may holds =
+    done_told laws kinds (λ n. 0) origin state (cmp_compares device) refl may holds
+fact_holds laws kinds device a s first len operation.Sub width origin target outcome state may holds =
+    done_told laws kinds (λ n. n) origin state (sub_compares device) refl may holds
 fact_holds laws kinds device a s first len other width origin target outcome state may holds = holds.fact
 
 -- FORM
 
-fact_of_form : ((register : Register) → Kind register) → (a : Known) (width : Width) (constant : Option ℕ) (target : Destination) (added : ℕ → ℕ) → ((n : ℕ) → n < modulus width → added n < modulus width)
+fact_of_form : ((register : Register) → Kind register) → (a : Known) (width : Width) (constant : Option ℕ) (target : Destination) (added : ℕ → ℕ)
+    → ((n : ℕ) → n < modulus width → added n < modulus width)
     → IsFact (fact_of a width constant (compared_register target) added)
 fact_of_form kinds a width None target added small = tt
-fact_of_form kinds a width (Some n) (destination.Register register) added small = elim (general_or register (kinds register)) [
+fact_of_form kinds a width (Some n) (destination.Register register) added small = elim (general_or (kinds register)) [
   | inl none ↦ subst (λ named. IsFact (fact_of a width (Some n) named added)) (sym none) tt
   | inr general ↦
       let k = n % modulus width in
       let below : k < modulus width = mod-lt n {m = modulus width} (modulus_some width) in
       let r = number register in
       subst (λ named. IsFact (fact_of a width (Some n) named added)) (sym (numbered register general.above))
-      (cond_both (is_told width (word_of a r).set) (Some (record { register = r; added = added k; compared = k; width = width })) None IsFact (λ told. (general.above, general.below, small k below, below)) (λ e. tt))
+      (cond_both (is_told width (word_of a r).set) (Some (record { register = r; added = added k; compared = k; width = width })) None IsFact
+      (λ told. (general.above, general.below, small k below, below)) (λ e. tt))
 ]
-fact_of_form kinds a width (Some n) (destination.Indexed register offset) added small = tt
-fact_of_form kinds a width (Some n) (destination.Symbolic offset) added small = tt
-fact_of_form kinds a width (Some n) (destination.Absolute address) added small = tt
+fact_of_form kinds a width (Some n) other added small = tt
 
-pub fact_form : ((register : Register) → Kind register) → (done : Operation) (width : Width) (origin : Source) (target : Destination) (a : Known) → IsFact a.fact → IsFact (fact_behind done width origin target a)
+pub fact_form : ((register : Register) → Kind register) → (done : Operation) (width : Width) (origin : Source) (target : Destination) (a : Known) → IsFact a.fact
+    → IsFact (fact_behind done width origin target a)
 fact_form kinds operation.Cmp width origin target a form = fact_of_form kinds a width (constant_of origin) target (λ n. 0) (λ n small. modulus_some width)
 fact_form kinds operation.Sub width origin target a form = fact_of_form kinds a width (constant_of origin) target (λ n. n) (λ n small. small)
 fact_form kinds other width origin target a form = form

@@ -14,33 +14,36 @@ use Rattle.value_set.specs.Form.{Has, IsNormal}
 use Rattle.value_bits.specs.declared.tri.Tri.{Tri}
 use Rattle.value_bits.specs.declared.tri.Tri.TheVariants.{Either}
 use Rattle.msp430_decode.specs.declared.instr.Condition.TheVariants.{NotEqual, Equal, NoCarry, Carry, Negative, GreaterOrEqual, Less, Always}
-use Rattle.value_bits.specs.Bits.{Agrees, tri_xor}
+use Rattle.value_bits.specs.Bits.{Agrees, known_flag, may_be, tri_xor}
 use Rattle.value_bits.specs.Flags.{IsFlag}
 use Rattle.msp430_decode.specs.declared.instr.Condition.{Condition}
 use Rattle.msp430_decode.specs.declared.instr.Width.{Width}
-use Rattle.msp430_decode.specs.declared.instr.Width.TheVariants.{Word, Byte}
+use Rattle.msp430_decode.specs.declared.instr.Width.TheVariants.{Byte}
 use Rattle.msp430_chip.specs.declared.device.Device.{Device}
 use Rattle.msp430_chip.specs.declared.state.ChipState.{ChipState}
 use Rattle.msp430_chip.specs.Arithmetic.{modulus}
 use Rattle.msp430_chip.specs.Step.{is_taken}
 use Rattle.msp430_state.specs.declared.fact.FlagFact.{FlagFact}
 use Rattle.msp430_state.specs.Forms.{IsFact, IsKnown, IsWord}
-use Rattle.msp430_state.specs.Holding.{suspended_of, HasFlagsOf, HoldsOfFact, HoldsOfParts, HoldsOf}
+use Rattle.msp430_state.specs.Holding.{suspended_of, HasFlagsOf, HoldsOfFact, HoldsOfParts, HoldsOfStatus, HoldsOf}
 use Rattle.msp430_state.specs.Known.{Known, word_of}
 use Rattle.msp430_branch.specs.declared.window.Window.{Window}
-use Rattle.msp430_branch.specs.Conditions.{bit_of, bits_where, known_flag, known_or, may_be, taken_by, with_less}
+use Rattle.msp430_branch.specs.Conditions.{bit_of, bits_where, known_or, taken_by, with_less}
 use Rattle.msp430_branch.specs.Cuts.{window_of, cut_set, is_held, with_set, cut_to, register_cut, with_bits, known_cut}
 use Rattle.irq_frames.specs.KnownLaws.{KnownLaws}
-use Rattle.msp430_branch.proofs.CutSets.{cut_form, cut_has, mapped, window_low, IsLow}
-use Rattle.msp430_branch.proofs.FlagNumbers.{compared_byte, compared_word}
+use Rattle.msp430_branch.proofs.CutSets.{cut_form, cut_has, window_low, IsLow}
+use Rattle.plain_lemmas.specs.Cases.{mapped}
+use Rattle.std.proofs.Math.Nat.{mod-lt}
+use Rattle.msp430_branch.proofs.FlagNumbers.{compared_so, modulus_some, narrow}
 use Rattle.msp430_branch.proofs.StatusBits.{bits_agree, bits_long, taken_may}
-use Rattle.msp430_branch.proofs.WindowLemmas.{Allows, byte_allows, word_allows}
+use Rattle.msp430_branch.proofs.WindowLemmas.{Allows, allows}
 
 -- ONE REGISTER
 
-with_set_holds : (device : Device) (a : Known) (first : Option ChipState) (registers ram : List ℕ) (register : ℕ) (set_so : Form) → length a.registers ≡ 12 → 3 < register → register < 16
+with_set_holds : {device : Device} {a : Known} {first : Option ChipState} {registers ram : List ℕ} (register : ℕ) (set_so : Form) → length a.registers ≡ 12 → 3 < register
+    → register < 16
     → Has 65536 set_so (get_or registers register 0) → HoldsOfParts device a first registers ram → HoldsOfParts device (with_set a register set_so) first registers ram
-with_set_holds device a first registers ram register set_so long low high has holds =
+with_set_holds {a} {first} {registers} register set_so long low high has holds =
     let under = option_map suspended_of first in
     let word : AWord = record { set = set_so; entry = (word_of a register).entry } in
     let place : register - 4 < length a.registers = omega (arith, long, low, high) in
@@ -49,129 +52,114 @@ with_set_holds device a first registers ram register set_so long low high has ho
       status = holds.status;
       words = λ r above below. elim (cases_eq r register) [
         | inl same ↦ subst (λ n. HoldsOfWord under (get_or (set a.registers (register - 4) word) (n - 4) (unknown 2)) (get_or registers n 0)) (sym same)
-            (subst (λ held. HoldsOfWord under held (get_or registers register 0)) (sym (get_or-set_same a.registers (register - 4) word (unknown 2) place)) (has, (holds.words register low high).1))
+            (subst (λ held. HoldsOfWord under held (get_or registers register 0)) (sym (get_or-set_same a.registers (register - 4) word (unknown 2) place))
+            (has, (holds.words register low high).1))
         | inr other ↦
             let elsewhere : r - 4 ≡ register - 4 → ⊥ = λ e. other (omega (arith, e, above, low)) in
-            subst (λ held. HoldsOfWord under held (get_or registers r 0)) (sym (get_or-set_other a.registers (register - 4) (r - 4) word (unknown 2) elsewhere)) (holds.words r above below)
+            subst (λ held. HoldsOfWord under held (get_or registers r 0)) (sym (get_or-set_other a.registers (register - 4) (r - 4) word (unknown 2) elsewhere))
+            (holds.words r above below)
       ];
       fact = holds.fact;
       cells = holds.cells;
       untouched = holds.untouched;
     }
 
-word_form : (lo hi : ℕ) (framed : Bool) (a : Known) (register : ℕ) → IsKnown lo hi framed a → 3 < register → register < 16 → IsWord framed (word_of a register)
-word_form lo hi framed a register form low high = All-get_or (IsWord framed) a.registers (register - 4) (unknown 2) (omega (arith, form.count, low, high)) form.registers
+word_form : {lo hi : ℕ} {framed : Bool} {a : Known} (register : ℕ) → IsKnown lo hi framed a → 3 < register → register < 16 → IsWord framed (word_of a register)
+word_form {framed} {a} register form low high = All-get_or (IsWord framed) a.registers (register - 4) (unknown 2) (omega (arith, form.count, low, high)) form.registers
 
-with_set_form : (lo hi : ℕ) (framed : Bool) (a : Known) (register : ℕ) (set_so : Form) → 3 < register → register < 16 → IsNormal 65536 set_so → IsKnown lo hi framed a → IsKnown lo hi framed (with_set a register set_so)
-with_set_form lo hi framed a register set_so low high normal form =
+with_set_form : {lo hi : ℕ} {framed : Bool} {a : Known} (register : ℕ) (set_so : Form) → 3 < register → register < 16 → IsNormal 65536 set_so → IsKnown lo hi framed a
+    → IsKnown lo hi framed (with_set a register set_so)
+with_set_form {framed} {a} register set_so low high normal form =
     let word : AWord = record { set = set_so; entry = (word_of a register).entry } in
-    record {
-      sp = form.sp;
-      bits = form.bits;
-      status = form.status;
-      count = length-set a.registers (register - 4) word ∙ form.count;
-      registers = All-set (IsWord framed) a.registers (register - 4) word (record { normal = normal; entry = (word_form lo hi framed a register form low high).entry }) form.registers;
-      fact = form.fact;
-      from = form.from;
-      up_to = form.up_to;
-      cells = form.cells;
-      each_cell = form.each_cell;
-      touched = form.touched;
-      none_touched = form.none_touched;
-    }
+    let count = length-set a.registers (register - 4) word ∙ form.count in
+    let registers = All-set (IsWord framed) a.registers (register - 4) word (record { normal = normal; entry = (word_form register form low high).entry }) form.registers in
+    assumption (count, registers, form)
 
 -- BITS
 
-with_bits_holds : (device : Device) (a : Known) (first : Option ChipState) (registers ram : List ℕ) (bits : List Tri) → Agrees bits (get_or registers 2 0)
+with_bits_holds : {device : Device} {a : Known} {first : Option ChipState} {registers ram : List ℕ} (bits : List Tri) → Agrees bits (get_or registers 2 0)
     → HoldsOfParts device a first registers ram → HoldsOfParts device (with_bits bits a) first registers ram
-with_bits_holds device a first registers ram bits agrees holds = record {
-  sp = holds.sp;
-  status = record { bits = agrees; entry = holds.status.entry };
-  words = holds.words;
-  fact = holds.fact;
-  cells = holds.cells;
-  untouched = holds.untouched;
-}
+with_bits_holds {a} {first} {registers} bits agrees holds =
+    let status : HoldsOfStatus (option_map suspended_of first) (record a.status { bits = bits }) (get_or registers 2 0) = record { bits = agrees; entry = holds.status.entry } in
+    assumption (status, holds)
 
-with_bits_form : (lo hi : ℕ) (framed : Bool) (a : Known) (bits : List Tri) → length bits ≡ 9 → IsKnown lo hi framed a → IsKnown lo hi framed (with_bits bits a)
-with_bits_form lo hi framed a bits long form = record {
-  sp = form.sp;
-  bits = long;
-  status = form.status;
-  count = form.count;
-  registers = form.registers;
-  fact = form.fact;
-  from = form.from;
-  up_to = form.up_to;
-  cells = form.cells;
-  each_cell = form.each_cell;
-  touched = form.touched;
-  none_touched = form.none_touched;
-}
+with_bits_form : {lo hi : ℕ} {framed : Bool} {a : Known} (bits : List Tri) → length bits ≡ 9 → IsKnown lo hi framed a → IsKnown lo hi framed (with_bits bits a)
+with_bits_form bits long form = assumption (long, form)
 
 -- THE REGISTER OF A FACT
 
-allowed : (condition : Condition) (width : Width) (register k n v sr : ℕ) → k < modulus width → n < modulus width → v < 65536 → HasFlagsOf width ((v + k) % modulus width) n sr → (width ≡ Byte → v < 256)
+allowed : (condition : Condition) (width : Width) (register k n v sr : ℕ) → k < modulus width → n < modulus width → v < 65536 → HasFlagsOf width ((v + k) % modulus width) n sr
+    → (width ≡ Byte → v < 256)
     → Allows (modulus width) v (window_of condition (is_taken condition sr) (record { register = register; added = k; compared = n; width = width }))
-allowed condition Word register k n v sr ks ns vs flags small = word_allows condition register k n v sr ks ns vs (compared_word ((v + k) % 65536) n sr (omega arith) ns flags)
-allowed condition Byte register k n v sr ks ns vs flags small = byte_allows condition register k n v sr ks ns (small refl) (compared_byte ((v + k) % 256) n sr (omega arith) ns flags)
+allowed condition width register k n v sr ks ns vs flags small =
+    allows condition (record { register = register; added = k; compared = n; width = width }) v ks ns (narrow width v vs small)
+    (compared_so width ((v + k) % modulus width) n sr (mod-lt (v + k) {m = modulus width} (modulus_some width)) ns flags)
 
 held_so : (a : Known) (register : ℕ) → length a.registers ≡ 12 → 3 < register → register < 16 → is_held a register ≡ true
 held_so a register long low high = subst (λ n. nat_lt (register - 4) n ≡ true) (sym long) (grind (arith, nat_tests))
 
-cut_to_holds : (laws : KnownLaws) (device : Device) (lo hi : ℕ) (framed : Bool) (a : Known) (first : Option ChipState) (registers ram : List ℕ) (fact : FlagFact) (window : Option Window) → IsKnown lo hi framed a
-    → 3 < fact.register → fact.register < 16 → (fact.width ≡ Byte → get_or registers fact.register 0 < 256) → Allows (modulus fact.width) (get_or registers fact.register 0) window
+cut_to_holds : (laws : KnownLaws) {device : Device} {lo hi : ℕ} {framed : Bool} {a : Known} {first : Option ChipState} {registers ram : List ℕ} (fact : FlagFact)
+    (window : Option Window) → IsKnown lo hi framed a
+    → 3 < fact.register → fact.register < 16 → (fact.width ≡ Byte → get_or registers fact.register 0 < 256)
+    → Allows (modulus fact.width) (get_or registers fact.register 0) window
     → HoldsOfParts device a first registers ram → (b : Known) × (cut_to fact window a ≡ Some b) × HoldsOfParts device b first registers ram
-cut_to_holds laws device lo hi framed a first registers ram fact None form low high small allows holds = (a, refl, holds)
-cut_to_holds laws device lo hi framed a first registers ram fact (Some window) form low high small allows holds =
-    let found = cut_has laws fact.width (get_or registers fact.register 0) (word_of a fact.register).set window (word_form lo hi framed a fact.register form low high).normal
+cut_to_holds laws {a} fact None form low high small allows holds = (a, refl, holds)
+cut_to_holds laws {a} fact (Some window) form low high small allows holds =
+    let found = cut_has laws fact.width (word_of a fact.register).set (word_form fact.register form low high).normal
     (holds.words fact.register low high).0 small allows in
-    let held = cond-true (is_held a fact.register) (option_map (with_set a fact.register) (cut_set fact.width (word_of a fact.register).set window)) (Some a) (held_so a fact.register form.count low high) in
-    (with_set a fact.register found.0, held ∙ ap (option_map (with_set a fact.register)) found.1, with_set_holds device a first registers ram fact.register found.0 form.count low high found.2 holds)
+    let held = cond-true (is_held a fact.register) (option_map (with_set a fact.register) (cut_set fact.width (word_of a fact.register).set window)) (Some a)
+    (held_so a fact.register form.count low high) in
+    (with_set a fact.register found.0, held ∙ ap (option_map (with_set a fact.register)) found.1, with_set_holds fact.register found.0 form.count low high found.2 holds)
 
-register_cut_holds : (laws : KnownLaws) (device : Device) (lo hi : ℕ) (framed : Bool) (a : Known) (first : Option ChipState) (registers ram : List ℕ) (fact : Option FlagFact) (condition : Condition) → IsKnown lo hi framed a
+register_cut_holds : (laws : KnownLaws) {device : Device} {lo hi : ℕ} {framed : Bool} {a : Known} {first : Option ChipState} {registers ram : List ℕ} (fact : Option FlagFact)
+    (condition : Condition) → IsKnown lo hi framed a
     → IsFact fact → HoldsOfFact fact registers → HoldsOfParts device a first registers ram
     → (b : Known) × (register_cut fact condition (is_taken condition (get_or registers 2 0)) a ≡ Some b) × HoldsOfParts device b first registers ram
-register_cut_holds laws device lo hi framed a first registers ram None condition form is told holds = (a, refl, holds)
-register_cut_holds laws device lo hi framed a first registers ram (Some fact) condition form is told holds =
+register_cut_holds laws {a} None condition form is told holds = (a, refl, holds)
+register_cut_holds laws {a} {registers} (Some fact) condition form is told holds =
     let (low, high, ks, ns) = is in
     let v = get_or registers fact.register 0 in
     let sr = get_or registers 2 0 in
-    let vs : v < 65536 = laws.sets.below 65536 v (word_of a fact.register).set (word_form lo hi framed a fact.register form low high).normal (holds.words fact.register low high).0 in
-    cut_to_holds laws device lo hi framed a first registers ram fact (window_of condition (is_taken condition sr) fact) form low high told.1
+    let vs : v < 65536 = laws.sets.below 65536 v (word_of a fact.register).set (word_form fact.register form low high).normal (holds.words fact.register low high).0 in
+    cut_to_holds laws fact (window_of condition (is_taken condition sr) fact) form low high told.1
     (allowed condition fact.width fact.register fact.added fact.compared v sr ks ns vs told.0 told.1) holds
 
-cut_to_form : (laws : KnownLaws) (lo hi : ℕ) (framed : Bool) (a b : Known) (fact : FlagFact) (window : Option Window) → IsKnown lo hi framed a → 3 < fact.register → fact.register < 16
+cut_to_form : (laws : KnownLaws) {lo hi : ℕ} {framed : Bool} {a : Known} (b : Known) (fact : FlagFact) (window : Option Window) → IsKnown lo hi framed a → 3 < fact.register
+    → fact.register < 16
     → IsLow (modulus fact.width) window → cut_to fact window a ≡ Some b → IsKnown lo hi framed b
-cut_to_form laws lo hi framed a b fact None form low high begins e = subst (IsKnown lo hi framed) (same_Some a b e) form
-cut_to_form laws lo hi framed a b fact (Some window) form low high begins e =
+cut_to_form laws {lo} {hi} {framed} {a} b fact None form low high begins e = subst (IsKnown lo hi framed) (same_Some a b e) form
+cut_to_form laws {lo} {hi} {framed} {a} b fact (Some window) form low high begins e =
     let held = word_of a fact.register in
     let some = option_map (with_set a fact.register) (cut_set fact.width held.set window) in
     let found = mapped (with_set a fact.register) (cut_set fact.width held.set window) b
     (sym (cond-true (is_held a fact.register) some (Some a) (held_so a fact.register form.count low high)) ∙ e) in
-    let normal = cut_form laws fact.width held.set found.0 window (word_form lo hi framed a fact.register form low high).normal begins found.1 in
-    subst (IsKnown lo hi framed) found.2 (with_set_form lo hi framed a fact.register found.0 low high normal form)
+    let normal = cut_form laws fact.width held.set found.0 window (word_form fact.register form low high).normal begins found.1 in
+    subst (IsKnown lo hi framed) found.2 (with_set_form fact.register found.0 low high normal form)
 
-register_cut_form : (laws : KnownLaws) (lo hi : ℕ) (framed : Bool) (a b : Known) (fact : Option FlagFact) (condition : Condition) (taken : Bool) → IsKnown lo hi framed a → IsFact fact
+register_cut_form : (laws : KnownLaws) {lo hi : ℕ} {framed : Bool} {a : Known} (b : Known) (fact : Option FlagFact) (condition : Condition) (taken : Bool)
+    → IsKnown lo hi framed a → IsFact fact
     → register_cut fact condition taken a ≡ Some b → IsKnown lo hi framed b
-register_cut_form laws lo hi framed a b None condition taken form is e = subst (IsKnown lo hi framed) (same_Some a b e) form
-register_cut_form laws lo hi framed a b (Some fact) condition taken form is e =
-    cut_to_form laws lo hi framed a b fact (window_of condition taken fact) form is.0 is.1 (window_low condition taken fact) e
+register_cut_form laws {lo} {hi} {framed} {a} b None condition taken form is e = subst (IsKnown lo hi framed) (same_Some a b e) form
+register_cut_form laws b (Some fact) condition taken form is e =
+    cut_to_form laws b fact (window_of condition taken fact) form is.0 is.1 (window_low condition taken fact) e
 
 -- OUTCOMES
 
-pub cut_holds : (laws : KnownLaws) (device : Device) (lo hi : ℕ) (framed : Bool) (a : Known) (first : Option ChipState) (registers ram : List ℕ) (condition : Condition) → IsKnown lo hi framed a
-    → HoldsOfParts device a first registers ram → (b : Known) × (known_cut condition (is_taken condition (get_or registers 2 0)) a ≡ Some b) × HoldsOfParts device b first registers ram
+pub cut_holds : (laws : KnownLaws) (device : Device) (lo hi : ℕ) (framed : Bool) (a : Known) (first : Option ChipState) (registers ram : List ℕ) (condition : Condition)
+    → IsKnown lo hi framed a
+    → HoldsOfParts device a first registers ram
+    → (b : Known) × (known_cut condition (is_taken condition (get_or registers 2 0)) a ≡ Some b) × HoldsOfParts device b first registers ram
 unfolding known_cut
 cut_holds laws device lo hi framed a first registers ram condition form holds =
     let sr = get_or registers 2 0 in
     let taken = is_taken condition sr in
     let bits = bits_where condition taken a.status.bits in
-    let found = register_cut_holds laws device lo hi framed a first registers ram a.fact condition form form.fact holds.fact holds in
-    let may : may_be (taken_by condition a.status.bits) taken ≡ true = taken_may condition a.status.bits sr form.bits holds.status.bits in (
+    let found = register_cut_holds laws a.fact condition form form.fact holds.fact holds in
+    let may : may_be (taken_by condition a.status.bits) taken ≡ true = taken_may condition a.status.bits sr holds.status.bits in (
       with_bits bits found.0,
-      cond-true (may_be (taken_by condition a.status.bits) taken) (option_map (with_bits bits) (register_cut a.fact condition taken a)) None may ∙ ap (option_map (with_bits bits)) found.1,
-      with_bits_holds device found.0 first registers ram bits (bits_agree condition a.status.bits sr form.bits holds.status.bits) found.2,
+      cond-true (may_be (taken_by condition a.status.bits) taken) (option_map (with_bits bits) (register_cut a.fact condition taken a)) None may
+          ∙ ap (option_map (with_bits bits)) found.1,
+      with_bits_holds bits (bits_agree condition a.status.bits sr form.bits holds.status.bits) found.2,
     )
 
 late_of_cut : (fact : FlagFact) (window : Option Window) (a b : Known) → cut_to fact window a ≡ Some b → b.late ≡ a.late
@@ -199,7 +187,8 @@ outcome_of condition taken a b e =
       | inr not_so ↦ let none : None ≡ Some b = sym (cond-false test some None not_so) ∙ e in absurd (cc)
     ]
 
-pub state_cut : (laws : KnownLaws) (device : Device) (lo hi : ℕ) (framed : Bool) (a : Known) (s : ChipState) (first : Option ChipState) (condition : Condition) → IsKnown lo hi framed a
+pub state_cut : (laws : KnownLaws) (device : Device) (lo hi : ℕ) (framed : Bool) (a : Known) (s : ChipState) (first : Option ChipState) (condition : Condition)
+    → IsKnown lo hi framed a
     → HoldsOf device a s first → (b : Known) × (known_cut condition (is_taken condition (get_or s.registers 2 0)) a ≡ Some b) × HoldsOf device b s first
 state_cut laws device lo hi framed a s first condition form holds =
     let taken = is_taken condition (get_or s.registers 2 0) in
@@ -208,12 +197,12 @@ state_cut laws device lo hi framed a s first condition form holds =
     let late : a.late ≡ b.late = sym (late_of_register a.fact condition taken a c cut_so) ∙ ap (λ (known : Known). known.late) with_so in
     (b, is, record { state = holds.state; suspended = holds.suspended; late = subst (λ t. IsFlag t s.late) late holds.late; parts = parts })
 
-pub cut_in_form : (laws : KnownLaws) (lo hi : ℕ) (framed : Bool) (a b : Known) (condition : Condition) (taken : Bool) → IsKnown lo hi framed a → known_cut condition taken a ≡ Some b → IsKnown lo hi framed b
+pub cut_in_form : (laws : KnownLaws) (lo hi : ℕ) (framed : Bool) (a b : Known) (condition : Condition) (taken : Bool) → IsKnown lo hi framed a
+    → known_cut condition taken a ≡ Some b → IsKnown lo hi framed b
 cut_in_form laws lo hi framed a b condition taken form e =
     let (c, cut_so, with_so) = outcome_of condition taken a b e in
-    subst (IsKnown lo hi framed) with_so
-    (with_bits_form lo hi framed c (bits_where condition taken a.status.bits) (bits_long condition taken a.status.bits form.bits)
-    (register_cut_form laws lo hi framed a c a.fact condition taken form form.fact cut_so))
+    subst (IsKnown lo hi framed) with_so (with_bits_form (bits_where condition taken a.status.bits) (bits_long condition taken a.status.bits form.bits)
+    (register_cut_form laws c a.fact condition taken form form.fact cut_so))
 
 -- GIE
 

@@ -1,45 +1,32 @@
 -- What is known of SR on the outcome of a jump that SR says.
-use Rattle.std.proofs.Common.{◌≡◌, ℕ, zero, suc, ◌/◌, ◌%◌, ◌<◌, ◌==◌, Bool, true, List, [], ◌∷◌, length, set, refl, sym, ap, ◌∙◌, subst, inl, inr, arith}
+use Rattle.std.proofs.Common.{◌≡◌, ℕ, zero, suc, ◌/◌, ◌%◌, ◌<◌, ◌==◌, Bool, true, List, length, set, refl, sym, ap, ◌∙◌, subst, inl, inr, arith}
 use Rattle.std.specs.Prelude.{not}
 use Rattle.std.proofs.lemmas.Bool.{cases_eq, eq-eqb, ne_eqb}
 use Rattle.std.proofs.lemmas.List.{length-set}
 use Rattle.value_bits.specs.declared.tri.Tri.{Tri}
 use Rattle.value_bits.specs.declared.tri.Tri.TheVariants.{Zero, One, Either}
-use Rattle.value_bits.specs.Bits.{IsBit, Agrees, tri_not, tri_xor}
+use Rattle.std.specs.Int.{bit_at}
+use Rattle.value_bits.specs.BitFacts.{bit_known, bit_may, bits_at, bits_put}
+use Rattle.value_bits.specs.Bits.{IsBit, Agrees, known_flag, may_be, tri_not, tri_xor}
 use Rattle.msp430_decode.specs.declared.instr.Condition.{Condition}
 use Rattle.msp430_decode.specs.declared.instr.Condition.TheVariants.{NotEqual, Equal, NoCarry, Carry, Negative, GreaterOrEqual, Less, Always}
 use Rattle.msp430_chip.specs.Step.{is_taken}
-use Rattle.msp430_branch.specs.Conditions.{bit_of, taken_by, may_be, known_flag, known_or, with_less, bits_where}
+use Rattle.msp430_branch.specs.Conditions.{bit_of, taken_by, known_or, with_less, bits_where}
 
--- BITS AT PLACES
+-- C, N and V by their places
+first : (sr : ℕ) → bit_at sr 0 ≡ sr % 2
+first sr = omega arith
 
--- a number moved down by some places
-abbrev moved : (place v : ℕ) → ℕ
-moved zero v = v
-moved (suc place) v = moved place (v / 2)
+second : (sr : ℕ) → bit_at sr 1 ≡ sr / 2 % 2
+second sr = omega arith
 
-bit_there : (bits : List Tri) (place v : ℕ) → place < length bits → Agrees bits v → IsBit (bit_of bits place) (moved place v % 2)
-bit_there [] place v inside agrees = absurd (omega (arith, inside))
-bit_there (bit ∷ bits) zero v inside agrees = agrees.0
-bit_there (bit ∷ bits) (suc place) v inside agrees = bit_there bits place (v / 2) (omega (arith, inside)) agrees.1
+third : (sr : ℕ) → bit_at sr 2 ≡ sr / 4 % 2
+third sr = omega arith
 
-bit_put : (bits : List Tri) (place v : ℕ) (bit : Tri) → place < length bits → Agrees bits v → IsBit bit (moved place v % 2) → Agrees (set bits place bit) v
-bit_put [] place v bit inside agrees is = absurd (omega (arith, inside))
-bit_put (held ∷ bits) zero v bit inside agrees is = (is, agrees.1)
-bit_put (held ∷ bits) (suc place) v bit inside agrees is = (agrees.0, bit_put bits place (v / 2) bit (omega (arith, inside)) agrees.1 is)
-
-fourth : (sr : ℕ) → moved 2 sr % 2 ≡ sr / 4 % 2
-fourth sr = omega arith
-
-last : (sr : ℕ) → moved 8 sr % 2 ≡ sr / 256 % 2
+last : (sr : ℕ) → bit_at sr 8 ≡ sr / 256 % 2
 last sr = omega arith
 
 -- CONDITIONS
-
-set_may : (t : Tri) (bit : ℕ) → IsBit t bit → may_be t (bit == 1) ≡ true
-set_may Zero bit is = ap not (ne_eqb bit 1 (λ e. omega (arith, is, e)))
-set_may One bit is = eq-eqb bit 1 is
-set_may Either bit is = refl
 
 clear_may : (t : Tri) (bit : ℕ) → IsBit t bit → may_be (tri_not t) (bit == 0) ≡ true
 clear_may Zero bit is = eq-eqb bit 0 is
@@ -71,32 +58,27 @@ record AreFour (bits : List Tri) (sr : ℕ) : Type 0 where
   negative : IsBit (bit_of bits 2) (sr / 4 % 2)
   overflow : IsBit (bit_of bits 8) (sr / 256 % 2)
 
-four : (bits : List Tri) (sr : ℕ) → length bits ≡ 9 → Agrees bits sr → AreFour bits sr
-four bits sr long agrees = record {
-  carry = bit_there bits 0 sr (omega (arith, long)) agrees;
-  zero_so = bit_there bits 1 sr (omega (arith, long)) agrees;
-  negative = subst (IsBit (bit_of bits 2)) (fourth sr) (bit_there bits 2 sr (omega (arith, long)) agrees);
-  overflow = subst (IsBit (bit_of bits 8)) (last sr) (bit_there bits 8 sr (omega (arith, long)) agrees);
+four : (bits : List Tri) (sr : ℕ) → Agrees bits sr → AreFour bits sr
+four bits sr agrees = record {
+  carry = subst (IsBit (bit_of bits 0)) (first sr) (bits_at bits 0 sr agrees);
+  zero_so = subst (IsBit (bit_of bits 1)) (second sr) (bits_at bits 1 sr agrees);
+  negative = subst (IsBit (bit_of bits 2)) (third sr) (bits_at bits 2 sr agrees);
+  overflow = subst (IsBit (bit_of bits 8)) (last sr) (bits_at bits 8 sr agrees);
 }
 
-pub taken_may : (condition : Condition) (bits : List Tri) (sr : ℕ) → length bits ≡ 9 → Agrees bits sr → may_be (taken_by condition bits) (is_taken condition sr) ≡ true
-taken_may NotEqual bits sr long agrees = clear_may (bit_of bits 1) (sr / 2 % 2) (four bits sr long agrees).zero_so
-taken_may Equal bits sr long agrees = set_may (bit_of bits 1) (sr / 2 % 2) (four bits sr long agrees).zero_so
-taken_may NoCarry bits sr long agrees = clear_may (bit_of bits 0) (sr % 2) (four bits sr long agrees).carry
-taken_may Carry bits sr long agrees = set_may (bit_of bits 0) (sr % 2) (four bits sr long agrees).carry
-taken_may Negative bits sr long agrees = set_may (bit_of bits 2) (sr / 4 % 2) (four bits sr long agrees).negative
-taken_may GreaterOrEqual bits sr long agrees =
-    let these = four bits sr long agrees in greater_may (bit_of bits 2) (bit_of bits 8) (sr / 4 % 2) (sr / 256 % 2) these.negative these.overflow
-taken_may Less bits sr long agrees =
-    let these = four bits sr long agrees in less_may (bit_of bits 2) (bit_of bits 8) (sr / 4 % 2) (sr / 256 % 2) these.negative these.overflow
-taken_may Always bits sr long agrees = refl
+pub taken_may : (condition : Condition) (bits : List Tri) (sr : ℕ) → Agrees bits sr → may_be (taken_by condition bits) (is_taken condition sr) ≡ true
+taken_may NotEqual bits sr agrees = clear_may (bit_of bits 1) (sr / 2 % 2) (four bits sr agrees).zero_so
+taken_may Equal bits sr agrees = bit_may (bit_of bits 1) (sr / 2 % 2) (four bits sr agrees).zero_so
+taken_may NoCarry bits sr agrees = clear_may (bit_of bits 0) (sr % 2) (four bits sr agrees).carry
+taken_may Carry bits sr agrees = bit_may (bit_of bits 0) (sr % 2) (four bits sr agrees).carry
+taken_may Negative bits sr agrees = bit_may (bit_of bits 2) (sr / 4 % 2) (four bits sr agrees).negative
+taken_may GreaterOrEqual bits sr agrees =
+    let these = four bits sr agrees in greater_may (bit_of bits 2) (bit_of bits 8) (sr / 4 % 2) (sr / 256 % 2) these.negative these.overflow
+taken_may Less bits sr agrees =
+    let these = four bits sr agrees in less_may (bit_of bits 2) (bit_of bits 8) (sr / 4 % 2) (sr / 256 % 2) these.negative these.overflow
+taken_may Always bits sr agrees = refl
 
 -- BITS THAT BECOME KNOWN
-
-known_set : (bit : ℕ) → bit < 2 → IsBit (known_flag (bit == 1)) bit
-known_set zero small = refl
-known_set (suc zero) small = refl
-known_set (suc (suc n)) small = absurd (omega (arith, small))
 
 known_clear : (bit : ℕ) → bit < 2 → IsBit (known_flag (not (bit == 0))) bit
 known_clear zero small = refl
@@ -110,8 +92,7 @@ shown_by Zero (suc zero) y xs is = subst (λ n. IsBit (tri_xor Zero (known_flag 
 shown_by One zero y xs is = subst (λ n. IsBit (tri_xor One (known_flag (not (0 == n)))) 0) (sym is) refl
 shown_by One (suc zero) y xs is = subst (λ n. IsBit (tri_xor One (known_flag (not (1 == n)))) 1) (sym is) refl
 shown_by Either x y xs is = xs
-shown_by Zero (suc (suc n)) y xs is = absurd (omega (arith, xs))
-shown_by One (suc (suc n)) y xs is = absurd (omega (arith, xs))
+shown_by other (suc (suc n)) y xs is = absurd (omega (arith, xs))
 
 or_shown : (t other : Tri) (bit : ℕ) → IsBit t bit → IsBit other bit → IsBit (known_or t other) bit
 or_shown Zero other bit is shown = is
@@ -126,7 +107,7 @@ turned x y = elim (cases_eq x y) [
 
 less_put : (bits : List Tri) (sr : ℕ) → length bits ≡ 9 → Agrees bits sr → Agrees (with_less bits (known_flag (not (sr / 4 % 2 == sr / 256 % 2)))) sr
 less_put bits sr long agrees =
-    let these = four bits sr long agrees in
+    let these = four bits sr agrees in
     let x = sr / 4 % 2 in
     let y = sr / 256 % 2 in
     let less = known_flag (not (x == y)) in
@@ -137,17 +118,22 @@ less_put bits sr long agrees =
     let same : other ≡ less = ap (λ b. known_flag (not b)) (turned y x) in
     let overflow : IsBit (known_or v (tri_xor n less)) y = or_shown v (tri_xor n less) y these.overflow
     (subst (λ t. IsBit (tri_xor n t) y) same (shown_by n y x (omega arith) these.negative)) in
-    let one = bit_put bits 2 sr (known_or n (tri_xor v less)) (omega (arith, long)) agrees (subst (IsBit (known_or n (tri_xor v less))) (sym (fourth sr)) negative) in
-    bit_put (set bits 2 (known_or n (tri_xor v less))) 8 sr (known_or v (tri_xor n less)) (omega (arith, long, length-set bits 2 (known_or n (tri_xor v less)))) one
+    let one = bits_put bits 2 sr (known_or n (tri_xor v less)) (omega (arith, long)) agrees (subst (IsBit (known_or n (tri_xor v less))) (sym (third sr)) negative) in
+    bits_put (set bits 2 (known_or n (tri_xor v less))) 8 sr (known_or v (tri_xor n less)) (omega (arith, long, length-set bits 2 (known_or n (tri_xor v less)))) one
     (subst (IsBit (known_or v (tri_xor n less))) (sym (last sr)) overflow)
 
 pub bits_agree : (condition : Condition) (bits : List Tri) (sr : ℕ) → length bits ≡ 9 → Agrees bits sr → Agrees (bits_where condition (is_taken condition sr) bits) sr
-bits_agree NotEqual bits sr long agrees = bit_put bits 1 sr (known_flag (not (sr / 2 % 2 == 0))) (omega (arith, long)) agrees (known_clear (sr / 2 % 2) (omega arith))
-bits_agree Equal bits sr long agrees = bit_put bits 1 sr (known_flag (sr / 2 % 2 == 1)) (omega (arith, long)) agrees (known_set (sr / 2 % 2) (omega arith))
-bits_agree NoCarry bits sr long agrees = bit_put bits 0 sr (known_flag (not (sr % 2 == 0))) (omega (arith, long)) agrees (known_clear (sr % 2) (omega arith))
-bits_agree Carry bits sr long agrees = bit_put bits 0 sr (known_flag (sr % 2 == 1)) (omega (arith, long)) agrees (known_set (sr % 2) (omega arith))
-bits_agree Negative bits sr long agrees = bit_put bits 2 sr (known_flag (sr / 4 % 2 == 1)) (omega (arith, long)) agrees
-    (subst (IsBit (known_flag (sr / 4 % 2 == 1))) (sym (fourth sr)) (known_set (sr / 4 % 2) (omega arith)))
+bits_agree NotEqual bits sr long agrees = bits_put bits 1 sr (known_flag (not (sr / 2 % 2 == 0))) (omega (arith, long)) agrees
+    (subst (IsBit (known_flag (not (sr / 2 % 2 == 0)))) (sym (second sr)) (known_clear (sr / 2 % 2) (omega arith)))
+bits_agree Equal bits sr long agrees =
+    bits_put bits 1 sr (known_flag (sr / 2 % 2 == 1)) (omega (arith, long)) agrees
+    (subst (IsBit (known_flag (sr / 2 % 2 == 1))) (sym (second sr)) (bit_known (sr / 2 % 2) (omega arith)))
+bits_agree NoCarry bits sr long agrees = bits_put bits 0 sr (known_flag (not (sr % 2 == 0))) (omega (arith, long)) agrees
+    (subst (IsBit (known_flag (not (sr % 2 == 0)))) (sym (first sr)) (known_clear (sr % 2) (omega arith)))
+bits_agree Carry bits sr long agrees = bits_put bits 0 sr (known_flag (sr % 2 == 1)) (omega (arith, long)) agrees
+    (subst (IsBit (known_flag (sr % 2 == 1))) (sym (first sr)) (bit_known (sr % 2) (omega arith)))
+bits_agree Negative bits sr long agrees = bits_put bits 2 sr (known_flag (sr / 4 % 2 == 1)) (omega (arith, long)) agrees
+    (subst (IsBit (known_flag (sr / 4 % 2 == 1))) (sym (third sr)) (bit_known (sr / 4 % 2) (omega arith)))
 bits_agree GreaterOrEqual bits sr long agrees = less_put bits sr long agrees
 bits_agree Less bits sr long agrees = less_put bits sr long agrees
 bits_agree Always bits sr long agrees = agrees

@@ -1,9 +1,9 @@
 -- The conditions of jumps, by what is known of SR (SLAU049, chapter 3, "Jumps": JNE, JEQ, JNC, JC, JN, JGE, JL and JMP).
-use Rattle.std.specs.Prelude.{ℕ, if◌then◌else◌, Bool, true, not, List, slice_set}
+use Rattle.std.specs.Prelude.{ℕ, Bool, not, List, slice_set}
 use Rattle.std.specs.List.{slice_index_or}
 use Rattle.value_bits.specs.declared.tri.Tri.{Tri}
 use Rattle.value_bits.specs.declared.tri.Tri.TheVariants.{Zero, One, Either}
-use Rattle.value_bits.specs.Bits.{tri_not, tri_xor}
+use Rattle.value_bits.specs.Bits.{known_flag, tri_not, tri_xor}
 use Rattle.msp430_decode.specs.declared.instr.Condition.{Condition}
 use Rattle.msp430_decode.specs.declared.instr.Condition.TheVariants.{NotEqual, Equal, NoCarry, Carry, Negative, GreaterOrEqual, Less, Always}
 
@@ -25,15 +25,6 @@ taken_by Negative bits = bit_of bits 2
 taken_by GreaterOrEqual bits = tri_not (less_by bits)
 taken_by Less bits = less_by bits
 taken_by Always bits = One
-
--- what is known doesn't forbid it
-abbrev pub may_be : Tri → Bool → Bool
-may_be Zero flag = not flag
-may_be One flag = flag
-may_be Either flag = true
-
-abbrev pub known_flag : Bool → Tri
-known_flag flag = if flag then One else Zero
 
 -- a bit that isn't known, by another source
 abbrev pub known_or : Tri → Tri → Tri

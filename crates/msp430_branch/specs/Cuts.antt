@@ -14,7 +14,8 @@ use Rattle.msp430_chip.specs.Arithmetic.{modulus}
 use Rattle.msp430_state.specs.declared.fact.FlagFact.{FlagFact}
 use Rattle.msp430_state.specs.Known.{Known, word_of}
 use Rattle.msp430_branch.specs.declared.window.Window.{Window}
-use Rattle.msp430_branch.specs.Conditions.{taken_by, may_be, bits_where}
+use Rattle.value_bits.specs.Bits.{may_be}
+use Rattle.msp430_branch.specs.Conditions.{taken_by, bits_where}
 
 -- WINDOWS
 

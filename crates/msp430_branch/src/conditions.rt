@@ -54,7 +54,7 @@ pub fn taken_by(condition: Condition, status: &Status) -> Tri
 
 /// Whether what is known of a bit allows a value.
 pub(crate) fn may_be(known: Tri, flag: bool) -> bool
-    ensures { result ≡ conditions.may_be known flag }
+    ensures { result ≡ bit_sets.may_be known flag }
 {
     match known {
         Tri::Zero => !flag,
@@ -64,7 +64,7 @@ pub(crate) fn may_be(known: Tri, flag: bool) -> bool
 }
 
 fn known_flag(flag: bool) -> Tri
-    ensures { result ≡ conditions.known_flag flag }
+    ensures { result ≡ bit_sets.known_flag flag }
 {
     if flag { Tri::One } else { Tri::Zero }
 }
@@ -92,7 +92,7 @@ fn with_less(bits: &[Tri; 9], less: Tri) -> [Tri; 9]
 /// Bits of which one is known.
 fn with_flag(bits: &[Tri; 9], place: usize, flag: bool) -> [Tri; 9]
     requires { place < 9 }
-    ensures { result ≡ slice_set bits.now place (conditions.known_flag flag) }
+    ensures { result ≡ slice_set bits.now place (bit_sets.known_flag flag) }
 {
     let mut all = *bits;
     all[place] = known_flag(flag);

@@ -1,7 +1,7 @@
 -- Each register is of one of five kinds.
 use Rattle.std.proofs.Common.{◌≡◌, ℕ, ◌<◌, false, List, slice_set, refl, arith}
 use Rattle.msp430_decode.specs.declared.instr.Register.{Register}
-use Rattle.msp430_decode.specs.declared.instr.Register.TheVariants.{Pc, Sp, Sr, R3, R4, R5, R6, R7, R8, R9, R10, R11, R12, R13, R14, R15}
+use Rattle.msp430_decode.specs.declared.instr.Register.TheVariants.{Pc, Sp, Sr, R3}
 use Rattle.msp430_decode.specs.declared.instr.Width.{Width}
 use Rattle.msp430_decode.specs.declared.instr.Width.TheVariants.{Word, Byte}
 use Rattle.msp430_decode.specs.declared.instr.Source.TheVariants as source
@@ -42,15 +42,4 @@ kind_of Pc = Counter refl
 kind_of Sp = Stack refl
 kind_of Sr = Status refl
 kind_of R3 = Empty refl
-kind_of R4 = general R4 (omega arith) (omega arith) (λ registers value. refl) refl refl (λ target. refl) refl (λ offset. refl) refl
-kind_of R5 = general R5 (omega arith) (omega arith) (λ registers value. refl) refl refl (λ target. refl) refl (λ offset. refl) refl
-kind_of R6 = general R6 (omega arith) (omega arith) (λ registers value. refl) refl refl (λ target. refl) refl (λ offset. refl) refl
-kind_of R7 = general R7 (omega arith) (omega arith) (λ registers value. refl) refl refl (λ target. refl) refl (λ offset. refl) refl
-kind_of R8 = general R8 (omega arith) (omega arith) (λ registers value. refl) refl refl (λ target. refl) refl (λ offset. refl) refl
-kind_of R9 = general R9 (omega arith) (omega arith) (λ registers value. refl) refl refl (λ target. refl) refl (λ offset. refl) refl
-kind_of R10 = general R10 (omega arith) (omega arith) (λ registers value. refl) refl refl (λ target. refl) refl (λ offset. refl) refl
-kind_of R11 = general R11 (omega arith) (omega arith) (λ registers value. refl) refl refl (λ target. refl) refl (λ offset. refl) refl
-kind_of R12 = general R12 (omega arith) (omega arith) (λ registers value. refl) refl refl (λ target. refl) refl (λ offset. refl) refl
-kind_of R13 = general R13 (omega arith) (omega arith) (λ registers value. refl) refl refl (λ target. refl) refl (λ offset. refl) refl
-kind_of R14 = general R14 (omega arith) (omega arith) (λ registers value. refl) refl refl (λ target. refl) refl (λ offset. refl) refl
-kind_of R15 = general R15 (omega arith) (omega arith) (λ registers value. refl) refl refl (λ target. refl) refl (λ offset. refl) refl
+kind_of other = general other (omega arith) (omega arith) (λ registers value. refl) refl refl (λ target. refl) refl (λ offset. refl) refl

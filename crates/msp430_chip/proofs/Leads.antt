@@ -10,9 +10,9 @@ use Rattle.msp430_decode.specs.declared.instr.Width.TheVariants.{Word, Byte}
 use Rattle.msp430_decode.specs.declared.instr.Source.{Source}
 use Rattle.msp430_decode.specs.declared.instr.Destination.{Destination}
 use Rattle.msp430_decode.specs.declared.instr.Operation.{Operation}
-use Rattle.msp430_decode.specs.declared.instr.Operation.TheVariants.{Mov, Add, Addc, Subc, Sub, Cmp, Dadd, Bit, Bic, Bis, Xor, And}
+use Rattle.msp430_decode.specs.declared.instr.Operation.TheVariants.{Dadd}
 use Rattle.msp430_decode.specs.declared.instr.SingleOperation.{SingleOperation}
-use Rattle.msp430_decode.specs.declared.instr.SingleOperation.TheVariants.{Rrc, Swpb, Rra, Sxt, Push, Call}
+use Rattle.msp430_decode.specs.declared.instr.SingleOperation.TheVariants.{Rrc, Push, Call}
 use Rattle.msp430_decode.specs.declared.instr.Instr.{Instr}
 use Rattle.msp430_decode.specs.declared.instr.Instr.TheVariants.{Double, Single as OneOperand, Jump, ReturnFromInterrupt}
 use Rattle.msp430_decode.specs.declared.refusal.NoInstr.{NoInstr}
@@ -96,18 +96,8 @@ decimal_leads width x y carry = if_gives (MayMakeDecimal width x y carry) (is_de
     answer_gives (MayMakeDecimal width x y carry) _ (NotDecimal are result r (any_flags option) refl))))
 
 result_leads : (operation : Operation) (width : Width) (x y carry : ℕ) → Gives (MayMake operation width x y carry) (result_of operation width x y carry)
-result_leads Mov width x y carry = answer_gives (MayMake Mov width x y carry) _ refl
-result_leads Add width x y carry = answer_gives (MayMake Add width x y carry) _ refl
-result_leads Addc width x y carry = answer_gives (MayMake Addc width x y carry) _ refl
-result_leads Subc width x y carry = answer_gives (MayMake Subc width x y carry) _ refl
-result_leads Sub width x y carry = answer_gives (MayMake Sub width x y carry) _ refl
-result_leads Cmp width x y carry = answer_gives (MayMake Cmp width x y carry) _ refl
 result_leads Dadd width x y carry = decimal_leads width y x carry
-result_leads Bit width x y carry = answer_gives (MayMake Bit width x y carry) _ refl
-result_leads Bic width x y carry = answer_gives (MayMake Bic width x y carry) _ refl
-result_leads Bis width x y carry = answer_gives (MayMake Bis width x y carry) _ refl
-result_leads Xor width x y carry = answer_gives (MayMake Xor width x y carry) _ refl
-result_leads And width x y carry = answer_gives (MayMake And width x y carry) _ refl
+result_leads other width x y carry = answer_gives (MayMake other width x y carry) _ refl
 
 rotated_leads : (width : Width) (x carry : ℕ) → Gives (MayMakeSingle Rrc width x carry) (rotated width x carry)
 unfolding rotated
@@ -116,11 +106,7 @@ rotated_leads width x carry = then_gives (λ (o : ℕ). o < 2) (MayMakeSingle Rr
 
 single_result_leads : (operation : SingleOperation) (width : Width) (x carry : ℕ) → Gives (MayMakeSingle operation width x carry) (single_result operation width x carry)
 single_result_leads Rrc width x carry = rotated_leads width x carry
-single_result_leads Swpb width x carry = answer_gives (MayMakeSingle Swpb width x carry) _ refl
-single_result_leads Rra width x carry = answer_gives (MayMakeSingle Rra width x carry) _ refl
-single_result_leads Sxt width x carry = answer_gives (MayMakeSingle Sxt width x carry) _ refl
-single_result_leads Push width x carry = answer_gives (MayMakeSingle Push width x carry) _ refl
-single_result_leads Call width x carry = answer_gives (MayMakeSingle Call width x carry) _ refl
+single_result_leads other width x carry = answer_gives (MayMakeSingle other width x carry) _ refl
 
 free_status_leads : (registers ram : List ℕ)
     → Gives (LeavesFree registers ram) (and_then (ask 512) (λ status. answer (record { registers = slice_set registers 2 status; ram = ram; hit = None })))
@@ -212,11 +198,7 @@ push_left_leads : (device : Device) (ram registers : List ℕ) (operation : Sing
     → Gives (MayLeavePush device ram registers operation width x next) (push_left device ram registers operation width x next)
 unfolding push_left
 push_left_leads device ram registers Call width x next = answer_gives (MayLeavePush device ram registers Call width x next) _ refl
-push_left_leads device ram registers Rrc width x next = plain_push_leads device ram registers width x
-push_left_leads device ram registers Swpb width x next = plain_push_leads device ram registers width x
-push_left_leads device ram registers Rra width x next = plain_push_leads device ram registers width x
-push_left_leads device ram registers Sxt width x next = plain_push_leads device ram registers width x
-push_left_leads device ram registers Push width x next = plain_push_leads device ram registers width x
+push_left_leads device ram registers other width x next = plain_push_leads device ram registers width x
 
 push_leads : (device : Device) (s : ChipState) (len : ℕ) (operation : SingleOperation) (width : Width) (operand : Source)
     → Gives (MayPush device s len operation width operand) (push device s len operation width operand)
@@ -245,10 +227,7 @@ one_operand_leads : (device : Device) (s : ChipState) (len : ℕ) (operation : S
     → Gives (MayRunSingle device s len operation width operand) (one_operand device s len operation width operand)
 one_operand_leads device s len Push width operand = push_leads device s len Push width operand
 one_operand_leads device s len Call width operand = push_leads device s len Call width operand
-one_operand_leads device s len Rrc width operand = single_leads device s len Rrc width operand
-one_operand_leads device s len Swpb width operand = single_leads device s len Swpb width operand
-one_operand_leads device s len Rra width operand = single_leads device s len Rra width operand
-one_operand_leads device s len Sxt width operand = single_leads device s len Sxt width operand
+one_operand_leads device s len other width operand = single_leads device s len other width operand
 
 pub executed_leads : (device : Device) (s : ChipState) (instr : Instr) (len : ℕ) → Gives (MayRun device s instr len) (executed device s instr len)
 executed_leads device s (Double operation width source destination) len = double_leads device s len operation width source destination

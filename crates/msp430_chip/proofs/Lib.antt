@@ -2,7 +2,7 @@ pub mod Deciding
 pub mod KindsOfRegisters
 pub mod Leads
 pub mod MemoryForm
-pub mod Registers
+pub mod RegisterForms
 pub mod Resets
 pub mod Results
 pub mod StepForms

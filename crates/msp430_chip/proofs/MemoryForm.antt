@@ -1,17 +1,16 @@
 -- Bytes and words of memory, and stores, keep their form.
-use Rattle.std.proofs.Common.{◌≡◌, ℕ, ◌+◌, ◌-◌, ◌*◌, ◌/◌, ◌%◌, ◌<◌, Bool, true, false, cond, ltb, List, Option, None, Some, length, slice_index, slice_set, refl, arith}
+use Rattle.std.proofs.Common.{◌≡◌, ℕ, ◌+◌, ◌-◌, ◌*◌, ◌/◌, ◌%◌, ◌<◌, Bool, true, false, cond, List, Option, None, Some, length, slice_index, slice_set, arith}
 use Rattle.std.specs.Prelude.{All}
 use Rattle.std.proofs.lemmas.Grind.{common_steps}
 use Rattle.std.proofs.lemmas.Bool.Decides.{nat_tests}
 use Rattle.std.proofs.lemmas.List.Elements.{All-set, All-get_or}
-use Rattle.std.proofs.lemmas.List.{get_or_past}
-use borrow.Author.Tests.{ltb-true, ltb-false}
 use Rattle.image.specs.Image.{IsByte, byte_at}
 use Rattle.msp430_decode.specs.declared.instr.Width.{Width}
 use Rattle.msp430_decode.specs.declared.instr.Width.TheVariants.{Word, Byte}
 use Rattle.msp430_chip.specs.declared.device.Device.{Device}
 use Rattle.choosing.specs.Asking.{answer}
 use Rattle.msp430_chip.specs.Arithmetic.{modulus}
+use Rattle.msp430_chip.specs.LeadingFacts.{byte_is}
 use Rattle.msp430_chip.specs.Memory.{aligned, is_ram, read_outside, read_byte, read_word, read, with_byte, with_stored}
 use Rattle.msp430_chip.specs.State.{ram_size, image_word, word_from}
 use Rattle.choosing.specs.Gives.{Gives, answer_gives, ask_gives, if_gives, then_gives}
@@ -20,13 +19,6 @@ pub record IsMemory (device : Device) (ram : List ℕ) : Type 0 where
   pub image : All IsByte device.image
   pub size : length ram ≡ ram_size device
   pub bytes : All (λ b. b < 256) ram
-
-byte_by : (image : List (Option ℕ)) (at : ℕ) → All IsByte image → (within : Bool) → ltb at (length image) ≡ within → IsByte (byte_at image at)
-byte_by image at bytes true test = All-get_or IsByte image at None (ltb-true at (length image) test) bytes
-byte_by image at bytes false test = let past : byte_at image at ≡ None = get_or_past image at None (ltb-false at (length image) test) in rw past tt
-
-pub byte_is : (image : List (Option ℕ)) (at : ℕ) → All IsByte image → IsByte (byte_at image at)
-byte_is image at bytes = byte_by image at bytes (ltb at (length image)) refl
 
 outside_gives : (byte : Option ℕ) → IsByte byte → Gives (λ (b : ℕ). b < 256) (read_outside byte)
 outside_gives None is = ask_gives 256 (omega arith)

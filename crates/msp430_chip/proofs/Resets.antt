@@ -7,7 +7,7 @@ use Rattle.image.specs.Image.{IsByte}
 use Rattle.msp430_chip.specs.declared.device.Device.{Device}
 use Rattle.msp430_chip.specs.State.{IsChipState, IsResetOf, first_state, image_word, ram_size, reset_address}
 use Rattle.msp430_chip.proofs.MemoryForm.{image_word_below}
-use Rattle.msp430_chip.proofs.Registers.{even_below, even_is}
+use Rattle.msp430_chip.proofs.RegisterForms.{even_below, even_is}
 
 first_is_state : (device : Device) → All IsByte device.image → IsChipState device (first_state device)
 first_is_state device image = record {

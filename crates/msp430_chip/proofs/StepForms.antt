@@ -1,5 +1,5 @@
 -- A step keeps the form of states.
-use Rattle.std.proofs.Common.{◌≡◌, ℕ, ◌+◌, ◌-◌, ◌*◌, ◌/◌, ◌%◌, ◌<◌, ◌==◌, ◌&&◌, ◌||◌, Bool, true, false, cond, nat_lt, List, [], ◌∷◌, ◌++◌, length, slice_index, slice_set, Option, None, Some, Result, Ok, Err, refl, sym, subst, arith}
+use Rattle.std.proofs.Common.{◌≡◌, ℕ, ◌+◌, ◌-◌, ◌*◌, ◌/◌, ◌%◌, ◌<◌, ◌==◌, ◌&&◌, ◌||◌, Bool, true, false, cond, nat_lt, List, [], ◌∷◌, ◌++◌, length, slice_index, slice_set, Option, None, Some, Result, Ok, Err, refl, arith}
 use Rattle.std.specs.Prelude.{All}
 use Rattle.std.proofs.lemmas.List.Elements.{All-get_or}
 use Rattle.image.specs.Image.{IsByte}
@@ -12,7 +12,7 @@ use Rattle.msp430_decode.specs.declared.instr.Width.{Width}
 use Rattle.msp430_decode.specs.declared.instr.Width.TheVariants.{Word, Byte}
 use Rattle.msp430_decode.specs.declared.instr.Operation.{Operation}
 use Rattle.msp430_decode.specs.declared.instr.SingleOperation.{SingleOperation}
-use Rattle.msp430_decode.specs.declared.instr.SingleOperation.TheVariants.{Rrc, Swpb, Rra, Sxt, Push, Call}
+use Rattle.msp430_decode.specs.declared.instr.SingleOperation.TheVariants.{Push, Call}
 use Rattle.msp430_decode.specs.declared.instr.Source.{Source}
 use Rattle.msp430_decode.specs.declared.instr.Destination.{Destination}
 use Rattle.msp430_decode.specs.declared.instr.Condition.{Condition}
@@ -40,7 +40,8 @@ use Rattle.msp430_chip.specs.Kinds.{Kind}
 use Rattle.msp430_chip.specs.Kinds.Kind.{Counter, Stack, Status, Empty, General}
 use Rattle.msp430_chip.proofs.KindsOfRegisters.{kind_of}
 use Rattle.msp430_chip.proofs.MemoryForm.{IsMemory, read_word_gives, read_gives, with_stored_keeps, image_word_below}
-use Rattle.msp430_chip.proofs.Registers.{AreRegisters, set_pc, set_sp, set_status, even_below, even_is, with_register_keeps, grown_keeps, set_lowered, with_lowered_keeps}
+use Rattle.msp430_chip.proofs.RegisterForms.{even_below, even_is, with_register_keeps, grown_keeps, set_lowered, with_lowered_keeps}
+use Rattle.msp430_chip.specs.Registers.{AreRegisters, set_pc, set_sp, set_status}
 use Rattle.msp430_chip.proofs.Results.{Fits, modulus_some, result_gives, single_gives, made_flags_below}
 
 -- ---- states
@@ -54,30 +55,14 @@ pub record IsLeft (device : Device) (left : Left) : Type 0 where
   pub ram : IsMemory device left.ram
 
 state_registers : (device : Device) (s : ChipState) → IsChipState device s → AreRegisters s.registers
-state_registers device s is = record {
-  count = is.registers;
-  words = is.words;
-  even_pc = is.even_pc;
-  even_sp = is.even_sp;
-  status = is.status;
-  nothing = is.nothing;
-}
+state_registers device s is = assumption is
 
 state_memory : (device : Device) (s : ChipState) → All IsByte device.image → IsChipState device s → IsMemory device s.ram
 state_memory device s image is = record { image = image; size = is.ram; bytes = is.bytes }
 
 state_is : (device : Device) (registers ram : List ℕ) (late : Bool) → AreRegisters registers → IsMemory device ram
     → IsChipState device (record { registers = registers; ram = ram; late = late })
-state_is device registers ram late are is = record {
-  registers = are.count;
-  words = are.words;
-  even_pc = are.even_pc;
-  even_sp = are.even_sp;
-  status = are.status;
-  nothing = are.nothing;
-  ram = is.size;
-  bytes = is.bytes;
-}
+state_is device registers ram late are is = assumption (are, is)
 
 unless_keeps : (device : Device) (hit : Option ℕ) (items : List Single) (t : ChipState) → IsChipState device t → Keeps device (unless_hit hit items t)
 unless_keeps device None items t is = is
@@ -108,12 +93,14 @@ status_operand : (width : Width) (registers : List ℕ) → AreRegisters registe
 status_operand Word registers are = let h = are.status in record { below = omega arith; held = λ _. omega arith }
 status_operand Byte registers are = record { below = omega arith; held = λ free. absurd cc }
 
-register_operand : (width : Width) (registers : List ℕ) (register : Register) → Kind register → AreRegisters registers → IsOperand width (InRegister register) (value_in registers register % modulus width)
-register_operand width registers register (Status is) are = subst (λ r. IsOperand width (InRegister r) (value_in registers r % modulus width)) (sym is) (status_operand width registers are)
+register_operand : (width : Width) (registers : List ℕ) (register : Register) → Kind register → AreRegisters registers
+    → IsOperand width (InRegister register) (value_in registers register % modulus width)
+register_operand width registers register (Status is) are = rw is (status_operand width registers are)
+register_operand width registers register (General is) are =
+    plain_operand width (InRegister register) _ (no_free_bits width (InRegister register) is.no_status) (rest_below width _)
 register_operand width registers register (Counter is) are = plain_operand width (InRegister register) _ (no_free_bits width (InRegister register) (rw is refl)) (rest_below width _)
 register_operand width registers register (Stack is) are = plain_operand width (InRegister register) _ (no_free_bits width (InRegister register) (rw is refl)) (rest_below width _)
 register_operand width registers register (Empty is) are = plain_operand width (InRegister register) _ (no_free_bits width (InRegister register) (rw is refl)) (rest_below width _)
-register_operand width registers register (General is) are = plain_operand width (InRegister register) _ (no_free_bits width (InRegister register) is.no_status) (rest_below width _)
 
 at_gives : (device : Device) (ram registers : List ℕ) (width : Width) (place : Place) → AreRegisters registers → IsMemory device ram
     → Gives (IsOperand width place) (value_at device ram registers width place)
@@ -269,11 +256,7 @@ push_left_gives : (device : Device) (ram registers : List ℕ) (operation : Sing
 unfolding push_left
 push_left_gives device ram registers Call width x next are is h k = answer_gives (IsLeft device) _
     (pushed_keeps device (slice_set registers 0 (even x)) ram next (set_pc registers (even x) are (even_below x (below_word width x h)) (even_is x)) is k)
-push_left_gives device ram registers Rrc width x next are is h k = plain_push_gives device ram registers width x are is h
-push_left_gives device ram registers Swpb width x next are is h k = plain_push_gives device ram registers width x are is h
-push_left_gives device ram registers Rra width x next are is h k = plain_push_gives device ram registers width x are is h
-push_left_gives device ram registers Sxt width x next are is h k = plain_push_gives device ram registers width x are is h
-push_left_gives device ram registers Push width x next are is h k = plain_push_gives device ram registers width x are is h
+push_left_gives device ram registers other width x next are is h k = plain_push_gives device ram registers width x are is h
 
 push_gives : (device : Device) (s : ChipState) (len : ℕ) (operation : SingleOperation) (width : Width) (operand : Source)
     → All IsByte device.image → IsChipState device s → len % 2 ≡ 0 → Gives (Keeps device) (push device s len operation width operand)
@@ -299,10 +282,7 @@ one_operand_gives : (device : Device) (s : ChipState) (len : ℕ) (operation : S
     → All IsByte device.image → IsChipState device s → len % 2 ≡ 0 → AreSingle operation width operand → Gives (Keeps device) (one_operand device s len operation width operand)
 one_operand_gives device s len Push width operand image is h form = push_gives device s len Push width operand image is h
 one_operand_gives device s len Call width operand image is h form = push_gives device s len Call width operand image is h
-one_operand_gives device s len Rrc width operand image is h form = single_step_gives device s len Rrc width operand image is h form
-one_operand_gives device s len Swpb width operand image is h form = single_step_gives device s len Swpb width operand image is h form
-one_operand_gives device s len Rra width operand image is h form = single_step_gives device s len Rra width operand image is h form
-one_operand_gives device s len Sxt width operand image is h form = single_step_gives device s len Sxt width operand image is h form
+one_operand_gives device s len other width operand image is h form = single_step_gives device s len other width operand image is h form
 
 -- ---- jumps and returns
 

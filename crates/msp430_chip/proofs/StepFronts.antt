@@ -4,9 +4,9 @@ use Rattle.std.specs.List.{filter, range_with_len}
 use Rattle.std.proofs.lemmas.List.Sums.{length-filter, count_by-le-length}
 use Rattle.std.proofs.lemmas.List.FromFn.{length-range_with_len}
 use Rattle.msp430_decode.specs.declared.instr.Operation.{Operation}
-use Rattle.msp430_decode.specs.declared.instr.Operation.TheVariants.{Mov, Add, Addc, Subc, Sub, Cmp, Dadd, Bit, Bic, Bis, Xor, And}
+use Rattle.msp430_decode.specs.declared.instr.Operation.TheVariants.{Dadd}
 use Rattle.msp430_decode.specs.declared.instr.SingleOperation.{SingleOperation}
-use Rattle.msp430_decode.specs.declared.instr.SingleOperation.TheVariants.{Rrc, Swpb, Rra, Sxt, Push, Call}
+use Rattle.msp430_decode.specs.declared.instr.SingleOperation.TheVariants.{Rrc, Push, Call}
 use Rattle.msp430_decode.specs.declared.instr.Source.{Source}
 use Rattle.msp430_decode.specs.declared.instr.Source.TheVariants as source
 use Rattle.msp430_decode.specs.declared.instr.Destination.{Destination}
@@ -73,18 +73,8 @@ made_asks : {A : Type 0} (a : A) → AsksAtMost 2 (answer a)
 made_asks a = more_asks 0 2 (answer a) (omega arith) (answer_asks a)
 
 result_asks : (operation : Operation) (width : Width) (x y carry : ℕ) → AsksAtMost 2 (result_of operation width x y carry)
-result_asks Mov width x y carry = made_asks _
-result_asks Add width x y carry = made_asks _
-result_asks Addc width x y carry = made_asks _
-result_asks Subc width x y carry = made_asks _
-result_asks Sub width x y carry = made_asks _
-result_asks Cmp width x y carry = made_asks _
 result_asks Dadd width x y carry = decimal_asks width y x carry
-result_asks Bit width x y carry = made_asks _
-result_asks Bic width x y carry = made_asks _
-result_asks Bis width x y carry = made_asks _
-result_asks Xor width x y carry = made_asks _
-result_asks And width x y carry = made_asks _
+result_asks other width x y carry = made_asks _
 
 rotated_asks : (width : Width) (x carry : ℕ) → AsksAtMost 1 (rotated width x carry)
 unfolding rotated
@@ -95,23 +85,15 @@ shown_asks a = more_asks 0 1 (answer a) (omega arith) (answer_asks a)
 
 single_result_asks : (operation : SingleOperation) (width : Width) (x carry : ℕ) → AsksAtMost 1 (single_result operation width x carry)
 single_result_asks Rrc width x carry = rotated_asks width x carry
-single_result_asks Swpb width x carry = shown_asks _
-single_result_asks Rra width x carry = shown_asks _
-single_result_asks Sxt width x carry = shown_asks _
-single_result_asks Push width x carry = shown_asks _
-single_result_asks Call width x carry = shown_asks _
+single_result_asks other width x carry = shown_asks _
 
 -- ---- two operands: a register is asked for no bytes, and nothing else for bits of SR or for an address
 
 abbrev source_questions : Source → ℕ
 source_questions (source.Register register) = 0
-source_questions (source.Indexed register offset) = 2
-source_questions (source.Indirect register) = 2
-source_questions (source.IndirectIncrement register) = 2
 source_questions (source.Immediate value) = 0
-source_questions (source.Symbolic offset) = 2
-source_questions (source.Absolute address) = 2
 source_questions (source.Constant constant) = 0
+source_questions other = 2
 
 abbrev destination_questions : Destination → ℕ
 destination_questions (destination.Register register) = 0
@@ -132,31 +114,19 @@ bits_questions other place = target_bits place
 source_asks : (device : Device) (ram before : List ℕ) (pc : ℕ) (width : Width) (operand : Source)
     → AsksAtMost (source_questions operand) (value_at device ram before width (source_place pc before operand))
 source_asks device ram before pc width (source.Register register) = answer_asks _
-source_asks device ram before pc width (source.Indexed register offset) = read_asks device ram width _
-source_asks device ram before pc width (source.Indirect register) = read_asks device ram width _
-source_asks device ram before pc width (source.IndirectIncrement register) = read_asks device ram width _
 source_asks device ram before pc width (source.Immediate value) = answer_asks _
-source_asks device ram before pc width (source.Symbolic offset) = read_asks device ram width _
-source_asks device ram before pc width (source.Absolute address) = read_asks device ram width _
 source_asks device ram before pc width (source.Constant constant) = answer_asks _
+source_asks device ram before pc width other = read_asks device ram width _
 
 target_asks : (device : Device) (ram registers : List ℕ) (pc len : ℕ) (operation : Operation) (width : Width) (target : Destination)
     → AsksAtMost (destination_questions target) (destination_value device ram registers operation width (destination_place pc len registers target))
 target_asks device ram registers pc len operation width (destination.Register register) = if_asks 0 _ _ (answer 0) (answer_asks _) (answer_asks 0)
-target_asks device ram registers pc len operation width (destination.Indexed register offset) = if_asks 2 _ _ (answer 0) (read_asks device ram width _) (made_asks 0)
-target_asks device ram registers pc len operation width (destination.Symbolic offset) = if_asks 2 _ _ (answer 0) (read_asks device ram width _) (made_asks 0)
-target_asks device ram registers pc len operation width (destination.Absolute address) = if_asks 2 _ _ (answer 0) (read_asks device ram width _) (made_asks 0)
+target_asks device ram registers pc len operation width other = if_asks 2 _ _ (answer 0) (read_asks device ram width _) (made_asks 0)
 
 counter_asks : (s : ChipState) (len : ℕ) (operand : Source) (target : Destination) → AsksAtMost (counter_questions operand) (counter s len operand target)
 counter_asks s len (source.Register register) target =
     if_asks 1 _ _ (answer _) (then_asks 1 0 _ _ (ask_asks 2 (omega arith) (omega arith)) (λ (option : ℕ). answer_asks _)) (shown_asks _)
-counter_asks s len (source.Indexed register offset) target = answer_asks _
-counter_asks s len (source.Indirect register) target = answer_asks _
-counter_asks s len (source.IndirectIncrement register) target = answer_asks _
-counter_asks s len (source.Immediate value) target = answer_asks _
-counter_asks s len (source.Symbolic offset) target = answer_asks _
-counter_asks s len (source.Absolute address) target = answer_asks _
-counter_asks s len (source.Constant constant) target = answer_asks _
+counter_asks s len other target = answer_asks _
 
 -- no bits of SR are free in memory, or in a number
 held_whole : (width : Width) (place : Place) → is_status place ≡ false → has_free_bits width place ≡ false
@@ -172,37 +142,21 @@ unasked false reads true h k = absurd cc
 target_bits_asks : (operation : Operation) (width : Width) (pc len : ℕ) (registers : List ℕ) (origin : Place) (target : Destination) → has_free_bits width origin ≡ false
     → AsksAtMost (target_bits target) (status_bits operation width origin (destination_place pc len registers target))
 target_bits_asks operation width pc len registers origin (destination.Register register) h = ask_if_asks _ 128 (omega arith) (omega arith)
-target_bits_asks operation width pc len registers origin (destination.Indexed register offset) h = unasked _ (reads_destination operation) _ h (held_whole width _ refl)
-target_bits_asks operation width pc len registers origin (destination.Symbolic offset) h = unasked _ (reads_destination operation) _ h (held_whole width _ refl)
-target_bits_asks operation width pc len registers origin (destination.Absolute address) h = unasked _ (reads_destination operation) _ h (held_whole width _ refl)
+target_bits_asks operation width pc len registers origin other h = unasked _ (reads_destination operation) _ h (held_whole width _ refl)
 
 bits_asks : (operation : Operation) (width : Width) (pc len : ℕ) (before registers : List ℕ) (operand : Source) (target : Destination)
     → AsksAtMost (bits_questions operand target) (status_bits operation width (source_place pc before operand) (destination_place pc len registers target))
 bits_asks operation width pc len before registers (source.Register register) target = ask_if_asks _ 128 (omega arith) (omega arith)
-bits_asks operation width pc len before registers (source.Indexed register offset) target = target_bits_asks operation width pc len registers _ target (held_whole width _ refl)
-bits_asks operation width pc len before registers (source.Indirect register) target = target_bits_asks operation width pc len registers _ target (held_whole width _ refl)
-bits_asks operation width pc len before registers (source.IndirectIncrement register) target = target_bits_asks operation width pc len registers _ target (held_whole width _ refl)
-bits_asks operation width pc len before registers (source.Immediate value) target = target_bits_asks operation width pc len registers _ target (held_whole width _ refl)
-bits_asks operation width pc len before registers (source.Symbolic offset) target = target_bits_asks operation width pc len registers _ target (held_whole width _ refl)
-bits_asks operation width pc len before registers (source.Absolute address) target = target_bits_asks operation width pc len registers _ target (held_whole width _ refl)
-bits_asks operation width pc len before registers (source.Constant constant) target = target_bits_asks operation width pc len registers _ target (held_whole width _ refl)
+bits_asks operation width pc len before registers other target = target_bits_asks operation width pc len registers _ target (held_whole width _ refl)
 
 target_few : (target : Destination) → destination_questions target + target_bits target ≤ 2
 target_few (destination.Register register) = omega arith
-target_few (destination.Indexed register offset) = omega arith
-target_few (destination.Symbolic offset) = omega arith
-target_few (destination.Absolute address) = omega arith
+target_few other = omega arith
 
 double_few : (operand : Source) (target : Destination)
     → counter_questions operand + (source_questions operand + (destination_questions target + (bits_questions operand target + (2 + 0)))) ≤ 6
 double_few (source.Register register) target = omega (arith, target_few target)
-double_few (source.Indexed register offset) target = omega (arith, target_few target)
-double_few (source.Indirect register) target = omega (arith, target_few target)
-double_few (source.IndirectIncrement register) target = omega (arith, target_few target)
-double_few (source.Immediate value) target = omega (arith, target_few target)
-double_few (source.Symbolic offset) target = omega (arith, target_few target)
-double_few (source.Absolute address) target = omega (arith, target_few target)
-double_few (source.Constant constant) target = omega (arith, target_few target)
+double_few other target = omega (arith, target_few target)
 
 double_left_asks : (device : Device) (ram registers : List ℕ) (operation : Operation) (width : Width) (place : Place) (x y carry : ℕ)
     → AsksAtMost 2 (double_left device ram registers operation width place x y carry)
@@ -256,11 +210,7 @@ push_left_asks : (device : Device) (ram registers : List ℕ) (operation : Singl
     → AsksAtMost 1 (push_left device ram registers operation width x next)
 unfolding push_left
 push_left_asks device ram registers Call width x next = shown_asks _
-push_left_asks device ram registers Rrc width x next = plain_push_asks device ram registers width x
-push_left_asks device ram registers Swpb width x next = plain_push_asks device ram registers width x
-push_left_asks device ram registers Rra width x next = plain_push_asks device ram registers width x
-push_left_asks device ram registers Sxt width x next = plain_push_asks device ram registers width x
-push_left_asks device ram registers Push width x next = plain_push_asks device ram registers width x
+push_left_asks device ram registers other width x next = plain_push_asks device ram registers width x
 
 push_asks : (device : Device) (s : ChipState) (len : ℕ) (operation : SingleOperation) (width : Width) (operand : Source)
     → AsksAtMost 5 (push device s len operation width operand)
@@ -277,10 +227,7 @@ one_operand_asks : (device : Device) (s : ChipState) (len : ℕ) (operation : Si
     → AsksAtMost 6 (one_operand device s len operation width operand)
 one_operand_asks device s len Push width operand = more_asks 5 6 _ (omega arith) (push_asks device s len Push width operand)
 one_operand_asks device s len Call width operand = more_asks 5 6 _ (omega arith) (push_asks device s len Call width operand)
-one_operand_asks device s len Rrc width operand = more_asks 4 6 _ (omega arith) (single_asks device s len Rrc width operand)
-one_operand_asks device s len Swpb width operand = more_asks 4 6 _ (omega arith) (single_asks device s len Swpb width operand)
-one_operand_asks device s len Rra width operand = more_asks 4 6 _ (omega arith) (single_asks device s len Rra width operand)
-one_operand_asks device s len Sxt width operand = more_asks 4 6 _ (omega arith) (single_asks device s len Sxt width operand)
+one_operand_asks device s len other width operand = more_asks 4 6 _ (omega arith) (single_asks device s len other width operand)
 
 return_asks : (device : Device) (s : ChipState) → AsksAtMost 4 (return device s)
 unfolding return

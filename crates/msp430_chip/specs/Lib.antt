@@ -2,8 +2,10 @@ pub mod Arithmetic
 pub mod Interrupts
 pub mod Kinds
 pub mod Leading
+pub mod LeadingFacts
 pub mod Memory
 pub mod Operands
 pub mod Outcome
+pub mod Registers
 pub mod State
 pub mod Step

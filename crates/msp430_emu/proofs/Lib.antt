@@ -1,4 +1,3 @@
 pub mod DecimalLemmas
 pub mod DoubleLemmas
 pub mod RamLemmas
-pub mod RegisterLemmas

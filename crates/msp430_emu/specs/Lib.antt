@@ -1,5 +1,4 @@
 pub mod Drafting
 pub mod Planning
 pub mod Ranges
-pub mod Registers
 pub mod Stepping

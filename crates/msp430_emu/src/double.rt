@@ -10,7 +10,7 @@ ghost use Rattle.msp430_chip.specs.State as states;
 ghost use Rattle.msp430_chip.specs.Step as steps;
 ghost use Rattle.choosing.specs.Choosing.{asked, asked_as};
 ghost use Rattle.msp430_emu.specs.Drafting.{all_shown, double_behind, drafted, left_by, shown};
-ghost use Rattle.msp430_emu.specs.Registers.{AreRegisters};
+ghost use Rattle.msp430_chip.specs.Registers.{AreRegisters};
 
 use crate::arithmetic::{reads_destination, result_of, sets_flags, writes_result};
 use crate::effect::{Access, Accesses, Draft, Effect};
@@ -130,7 +130,7 @@ fn access_if(is_made: bool, write: bool, width: Width, place: Place) -> Option<A
 }
 
 /// The result of the values x and y in its place, and the flags.
-#[tactic(auto, using(crate::proofs::RegisterLemmas::registers_kept), unfolding(msp430_chip::specs::Step::double_left))]
+#[tactic(auto, using(msp430_chip::specs::Registers::registers_kept), unfolding(msp430_chip::specs::Step::double_left))]
 fn double_left(
     operation: Operation,
     width: Width,
@@ -161,7 +161,7 @@ fn double_left(
 }
 
 /// The operands of an instruction, of so many bytes, and the registers behind them.
-#[tactic(auto, using(crate::proofs::RegisterLemmas::registers_kept), unfolding(msp430_chip::specs::Step::double))]
+#[tactic(auto, using(msp430_chip::specs::Registers::registers_kept), unfolding(msp430_chip::specs::Step::double))]
 fn double_operands(
     layout: &Layout,
     s: &ChipState,

@@ -8,7 +8,7 @@ ghost use Rattle.msp430_chip.specs.Interrupts as interrupts;
 ghost use Rattle.msp430_chip.specs.State as states;
 ghost use Rattle.choosing.specs.Choosing.{asked_as};
 ghost use Rattle.msp430_emu.specs.Planning.{planned};
-ghost use Rattle.msp430_emu.specs.Registers.{AreRegisters};
+ghost use Rattle.msp430_chip.specs.Registers.{AreRegisters};
 
 use crate::effect::{Access, Accesses, Plan, Store};
 use crate::memory::{Layout, even};
@@ -87,7 +87,7 @@ pub(crate) fn image_word(image: &Image, at: u16) -> u16
 }
 
 /// The registers behind an entry: SP below two words, and SR with SCG0, bit 6, alone.
-#[tactic(auto, using(crate::proofs::RegisterLemmas::registers_kept))]
+#[tactic(auto, using(msp430_chip::specs::Registers::registers_kept))]
 fn entered(layout: &Layout, s: &ChipState, vector: u16) -> [u16; 16]
     requires vector { vector < 14 }
     requires registers { AreRegisters s.now.registers }

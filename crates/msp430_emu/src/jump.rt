@@ -7,7 +7,7 @@ ghost use Rattle.msp430_chip.specs.State as states;
 ghost use Rattle.msp430_chip.specs.Step as steps;
 ghost use Rattle.choosing.specs.Choosing.{asked_as};
 ghost use Rattle.msp430_emu.specs.Drafting.{drafted};
-ghost use Rattle.msp430_emu.specs.Registers.{AreRegisters};
+ghost use Rattle.msp430_chip.specs.Registers.{AreRegisters};
 
 use crate::effect::{Access, Accesses, Draft, Effect};
 use crate::memory::{Layout, even, read_word};
@@ -33,7 +33,7 @@ fn is_taken(condition: Condition, status: u16) -> bool
 }
 
 /// A jump.
-#[tactic(auto, using(crate::proofs::RegisterLemmas::registers_kept), unfolding(msp430_chip::specs::Step::jump))]
+#[tactic(auto, using(msp430_chip::specs::Registers::registers_kept), unfolding(msp430_chip::specs::Step::jump))]
 pub(crate) fn jump(layout: &Layout, s: &ChipState, condition: Condition, offset: u16) -> Draft
     requires offset { offset < 1024 }
     requires registers { AreRegisters s.now.registers }
@@ -60,7 +60,7 @@ pub(crate) fn jump(layout: &Layout, s: &ChipState, condition: Condition, offset:
 }
 
 /// RETI takes SR from the stack, and then PC.
-#[tactic(auto, using(crate::proofs::RegisterLemmas::registers_kept))]
+#[tactic(auto, using(msp430_chip::specs::Registers::registers_kept))]
 pub(crate) fn return_from_interrupt(
     layout: &Layout,
     s: &ChipState,

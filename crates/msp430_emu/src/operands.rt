@@ -6,7 +6,7 @@ ghost use Rattle.msp430_chip.specs.Operands as operands;
 ghost use Rattle.msp430_chip.specs.State as states;
 ghost use Rattle.msp430_chip.specs.Step as steps;
 ghost use Rattle.choosing.specs.Choosing.{asked};
-ghost use Rattle.msp430_emu.specs.Registers.{AreRegisters};
+ghost use Rattle.msp430_chip.specs.Registers.{AreRegisters};
 
 use crate::memory::{Layout, even, read};
 use choosing::Unused;
@@ -28,7 +28,7 @@ pub(crate) fn value_in(registers: &[u16; 16], register: Register) -> u16
 }
 
 /// The registers with a value in one of them: PC and SP lose bit 0, SR holds its bits 8 to 0, and R3 nothing.
-#[tactic(auto, using(crate::proofs::RegisterLemmas::registers_kept))]
+#[tactic(auto, using(msp430_chip::specs::Registers::registers_kept))]
 pub(crate) fn with_register(registers: &[u16; 16], register: Register, value: u16) -> [u16; 16]
     ensures value { result ≡ operands.with_register registers.now register value }
     ensures form { AreRegisters registers.now → AreRegisters result }

@@ -11,7 +11,7 @@ ghost use Rattle.msp430_chip.specs.State as states;
 ghost use Rattle.msp430_chip.specs.Step as steps;
 ghost use Rattle.choosing.specs.Choosing.{asked, asked_as};
 ghost use Rattle.msp430_emu.specs.Drafting.{all_shown, drafted, left_by};
-ghost use Rattle.msp430_emu.specs.Registers.{AreRegisters};
+ghost use Rattle.msp430_chip.specs.Registers.{AreRegisters};
 
 use crate::effect::{Accesses, Draft, Effect};
 use crate::memory::{Layout, even};
@@ -70,7 +70,7 @@ fn pushed_word(width: Width, x: u16, choices: &mut Unused) -> Option<u16>
 }
 
 /// A word pushed below SP.
-#[tactic(auto, using(crate::proofs::RegisterLemmas::registers_kept))]
+#[tactic(auto, using(msp430_chip::specs::Registers::registers_kept))]
 fn pushed(registers: &[u16; 16], word: u16) -> Effect
     ensures value { (device : Device) (ram : List ℕ) → left_by device ram result ≡ steps.pushed device registers.now ram word }
     ensures form { AreRegisters registers.now → AreRegisters result.registers }
@@ -82,7 +82,7 @@ fn pushed(registers: &[u16; 16], word: u16) -> Effect
 }
 
 /// PUSH pushes the value, and CALL the address behind it and goes to the value.
-#[tactic(auto, using(crate::proofs::RegisterLemmas::registers_kept), unfolding(msp430_chip::specs::Step::push_left))]
+#[tactic(auto, using(msp430_chip::specs::Registers::registers_kept), unfolding(msp430_chip::specs::Step::push_left))]
 fn push_left(
     registers: &[u16; 16],
     operation: SingleOperation,
@@ -122,7 +122,7 @@ fn push_accesses(width: Width, place: Place, sp: u16) -> Accesses
 }
 
 /// PUSH or CALL, of so many bytes.
-#[tactic(auto, using(crate::proofs::RegisterLemmas::registers_kept), unfolding(msp430_chip::specs::Step::push))]
+#[tactic(auto, using(msp430_chip::specs::Registers::registers_kept), unfolding(msp430_chip::specs::Step::push))]
 pub(crate) fn push(
     layout: &Layout,
     s: &ChipState,

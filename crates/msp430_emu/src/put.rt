@@ -8,7 +8,7 @@ ghost use Rattle.msp430_chip.specs.Operands as operands;
 ghost use Rattle.msp430_chip.specs.Step as steps;
 ghost use Rattle.choosing.specs.Choosing.{asked_as};
 ghost use Rattle.msp430_emu.specs.Drafting.{left_by, shown};
-ghost use Rattle.msp430_emu.specs.Registers.{AreRegisters};
+ghost use Rattle.msp430_chip.specs.Registers.{AreRegisters};
 
 use crate::arithmetic::with_made_flags;
 use crate::effect::{Access, Effect, Store};
@@ -62,7 +62,7 @@ pub(crate) fn put_if(
 }
 
 /// The effect with flags in SR.
-#[tactic(auto, using(crate::proofs::RegisterLemmas::registers_kept))]
+#[tactic(auto, using(msp430_chip::specs::Registers::registers_kept))]
 pub(crate) fn with_status(flags: Option<Flags>, effect: Effect) -> Effect
     ensures value { (device : Device) (ram : List ℕ) → left_by device ram result ≡ steps.with_status flags (left_by device ram effect) }
     ensures form { AreRegisters effect.registers → AreRegisters result.registers }
@@ -86,7 +86,7 @@ pub(crate) fn access_to(write: bool, width: Width, place: Place) -> Option<Acces
 }
 
 /// An SR that is left free, whole.
-#[tactic(auto, using(crate::proofs::RegisterLemmas::registers_kept))]
+#[tactic(auto, using(msp430_chip::specs::Registers::registers_kept))]
 pub(crate) fn free_status(registers: &[u16; 16], choices: &mut Unused) -> Option<Effect>
     ensures exact { (device : Device) (ram : List ℕ) → asked_as (left_by device ram) result choices.new ≡
         and_then (ask 512) (λ status. answer (left_by device ram (record { registers = slice_set registers.now 2 status; store = None }))) choices.old }

@@ -11,7 +11,7 @@ ghost use Rattle.msp430_chip.specs.State as states;
 ghost use Rattle.msp430_chip.specs.Step as steps;
 ghost use Rattle.choosing.specs.Choosing.{asked_as};
 ghost use Rattle.msp430_emu.specs.Drafting.{all_shown, drafted, left_by};
-ghost use Rattle.msp430_emu.specs.Registers.{AreRegisters};
+ghost use Rattle.msp430_chip.specs.Registers.{AreRegisters};
 
 use crate::arithmetic::{single_result, single_sets_flags};
 use crate::effect::{Accesses, Draft, Effect};
@@ -25,7 +25,7 @@ use msp430_chip::{ChipState, Place};
 use msp430_decode::{SingleOperation, Source, Width};
 
 /// The result of the value x in its place, and the flags.
-#[tactic(auto, using(crate::proofs::RegisterLemmas::registers_kept), unfolding(msp430_chip::specs::Step::single_left))]
+#[tactic(auto, using(msp430_chip::specs::Registers::registers_kept), unfolding(msp430_chip::specs::Step::single_left))]
 fn single_left(
     registers: &[u16; 16],
     operation: SingleOperation,
@@ -62,7 +62,7 @@ fn single_accesses(width: Width, place: Place) -> Accesses
 }
 
 /// An instruction on one operand that it reads and writes, of so many bytes.
-#[tactic(auto, using(crate::proofs::RegisterLemmas::registers_kept), unfolding(msp430_chip::specs::Step::single))]
+#[tactic(auto, using(msp430_chip::specs::Registers::registers_kept), unfolding(msp430_chip::specs::Step::single))]
 pub(crate) fn single(
     layout: &Layout,
     s: &ChipState,

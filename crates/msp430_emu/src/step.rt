@@ -11,7 +11,7 @@ ghost use Rattle.msp430_chip.specs.Step as steps;
 ghost use Rattle.choosing.specs.Choosing.{asked_as};
 ghost use Rattle.msp430_emu.specs.Drafting.{drafted};
 ghost use Rattle.msp430_emu.specs.Planning.{outcome_of, planned};
-ghost use Rattle.msp430_emu.specs.Registers.{AreRegisters};
+ghost use Rattle.msp430_chip.specs.Registers.{AreRegisters};
 ghost use Rattle.msp430_emu.specs.Stepping.{Ends, IsStill, Steps};
 
 use crate::commit::{commit, plan_hit};

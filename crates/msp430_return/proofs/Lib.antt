@@ -1,4 +1,3 @@
-pub mod Evens
 pub mod StatusWord
 pub mod ReturnLaw
 pub mod BackLaw

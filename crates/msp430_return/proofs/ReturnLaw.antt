@@ -27,7 +27,7 @@ use Rattle.msp430_alu.specs.Memory.{IsDevice, read_known}
 use Rattle.msp430_alu.specs.Registers.{even_parts}
 use Rattle.msp430_alu.specs.Laws.{MemoryLaws}
 use Rattle.msp430_return.specs.Return.{counter_place, left_of_return, return_accesses, return_items, return_worked, status_from, status_place}
-use Rattle.msp430_return.proofs.Evens.{even_parts_form, even_parts_is, sum_even, sum_has}
+use Rattle.msp430_alu.specs.NumberFacts.{add_is, even_parts_form, even_parts_is, single_is, sum_even}
 use Rattle.msp430_return.proofs.StatusWord.{status_form, status_holds, status_length}
 
 -- THE SLOTS
@@ -35,34 +35,38 @@ use Rattle.msp430_return.proofs.StatusWord.{status_form, status_holds, status_le
 abbrev above : Form → Form
 above sp = add 65536 sp (single 2)
 
-above_normal : (laws : MemoryLaws) (lo hi : ℕ) (framed : Bool) (a : Known) → IsKnown lo hi framed a → IsNormal 65536 (above a.sp)
-above_normal laws lo hi framed a form = (sum_even laws a.sp 2 (omega arith) refl form.sp).normal
+above_normal : (laws : MemoryLaws) {lo hi : ℕ} {framed : Bool} {a : Known} → IsKnown lo hi framed a → IsNormal 65536 (above a.sp)
+above_normal laws {a} form = (sum_even laws.known a.sp 2 (omega arith) refl form.sp).normal
 
-above_has : (laws : MemoryLaws) (device : Device) (framed : Bool) (a : Known) (s : ChipState) (first : Option ChipState) → IsUnder device framed a s first
-    → Has 65536 (above a.sp) ((register_of s 1 + 2) % 65536)
-above_has laws device framed a s first under = sum_has laws a.sp (register_of s 1) 2 (omega arith) under.form.sp.normal under.holds.parts.sp
+-- SP and a number
+sp_raised : (laws : MemoryLaws) {device : Device} {framed : Bool} {a : Known} {s : ChipState} {first : Option ChipState} → IsUnder device framed a s first → (n : ℕ) → n < 65536
+    → Has 65536 (add 65536 a.sp (single n)) ((register_of s 1 + n) % 65536)
+sp_raised laws {a} {s} under n small =
+    (add_is laws.known 65536 (register_of s 1) n a.sp (single n) (record { normal = under.form.sp.normal; has = under.holds.parts.sp }) (single_is laws.known 65536 n small)).has
 
-sp_is : (laws : MemoryLaws) (device : Device) (framed : Bool) (a : Known) (s : ChipState) (first : Option ChipState) → IsUnder device framed a s first
+sp_is : (laws : MemoryLaws) {device : Device} {framed : Bool} {a : Known} {s : ChipState} {first : Option ChipState} → IsUnder device framed a s first
     → Has 65536 (status_place device a.sp) (aligned device Words (register_of s 1))
-sp_is laws device framed a s first under = laws.words.located device a.sp (register_of s 1) under.device_so.ram under.form.sp.normal under.holds.parts.sp
+sp_is laws {device} {a} {s} under = laws.words.located device a.sp (register_of s 1) under.device_so.ram under.form.sp.normal under.holds.parts.sp
 
-above_is : (laws : MemoryLaws) (device : Device) (framed : Bool) (a : Known) (s : ChipState) (first : Option ChipState) → IsUnder device framed a s first
+above_is : (laws : MemoryLaws) {device : Device} {framed : Bool} {a : Known} {s : ChipState} {first : Option ChipState} → IsUnder device framed a s first
     → Has 65536 (counter_place device a.sp) (aligned device Words ((register_of s 1 + 2) % 65536))
-above_is laws device framed a s first under =
-    laws.words.located device (above a.sp) ((register_of s 1 + 2) % 65536) under.device_so.ram (above_normal laws device.ram.lo device.ram.hi framed a under.form)
-    (above_has laws device framed a s first under)
+above_is laws {device} {a} {s} under =
+    laws.words.located device (above a.sp) ((register_of s 1 + 2) % 65536) under.device_so.ram (above_normal laws under.form)
+    (sp_raised laws under 2 (omega arith))
 
-status_read : (laws : MemoryLaws) (device : Device) (framed : Bool) (a : Known) (s : ChipState) (first : Option ChipState) (outcome : Outcome ChipState) → IsUnder device framed a s first → (may : MayReturn device s outcome)
+status_read : (laws : MemoryLaws) {device : Device} {framed : Bool} {a : Known} {s : ChipState} {first : Option ChipState} {outcome : Outcome ChipState}
+    → IsUnder device framed a s first → (may : MayReturn device s outcome)
     → HoldsOfWord (option_map suspended_of first) (read_known device a Words (status_place device a.sp)) may.status
-status_read laws device framed a s first outcome under may =
+status_read laws {device} {framed} {a} {s} {first} under may =
     laws.words.read device framed a first s.registers s.ram a.sp (register_of s 1) may.status under.device_so under.form under.form.sp.normal under.holds.parts.sp
     under.holds.parts may.reads_status
 
-pub counter_read : (laws : MemoryLaws) (device : Device) (framed : Bool) (a : Known) (s : ChipState) (first : Option ChipState) (outcome : Outcome ChipState) → IsUnder device framed a s first → (may : MayReturn device s outcome)
+pub counter_read : (laws : MemoryLaws) {device : Device} {framed : Bool} {a : Known} {s : ChipState} {first : Option ChipState} {outcome : Outcome ChipState}
+    → IsUnder device framed a s first → (may : MayReturn device s outcome)
     → HoldsOfWord (option_map suspended_of first) (read_known device a Words (counter_place device a.sp)) may.target
-counter_read laws device framed a s first outcome under may =
+counter_read laws {device} {framed} {a} {s} {first} under may =
     laws.words.read device framed a first s.registers s.ram (above a.sp) ((register_of s 1 + 2) % 65536) may.target under.device_so under.form
-    (above_normal laws device.ram.lo device.ram.hi framed a under.form) (above_has laws device framed a s first under) under.holds.parts may.reads_target
+    (above_normal laws under.form) (sp_raised laws under 2 (omega arith)) under.holds.parts may.reads_target
 
 -- THE REGISTERS BEHIND IT
 
@@ -88,7 +92,8 @@ other_left : (s : ChipState) (status target r : ℕ) → 3 < r → get_or s.regi
 other_left s status target r high =
     let counted = set s.registers 0 (even target) in
     sym (get_or-set_other (set counted 1 ((register_of s 1 + 4) % 65536)) 2 r (status % 512) 0 (λ e. omega (arith, e, high))
-    ∙ get_or-set_other counted 1 r ((register_of s 1 + 4) % 65536) 0 (λ e. omega (arith, e, high)) ∙ get_or-set_other s.registers 0 r (even target) 0 (λ e. omega (arith, e, high)))
+    ∙ get_or-set_other counted 1 r ((register_of s 1 + 4) % 65536) 0 (λ e. omega (arith, e, high)) ∙ get_or-set_other s.registers 0 r (even target) 0
+    (λ e. omega (arith, e, high)))
 
 -- THE LAW
 
@@ -101,16 +106,18 @@ return_law laws device framed a s first outcome under may =
     let long = under.holds.state.registers in
     let status_word = read_known device a Words (status_place device a.sp) in
     let counter_word = read_known device a Words (counter_place device a.sp) in
-    let status_so = status_holds laws framed first status_word may.status (laws.words.read_form device framed a (status_place device a.sp) under.device_so under.form) (status_read laws device framed a s first outcome under may) in
+    let status_so = status_holds laws framed first status_word may.status (laws.words.read_form device framed a (status_place device a.sp) under.device_so under.form)
+    (status_read laws under may) in
     let counter_so : IsResult 65536 counter_word.set may.target = record {
       normal = (laws.words.read_form device framed a (counter_place device a.sp) under.device_so under.form).normal;
-      has = (counter_read laws device framed a s first outcome under may).0;
+      has = (counter_read laws under may).0;
     } in
     let parts = under.holds.parts in
     record {
-      next_is = subst (IsResult 65536 (even_parts counter_word.set)) (sym (counter_left s may.status may.target long)) (even_parts_is laws counter_word.set may.target counter_so);
+      next_is = subst (IsResult 65536 (even_parts counter_word.set)) (sym (counter_left s may.status may.target long))
+          (even_parts_is laws.known counter_word.set may.target counter_so);
       parts = record {
-        sp = subst (Has 65536 (add 65536 a.sp (single 4))) (sym (stack_left s may.status may.target long)) (sum_has laws a.sp (register_of s 1) 4 (omega arith) under.form.sp.normal parts.sp);
+        sp = subst (Has 65536 (add 65536 a.sp (single 4))) (sym (stack_left s may.status may.target long)) (sp_raised laws under 4 (omega arith));
         status = subst (HoldsOfStatus suspended (status_from status_word)) (sym (status_left s may.status may.target long)) status_so;
         words = λ register low high. subst (HoldsOfWord suspended (word_of a register)) (other_left s may.status may.target register low) (parts.words register low high);
         fact = tt;
@@ -125,10 +132,11 @@ pub return_shown : (laws : MemoryLaws) (device : Device) (framed : Bool) (a : Kn
 unfolding return_worked
 return_shown laws device framed a s first under single_so (zero, lt, is) =
     let pc = register_of s 0 in
-    subst (AreShowing (return_items device pc a.sp)) is (Access pc Mem false 2 (W (status_place device a.sp)), (0, omega arith, refl), (refl, refl, refl, refl, sp_is laws device framed a s first under))
+    subst (AreShowing (return_items device pc a.sp)) is (Access pc Mem false 2 (W (status_place device a.sp)), (0, omega arith, refl), (refl, refl, refl, refl, sp_is laws under))
 return_shown laws device framed a s first under single_so (suc zero, lt, is) =
     let pc = register_of s 0 in
-    subst (AreShowing (return_items device pc a.sp)) is (Access pc Mem false 2 (W (counter_place device a.sp)), (1, omega arith, refl), (refl, refl, refl, refl, above_is laws device framed a s first under))
+    subst (AreShowing (return_items device pc a.sp)) is
+    (Access pc Mem false 2 (W (counter_place device a.sp)), (1, omega arith, refl), (refl, refl, refl, refl, above_is laws under))
 return_shown laws device framed a s first under single_so (suc (suc k), lt, is) = absurd (omega (arith, lt))
 
 pub return_form : (laws : MemoryLaws) (device : Device) (framed : Bool) (a : Known) (pc : ℕ) → IsDevice device → IsKnown device.ram.lo device.ram.hi framed a
@@ -136,27 +144,18 @@ pub return_form : (laws : MemoryLaws) (device : Device) (framed : Bool) (a : Kno
 unfolding return_worked
 return_form laws device framed a pc is form =
     let word = read_known device a Words (status_place device a.sp) in
-    record {
-      sp = sum_even laws a.sp 4 (omega arith) refl form.sp;
-      bits = status_length word;
-      status = status_form framed word.entry (laws.words.read_form device framed a (status_place device a.sp) is form).entry;
-      count = form.count;
-      registers = form.registers;
-      fact = tt;
-      from = form.from;
-      up_to = form.up_to;
-      cells = form.cells;
-      each_cell = form.each_cell;
-      touched = form.touched;
-      none_touched = form.none_touched;
-    }
+    let sp = sum_even laws.known a.sp 4 (omega arith) refl form.sp in
+    let status = status_form framed word.entry (laws.words.read_form device framed a (status_place device a.sp) is form).entry in
+    assumption (sp, status_length word, status, form)
 
-pub return_next : (laws : MemoryLaws) (device : Device) (framed : Bool) (a : Known) (pc : ℕ) → IsDevice device → IsKnown device.ram.lo device.ram.hi framed a → IsNormal 65536 (return_worked device a pc).next
+pub return_next : (laws : MemoryLaws) (device : Device) (framed : Bool) (a : Known) (pc : ℕ) → IsDevice device → IsKnown device.ram.lo device.ram.hi framed a
+    → IsNormal 65536 (return_worked device a pc).next
 unfolding return_worked
 return_next laws device framed a pc is form =
-    (even_parts_form laws (read_known device a Words (counter_place device a.sp)).set (laws.words.read_form device framed a (counter_place device a.sp) is form).normal).normal
+    (even_parts_form laws.known (read_known device a Words (counter_place device a.sp)).set (laws.words.read_form device framed a (counter_place device a.sp) is form).normal).normal
 
-pub return_even : (laws : MemoryLaws) (device : Device) (framed : Bool) (a : Known) (pc : ℕ) → IsDevice device → IsKnown device.ram.lo device.ram.hi framed a → HasRemainder 65536 2 0 (return_worked device a pc).next
+pub return_even : (laws : MemoryLaws) (device : Device) (framed : Bool) (a : Known) (pc : ℕ) → IsDevice device → IsKnown device.ram.lo device.ram.hi framed a
+    → HasRemainder 65536 2 0 (return_worked device a pc).next
 unfolding return_worked
 return_even laws device framed a pc is form =
-    (even_parts_form laws (read_known device a Words (counter_place device a.sp)).set (laws.words.read_form device framed a (counter_place device a.sp) is form).normal).even
+    (even_parts_form laws.known (read_known device a Words (counter_place device a.sp)).set (laws.words.read_form device framed a (counter_place device a.sp) is form).normal).even

@@ -1,9 +1,8 @@
 -- SR from a word.
-use Rattle.std.proofs.Common.{◌≡◌, ℕ, zero, suc, ◌+◌, ◌*◌, ◌/◌, ◌%◌, ◌^◌, ◌<◌, ◌≤◌, ◌==◌, Bool, true, false, Option, None, Some, List, [], ◌∷◌, length, take, refl, sym, ap, ◌∙◌, subst, arith}
+use Rattle.std.proofs.Common.{◌≡◌, ℕ, ◌/◌, ◌%◌, ◌<◌, ◌≤◌, ◌==◌, Bool, true, false, Option, None, Some, length, refl, sym, ap, ◌∙◌, subst, arith}
 use Rattle.std.specs.Prelude.{bit_and, bit_or}
 use Rattle.std.specs.Option.{option_map}
 use Rattle.std.specs.Int.Bits.{or_zero_r}
-use Rattle.std.proofs.Math.Nat.{pow-suc}
 use Rattle.std.proofs.lemmas.Bool.{cond_both, eqb-true}
 use Rattle.std.proofs.lemmas.List.{length-take-le}
 use Rattle.std.proofs.lemmas.List.FromFn.{length-map-range_with_len}
@@ -12,8 +11,8 @@ use Rattle.std.proofs.lemmas.Nat.Bits.{and_high_mask}
 use Rattle.entry_value.specs.declared.word.Entry.{Entry}
 use Rattle.entry_value.specs.declared.word.Word.{Word}
 use Rattle.entry_value.specs.Words.{Reads, HoldsOfWord, IsFromEntry}
-use Rattle.value_bits.specs.declared.tri.Tri.{Tri}
-use Rattle.value_bits.specs.Bits.{IsBit, Agrees, known_bit, known_bits}
+use Rattle.value_bits.specs.BitFacts.{bits_take}
+use Rattle.value_bits.specs.Bits.{known_bit, known_bits}
 use Rattle.msp430_chip.specs.declared.state.ChipState.{ChipState}
 use Rattle.msp430_state.specs.Forms.{IsRelation, IsStatusRelation, IsWord}
 use Rattle.msp430_state.specs.Holding.{suspended_of, HoldsOfStatus}
@@ -21,16 +20,6 @@ use Rattle.msp430_alu.specs.Laws.{MemoryLaws}
 use Rattle.msp430_return.specs.Return.{status_from, status_relation}
 
 -- BITS
-
--- the lowest bits of a number
-take_agrees : (n : ℕ) (bits : List Tri) (v low top : ℕ) → v ≡ low + 2 ^ n * top → low < 2 ^ n → Agrees bits v → Agrees (take n bits) low
-take_agrees zero bits v low top is small h = omega (arith, small)
-take_agrees (suc n) [] v low top is small h = omega (arith, is, h)
-take_agrees (suc n) (b ∷ bs) v low top is small h =
-    let power : 2 ^ suc n ≡ 2 ^ n * 2 = pow-suc 2 n in
-    let double : 2 ^ suc n * top ≡ 2 ^ n * top * 2 = omega (arith, ap (λ m. m * top) power) in
-    let first : v % 2 ≡ low % 2 = omega (arith, is, double) in
-    (subst (IsBit b) first h.0, take_agrees n bs (v / 2) (low / 2) top (omega (arith, is, double)) (omega (arith, small, power)) h.1)
 
 pub status_length : (word : Word) → length (status_from word).bits ≡ 9
 status_length word = length-take-le 9 (known_bits 16 word.set) (omega (arith, length-map-range_with_len (λ place. known_bit 16 place word.set) 0 16))
@@ -61,12 +50,14 @@ low_reads f word (small, agrees) =
 related : (f : ChipState) (entry : Option Entry) (v : ℕ) → IsFromEntry (Some (suspended_of f)) entry v → IsFromEntry (Some (suspended_of f)) (status_relation entry) (v % 512)
 related f None v holds = tt
 related f (Some entry) v (word, reads, is) =
-    cond_both (entry.place == 2) (Some (record { place = 2; and = bit_or entry.and 65024; or = bit_and entry.or 511 })) None (λ left. IsFromEntry (Some (suspended_of f)) left (v % 512))
+    cond_both (entry.place == 2) (Some (record { place = 2; and = bit_or entry.and 65024; or = bit_and entry.or 511 })) None
+    (λ left. IsFromEntry (Some (suspended_of f)) left (v % 512))
     (λ e. let at : entry.place ≡ 2 = eqb-true entry.place 2 e in
     (word % 512, low_reads f word (subst (λ place. Reads (suspended_of f) place word) at reads), ap (λ n. n % 512) is ∙ masked_low word entry.and entry.or))
     (λ e. tt)
 
-pub status_related : (first : Option ChipState) (entry : Option Entry) (v : ℕ) → IsFromEntry (option_map suspended_of first) entry v → IsFromEntry (option_map suspended_of first) (status_relation entry) (v % 512)
+pub status_related : (first : Option ChipState) (entry : Option Entry) (v : ℕ) → IsFromEntry (option_map suspended_of first) entry v
+    → IsFromEntry (option_map suspended_of first) (status_relation entry) (v % 512)
 status_related (Some f) entry v holds = related f entry v holds
 status_related None None v holds = tt
 status_related None (Some entry) v holds = absurd holds
@@ -74,7 +65,7 @@ status_related None (Some entry) v holds = absurd holds
 pub status_holds : (laws : MemoryLaws) (framed : Bool) (first : Option ChipState) (word : Word) (v : ℕ) → IsWord framed word → HoldsOfWord (option_map suspended_of first) word v
     → HoldsOfStatus (option_map suspended_of first) (status_from word) (v % 512)
 status_holds laws framed first word v form holds = record {
-  bits = take_agrees 9 (known_bits 16 word.set) v (v % 512) (v / 512) (omega arith) (omega arith) (laws.known.bits.known 16 v word.set form.normal holds.0);
+  bits = bits_take 9 (known_bits 16 word.set) v (v % 512) (v / 512) (omega arith) (omega arith) (laws.known.bits.known 16 v word.set form.normal holds.0);
   entry = status_related first word.entry v holds.1;
 }
 

@@ -55,15 +55,7 @@ return_items device pc sp =
 -- behind it SP is SP + 4
 unfoldable pub return_worked : Device → Known → (pc : ℕ) → Worked
 return_worked device a pc = record {
-  after = record {
-    sp = add 65536 a.sp (single 4);
-    status = status_from (read_known device a Words (status_place device a.sp));
-    late = a.late;
-    registers = a.registers;
-    fact = None;
-    cells = a.cells;
-    touched = a.touched;
-  };
+  after = record a { sp = add 65536 a.sp (single 4); status = status_from (read_known device a Words (status_place device a.sp)); fact = None };
   next = even_parts (read_known device a Words (counter_place device a.sp)).set;
   accesses = return_items device pc a.sp;
   store = None;

@@ -63,18 +63,13 @@ reads_none kinds (source.Register register) target = elim (kinds register) [
   | Empty e ↦ ap (λ r. reads_counter (source.Register r) (destination.Register target)) e
   | General is ↦ is.no_counter (destination.Register target)
 ]
-reads_none kinds (source.Indexed register offset) target = refl
-reads_none kinds (source.Indirect register) target = refl
-reads_none kinds (source.IndirectIncrement register) target = refl
-reads_none kinds (source.Immediate value) target = refl
-reads_none kinds (source.Symbolic offset) target = refl
-reads_none kinds (source.Absolute address) target = refl
-reads_none kinds (source.Constant constant) target = refl
+reads_none kinds other target = refl
 
 pub counter_one : (laws : StatusLaws) (pc len : ℕ) (origin : Source) (target : Register) → counter_set pc len origin (destination.Register target) ≡ single ((pc + len) % 65536)
 counter_one laws pc len origin target = cond-false (reads_counter origin (destination.Register target)) _ (single ((pc + len) % 65536)) (reads_none laws.kinds origin target)
 
-counts_behind : (laws : StatusLaws) (s : ChipState) (len : ℕ) (origin : Source) (target : Register) (counted : ℕ) → MayCount s len origin (destination.Register target) counted → counted ≡ behind s len
+counts_behind : (laws : StatusLaws) (s : ChipState) (len : ℕ) (origin : Source) (target : Register) (counted : ℕ) → MayCount s len origin (destination.Register target) counted
+    → counted ≡ behind s len
 counts_behind laws s len origin target counted (Behind none is) = is
 counts_behind laws s len origin target counted (Within some option few is) = absurd (false≢true (sym (reads_none laws.kinds origin target) ∙ some))
 
@@ -116,14 +111,16 @@ pub record Moved (device : Device) (s : ChipState) (len counted : ℕ) (width : 
   pub may : MayDouble device s len Mov width origin (destination.Register target) outcome
   pub left_is : may.left ≡ moved_left device s len counted width origin target v
 
-moved : (laws : StatusLaws) (device : Device) (s : ChipState) (len : ℕ) (done : Operation) (width : Width) (origin : Source) (outcome : Outcome ChipState) (may : MayDouble device s len done width origin (destination.Register Sr) outcome)
+moved : (laws : StatusLaws) {device : Device} {s : ChipState} {len : ℕ} {done : Operation} {width : Width} {origin : Source} {outcome : Outcome ChipState}
+    (may : MayDouble device s len done width origin (destination.Register Sr) outcome)
     (target : Register) → Moved device s len may.counted width origin target (source_number s may.counted width origin may.bits may.x)
-moved laws device s len done width origin outcome may target =
+moved laws {device} {s} {len} {width} {origin} {outcome} may target =
     let free = free_bits width (origin_of s may.counted origin) may.bits may.x may.free.below in
     let v = source_number s may.counted width origin free.chosen may.x in
     let left = moved_left device s len may.counted width origin target v in
     record {
-      outcome = ended s (Double Mov width origin (destination.Register target)) (double_accesses device (register_of s 0) Mov width (origin_of s may.counted origin) (place.InRegister target)) left;
+      outcome = ended s (Double Mov width origin (destination.Register target))
+          (double_accesses device (register_of s 0) Mov width (origin_of s may.counted origin) (place.InRegister target)) left;
       may = record {
         counted = may.counted;
         x = may.x;
@@ -141,22 +138,26 @@ moved laws device s len done width origin outcome may target =
     }
 
 -- MOV to R3 leaves what is grown
-pub grown_form : (laws : StatusLaws) (device : Device) (framed : Bool) (a : Known) (pc len : ℕ) (width : Width) (origin : Source) → IsDevice device → IsKnown device.ram.lo device.ram.hi framed a → IsSource origin
+pub grown_form : (laws : StatusLaws) {device : Device} {framed : Bool} {a : Known} (pc len : ℕ) (width : Width) (origin : Source) → IsDevice device
+    → IsKnown device.ram.lo device.ram.hi framed a → IsSource origin
     → IsKnown device.ram.lo device.ram.hi framed (grown_known a (single ((pc + len) % 65536)) width origin)
 unfolding double_worked
-grown_form laws device framed a pc len width origin is form from_so =
+grown_form laws {device} {framed} {a} pc len width origin is form from_so =
     subst (λ counted. IsKnown device.ram.lo device.ram.hi framed (grown_known a counted width origin)) (counter_one laws pc len origin R3)
     (laws.doubles.form device framed a pc len Mov width origin (destination.Register R3) is form from_so tt)
 
-pub grown_parts : (laws : StatusLaws) (device : Device) (framed : Bool) (a : Known) (s : ChipState) (first : Option ChipState) (len : ℕ) (done : Operation) (width : Width) (origin : Source) (outcome : Outcome ChipState)
-    → IsUnder device framed a s first → IsSource origin → (may : MayDouble device s len done width origin (destination.Register Sr) outcome) → let registers = registers_behind s len may.counted width origin in
+pub grown_parts : (laws : StatusLaws) {device : Device} {framed : Bool} {a : Known} {s : ChipState} {first : Option ChipState} {len : ℕ} {done : Operation} {width : Width}
+    {origin : Source} {outcome : Outcome ChipState}
+    → IsUnder device framed a s first → IsSource origin → (may : MayDouble device s len done width origin (destination.Register Sr) outcome)
+    → let registers = registers_behind s len may.counted width origin in
     HoldsOfParts device (grown_known a (single ((register_of s 0 + len) % 65536)) width origin) first (set registers 2 (get_or registers 2 0)) s.ram
 unfolding double_worked
-grown_parts laws device framed a s first len done width origin outcome under from_so may =
-    let by = moved laws device s len done width origin outcome may R3 in
+grown_parts laws {device} {framed} {a} {s} {first} {len} {width} {origin} under from_so may =
+    let by = moved laws may R3 in
     let v = source_number s may.counted width origin may.bits may.x in
     let is = laws.doubles.left device framed a s first len Mov width origin (destination.Register R3) by.outcome under from_so tt tt by.may in
-    subst (λ counted. HoldsOfParts device (grown_known a counted width origin) first (moved_left device s len may.counted width origin R3 v).registers s.ram) (counter_one laws (register_of s 0) len origin R3)
+    subst (λ counted. HoldsOfParts device (grown_known a counted width origin) first (moved_left device s len may.counted width origin R3 v).registers s.ram)
+    (counter_one laws (register_of s 0) len origin R3)
     (subst (λ (left : Left). HoldsOfParts device (grown_known a (counter_set (register_of s 0) len origin (destination.Register R3)) width origin) first left.registers left.ram) by.left_is is.parts)
 
 -- MOV to R4 shows the source
@@ -165,22 +166,25 @@ written_set Words word entry = refl
 written_set Byte word entry = refl
 
 -- the word that MOV to R4 leaves there
-moved_word : (laws : StatusLaws) (device : Device) (framed : Bool) (a : Known) (pc len : ℕ) (width : Width) (origin : Source) → IsDevice device → IsKnown device.ram.lo device.ram.hi framed a → IsSource origin
+moved_word : (laws : StatusLaws) {device : Device} {framed : Bool} {a : Known} (pc len : ℕ) (width : Width) (origin : Source) → IsDevice device
+    → IsKnown device.ram.lo device.ram.hi framed a → IsSource origin
     → let counted = counter_set pc len origin (destination.Register R4) in let word = operand_word device a counted width (source_reach pc a counted origin) in
     word_of (double_worked device framed a pc len Mov width origin (destination.Register R4)).after 4 ≡ written_word width (values_of width word) word.entry
 unfolding double_worked
-moved_word laws device framed a pc len width origin is form from_so =
+moved_word laws {device} {framed} {a} pc len width origin is form from_so =
     let counted = counter_set pc len origin (destination.Register R4) in
     let word = operand_word device a counted width (source_reach pc a counted origin) in
     let grown_so = grown_known a counted width origin in
     let grown_is : IsKnown device.ram.lo device.ram.hi framed grown_so =
-    subst (λ counted. IsKnown device.ram.lo device.ram.hi framed (grown_known a counted width origin)) (sym (counter_one laws pc len origin R4)) (grown_form laws device framed a pc len width origin is form from_so) in
+    subst (λ counted. IsKnown device.ram.lo device.ram.hi framed (grown_known a counted width origin)) (sym (counter_one laws pc len origin R4))
+    (grown_form laws pc len width origin is form from_so) in
     let some : 0 < length grown_so.registers = omega (arith, grown_is.count) in
     get_or-set_same grown_so.registers 0 (written_word width (values_of width word) word.entry) (unknown 2) some
 
-moved_normal : (laws : StatusLaws) (device : Device) (framed : Bool) (a : Known) (pc len : ℕ) (width : Width) (origin : Source) → IsDevice device → IsKnown device.ram.lo device.ram.hi framed a → IsSource origin
+moved_normal : (laws : StatusLaws) {device : Device} {framed : Bool} {a : Known} (pc len : ℕ) (width : Width) (origin : Source) → IsDevice device
+    → IsKnown device.ram.lo device.ram.hi framed a → IsSource origin
     → IsNormal 65536 (word_of (double_worked device framed a pc len Mov width origin (destination.Register R4)).after 4).set
-moved_normal laws device framed a pc len width origin is form from_so =
+moved_normal laws {device} {framed} {a} pc len width origin is form from_so =
     let after = (double_worked device framed a pc len Mov width origin (destination.Register R4)).after in
     let known = laws.doubles.form device framed a pc len Mov width origin (destination.Register R4) is form from_so tt in
     let word : IsWord framed (word_of after 4) = All-get_or (IsWord framed) after.registers 0 (unknown 2) (omega (arith, known.count)) known.registers in
@@ -188,24 +192,19 @@ moved_normal laws device framed a pc len width origin is form from_so =
 
 with_length : (laws : StatusLaws) (registers : List ℕ) (register : Register) (value : ℕ) → length (with_register registers register value) ≡ length registers
 with_length laws registers register value = elim (laws.kinds register) [
-  | Counter e ↦ ap (λ r. length (with_register registers r value)) e ∙ length-set registers 0 (even value)
-  | Stack e ↦ ap (λ r. length (with_register registers r value)) e ∙ length-set registers 1 (even value)
-  | Status e ↦ ap (λ r. length (with_register registers r value)) e ∙ length-set registers 2 (value % 512)
-  | Empty e ↦ ap (λ r. length (with_register registers r value)) e
-  | General is ↦ ap length (is.set registers value) ∙ length-set registers _ value
+  | Counter e ↦ rw e (length-set registers 0 (even value))
+  | Stack e ↦ rw e (length-set registers 1 (even value))
+  | Status e ↦ rw e (length-set registers 2 (value % 512))
+  | Empty e ↦ rw e refl
+  | General is ↦ rw (is.set registers value) (length-set registers _ value)
 ]
 
 grown_length : (laws : StatusLaws) (registers : List ℕ) (width : Width) (origin : Source) → length (grown registers width origin) ≡ length registers
 grown_length laws registers width (source.IndirectIncrement register) = with_length laws registers register ((value_in registers register + growth width register) % 65536)
-grown_length laws registers width (source.Register register) = refl
-grown_length laws registers width (source.Indexed register offset) = refl
-grown_length laws registers width (source.Indirect register) = refl
-grown_length laws registers width (source.Immediate value) = refl
-grown_length laws registers width (source.Symbolic offset) = refl
-grown_length laws registers width (source.Absolute address) = refl
-grown_length laws registers width (source.Constant constant) = refl
+grown_length laws registers width other = refl
 
-pub behind_length : (laws : StatusLaws) (s : ChipState) (len counted : ℕ) (width : Width) (origin : Source) → length (registers_behind s len counted width origin) ≡ length s.registers
+pub behind_length : (laws : StatusLaws) (s : ChipState) (len counted : ℕ) (width : Width) (origin : Source)
+    → length (registers_behind s len counted width origin) ≡ length s.registers
 behind_length laws s len counted width origin =
     length-set (behind_source s counted width origin) 0 (behind s len) ∙ (grown_length laws (at_source s counted) width origin ∙ length-set s.registers 0 counted)
 
@@ -219,29 +218,33 @@ moved_number laws device s len counted width origin v sixteen =
 
 -- the source's number has the bits that are known of it
 pub record IsKnownSource (device : Device) (a : Known) (pc len : ℕ) (width : Width) (origin : Source) (v : ℕ) : Type 0 where
-  pub agrees : let counted = single ((pc + len) % 65536) in AgreesBelow (places width) (lowest_bits width (operand_word device a counted width (source_reach pc a counted origin))) v
+  pub agrees : let counted = single ((pc + len) % 65536) in AgreesBelow (places width)
+      (lowest_bits width (operand_word device a counted width (source_reach pc a counted origin))) v
   pub below : v < 65536
 
-pub source_known : (laws : StatusLaws) (device : Device) (framed : Bool) (a : Known) (s : ChipState) (first : Option ChipState) (len : ℕ) (done : Operation) (width : Width) (origin : Source) (outcome : Outcome ChipState)
+pub source_known : (laws : StatusLaws) {device : Device} {framed : Bool} {a : Known} {s : ChipState} {first : Option ChipState} {len : ℕ} {done : Operation} {width : Width}
+    {origin : Source} {outcome : Outcome ChipState}
     → IsUnder device framed a s first → IsSource origin → (may : MayDouble device s len done width origin (destination.Register Sr) outcome)
     → IsKnownSource device a (register_of s 0) len width origin (source_number s may.counted width origin may.bits may.x)
-source_known laws device framed a s first len done width origin outcome under from_so may =
+source_known laws {device} {framed} {a} {s} {first} {len} {width} {origin} under from_so may =
     let pc = register_of s 0 in
-    let by = moved laws device s len done width origin outcome may R4 in
+    let by = moved laws may R4 in
     let v = source_number s may.counted width origin may.bits may.x in
     let is = laws.doubles.left device framed a s first len Mov width origin (destination.Register R4) by.outcome under from_so tt tt by.may in
     let after = (double_worked device framed a pc len Mov width origin (destination.Register R4)).after in
     let has : Has 65536 (word_of after 4).set (get_or by.may.left.registers 4 0) = (is.parts.words 4 (omega arith) (omega arith)).0 in
-    let same : get_or by.may.left.registers 4 0 ≡ v = ap (λ (left : Left). get_or left.registers 4 0) by.left_is ∙ moved_number laws device s len may.counted width origin v under.holds.state.registers in
+    let same : get_or by.may.left.registers 4 0 ≡ v = ap (λ (left : Left). get_or left.registers 4 0) by.left_is
+    ∙ moved_number laws device s len may.counted width origin v under.holds.state.registers in
     let there : Has 65536 (word_of after 4).set v = subst (Has 65536 (word_of after 4).set) same has in
-    let normal = moved_normal laws device framed a pc len width origin under.device_so under.form from_so in
+    let normal = moved_normal laws pc len width origin under.device_so under.form from_so in
     let agrees : Agrees (known_bits 16 (word_of after 4).set) v = laws.known.bits.known 16 v (word_of after 4).set normal there in
     let Bits : Form → Type 0 = λ counted. AgreesBelow (places width) (lowest_bits width (operand_word device a counted width (source_reach pc a counted origin))) v in
     let counted = counter_set pc len origin (destination.Register R4) in
     let word = operand_word device a counted width (source_reach pc a counted origin) in
     let set_is : (word_of after 4).set ≡ (written_word width (values_of width word) None).set =
-    ap (λ (w : Word). w.set) (moved_word laws device framed a pc len width origin under.device_so under.form from_so) ∙ written_set width word word.entry in
+    ap (λ (w : Word). w.set) (moved_word laws pc len width origin under.device_so under.form from_so) ∙ written_set width word word.entry in
     record {
-      agrees = subst Bits (counter_one laws pc len origin R4) (subst (λ set. AgreesBelow (places width) (take 9 (known_bits 16 set)) v) set_is (taken_agrees width (known_bits 16 (word_of after 4).set) v agrees));
+      agrees = subst Bits (counter_one laws pc len origin R4)
+          (subst (λ set. AgreesBelow (places width) (take 9 (known_bits 16 set)) v) set_is (taken_agrees width (known_bits 16 (word_of after 4).set) v agrees));
       below = laws.known.sets.below 65536 v (word_of after 4).set normal there;
     }

@@ -1,8 +1,6 @@
 -- What holds of registers and RAM behind a write to SR.
-use Rattle.std.proofs.Common.{◌≡◌, ℕ, ◌<◌, ◌≢◌, Option, None, List, length, get_or, set, sym, ap, ◌∙◌, subst, arith, get_or-set_same, get_or-set_other}
-use Rattle.std.specs.Option.{option_map}
+use Rattle.std.proofs.Common.{◌≡◌, ℕ, ◌<◌, Option, None, List, length, get_or, set, sym, ap, ◌∙◌, subst, arith, get_or-set_other}
 use Rattle.std.proofs.lemmas.List.{set-get_or}
-use Rattle.entry_value.specs.Words.{HoldsOfWord}
 use Rattle.value_set.specs.Form.{Has, IsNormal}
 use Rattle.value_set.specs.Summing.{single}
 use Rattle.value_bits.specs.declared.tri.Tri.{Tri}
@@ -12,9 +10,10 @@ use Rattle.msp430_chip.specs.declared.state.ChipState.{ChipState}
 use Rattle.msp430_chip.specs.Leading.{LeavesFree}
 use Rattle.msp430_chip.specs.Step.{Left, with_status}
 use Rattle.msp430_results.specs.FlagSets.{IsResult}
-use Rattle.msp430_state.specs.Holding.{suspended_of, HoldsOfParts}
-use Rattle.msp430_state.specs.Known.{Known, word_of}
+use Rattle.msp430_state.specs.Holding.{HoldsOfParts}
+use Rattle.msp430_state.specs.Known.{Known}
 use Rattle.msp430_alu.specs.Formats.{IsLeft}
+use Rattle.msp430_alu.specs.StateFacts.{status_written}
 use Rattle.msp430_status.specs.Status.{with_status_bits}
 
 -- registers with another SR
@@ -31,33 +30,21 @@ pub record Writes (registers ram : List ℕ) (bits : List Tri) (left : Left) : T
   pub agrees : Agrees bits status
   pub left_is : left ≡ status_left registers ram status
 
--- what holds of other registers and of RAM holds behind the write, whatever PC is
-pub written_parts : (device : Device) (a : Known) (first : Option ChipState) (before registers ram : List ℕ) (bits : List Tri) (status : ℕ) → length registers ≡ 16 → Agrees bits status
-    → ((r : ℕ) → 0 < r → get_or registers r 0 ≡ get_or before r 0) → HoldsOfParts device a first before ram → HoldsOfParts device (with_status_bits a bits) first (set registers 2 status) ram
-written_parts device a first before registers ram bits status long agrees alike holds =
-    let same : (r : ℕ) → 0 < r → r ≢ 2 → get_or before r 0 ≡ get_or (set registers 2 status) r 0 = λ r low other. sym (get_or-set_other registers 2 r status 0 other ∙ alike r low) in
-    record {
-      sp = subst (Has 65536 a.sp) (same 1 (omega arith) (λ h. omega (arith, h))) holds.sp;
-      status = record { bits = subst (Agrees bits) (sym (get_or-set_same registers 2 status 0 (omega (arith, long)))) agrees; entry = tt };
-      words = λ register low high. subst (HoldsOfWord (option_map suspended_of first) (word_of a register)) (same register (omega (arith, low)) (λ h. omega (arith, h, low))) (holds.words register low high);
-      fact = tt;
-      cells = holds.cells;
-      untouched = holds.untouched;
-    }
-
--- and PC is the next address
-pub written_is : ((m v : ℕ) → v < m → IsNormal m (single v) × Has m (single v) v) → (device : Device) (a : Known) (first : Option ChipState) (before registers ram : List ℕ) (next : ℕ) (bits : List Tri) (left : Left)
+-- what stands under what is known in front of the write stands under what is known behind it, whatever PC was
+pub written_is : ((m v : ℕ) → v < m → IsNormal m (single v) × Has m (single v) v)
+    → {device : Device} {a : Known} {first : Option ChipState} {before registers ram : List ℕ} (next : ℕ) {bits : List Tri} {left : Left}
     → length registers ≡ 16 → next < 65536 → get_or registers 0 0 ≡ next → ((r : ℕ) → 0 < r → get_or registers r 0 ≡ get_or before r 0) → HoldsOfParts device a first before ram
     → Writes registers ram bits left → IsLeft device (with_status_bits a bits) first (single next) left
-written_is singles device a first before registers ram next bits left long small counter alike holds writes =
+written_is singles {device} {a} {first} {registers} {ram} next {bits} long small counter alike holds writes =
     let one = singles 65536 next small in
     let at : next ≡ get_or (set registers 2 writes.status) 0 0 = sym (get_or-set_other registers 2 0 writes.status 0 (λ e. omega (arith, e)) ∙ counter) in
     let left_so : IsLeft device (with_status_bits a bits) first (single next) (status_left registers ram writes.status) = record {
       next_is = subst (IsResult 65536 (single next)) at (record { normal = one.0; has = one.1 });
-      parts = written_parts device a first before registers ram bits writes.status long writes.agrees alike holds;
+      parts = status_written registers bits writes.status long writes.agrees alike holds;
     } in
     subst (IsLeft device (with_status_bits a bits) first (single next)) (sym writes.left_is) left_so
 
 -- bits that may be any stand for each SR
-pub freed : (registers ram : List ℕ) (bits : List Tri) (left : Left) → ((status : ℕ) → status < 512 → Agrees bits status) → LeavesFree registers ram left → Writes registers ram bits left
-freed registers ram bits left all free = record { status = free.status; agrees = all free.status free.below; left_is = free.left_is }
+pub freed : {registers ram : List ℕ} (bits : List Tri) {left : Left} → ((status : ℕ) → status < 512 → Agrees bits status) → LeavesFree registers ram left
+    → Writes registers ram bits left
+freed bits all free = record { status = free.status; agrees = all free.status free.below; left_is = free.left_is }

@@ -1,5 +1,5 @@
 -- The law of instructions with the one operand SR.
-use Rattle.std.proofs.Common.{◌≡◌, ℕ, zero, suc, ◌+◌, ◌*◌, ◌%◌, ◌<◌, ◌++◌, Bool, true, false, Option, None, List, length, get_or, set, sym, ap, ◌∙◌, subst, arith, get_or-set_same, get_or-set_other}
+use Rattle.std.proofs.Common.{◌≡◌, ℕ, zero, suc, ◌+◌, ◌*◌, ◌%◌, ◌<◌, ◌++◌, Bool, true, false, Option, None, Some, List, length, get_or, set, sym, ap, ◌∙◌, subst, arith, get_or-set_same, get_or-set_other}
 use Rattle.std.proofs.lemmas.List.{length-set}
 use Rattle.std.proofs.lemmas.Option.{same_Some}
 use Rattle.value_set.specs.Form.{Has, IsNormal}
@@ -24,13 +24,14 @@ use Rattle.msp430_chip.specs.Outcome.{Outcome}
 use Rattle.msp430_chip.specs.State.{register_of}
 use Rattle.msp430_chip.specs.Step.{Left, behind, put, with_status}
 use Rattle.msp430_results.specs.Results.{HasWidth}
+use Rattle.msp430_state.specs.FormFacts.{no_status_relation}
 use Rattle.msp430_state.specs.Forms.{IsKnown}
+use Rattle.value_set.specs.Laws.{SetLaws}
 use Rattle.msp430_state.specs.Known.{Known}
 use Rattle.msp430_alu.specs.Formats.{AreShown, IsLeft, IsUnder}
 use Rattle.msp430_status.specs.Status.{free_bits, single_bits, single_status_worked}
 use Rattle.msp430_status.proofs.BitLemmas.{free_agree, length_free}
 use Rattle.msp430_status.proofs.Parts.{Writes, freed, status_left, unflagged, written_is}
-use Rattle.msp430_status.proofs.StatusLaw.{single_rest}
 use Rattle.msp430_status.proofs.Swapped.{length_swapped, swapped_agree}
 
 -- what a result that sets no flags leaves
@@ -39,39 +40,42 @@ written_left : (device : Device) (ram registers : List ℕ) (width : Width) (v :
 written_left device ram registers width v made_so left same is =
     is ∙ ap (λ (m : Made). with_status m.1 (put device registers ram width (place.InRegister Sr) m.0)) (sym same) ∙ unflagged registers ram (v % 512)
 
+-- a value that is left as it is
+value_written : (device : Device) (ram registers : List ℕ) (width : Width) (bits x : ℕ) (made_so : Made) (left : Left)
+    → ◌≡◌ {A = Option Made} (Some (with_free_bits width (place.InRegister Sr) bits x, None)) (Some made_so)
+    → left ≡ with_status made_so.1 (put device registers ram width (place.InRegister Sr) made_so.0) → Writes registers ram free_bits left
+value_written device ram registers width bits x made_so left may left_is =
+    let n = with_free_bits width (place.InRegister Sr) bits x in
+    record { status = n % 512; agrees = free_agree (n % 512) (omega arith); left_is = written_left device ram registers width n made_so left (same_Some (n, None) made_so may) left_is }
+
 -- the bits that are known of SR, whatever its bits 9 to 15 are
-single_written : (device : Device) (ram registers : List ℕ) (done : SingleOperation) (width : Width) (a : Known) (sr bits x carry : ℕ) (left : Left) → HasWidth done width → length a.status.bits ≡ 9
+single_written : {device : Device} {ram registers : List ℕ} (done : SingleOperation) (width : Width) (a : Known) (sr bits x : ℕ) {carry : ℕ} {left : Left} → HasWidth done width
     → Agrees a.status.bits sr → sr < 512 → bits < 128 → x ≡ sr % modulus width
-    → MayLeaveSingle device ram registers done width (place.InRegister Sr) (with_free_bits width (place.InRegister Sr) bits x) carry left → Writes registers ram (single_bits done a.status.bits) left
-single_written device ram registers operation.Swpb Words a sr bits x carry left fits nine agrees small few is (FreeStatus free leaves) = absurd (cc)
-single_written device ram registers operation.Swpb Words a sr bits x carry left fits nine agrees small few is (OfResult other made_so may left_is) =
+    → MayLeaveSingle device ram registers done width (place.InRegister Sr) (with_free_bits width (place.InRegister Sr) bits x) carry left
+    → Writes registers ram (single_bits done a.status.bits) left
+single_written operation.Swpb Words a sr bits x fits agrees small few is (FreeStatus free leaves) = absurd (cc)
+single_written {device} {ram} {registers} operation.Swpb Words a sr bits x {left} fits agrees small few is (OfResult other made_so may left_is) =
     let n = exchanged 256 (x + 512 * bits) in
     let same : x ≡ sr = omega (arith, is, small) in
     record {
       status = n % 512;
-      agrees = subst (λ y. Agrees (single_bits operation.Swpb a.status.bits) (exchanged 256 (y + 512 * bits) % 512)) (sym same) (swapped_agree a.status.bits sr bits nine agrees small few);
+      agrees = subst (λ y. Agrees (single_bits operation.Swpb a.status.bits) (exchanged 256 (y + 512 * bits) % 512)) (sym same)
+          (swapped_agree a.status.bits sr bits agrees small few);
       left_is = written_left device ram registers Words n made_so left (same_Some (n, None) made_so may) left_is;
     }
-single_written device ram registers operation.Swpb Byte a sr bits x carry left fits nine agrees small few is leaves = absurd fits
-single_written device ram registers operation.Push width a sr bits x carry left fits nine agrees small few is (FreeStatus free leaves) = absurd (cc)
-single_written device ram registers operation.Push width a sr bits x carry left fits nine agrees small few is (OfResult other made_so may left_is) =
-    let n = with_free_bits width (place.InRegister Sr) bits x in
-    record { status = n % 512; agrees = free_agree (n % 512) (omega arith); left_is = written_left device ram registers width n made_so left (same_Some (n, None) made_so may) left_is }
-single_written device ram registers operation.Call width a sr bits x carry left fits nine agrees small few is (FreeStatus free leaves) = absurd (cc)
-single_written device ram registers operation.Call width a sr bits x carry left fits nine agrees small few is (OfResult other made_so may left_is) =
-    let n = with_free_bits width (place.InRegister Sr) bits x in
-    record { status = n % 512; agrees = free_agree (n % 512) (omega arith); left_is = written_left device ram registers width n made_so left (same_Some (n, None) made_so may) left_is }
-single_written device ram registers operation.Rrc width a sr bits x carry left fits nine agrees small few is (FreeStatus free leaves) = freed registers ram free_bits left free_agree leaves
-single_written device ram registers operation.Rrc width a sr bits x carry left fits nine agrees small few is (OfResult other made_so may left_is) = absurd (cc)
-single_written device ram registers operation.Rra width a sr bits x carry left fits nine agrees small few is (FreeStatus free leaves) = freed registers ram free_bits left free_agree leaves
-single_written device ram registers operation.Rra width a sr bits x carry left fits nine agrees small few is (OfResult other made_so may left_is) = absurd (cc)
-single_written device ram registers operation.Sxt width a sr bits x carry left fits nine agrees small few is (FreeStatus free leaves) = freed registers ram free_bits left free_agree leaves
-single_written device ram registers operation.Sxt width a sr bits x carry left fits nine agrees small few is (OfResult other made_so may left_is) = absurd (cc)
+single_written operation.Swpb Byte a sr bits x fits agrees small few is leaves = absurd fits
+single_written done width a sr bits x fits agrees small few is (FreeStatus free leaves) = freed free_bits free_agree leaves
+single_written {device} {ram} {registers} operation.Push width a sr bits x {left} fits agrees small few is (OfResult other made_so may left_is) =
+    value_written device ram registers width bits x made_so left may left_is
+single_written {device} {ram} {registers} operation.Call width a sr bits x {left} fits agrees small few is (OfResult other made_so may left_is) =
+    value_written device ram registers width bits x made_so left may left_is
+single_written done width a sr bits x fits agrees small few is (OfResult other made_so may left_is) = absurd (cc)
 
 pub single_status_law : ((m v : ℕ) → v < m → IsNormal m (single v) × Has m (single v) v)
     → (device : Device) (framed : Bool) (a : Known) (s : ChipState) (first : Option ChipState) (len : ℕ) (done : SingleOperation) (width : Width) (outcome : Outcome ChipState)
     → IsUnder device framed a s first → HasWidth done width → (may : MaySingle device s len done width (source.Register Sr) outcome)
-    → IsLeft device (single_status_worked device framed a (register_of s 0) len done width).after first (single_status_worked device framed a (register_of s 0) len done width).next may.left
+    → IsLeft device (single_status_worked device framed a (register_of s 0) len done width).after first
+    (single_status_worked device framed a (register_of s 0) len done width).next may.left
 unfolding single_status_worked
 single_status_law singles device framed a s first len done width outcome under fits may =
     let next = behind s len in
@@ -80,10 +84,9 @@ single_status_law singles device framed a s first len done width outcome under f
     let counter : get_or registers 0 0 ≡ next = get_or-set_same s.registers 0 next 0 (omega (arith, under.holds.state.registers)) in
     let status : get_or (at_source s next) 2 0 ≡ register_of s 2 = get_or-set_other s.registers 0 2 next 0 (λ e. omega (arith, e)) in
     let is : may.x ≡ register_of s 2 % modulus width = may.reads ∙ ap (λ n. n % modulus width) status in
-    written_is singles device a first s.registers registers s.ram next (single_bits done a.status.bits) may.left long (omega arith) counter
+    written_is singles next long (omega arith) counter
     (λ r low. get_or-set_other s.registers 0 r next 0 (λ e. omega (arith, e, low))) under.holds.parts
-    (single_written device s.ram registers done width a (register_of s 2) may.bits may.x (register_of s 2 % 2) may.left fits under.form.bits
-    under.holds.parts.status.bits under.holds.state.status may.free.below is may.leaves)
+    (single_written done width a (register_of s 2) may.bits may.x fits under.holds.parts.status.bits under.holds.state.status may.free.below is may.leaves)
 
 pub single_status_shown : (device : Device) (framed : Bool) (a : Known) (s : ChipState) (len : ℕ) (done : SingleOperation) (width : Width)
     → AreShown (single_status_worked device framed a (register_of s 0) len done width).accesses
@@ -92,46 +95,31 @@ unfolding single_status_worked
 single_status_shown device framed a s len done width single_so (zero, lt, is) = absurd (omega (arith, lt))
 single_status_shown device framed a s len done width single_so (suc k, lt, is) = absurd (omega (arith, lt))
 
-leaves_no_hit : (device : Device) (ram registers : List ℕ) (done : SingleOperation) (width : Width) (x carry : ℕ) (left : Left) → MayLeaveSingle device ram registers done width (place.InRegister Sr) x carry left → left.hit ≡ None
-leaves_no_hit device ram registers done width x carry left (FreeStatus free leaves) = ap (λ (l : Left). l.hit) leaves.left_is
-leaves_no_hit device ram registers done width x carry left (OfResult other made_so may is) = ap (λ (l : Left). l.hit) is
+leaves_no_hit : {device : Device} {ram registers : List ℕ} {done : SingleOperation} {width : Width} {x carry : ℕ} {left : Left}
+    → MayLeaveSingle device ram registers done width (place.InRegister Sr) x carry left → left.hit ≡ None
+leaves_no_hit {device} (FreeStatus free leaves) = ap (λ (l : Left). l.hit) leaves.left_is
+leaves_no_hit {device} (OfResult other made_so may is) = ap (λ (l : Left). l.hit) is
 
 pub single_status_hit : (device : Device) (s : ChipState) (len : ℕ) (done : SingleOperation) (width : Width) (outcome : Outcome ChipState)
     → (may : MaySingle device s len done width (source.Register Sr) outcome) → may.left.hit ≡ None
-single_status_hit device s len done width outcome may = leaves_no_hit device s.ram (set s.registers 0 (behind s len)) done width _ _ may.left may.leaves
+single_status_hit device s len done width outcome may = leaves_no_hit may.leaves
 
 length_single : (done : SingleOperation) (a : Known) → length (single_bits done a.status.bits) ≡ 9
 length_single operation.Swpb a = length_swapped a.status.bits
-length_single operation.Rrc a = length_free
-length_single operation.Rra a = length_free
-length_single operation.Sxt a = length_free
-length_single operation.Push a = length_free
-length_single operation.Call a = length_free
+length_single other a = length_free
 
 pub single_status_form : (device : Device) (framed : Bool) (a : Known) (pc len : ℕ) (done : SingleOperation) (width : Width) → IsKnown device.ram.lo device.ram.hi framed a
     → IsKnown device.ram.lo device.ram.hi framed (single_status_worked device framed a pc len done width).after
 unfolding single_status_worked
-single_status_form device framed a pc len done width form = record {
-  sp = form.sp;
-  bits = length_single done a;
-  status = tt;
-  count = form.count;
-  registers = form.registers;
-  fact = tt;
-  from = form.from;
-  up_to = form.up_to;
-  cells = form.cells;
-  each_cell = form.each_cell;
-  touched = form.touched;
-  none_touched = form.none_touched;
-}
+single_status_form device framed a pc len done width form = assumption (length_single done a, no_status_relation framed, form)
 
-pub single_status_next : ((m v : ℕ) → v < m → IsNormal m (single v) × Has m (single v) v) → (device : Device) (framed : Bool) (a : Known) (pc len : ℕ) (done : SingleOperation) (width : Width)
+pub single_status_next : ((m v : ℕ) → v < m → IsNormal m (single v) × Has m (single v) v)
+    → (device : Device) (framed : Bool) (a : Known) (pc len : ℕ) (done : SingleOperation) (width : Width)
     → IsNormal 65536 (single_status_worked device framed a pc len done width).next
 unfolding single_status_worked
 single_status_next singles device framed a pc len done width = (singles 65536 ((pc + len) % 65536) (omega arith)).0
 
-pub single_status_even : (device : Device) (framed : Bool) (a : Known) (pc len : ℕ) (done : SingleOperation) (width : Width)
+pub single_status_even : (laws : SetLaws) (device : Device) (framed : Bool) (a : Known) (pc len : ℕ) (done : SingleOperation) (width : Width)
     → (pc + len) % 65536 % 2 ≡ 0 → HasRemainder 65536 2 0 (single_status_worked device framed a pc len done width).next
 unfolding single_status_worked
-single_status_even device framed a pc len done width rest = single_rest ((pc + len) % 65536) rest
+single_status_even laws device framed a pc len done width = laws.single_rest 65536 2 0 ((pc + len) % 65536)

@@ -1,12 +1,10 @@
 -- The law of instructions with two operands and the destination SR.
-use Rattle.std.proofs.Common.{◌≡◌, ℕ, suc, zero, ◌+◌, ◌-◌, ◌*◌, ◌%◌, ◌<◌, ◌++◌, ◌&&◌, Bool, true, false, Option, None, Some, List, [], length, get_or, refl, sym, ap, ◌∙◌, subst, inl, inr, arith, get_or-set_same, get_or-set_other}
-use Rattle.std.specs.Prelude.{bit_and, bit_or, All}
-use Rattle.std.proofs.lemmas.Bool.{cases_Bool, cases_lt, cond_both, cond-false, cond-true, false≢true}
-use Rattle.std.proofs.lemmas.List.{get_or_past, length-set, length-take-le, append-nil, set-get_or}
-use Rattle.std.proofs.lemmas.List.Elements.{All-get_or}
+use Rattle.std.proofs.Common.{◌≡◌, ℕ, ◌+◌, ◌-◌, ◌*◌, ◌%◌, ◌<◌, ◌++◌, ◌&&◌, Bool, true, false, Option, None, List, [], length, get_or, refl, sym, ap, ◌∙◌, subst, inl, inr, arith, get_or-set_same, get_or-set_other}
+use Rattle.std.specs.Prelude.{bit_and, bit_or}
+use Rattle.std.proofs.lemmas.Bool.{and_parts, cases_Bool, cond_both, cond-false, cond-true, false≢true}
+use Rattle.std.proofs.lemmas.List.{length-set, length-take-le, append-nil, set-get_or}
 use Rattle.std.proofs.lemmas.List.FromFn.{length-map-range_with_len}
 use Rattle.std.proofs.lemmas.Option.{same_Some}
-use Rattle.image.specs.Image.{byte_at, IsByte}
 use Rattle.entry_value.specs.declared.word.Word.{Word}
 use Rattle.value_set.specs.Form.{IsNormal}
 use Rattle.value_set.specs.Remainders.{HasRemainder}
@@ -25,20 +23,19 @@ use Rattle.msp430_decode.specs.declared.instr.Width.TheVariants.{Word as Words, 
 use Rattle.msp430_decode.specs.Codes.{number}
 use Rattle.msp430_decode.specs.Operands.{IsPointer, IsSource}
 use Rattle.msp430_chip.specs.declared.device.Device.{Device}
-use Rattle.msp430_chip.specs.declared.place.Place.{Place}
 use Rattle.msp430_chip.specs.declared.place.Place.TheVariants as place
 use Rattle.msp430_chip.specs.declared.state.ChipState.{ChipState}
 use Rattle.msp430_chip.specs.Arithmetic.{Made, complement, modulus, reads_destination, sets_flags, writes_result}
 use Rattle.msp430_chip.specs.Kinds.Kind.{Counter, Stack, Status, Empty, General}
-use Rattle.msp430_chip.specs.Leading.{LeavesFree, MayDouble, MayLeaveDouble, MayReadByte, MayStandAt, MayStandIf, at_source, behind_source, origin_of, place_of}
+use Rattle.msp430_chip.specs.Leading.{LeavesFree, MayDouble, MayLeaveDouble, MayStandAt, MayStandIf, at_source, behind_source, origin_of, place_of}
 use Rattle.msp430_chip.specs.Leading.MayLeaveDouble.{FreeStatus, OfResult}
-use Rattle.msp430_chip.specs.Leading.MayReadByte.{OfRam, OfProgram, OfNeither}
-use Rattle.msp430_chip.specs.Memory.{aligned}
+use Rattle.msp430_chip.specs.LeadingFacts.{bytes_are, stands_below}
 use Rattle.msp430_chip.specs.Operands.{grown, growth, value_in, with_free_bits, with_register}
 use Rattle.msp430_chip.specs.Outcome.{Outcome}
 use Rattle.msp430_chip.specs.State.{even, register_of}
 use Rattle.msp430_chip.specs.Step.{Left, double_accesses, put_if, with_status}
 use Rattle.msp430_results.specs.Words.{values_of, written_word}
+use Rattle.msp430_state.specs.FormFacts.{no_status_relation}
 use Rattle.msp430_state.specs.Forms.{IsKnown}
 use Rattle.msp430_state.specs.Holding.{HoldsOfParts}
 use Rattle.msp430_state.specs.Known.{Known}
@@ -51,40 +48,19 @@ use Rattle.msp430_status.proofs.BitLemmas.{AgreesBelow, free_agree, held_agrees,
 use Rattle.msp430_status.proofs.Moves.{StatusLaws, registers_behind, source_number, behind_length, counter_one, grown_form, grown_parts, source_known}
 use Rattle.msp430_status.proofs.Parts.{Writes, freed, status_left, unflagged, written_is}
 
--- BYTES
-
-ram_small : (ram : List ℕ) (at : ℕ) → All (λ b. b < 256) ram → get_or ram at 0 < 256
-ram_small ram at bytes = elim (cases_lt at (length ram)) [
-  | inl inside ↦ All-get_or (λ b. b < 256) ram at 0 inside bytes
-  | inr past ↦ subst (λ b. b < 256) (sym (get_or_past ram at 0 past)) (omega arith)
-]
-
-image_small : (device : Device) → IsDevice device → (at byte : ℕ) → byte_at device.image at ≡ Some byte → byte < 256
-image_small device is at byte e = elim (cases_lt at (length device.image)) [
-  | inl inside ↦ subst IsByte e (All-get_or IsByte device.image at None inside is.bytes)
-  | inr past ↦ let none : byte_at device.image at ≡ None = get_or_past device.image at None past in absurd (cc)
-]
-
-read_small : (device : Device) (ram : List ℕ) → IsDevice device → All (λ b. b < 256) ram → (at byte : ℕ) → MayReadByte device ram at byte → byte < 256
-read_small device ram is bytes at byte (OfRam inside e) = subst (λ b. b < 256) (sym e) (ram_small ram (at - device.ram.lo) bytes)
-read_small device ram is bytes at byte (OfProgram outside e) = image_small device is at byte e
-read_small device ram is bytes at byte (OfNeither outside e few) = few
-
-byte_small : (device : Device) (ram registers : List ℕ) → IsDevice device → All (λ b. b < 256) ram → (stands : Place) (x : ℕ) → MayStandAt device ram registers Byte stands x → x < 256
-byte_small device ram registers is bytes (place.InRegister register) x e = omega (arith, e)
-byte_small device ram registers is bytes (place.InMemory address) x reads = read_small device ram is bytes (aligned device Byte address) x reads
-byte_small device ram registers is bytes (place.Fixed value) x e = omega (arith, e)
-
-source_small : (laws : StatusLaws) (device : Device) (framed : Bool) (a : Known) (s : ChipState) (first : Option ChipState) (len : ℕ) (done : Operation) (width : Width) (origin : Source) (outcome : Outcome ChipState)
+source_small : (laws : StatusLaws) {device : Device} {framed : Bool} {a : Known} {s : ChipState} {first : Option ChipState} {len : ℕ} {done : Operation} (width : Width)
+    {origin : Source} {outcome : Outcome ChipState}
     → IsUnder device framed a s first → IsSource origin → (may : MayDouble device s len done width origin (destination.Register Sr) outcome)
     → source_number s may.counted width origin may.bits may.x < modulus width
-source_small laws device framed a s first len done Words origin outcome under from_so may = (source_known laws device framed a s first len done Words origin outcome under from_so may).below
-source_small laws device framed a s first len done Byte origin outcome under from_so may =
-    byte_small device s.ram (at_source s may.counted) under.device_so under.holds.state.bytes (origin_of s may.counted origin) may.x may.reads
+source_small laws Words under from_so may = (source_known laws under from_so may).below
+source_small laws {device} {s} Byte {origin} under from_so may =
+    stands_below device s.ram (at_source s may.counted) under.device_so.bytes (bytes_are device s.ram under.holds.state.bytes) Byte
+    (origin_of s may.counted origin) may.x may.reads
 
 -- WHAT SR HELD
 
-pointer_status : (laws : StatusLaws) (registers : List ℕ) (register : Register) (value : ℕ) → IsPointer register → get_or (with_register registers register value) 2 0 ≡ get_or registers 2 0
+pointer_status : (laws : StatusLaws) (registers : List ℕ) (register : Register) (value : ℕ) → IsPointer register
+    → get_or (with_register registers register value) 2 0 ≡ get_or registers 2 0
 pointer_status laws registers register value pointer = elim (laws.kinds register) [
   | Counter e ↦ absurd (subst IsPointer e pointer)
   | Stack e ↦ ap (λ r. get_or (with_register registers r value) 2 0) e ∙ get_or-set_other registers 1 2 (even value) 0 (λ e. omega (arith, e))
@@ -94,16 +70,12 @@ pointer_status laws registers register value pointer = elim (laws.kinds register
 ]
 
 grown_status : (laws : StatusLaws) (registers : List ℕ) (width : Width) (origin : Source) → IsSource origin → get_or (grown registers width origin) 2 0 ≡ get_or registers 2 0
-grown_status laws registers width (source.IndirectIncrement register) is = pointer_status laws registers register ((value_in registers register + growth width register) % 65536) is
-grown_status laws registers width (source.Register register) is = refl
-grown_status laws registers width (source.Indexed register offset) is = refl
-grown_status laws registers width (source.Indirect register) is = refl
-grown_status laws registers width (source.Immediate value) is = refl
-grown_status laws registers width (source.Symbolic offset) is = refl
-grown_status laws registers width (source.Absolute address) is = refl
-grown_status laws registers width (source.Constant constant) is = refl
+grown_status laws registers width (source.IndirectIncrement register) is =
+    pointer_status laws registers register ((value_in registers register + growth width register) % 65536) is
+grown_status laws registers width other is = refl
 
-held_number : (reads : Bool) (device : Device) (ram registers : List ℕ) (width : Width) (y : ℕ) → MayStandIf reads device ram registers width (place.InRegister Sr) y → reads ≡ true → y ≡ get_or registers 2 0 % modulus width
+held_number : (reads : Bool) (device : Device) (ram registers : List ℕ) (width : Width) (y : ℕ) → MayStandIf reads device ram registers width (place.InRegister Sr) y
+    → reads ≡ true → y ≡ get_or registers 2 0 % modulus width
 held_number true device ram registers width y held e = held
 held_number false device ram registers width y held e = absurd (cc)
 
@@ -127,37 +99,30 @@ result_left : (device : Device) (ram registers : List ℕ) (width : Width) (v : 
 result_left device ram registers width v made_so left same is =
     is ∙ ap (λ (m : Made). with_status m.1 (put_if true device registers ram width (place.InRegister Sr) m.0)) (sym same) ∙ unflagged registers ram (v % 512)
 
-left_is : (device : Device) (ram registers : List ℕ) (done : Operation) (width : Width) (x y carry : ℕ) (left : Left) → sets_flags done ≡ false
+left_is : {device : Device} {ram registers : List ℕ} (done : Operation) {width : Width} {x y carry : ℕ} {left : Left} → sets_flags done ≡ false
     → MayLeaveDouble device ram registers done width (place.InRegister Sr) x y carry left → left ≡ status_left registers ram (number_behind done x y (complement width x) % 512)
-left_is device ram registers operation.Mov width x y carry left none (FreeStatus free freed) = absurd (cc)
-left_is device ram registers operation.Mov width x y carry left none (OfResult other made_so may is) = result_left device ram registers width x made_so left (same_Some (x, None) made_so may) is
-left_is device ram registers operation.Bic width x y carry left none (FreeStatus free freed) = absurd (cc)
-left_is device ram registers operation.Bic width x y carry left none (OfResult other made_so may is) =
+left_is done none (FreeStatus free freed) = absurd (false≢true (sym none ∙ (and_parts (sets_flags done) true free).0))
+left_is {device} {ram} {registers} operation.Mov {width} {x} {left} none (OfResult other made_so may is) =
+    result_left device ram registers width x made_so left (same_Some (x, None) made_so may) is
+left_is {device} {ram} {registers} operation.Bic {width} {x} {y} {left} none (OfResult other made_so may is) =
     let v = bit_and y (complement width x) in result_left device ram registers width v made_so left (same_Some (v, None) made_so may) is
-left_is device ram registers operation.Bis width x y carry left none (FreeStatus free freed) = absurd (cc)
-left_is device ram registers operation.Bis width x y carry left none (OfResult other made_so may is) =
+left_is {device} {ram} {registers} operation.Bis {width} {x} {y} {left} none (OfResult other made_so may is) =
     let v = bit_or y x in result_left device ram registers width v made_so left (same_Some (v, None) made_so may) is
-left_is device ram registers operation.Add width x y carry left none leaves = absurd (cc)
-left_is device ram registers operation.Addc width x y carry left none leaves = absurd (cc)
-left_is device ram registers operation.Subc width x y carry left none leaves = absurd (cc)
-left_is device ram registers operation.Sub width x y carry left none leaves = absurd (cc)
-left_is device ram registers operation.Cmp width x y carry left none leaves = absurd (cc)
-left_is device ram registers operation.Dadd width x y carry left none leaves = absurd (cc)
-left_is device ram registers operation.Bit width x y carry left none leaves = absurd (cc)
-left_is device ram registers operation.Xor width x y carry left none leaves = absurd (cc)
-left_is device ram registers operation.And width x y carry left none leaves = absurd (cc)
+left_is done none (OfResult other made_so may is) = absurd (cc)
 
 put_hit : (writes : Bool) (device : Device) (registers ram : List ℕ) (width : Width) (v : ℕ) → (put_if writes device registers ram width (place.InRegister Sr) v).hit ≡ None
 put_hit true device registers ram width v = refl
 put_hit false device registers ram width v = refl
 
-leaves_hit : (device : Device) (ram registers : List ℕ) (done : Operation) (width : Width) (x y carry : ℕ) (left : Left) → MayLeaveDouble device ram registers done width (place.InRegister Sr) x y carry left → left.hit ≡ None
-leaves_hit device ram registers done width x y carry left (FreeStatus free freed) = ap (λ (l : Left). l.hit) freed.left_is
-leaves_hit device ram registers done width x y carry left (OfResult other made_so may is) = ap (λ (l : Left). l.hit) is ∙ put_hit (writes_result done) device registers ram width made_so.0
+leaves_hit : {device : Device} {ram registers : List ℕ} {done : Operation} {width : Width} {x y carry : ℕ} {left : Left}
+    → MayLeaveDouble device ram registers done width (place.InRegister Sr) x y carry left → left.hit ≡ None
+leaves_hit {device} {ram} (FreeStatus free freed) = ap (λ (l : Left). l.hit) freed.left_is
+leaves_hit {device} {ram} {registers} {done} {width} (OfResult other made_so may is) =
+    ap (λ (l : Left). l.hit) is ∙ put_hit (writes_result done) device registers ram width made_so.0
 
 pub status_hit : (device : Device) (s : ChipState) (len : ℕ) (done : Operation) (width : Width) (origin : Source) (outcome : Outcome ChipState)
     → (may : MayDouble device s len done width origin (destination.Register Sr) outcome) → may.left.hit ≡ None
-status_hit device s len done width origin outcome may = leaves_hit device s.ram (registers_behind s len may.counted width origin) done width _ _ (register_of s 2 % 2) may.left may.leaves
+status_hit device s len done width origin outcome may = leaves_hit may.leaves
 
 -- THE BITS
 
@@ -168,17 +133,11 @@ lowest_length width word =
 
 source_length : (a : Known) (width : Width) (origin : Source) (word : Word) → length a.status.bits ≡ 9 → length (source_bits a width origin word) ≡ 9
 source_length a width (source.Register Sr) word nine = nine
-source_length a width (source.Register register) word nine = lowest_length width word
-source_length a width (source.Indexed register offset) word nine = lowest_length width word
-source_length a width (source.Indirect register) word nine = lowest_length width word
-source_length a width (source.IndirectIncrement register) word nine = lowest_length width word
-source_length a width (source.Immediate value) word nine = lowest_length width word
-source_length a width (source.Symbolic offset) word nine = lowest_length width word
-source_length a width (source.Absolute address) word nine = lowest_length width word
-source_length a width (source.Constant constant) word nine = lowest_length width word
+source_length a width other word nine = lowest_length width word
 
 -- SR as the source has the bits that it holds
-status_source : (a : Known) (s : ChipState) (counted : ℕ) (width : Width) (bits x : ℕ) → Agrees a.status.bits (register_of s 2) → x ≡ get_or (at_source s counted) 2 0 % modulus width
+status_source : (a : Known) (s : ChipState) (counted : ℕ) (width : Width) (bits x : ℕ) → Agrees a.status.bits (register_of s 2)
+    → x ≡ get_or (at_source s counted) 2 0 % modulus width
     → AgreesBelow (places width) a.status.bits (with_free_bits width (place.InRegister Sr) bits x)
 status_source a s counted width bits x agrees is =
     let kept : get_or (at_source s counted) 2 0 ≡ register_of s 2 = get_or-set_other s.registers 0 2 counted 0 (λ e. omega (arith, e)) in
@@ -186,34 +145,29 @@ status_source a s counted width bits x agrees is =
     (free_above width bits x ∙ ap (λ n. n + 512 * bits_above width bits) (is ∙ ap (λ n. n % modulus width) kept)) (no_bits_above width bits)
 
 source_agrees : (a : Known) (s : ChipState) (counted : ℕ) (width : Width) (origin : Source) (device : Device) (word : Word) (bits x : ℕ) → Agrees a.status.bits (register_of s 2)
-    → MayStandAt device s.ram (at_source s counted) width (origin_of s counted origin) x → AgreesBelow (places width) (lowest_bits width word) (source_number s counted width origin bits x)
+    → MayStandAt device s.ram (at_source s counted) width (origin_of s counted origin) x
+    → AgreesBelow (places width) (lowest_bits width word) (source_number s counted width origin bits x)
     → AgreesBelow (places width) (source_bits a width origin word) (source_number s counted width origin bits x)
 source_agrees a s counted width (source.Register Sr) device word bits x agrees reads lowest = status_source a s counted width bits x agrees reads
-source_agrees a s counted width (source.Register register) device word bits x agrees reads lowest = lowest
-source_agrees a s counted width (source.Indexed register offset) device word bits x agrees reads lowest = lowest
-source_agrees a s counted width (source.Indirect register) device word bits x agrees reads lowest = lowest
-source_agrees a s counted width (source.IndirectIncrement register) device word bits x agrees reads lowest = lowest
-source_agrees a s counted width (source.Immediate value) device word bits x agrees reads lowest = lowest
-source_agrees a s counted width (source.Symbolic offset) device word bits x agrees reads lowest = lowest
-source_agrees a s counted width (source.Absolute address) device word bits x agrees reads lowest = lowest
-source_agrees a s counted width (source.Constant constant) device word bits x agrees reads lowest = lowest
+source_agrees a s counted width other device word bits x agrees reads lowest = lowest
 
 byte_held : (width : Width) (bits y sr : ℕ) → y ≡ sr % modulus width → width ≡ Byte → with_free_bits width (place.InRegister Sr) bits y < 256
 byte_held Words bits y sr is e = absurd (cc)
 byte_held Byte bits y sr is e = omega (arith, is)
 
-bits_agree : (laws : StatusLaws) (device : Device) (framed : Bool) (a : Known) (s : ChipState) (first : Option ChipState) (len : ℕ) (done : Operation) (width : Width) (origin : Source) (outcome : Outcome ChipState)
+bits_agree : (laws : StatusLaws) {device : Device} {framed : Bool} {a : Known} {s : ChipState} {first : Option ChipState} {len : ℕ} {done : Operation} {width : Width}
+    {origin : Source} {outcome : Outcome ChipState}
     → sets_flags done ≡ false → IsUnder device framed a s first → IsSource origin → (may : MayDouble device s len done width origin (destination.Register Sr) outcome)
     → let counted = single ((register_of s 0 + len) % 65536) in let word = operand_word device a counted width (source_reach (register_of s 0) a counted origin) in
     let x = source_number s may.counted width origin may.bits may.x in let y = with_free_bits width (place.InRegister Sr) may.bits may.y in
     Agrees (moved_bits done width (source_bits a width origin word) a.status.bits) (number_behind done x y (complement width x) % 512)
-bits_agree laws device framed a s first len done width origin outcome none under from_so may =
+bits_agree laws {device} {a} {s} {len} {done} {width} {origin} none under from_so may =
     let pc = register_of s 0 in
     let counted = single ((pc + len) % 65536) in
     let word = operand_word device a counted width (source_reach pc a counted origin) in
     let x = source_number s may.counted width origin may.bits may.x in
     let y = with_free_bits width (place.InRegister Sr) may.bits may.y in
-    let known = source_known laws device framed a s first len done width origin outcome under from_so may in
+    let known = source_known laws under from_so may in
     let sr = register_of s 2 in
     let kept : get_or (behind_source s may.counted width origin) 2 0 ≡ sr =
     grown_status laws (at_source s may.counted) width origin from_so ∙ get_or-set_other s.registers 0 2 may.counted 0 (λ e. omega (arith, e)) in
@@ -221,8 +175,7 @@ bits_agree laws device framed a s first len done width origin outcome none under
     λ e. held_number (reads_destination done) device s.ram (behind_source s may.counted width origin) width may.y may.held e ∙ ap (λ n. n % modulus width) kept in
     let agrees = under.holds.parts.status.bits in
     moved_agrees done width (source_bits a width origin word) a.status.bits x y none (source_length a width origin word under.form.bits) under.form.bits
-    (source_small laws device framed a s first len done width origin outcome under from_so may)
-    (source_agrees a s may.counted width origin device word may.bits may.x agrees may.reads known.agrees)
+    (source_small laws width under from_so may) (source_agrees a s may.counted width origin device word may.bits may.x agrees may.reads known.agrees)
     (λ e. held_agrees width a.status.bits y sr (bits_above width may.bits) agrees (free_above width may.bits may.y ∙ ap (λ n. n + 512 * bits_above width may.bits) (held e)) (no_bits_above width may.bits))
     (λ e. byte_held width may.bits may.y sr (held e))
 
@@ -235,16 +188,17 @@ any_bits : (done : Operation) (width : Width) (given held : List Tri) → sets_f
 any_bits done width given held some = sym (cond-true (sets_flags done) free_bits (moved_bits done width given held) some)
 
 -- SR is free, where the operation sets flags
-status_freed : (device : Device) (ram registers : List ℕ) (done : Operation) (width : Width) (x y carry : ℕ) (left : Left) → sets_flags done ≡ true
+status_freed : {device : Device} {ram registers : List ℕ} {done : Operation} {width : Width} {x y carry : ℕ} {left : Left} → sets_flags done ≡ true
     → MayLeaveDouble device ram registers done width (place.InRegister Sr) x y carry left → LeavesFree registers ram left
-status_freed device ram registers done width x y carry left some (FreeStatus free freed) = freed
-status_freed device ram registers done width x y carry left some (OfResult other made_so may is) = absurd (false≢true (sym other ∙ ap (λ b. b && true) some))
+status_freed some (FreeStatus free freed) = freed
+status_freed some (OfResult other made_so may is) = absurd (false≢true (sym other ∙ ap (λ b. b && true) some))
 
-bits_written : (laws : StatusLaws) (device : Device) (framed : Bool) (a : Known) (s : ChipState) (first : Option ChipState) (len : ℕ) (done : Operation) (width : Width) (origin : Source) (outcome : Outcome ChipState)
+bits_written : (laws : StatusLaws) {device : Device} {framed : Bool} {a : Known} {s : ChipState} {first : Option ChipState} {len : ℕ} {done : Operation} {width : Width}
+    {origin : Source} {outcome : Outcome ChipState}
     → IsUnder device framed a s first → IsSource origin → (may : MayDouble device s len done width origin (destination.Register Sr) outcome)
     → Writes (registers_behind s len may.counted width origin) s.ram
     (status_bits done width (source_bits a width origin (operand_word device a (single ((register_of s 0 + len) % 65536)) width (source_reach (register_of s 0) a (single ((register_of s 0 + len) % 65536)) origin))) a.status.bits) may.left
-bits_written laws device framed a s first len done width origin outcome under from_so may =
+bits_written laws {device} {a} {s} {len} {done} {width} {origin} under from_so may =
     let pc = register_of s 0 in
     let counted = single ((pc + len) % 65536) in
     let given = source_bits a width origin (operand_word device a counted width (source_reach pc a counted origin)) in
@@ -253,17 +207,19 @@ bits_written laws device framed a s first len done width origin outcome under fr
     let y = with_free_bits width (place.InRegister Sr) may.bits may.y in
     elim (cases_Bool (sets_flags done)) [
       | inl some ↦ subst (λ bits. Writes registers s.ram bits may.left) (any_bits done width given a.status.bits some)
-          (freed registers s.ram free_bits may.left free_agree (status_freed device s.ram registers done width x y (register_of s 2 % 2) may.left some may.leaves))
+          (freed free_bits free_agree (status_freed some may.leaves))
       | inr none ↦ subst (λ bits. Writes registers s.ram bits may.left) (kept_bits done width given a.status.bits none) (record {
         status = number_behind done x y (complement width x) % 512;
-        agrees = bits_agree laws device framed a s first len done width origin outcome none under from_so may;
-        left_is = left_is device s.ram registers done width x y (register_of s 2 % 2) may.left none may.leaves;
+        agrees = bits_agree laws none under from_so may;
+        left_is = left_is done none may.leaves;
       })
     ]
 
-pub status_law : (laws : StatusLaws) (device : Device) (framed : Bool) (a : Known) (s : ChipState) (first : Option ChipState) (len : ℕ) (done : Operation) (width : Width) (origin : Source) (outcome : Outcome ChipState)
+pub status_law : (laws : StatusLaws) (device : Device) (framed : Bool) (a : Known) (s : ChipState) (first : Option ChipState) (len : ℕ) (done : Operation) (width : Width)
+    (origin : Source) (outcome : Outcome ChipState)
     → IsUnder device framed a s first → IsSource origin → (may : MayDouble device s len done width origin (destination.Register Sr) outcome)
-    → IsLeft device (status_worked device framed a (register_of s 0) len done width origin).after first (status_worked device framed a (register_of s 0) len done width origin).next may.left
+    → IsLeft device (status_worked device framed a (register_of s 0) len done width origin).after first
+    (status_worked device framed a (register_of s 0) len done width origin).next may.left
 unfolding status_worked
 status_law laws device framed a s first len done width origin outcome under from_so may =
     let pc = register_of s 0 in
@@ -276,15 +232,15 @@ status_law laws device framed a s first len done width origin outcome under from
     let grown_long : 0 < length (behind_source s may.counted width origin) = omega (arith, long, length-set (behind_source s may.counted width origin) 0 next) in
     let counter : get_or registers 0 0 ≡ next = get_or-set_same (behind_source s may.counted width origin) 0 next 0 grown_long in
     let holds : HoldsOfParts device grown_so first registers s.ram =
-    subst (λ list. HoldsOfParts device grown_so first list s.ram) (set-get_or registers 2 0) (grown_parts laws device framed a s first len done width origin outcome under from_so may) in
-    written_is laws.known.sets.single device grown_so first registers registers s.ram next bits may.left long (omega arith) counter (λ r low. refl) holds
-    (bits_written laws device framed a s first len done width origin outcome under from_so may)
+    subst (λ list. HoldsOfParts device grown_so first list s.ram) (set-get_or registers 2 0) (grown_parts laws under from_so may) in
+    written_is laws.known.sets.single next long (omega arith) counter (λ r low. refl) holds (bits_written laws under from_so may)
 
 no_access : (device : Device) (there : Bool) (pc : ℕ) (write : Bool) (width : Width) (register : Register) → access_if there device pc write width (InRegister register) ≡ []
 no_access device true pc write width register = refl
 no_access device false pc write width register = refl
 
-pub status_shown : (laws : StatusLaws) (device : Device) (framed : Bool) (a : Known) (s : ChipState) (first : Option ChipState) (len : ℕ) (done : Operation) (width : Width) (origin : Source) (outcome : Outcome ChipState)
+pub status_shown : (laws : StatusLaws) (device : Device) (framed : Bool) (a : Known) (s : ChipState) (first : Option ChipState) (len : ℕ) (done : Operation) (width : Width)
+    (origin : Source) (outcome : Outcome ChipState)
     → IsUnder device framed a s first → IsSource origin → (may : MayDouble device s len done width origin (destination.Register Sr) outcome)
     → AreShown (status_worked device framed a (register_of s 0) len done width origin).accesses
     (double_accesses device (register_of s 0) done width (origin_of s may.counted origin) (place_of s len may.counted width origin (destination.Register Sr)))
@@ -294,9 +250,11 @@ status_shown laws device framed a s first len done width origin outcome under fr
     let counted = counter_set pc len origin (destination.Register Sr) in
     let reads = access_of device pc false width (source_reach pc a counted origin) in
     let singles = double_accesses device pc done width (origin_of s may.counted origin) (place_of s len may.counted width origin (destination.Register Sr)) in
-    let shown : AreShown (reads ++ access_if (reads_destination done) device pc false width (InRegister Sr) ++ access_if (writes_result done) device pc true width (InRegister Sr)) singles =
+    let shown : AreShown
+    (reads ++ access_if (reads_destination done) device pc false width (InRegister Sr) ++ access_if (writes_result done) device pc true width (InRegister Sr)) singles =
     laws.doubles.shown device framed a s first len done width origin (destination.Register Sr) outcome under from_so tt may in
-    let first_so = subst (λ list. AreShown (reads ++ list ++ access_if (writes_result done) device pc true width (InRegister Sr)) singles) (no_access device (reads_destination done) pc false width Sr) shown in
+    let first_so = subst (λ list. AreShown (reads ++ list ++ access_if (writes_result done) device pc true width (InRegister Sr)) singles)
+    (no_access device (reads_destination done) pc false width Sr) shown in
     let second_so = subst (λ list. AreShown (reads ++ [] ++ list) singles) (no_access device (writes_result done) pc true width Sr) first_so in
     let alone : AreShown reads singles = subst (λ list. AreShown list singles) (append-nil (reads ++ []) ∙ append-nil reads) second_so in
     subst (λ set. AreShown (access_of device pc false width (source_reach pc a set origin)) singles) (counter_one laws pc len origin Sr) alone
@@ -305,38 +263,23 @@ length_status : (done : Operation) (width : Width) (given held : List Tri) → l
 length_status done width given held long nine =
     cond_both (sets_flags done) free_bits (moved_bits done width given held) (λ bits. length bits ≡ 9) (λ e. length_free) (λ e. length_moved done width given held long nine)
 
-pub status_form : (laws : StatusLaws) (device : Device) (framed : Bool) (a : Known) (pc len : ℕ) (done : Operation) (width : Width) (origin : Source) → IsDevice device → IsKnown device.ram.lo device.ram.hi framed a → IsSource origin
+pub status_form : (laws : StatusLaws) (device : Device) (framed : Bool) (a : Known) (pc len : ℕ) (done : Operation) (width : Width) (origin : Source) → IsDevice device
+    → IsKnown device.ram.lo device.ram.hi framed a → IsSource origin
     → IsKnown device.ram.lo device.ram.hi framed (status_worked device framed a pc len done width origin).after
 unfolding status_worked
 status_form laws device framed a pc len done width origin is form from_so =
     let counted = single ((pc + len) % 65536) in
     let word = operand_word device a counted width (source_reach pc a counted origin) in
-    let grown_is = grown_form laws device framed a pc len width origin is form from_so in
-    record {
-      sp = grown_is.sp;
-      bits = length_status done width (source_bits a width origin word) a.status.bits (source_length a width origin word form.bits) form.bits;
-      status = tt;
-      count = grown_is.count;
-      registers = grown_is.registers;
-      fact = tt;
-      from = grown_is.from;
-      up_to = grown_is.up_to;
-      cells = grown_is.cells;
-      each_cell = grown_is.each_cell;
-      touched = grown_is.touched;
-      none_touched = grown_is.none_touched;
-    }
+    let grown_is = grown_form laws pc len width origin is form from_so in
+    let bits = length_status done width (source_bits a width origin word) a.status.bits (source_length a width origin word form.bits) form.bits in
+    assumption (bits, no_status_relation framed, grown_is)
 
 pub status_next : (laws : StatusLaws) (device : Device) (framed : Bool) (a : Known) (pc len : ℕ) (done : Operation) (width : Width) (origin : Source)
     → IsNormal 65536 (status_worked device framed a pc len done width origin).next
 unfolding status_worked
 status_next laws device framed a pc len done width origin = (laws.known.sets.single 65536 ((pc + len) % 65536) (omega arith)).0
 
-pub single_rest : (n : ℕ) → n % 2 ≡ 0 → HasRemainder 65536 2 0 (single n)
-single_rest n rest v (zero, lt, is) = let same : n ≡ v = is in subst (λ n. n % 2 ≡ 0) same rest
-single_rest n rest v (suc k, lt, is) = absurd (omega (arith, lt))
-
-pub status_even : (device : Device) (framed : Bool) (a : Known) (pc len : ℕ) (done : Operation) (width : Width) (origin : Source)
+pub status_even : (laws : StatusLaws) (device : Device) (framed : Bool) (a : Known) (pc len : ℕ) (done : Operation) (width : Width) (origin : Source)
     → (pc + len) % 65536 % 2 ≡ 0 → HasRemainder 65536 2 0 (status_worked device framed a pc len done width origin).next
 unfolding status_worked
-status_even device framed a pc len done width origin rest = single_rest ((pc + len) % 65536) rest
+status_even laws device framed a pc len done width origin = laws.known.sets.single_rest 65536 2 0 ((pc + len) % 65536)

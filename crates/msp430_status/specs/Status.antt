@@ -56,15 +56,7 @@ source_bits a width other word = lowest_bits width word
 
 -- SR has these bits. Its relation goes, and so does the fact.
 abbrev pub with_status_bits : Known → List Tri → Known
-with_status_bits a bits = record {
-  sp = a.sp;
-  status = record { bits = bits; entry = None };
-  late = a.late;
-  registers = a.registers;
-  fact = None;
-  cells = a.cells;
-  touched = a.touched;
-}
+with_status_bits a bits = record a { status = record { bits = bits; entry = None }; fact = None }
 
 -- PC as the source is behind the instruction
 unfoldable pub status_worked : Device → (framed : Bool) → Known → (pc len : ℕ) → Operation → Width → Source → Worked

@@ -1,15 +1,13 @@
 //! What instructions with the destination SR make of what is known of a state.
 
 ghost use Rattle.std.specs.Prelude.{◌≡◌, false, IfOk};
-ghost use Rattle.msp430_chip.specs.Memory as chip;
 ghost use Rattle.msp430_chip.specs.Memory.{HasRam};
-ghost use Rattle.msp430_alu.specs.Formats as formats;
 ghost use Rattle.msp430_status.specs.Status as the_status;
 
 use crate::bits::{single_bits, status_bits};
-use call_context::{Item, Sequence, Set, Space};
+use call_context::Sequence;
 use entry_value::{Cells, Word};
-use msp430_alu::{Here, Reach, Worked, grow, known_operand, located, source_reach};
+use msp430_alu::{Here, Worked, grow, known_operand, show, source_reach};
 use msp430_decode::{Operation, Register, SingleOperation, Source, Width};
 use msp430_results::kept_word;
 use msp430_state::{State, Status};
@@ -35,39 +33,6 @@ fn source_bits<M: Cells>(state: &State<M>, width: Width, source: Source, word: &
     match source {
         Source::Register(Register::Sr) => state.status.bits,
         _ => lowest_bits(width, word),
-    }
-}
-
-/// The read of a source, if that is in memory.
-fn read_access<M: Cells>(
-    alloc: Global,
-    here: &Here<M>,
-    width: Width,
-    reach: &Reach,
-) -> Result<Sequence<Item>, Memory>
-    requires { HasRam here.now.device.now }
-    ensures { IfOk result (λ all. all ≡ formats.access_of here.now.device.now here.now.pc false width reach.now) }
-{
-    let mut all = Sequence::new(alloc);
-    if let Reach::InMemory(set) = reach {
-        all.push(Item::Access {
-            pc: here.pc,
-            space: Space::Mem,
-            write: false,
-            size: size_of(width),
-            at: Set::W(located(here.device, width, set)),
-        })?;
-    }
-    Ok(all)
-}
-
-/// How many bytes a width has.
-fn size_of(width: Width) -> u8
-    ensures { result ≡ chip.size_of width }
-{
-    match width {
-        Width::Word => 2,
-        Width::Byte => 1,
     }
 }
 
@@ -104,10 +69,12 @@ pub fn status<M: Cells>(
         &mut after,
         status_bits(operation, width, &origin, &state.status.bits),
     );
+    let mut accesses = Sequence::new(alloc);
+    show(&mut accesses, here, false, width, &from)?;
     Ok(Worked {
         after,
         next: counted,
-        accesses: read_access(alloc, here, width, &from)?,
+        accesses,
         store: None,
     })
 }

@@ -6,12 +6,11 @@ use Rattle.msp430_alu.proofs.laws.doubles_hold.Goals as goal
 pub returns : goal.returns
 returns c =
     let laws = c.premises_hold.ensures in
-    let kinds = c.registers_of_five_kinds.ensures in
     record {
-      left = double_law laws kinds;
-      shown = double_shown laws kinds;
-      hit = double_hit laws kinds;
-      form = λ device framed a pc len done width origin target is form from_so to_so. (double_worked_form laws kinds device framed a pc len done width origin target is form from_so to_so).after_so;
-      next = λ device framed a pc len done width origin target is form from_so to_so. (double_worked_form laws kinds device framed a pc len done width origin target is form from_so to_so).next_so.normal;
-      even = λ device framed a pc len done width origin target is form from_so to_so. (double_worked_form laws kinds device framed a pc len done width origin target is form from_so to_so).next_so.even;
+      left = double_law laws;
+      shown = double_shown laws;
+      hit = double_hit laws;
+      form = λ device framed a pc len done width origin target is form from_so to_so. (double_worked_form laws pc len done width origin target is form from_so to_so).after_so;
+      next = λ device framed a pc len done width origin target is form from_so to_so. (double_worked_form laws pc len done width origin target is form from_so to_so).next_so.normal;
+      even = λ device framed a pc len done width origin target is form from_so to_so. (double_worked_form laws pc len done width origin target is form from_so to_so).next_so.even;
     }

@@ -6,12 +6,11 @@ use Rattle.msp430_alu.proofs.laws.singles_hold.Goals as goal
 pub returns : goal.returns
 returns c =
     let laws = c.premises_hold.ensures in
-    let kinds = c.registers_of_five_kinds.ensures in
     record {
-      left = single_law laws kinds;
-      shown = single_shown laws kinds;
-      hit = single_hit laws kinds;
-      form = λ device framed a pc len done width operand is form from_so fits. (single_worked_form laws kinds device framed a pc len done width operand is form from_so fits).after_so;
-      next = λ device framed a pc len done width operand is form from_so fits. (single_worked_form laws kinds device framed a pc len done width operand is form from_so fits).next_so.normal;
-      even = λ device framed a pc len done width operand is form from_so fits. (single_worked_form laws kinds device framed a pc len done width operand is form from_so fits).next_so.even;
+      left = single_law laws;
+      shown = single_shown laws;
+      hit = single_hit laws;
+      form = λ device framed a pc len done width operand is form from_so fits. (single_worked_form laws pc len done width operand is form from_so fits).after_so;
+      next = λ device framed a pc len done width operand is form from_so fits. (single_worked_form laws pc len done width operand is form from_so fits).next_so.normal;
+      even = λ device framed a pc len done width operand is form from_so fits. (single_worked_form laws pc len done width operand is form from_so fits).next_so.even;
     }

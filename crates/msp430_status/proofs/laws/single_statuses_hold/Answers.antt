@@ -3,12 +3,12 @@ use Rattle.msp430_status.proofs.laws.single_statuses_hold.Goals as goal
 
 pub returns : goal.returns
 returns c =
-    let singles = c.known_laws.ensures.sets.single in
+    let sets = c.known_laws.ensures.sets in
     record {
-      left = single_status_law singles;
+      left = single_status_law sets.single;
       shown = single_status_shown;
       hit = single_status_hit;
       form = single_status_form;
-      next = single_status_next singles;
-      even = single_status_even;
+      next = single_status_next sets.single;
+      even = single_status_even sets;
     }

@@ -15,5 +15,5 @@ returns c =
       hit = status_hit;
       form = status_form laws;
       next = status_next laws;
-      even = status_even;
+      even = status_even laws;
     }
