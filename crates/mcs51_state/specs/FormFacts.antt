@@ -5,8 +5,9 @@ use Rattle.std.proofs.lemmas.Nat.{and_le_l, or_lt}
 use Rattle.value_set.specs.declared.form.Form.{Form}
 use Rattle.value_set.specs.Form.{IsNormal}
 use Rattle.entry_value.specs.declared.word.Entry.{Entry}
-use Rattle.entry_value.specs.Words.{byte_of, entry_and, entry_or}
+use Rattle.entry_value.specs.Words.{entry_and, entry_or}
 use Rattle.mcs51_state.specs.Forms.{IsByte, IsOwnRelation, IsRelation}
+use Rattle.mcs51_state.specs.Known.{byte_of}
 
 pub no_relation : (framed : Bool) → IsRelation framed None
 no_relation true = tt
