@@ -1,5 +1,5 @@
 -- The first state and the greatest have the form of states, and joins and widenings keep it.
-use Rattle.std.proofs.Common.{◌≡◌, ℕ, ◌<◌, Bool, true, false, Option, None, List, [], ◌∷◌, get_or, refl, arith, All, Contains}
+use Rattle.std.proofs.Common.{ℕ, ◌<◌, Bool, false, Option, List, [], ◌∷◌, get_or, refl, arith, All, Contains}
 use Rattle.std.proofs.lemmas.List.Elements.{All-nil, All-cons, All-contains, All-contains_itself}
 use Rattle.entry_value.specs.declared.byte.Byte.{Byte}
 use Rattle.entry_value.specs.declared.word.Entry.{Entry}

@@ -2,7 +2,7 @@
 -- levels may be in service, and what is kept for the return from an interrupt (value sets after G. Balakrishnan and T. Reps,
 -- "WYSINWYX: What You See Is Not What You eXecute", 2010; the registers of Intel, MCS-51 Microcontroller Family User's
 -- Manual, "Special Function Registers").
-use Rattle.std.specs.Prelude.{ℕ, ◌&&◌, Bool, true, false, Option, None, List, [], ◌∷◌}
+use Rattle.std.specs.Prelude.{ℕ, ◌&&◌, Bool, Option, None, List, [], ◌∷◌}
 use Rattle.entry_value.specs.declared.byte.Byte.{Byte}
 use Rattle.entry_value.specs.declared.cells.Cell.{Cell}
 use Rattle.entry_value.specs.Words.{common_entry, byte_within}

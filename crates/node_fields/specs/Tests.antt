@@ -1,5 +1,5 @@
 -- A chip's nodes, as a test, of what it asks of an address and of a frame.
-use Rattle.std.specs.Prelude.{◌≡◌, ℕ, ◌<◌, ◌≤◌, ◌&&◌, nat_le, Bool, true, false, Option, None, Some, List, [], ◌∷◌, length, All}
+use Rattle.std.specs.Prelude.{◌≡◌, ℕ, ◌<◌, ◌≤◌, ◌&&◌, nat_le, Bool, true, false, None, Some, List, [], ◌∷◌, length, All}
 use Rattle.std.specs.List.{AllByRecursion, list_all}
 use Rattle.std.proofs.Common.{refl}
 use Rattle.std.proofs.lemmas.Bool.{and_parts, and_from, false≢true, leb-true, le-leb}

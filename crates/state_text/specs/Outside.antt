@@ -1,6 +1,6 @@
 -- Fields of a state that aren't within those of another: the first of them, and when there is none.
 use Rattle.std.specs.Prelude.{◌≡◌, ℕ, ◌&&◌, if◌then◌else◌, Bool, true, false, Option, None, Some, List}
-use Rattle.std.proofs.Common.{refl, sym, subst}
+use Rattle.std.proofs.Common.{refl, sym}
 use Rattle.std.proofs.lemmas.Bool.{and_parts, and_from}
 use Rattle.std.proofs.lemmas.Option.{none-some}
 use Rattle.state_text.specs.declared.text.Outside.{Outside}

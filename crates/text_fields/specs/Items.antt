@@ -1,11 +1,11 @@
 -- The fields of a line, with a space between each two.
-use Rattle.std.specs.Prelude.{◌≡◌, ℕ, ◌&&◌, Bool, false, true, Option, None, Some, option_map, option_and_then, List, [], ◌∷◌, ◌++◌}
+use Rattle.std.specs.Prelude.{◌≡◌, ℕ, Bool, false, Option, None, Some, option_map, option_and_then, List, [], ◌∷◌, ◌++◌}
 use Rattle.std.specs.List.{AllByRecursion}
 use Rattle.std.proofs.Common.{refl, sym, ap, ◌∙◌, append_assoc}
 use Rattle.std.proofs.lemmas.Option.{none-some, same_Some}
 use Rattle.text_fields.specs.Spelling.{Spelling, IsExact, Avoids, has_byte}
 use Rattle.text_fields.specs.Fields.{beside, beside_is_exact, beside_avoids, named, named_is_exact, named_avoids, passing, passing_is_exact, passing_avoids, told_by, told_by_is_exact, told_by_avoids, restated, restated_is_exact, restated_avoids}
-use Rattle.text_fields.specs.Fronts.{beside_in_front, each_beside, each_beside_is_exact, each_beside_avoids, each_in_front, in_front, then_second}
+use Rattle.text_fields.specs.Fronts.{beside_in_front, each_beside, each_beside_is_exact, each_beside_avoids, each_in_front, in_front}
 
 -- ITEMS AND LINES
 
