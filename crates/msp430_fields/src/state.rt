@@ -98,7 +98,13 @@ pub fn push_state<M: Cells>(state: &State<M>, out: &mut Vec<u8>) -> Result<(), A
     ensures { OnOk result (out.new.items ≡ out.old.items ++ fields.known_text state.now) }
 {
     push_front(&SpField, b"SP=", b' ', &state.sp, out)?;
-    push_front(&StatusField { framed: true }, b"SR=", b' ', &state.status, out)?;
+    push_front(
+        &StatusField { framed: true },
+        b"SR=",
+        b' ',
+        &state.status,
+        out,
+    )?;
     push_front(&BitField, b"L=", b' ', &state.late, out)?;
     push_registers(&state.registers, out)?;
     push_front(&FactField, b"F=", b' ', &state.fact, out)?;

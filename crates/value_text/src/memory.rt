@@ -54,7 +54,7 @@ fn read_named_cells<P: Places, M: Cells>(
     requires short { hi < 16 ^ P.width places }
     ensures { IfOk result (λ found. option_map (λ cells. M.map cells) found
         ≡ option_map (map_of lo hi) ((fields.cells_named (cells_field (P.width places)
-            (P.names places) framed (P.keeps places) lo hi)).value text.now)) }
+        (P.names places) framed (P.keeps places) lo hi)).value text.now)) }
 {
     let Some(text) = behind(b"M=", text) else {
         return Ok(None);
@@ -76,7 +76,7 @@ pub fn read_memory<P: Places, M: Cells>(
     requires short { hi < 16 ^ P.width places }
     ensures { IfOk result (λ found. option_map {U = CellMap × List (ℕ × ℕ)} (λ x. (M.map x.0, x.1)) found
         ≡ option_map (fields.memory_of lo hi) ((fields.memory_field (P.width places)
-            (cells_field (P.width places) (P.names places) framed (P.keeps places) lo hi) framed lo hi).value text.now)) }
+        (cells_field (P.width places) (P.names places) framed (P.keeps places) lo hi) framed lo hi).value text.now)) }
 {
     let Some((cells, touched)) = cut(text, b' ') else {
         return Ok(None);
