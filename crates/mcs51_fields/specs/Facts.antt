@@ -12,8 +12,9 @@ use Rattle.mcs51_state.specs.Forms.{AreLevels, IsCarry, IsCompared, IsLinear}
 use Rattle.mcs51_state.specs.Levels.{may_serve}
 use Rattle.text_fields.specs.Spelling.{Spelling, IsExact, Avoids, has_byte}
 use Rattle.text_fields.specs.Numbers.{is_digit, hex_number, hex_number_is_exact, number_avoids, hex_length}
-use Rattle.text_fields.specs.Fields.{IfForm, byte_differs, longer_differs, named_is_exact, passing, passing_is_exact, passing_avoids, or_mark, or_mark_is_exact, or_mark_avoids, beside, beside_is_exact, beside_avoids, told_by, told_by_is_exact, told_by_avoids, restated, restated_is_exact, restated_avoids}
-use Rattle.mcs51_fields.specs.Places.{below_passes, ram_field, ram_avoids}
+use Rattle.text_fields.specs.Fields.{IfForm, below_passes, byte_differs, longer_differs, named_is_exact, passing, passing_is_exact, passing_avoids, or_mark, or_mark_is_exact, or_mark_avoids, beside, beside_is_exact, beside_avoids, told_by, told_by_is_exact, told_by_avoids, restated, restated_is_exact, restated_avoids}
+use Rattle.text_fields.specs.Items.{IsItem}
+use Rattle.mcs51_fields.specs.Places.{ram_field, ram_avoids}
 
 -- LEVELS
 
@@ -136,14 +137,14 @@ levels_wide levels form = service levels.none levels.low levels.high levels.both
 digit_again : (n : ℕ) → n < 16 → number_of (levels_of n) ≡ n
 digit_again n small = eqb-true (number_of (levels_of n)) n (below_passes (λ m. number_of (levels_of m) == m) 16 n refl small)
 
-pub levels_are_exact : IsExact levels_field
+levels_are_exact : IsExact levels_field
 levels_are_exact =
     restated_is_exact (told_by digit_field levels_of number_of) AreLevels
     (told_by_is_exact digit_field levels_of number_of (passing_is_exact (hex_number 1) (λ n. nat_lt 0 n) (hex_number_is_exact 1))
     (λ n form. digit_again n form.0))
     levels_narrow levels_wide
 
-pub levels_avoid : (at : ℕ) → is_digit at ≡ false → Avoids levels_field at
+levels_avoid : (at : ℕ) → is_digit at ≡ false → Avoids levels_field at
 levels_avoid at no_digit =
     restated_avoids (told_by digit_field levels_of number_of) AreLevels at levels_narrow
     (told_by_avoids digit_field levels_of number_of at (passing_avoids (hex_number 1) (λ n. nat_lt 0 n) at (number_avoids 1 at no_digit)))
@@ -164,7 +165,7 @@ some_linear_avoids at no_digit no_star no_plus =
     (beside_avoids 42 at (hex_number 2) factor_field no_star (number_avoids 2 at no_digit)
     (beside_avoids 43 at (hex_number 2) (hex_number 2) no_plus (number_avoids 2 at no_digit) (number_avoids 2 at no_digit)))
 
-pub linear_is_exact : IsExact linear_field
+linear_is_exact : IsExact linear_field
 linear_is_exact =
     restated_is_exact (or_mark some_linear (codes "-")) IsLinear
     (or_mark_is_exact some_linear (codes "-") (λ fact form. byte_differs 45 (some_linear.text fact) (codes "-") true refl
@@ -175,7 +176,7 @@ linear_is_exact =
     (λ parts form. refl)))
     linear_narrow linear_wide
 
-pub linear_avoids : (at : ℕ) → is_digit at ≡ false → (42 == at) ≡ false → (43 == at) ≡ false → has_byte at (codes "-") ≡ false → Avoids linear_field at
+linear_avoids : (at : ℕ) → is_digit at ≡ false → (42 == at) ≡ false → (43 == at) ≡ false → has_byte at (codes "-") ≡ false → Avoids linear_field at
 linear_avoids at no_digit no_star no_plus no_dash =
     restated_avoids (or_mark some_linear (codes "-")) IsLinear at linear_narrow
     (or_mark_avoids some_linear (codes "-") at no_dash (some_linear_avoids at no_digit no_star no_plus))
@@ -221,7 +222,7 @@ some_carry_avoids at no_digit no_less no_ram no_a =
     told_by_avoids (beside 60 compared_field (hex_number 2)) carry_of carry_parts at
     (beside_avoids 60 at compared_field (hex_number 2) no_less (compared_avoids at no_digit no_ram no_a) (number_avoids 2 at no_digit))
 
-pub carry_is_exact : IsExact carry_field
+carry_is_exact : IsExact carry_field
 carry_is_exact =
     restated_is_exact (or_mark some_carry (codes "-")) IsCarry
     (or_mark_is_exact some_carry (codes "-") (λ fact form. byte_differs 45 (some_carry.text fact) (codes "-") true refl
@@ -230,8 +231,19 @@ carry_is_exact =
     (beside_is_exact 60 compared_field (hex_number 2) compared_is_exact (hex_number_is_exact 2) (compared_avoids 60 refl refl refl)) (λ parts form. refl)))
     carry_narrow carry_wide
 
-pub carry_avoids : (at : ℕ) → is_digit at ≡ false → (60 == at) ≡ false → has_byte at (codes "m") ≡ false → has_byte at (codes "A") ≡ false
+carry_avoids : (at : ℕ) → is_digit at ≡ false → (60 == at) ≡ false → has_byte at (codes "m") ≡ false → has_byte at (codes "A") ≡ false
     → has_byte at (codes "-") ≡ false → Avoids carry_field at
 carry_avoids at no_digit no_less no_ram no_a no_dash =
     restated_avoids (or_mark some_carry (codes "-")) IsCarry at carry_narrow
     (or_mark_avoids some_carry (codes "-") at no_dash (some_carry_avoids at no_digit no_less no_ram no_a))
+
+-- AS ITEMS OF A LINE
+
+pub levels_item : IsItem levels_field
+levels_item = record { exact = levels_are_exact; no_space = levels_avoid 32 refl; no_feed = levels_avoid 10 refl }
+
+pub linear_item : IsItem linear_field
+linear_item = record { exact = linear_is_exact; no_space = linear_avoids 32 refl refl refl refl; no_feed = linear_avoids 10 refl refl refl refl }
+
+pub carry_item : IsItem carry_field
+carry_item = record { exact = carry_is_exact; no_space = carry_avoids 32 refl refl refl refl refl; no_feed = carry_avoids 10 refl refl refl refl refl }

@@ -1,5 +1,5 @@
 -- The fields of a state in groups: as they are read in front of a text, and as they are written.
-use Rattle.std.specs.Prelude.{ℕ, true, Option, option_map, option_and_then, Bool, List, [], ◌∷◌, ◌++◌}
+use Rattle.std.specs.Prelude.{ℕ, true, Option, Bool, List, [], ◌∷◌, ◌++◌}
 use Rattle.entry_value.specs.declared.byte.Byte.{Byte}
 use Rattle.value_set.specs.declared.form.Form.{Form}
 use Rattle.mcs51_state.specs.declared.fact.LinearFact.{LinearFact}
@@ -7,13 +7,10 @@ use Rattle.mcs51_state.specs.declared.fact.CarryFact.{CarryFact}
 use Rattle.mcs51_state.specs.declared.levels.Levels.{Levels}
 use Rattle.mcs51_state.specs.declared.status.Status.{Status}
 use Rattle.text_fields.specs.Fronts.{in_front}
+use Rattle.text_fields.specs.Items.{both_in_front}
 use Rattle.mcs51_fields.specs.States.{a_named, b_named, carry_named, dph_named, dpl_named, ie_named, ip_named, levels_named, linear_named, psw_named, sp_named}
 
 -- READING
-
--- what is read in front of a text, and then in front of the text behind it
-abbrev pub both_in_front : {A B : Type 0} → (List ℕ → Option (A × List ℕ)) → (List ℕ → Option (B × List ℕ)) → List ℕ → Option ((A × B) × List ℕ)
-both_in_front first second text = option_and_then (λ one. option_map (λ two. ((one.0, two.0), two.1)) (second one.1)) (first text)
 
 abbrev pub First : Type 0
 First = Form × (Byte × (Byte × Byte))

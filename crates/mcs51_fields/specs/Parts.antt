@@ -1,27 +1,26 @@
 -- The other parts of a state: bytes with their relations, PSW, cells, and touched ranges.
-use Rattle.std.specs.Prelude.{◌≡◌, ℕ, ◌==◌, ◌&&◌, ◌||◌, Bool, true, false, Option, None, Some, is_none, List, [], ◌∷◌, length, drop, bit_and, All}
-use Rattle.std.proofs.Common.{refl, arith}
-use Rattle.std.proofs.lemmas.Bool.{and_parts, and_from, true≢false, false≢true, eqb-true, eq-eqb}
-use Rattle.std.proofs.lemmas.List.Elements.{All-from_recursion, recursion_from_All}
+use Rattle.std.specs.Prelude.{◌≡◌, ◌↔◌, ℕ, ◌==◌, ◌&&◌, ◌||◌, Bool, true, false, Option, None, Some, is_none, List, [], ◌∷◌, length, drop, bit_and, All}
 use Rattle.std.specs.List.{AllByRecursion}
+use Rattle.std.proofs.Common.{refl, arith}
+use Rattle.std.proofs.lemmas.Bool.{and_parts, and_from, false≢true, eqb-true, eq-eqb}
+use Rattle.std.proofs.lemmas.List.Elements.{All-from_recursion, recursion_from_All}
 use Rattle.entry_value.specs.declared.byte.Byte.{Byte}
 use Rattle.entry_value.specs.declared.cells.Cell.{Cell}
 use Rattle.entry_value.specs.declared.word.Entry.{Entry}
 use Rattle.entry_value.specs.Cells.{AreCells}
-use Rattle.irq_frames.specs.Ranges.{AreRanges}
 use Rattle.value_bits.specs.declared.tri.Tri.{Tri}
 use Rattle.value_bits.specs.declared.tri.Tri.TheVariants.{Zero, One, Either}
 use Rattle.mcs51_state.specs.declared.status.Status.{Status}
 use Rattle.mcs51_state.specs.Forms.{IsByte, IsChipCell, IsOwnByte, IsOwnRelation, IsRelation}
 use Rattle.mcs51_state.specs.Places.{is_place, psw_place}
-use Rattle.text_fields.specs.Spelling.{Spelling, IsExact, Avoids}
-use Rattle.text_fields.specs.Numbers.{is_digit}
-use Rattle.text_fields.specs.Fields.{IfForm, none_has, passing, passing_is_exact, passing_avoids, with_tail, with_tail_is_exact, with_tail_avoids, told_by, told_by_is_exact, told_by_avoids, restated, restated_is_exact, restated_avoids}
-use Rattle.value_text.specs.Bits.{bits_field, bits_is_exact, bits_avoids}
-use Rattle.value_text.specs.Cells.{AreCellsIn, AreRelated, cells_field, cells_is_exact, cells_avoids, is_cells_byte}
-use Rattle.value_text.specs.Ranges.{ranges_field, ranges_is_exact, ranges_avoids}
-use Rattle.value_text.specs.Words.{HasRelation, is_word_byte, byte_field, byte_is_exact, byte_avoids, relation_field, relation_is_exact, relation_avoids}
-use Rattle.mcs51_fields.specs.Places.{IsPlace, place_field, place_is_exact, place_avoids}
+use Rattle.text_fields.specs.Spelling.{Spelling, Avoids}
+use Rattle.text_fields.specs.Fields.{IfForm, passing, passing_avoids, with_tail, told_by, told_by_avoids, restated, restated_avoids}
+use Rattle.text_fields.specs.Items.{IsItem, passing_item, restated_item, told_item}
+use Rattle.value_text.specs.Bits.{bits_field, bits_avoids, bits_item}
+use Rattle.value_text.specs.Cells.{AreCellsIn, AreRelated, cells_field}
+use Rattle.value_text.specs.Memories.{cells_item}
+use Rattle.value_text.specs.Words.{HasRelation, bits_related, bits_related_item, byte_field, byte_item, relation_field}
+use Rattle.mcs51_fields.specs.Places.{IsPlace, place_field, places}
 
 -- THE FIELDS
 
@@ -65,7 +64,7 @@ abbrev pub status_tailed : Spelling (List Tri × Option Entry)
 status_tailed = with_tail 64 psw_bits (relation_field 2 place_field)
 
 abbrev pub status_field : (framed : Bool) → Spelling Status
-status_field framed = restated (told_by (passing status_tailed (λ parts. is_psw_in framed parts.1)) status_of status_parts) (IsStatusIn framed)
+status_field framed = restated (told_by (bits_related 2 place_field psw_bits (is_psw_in framed)) status_of status_parts) (IsStatusIn framed)
 
 -- a cell has one byte
 abbrev pub is_chip_cell : Cell → Bool
@@ -77,48 +76,21 @@ AreChipCells framed cells = AreCells 0 255 0 cells × All (IsChipCell framed) ce
 abbrev pub chip_cells : (framed : Bool) → Spelling (List Cell)
 chip_cells framed = restated (cells_field 2 place_field framed is_chip_cell 0 255) (AreChipCells framed)
 
-abbrev pub is_empty : List (ℕ × ℕ) → Bool
-is_empty [] = true
-is_empty (range ∷ ranges) = false
-
-abbrev pub AreTouched : (framed : Bool) → List (ℕ × ℕ) → Type 0
-AreTouched framed ranges = AreRanges 0 255 ranges × (framed ≡ false → ranges ≡ [])
-
--- touched ranges, of which there are some in an interrupt's frame alone
-abbrev pub touched_field : (framed : Bool) → Spelling (List (ℕ × ℕ))
-touched_field framed = restated (passing (ranges_field 2 0 255) (λ ranges. framed || is_empty ranges)) (AreTouched framed)
-
 -- BYTES
 
-relation_narrow : (framed : Bool) (entry : Option Entry) → IsRelation framed entry → HasRelation 2 IsPlace framed entry
-relation_narrow true None form = tt
-relation_narrow false None form = tt
-relation_narrow true (Some entry) form = form
-relation_narrow false (Some entry) form = form
+relation_is : (framed : Bool) (entry : Option Entry) → IsRelation framed entry ↔ HasRelation 2 IsPlace framed entry
+relation_is true None = ((λ form. form), (λ form. form))
+relation_is false None = ((λ form. form), (λ form. form))
+relation_is true (Some entry) = ((λ form. form), (λ form. form))
+relation_is false (Some entry) = ((λ form. form), (λ form. form))
 
-relation_wide : (framed : Bool) (entry : Option Entry) → HasRelation 2 IsPlace framed entry → IsRelation framed entry
-relation_wide true None form = tt
-relation_wide false None form = tt
-relation_wide true (Some entry) form = form
-relation_wide false (Some entry) form = form
+plain_item : (framed : Bool) → IsItem (byte_field 2 place_field framed)
+plain_item framed = byte_item 2 place_field framed places
 
-and_apart : Avoids place_field 38
-and_apart = place_avoids 38 refl refl refl
-
-plain_is_exact : (framed : Bool) → IsExact (byte_field 2 place_field framed)
-plain_is_exact framed = byte_is_exact 2 place_field framed place_is_exact and_apart
-
-byte_narrow : (framed : Bool) (byte : Byte) → IsByte framed byte → (byte_field 2 place_field framed).Form byte
-byte_narrow framed byte form = (form.normal, relation_narrow framed byte.entry form.entry)
-
-pub byte_value_is_exact : (framed : Bool) → IsExact (byte_value framed)
-byte_value_is_exact framed =
-    restated_is_exact (byte_field 2 place_field framed) (IsByte framed) (plain_is_exact framed) (byte_narrow framed)
-    (λ byte form. record { normal = form.0; entry = relation_wide framed byte.entry form.1 })
-
-pub byte_value_avoids : (framed : Bool) (at : ℕ) → is_word_byte at ≡ false → Avoids place_field at → Avoids (byte_value framed) at
-byte_value_avoids framed at none apart =
-    restated_avoids (byte_field 2 place_field framed) (IsByte framed) at (byte_narrow framed) (byte_avoids 2 place_field framed at none apart)
+pub byte_value_item : (framed : Bool) → IsItem (byte_value framed)
+byte_value_item framed =
+    restated_item (byte_field 2 place_field framed) (IsByte framed) (λ byte form. (form.normal, (relation_is framed byte.entry).0 form.entry))
+    (λ byte form. record { normal = form.0; entry = (relation_is framed byte.entry).1 form.1 }) (plain_item framed)
 
 -- THE REGISTERS' OWN RELATIONS
 
@@ -143,23 +115,12 @@ own_only true place unheld (Some entry) form test =
     let two = and_parts (bit_and entry.and unheld == unheld) _ one.1 in
     (eqb-true entry.place place one.0, form.1, eqb-true (bit_and entry.and unheld) unheld two.0, form.2, eqb-true (bit_and entry.or unheld) 0 two.1)
 
-own_narrow : (place unheld : ℕ) (framed : Bool) → is_place place ≡ true → (byte : Byte) → IsOwnByte framed place unheld byte
-    → (passing (byte_field 2 place_field framed) (λ byte. is_own place unheld byte.entry)).Form byte
-own_narrow place unheld framed is byte form = let back = own_back framed place unheld byte.entry is form.entry in ((form.normal, back.0), back.1)
-
-pub own_value_is_exact : (place unheld : ℕ) (framed : Bool) → is_place place ≡ true → IsExact (own_value place unheld framed)
-own_value_is_exact place unheld framed is =
-    restated_is_exact (passing (byte_field 2 place_field framed) (λ byte. is_own place unheld byte.entry)) (IsOwnByte framed place unheld)
-    (passing_is_exact (byte_field 2 place_field framed) (λ byte. is_own place unheld byte.entry) (plain_is_exact framed))
-    (own_narrow place unheld framed is)
+pub own_value_item : (place unheld : ℕ) (framed : Bool) → is_place place ≡ true → IsItem (own_value place unheld framed)
+own_value_item place unheld framed is =
+    restated_item (passing (byte_field 2 place_field framed) (λ byte. is_own place unheld byte.entry)) (IsOwnByte framed place unheld)
+    (λ byte form. let back = own_back framed place unheld byte.entry is form.entry in ((form.normal, back.0), back.1))
     (λ byte form. record { normal = form.0.0; entry = own_only framed place unheld byte.entry form.0.1 form.1 })
-
-pub own_value_avoids : (place unheld : ℕ) (framed : Bool) (at : ℕ) → is_place place ≡ true → is_word_byte at ≡ false → Avoids place_field at
-    → Avoids (own_value place unheld framed) at
-own_value_avoids place unheld framed at is none apart =
-    restated_avoids (passing (byte_field 2 place_field framed) (λ byte. is_own place unheld byte.entry)) (IsOwnByte framed place unheld) at
-    (own_narrow place unheld framed is)
-    (passing_avoids (byte_field 2 place_field framed) (λ byte. is_own place unheld byte.entry) at (byte_avoids 2 place_field framed at none apart))
+    (passing_item (λ byte. is_own place unheld byte.entry) (plain_item framed))
 
 -- PSW
 
@@ -178,17 +139,16 @@ bits_narrow bits long = ((omega (arith, long), refl), refl)
 bits_wide : (bits : List Tri) → (told_by (passing (bits_field 8) begins_free) (drop 2) with_free).Form bits → length bits ≡ 6
 bits_wide bits form = let long : length (with_free bits) ≡ 8 = form.0.0 in omega (arith, long)
 
-psw_bits_are_exact : IsExact psw_bits
-psw_bits_are_exact =
-    restated_is_exact (told_by (passing (bits_field 8) begins_free) (drop 2) with_free) (λ bits. length bits ≡ 6)
-    (told_by_is_exact (passing (bits_field 8) begins_free) (drop 2) with_free (passing_is_exact (bits_field 8) begins_free (bits_is_exact 8))
-    (λ bits form. free_again bits form.1))
-    bits_narrow bits_wide
+psw_bits_item : IsItem psw_bits
+psw_bits_item =
+    restated_item (told_by (passing (bits_field 8) begins_free) (drop 2) with_free) (λ bits. length bits ≡ 6) bits_narrow bits_wide
+    (told_item (drop 2) with_free (λ bits form. free_again bits form.1) (passing_item begins_free (bits_item 8)))
 
-psw_bits_avoid : (at : ℕ) → none_has at ((48 ∷ []) ∷ (49 ∷ []) ∷ (120 ∷ []) ∷ []) ≡ true → Avoids psw_bits at
-psw_bits_avoid at none =
-    restated_avoids (told_by (passing (bits_field 8) begins_free) (drop 2) with_free) (λ bits. length bits ≡ 6) at bits_narrow
-    (told_by_avoids (passing (bits_field 8) begins_free) (drop 2) with_free at (passing_avoids (bits_field 8) begins_free at (bits_avoids 8 at none)))
+-- nor have they an at sign
+psw_bits_apart : Avoids psw_bits 64
+psw_bits_apart =
+    restated_avoids (told_by (passing (bits_field 8) begins_free) (drop 2) with_free) (λ bits. length bits ≡ 6) 64 bits_narrow
+    (told_by_avoids (passing (bits_field 8) begins_free) (drop 2) with_free 64 (passing_avoids (bits_field 8) begins_free 64 (bits_avoids 8 64 refl)))
 
 psw_back : (framed : Bool) (entry : Option Entry) → IsOwnRelation framed psw_place 3 entry
     → IfForm (relation_field 2 place_field).Form entry × (is_psw_in framed entry ≡ true)
@@ -205,84 +165,32 @@ psw_only false None form test = tt
 psw_only false (Some entry) form test = absurd (false≢true test)
 psw_only true (Some entry) form test = own_only true psw_place 3 (Some entry) (form.0.0, form.0.1.0, form.0.1.1) test
 
-status_narrow : (framed : Bool) (status : Status) → IsStatusIn framed status
-    → (told_by (passing status_tailed (λ parts. is_psw_in framed parts.1)) status_of status_parts).Form status
-status_narrow framed status form = let back = psw_back framed status.entry form.1 in (((form.0, back.0), back.1), refl)
-
-status_wide : (framed : Bool) (status : Status) → (told_by (passing status_tailed (λ parts. is_psw_in framed parts.1)) status_of status_parts).Form status
-    → IsStatusIn framed status
-status_wide framed status form = (form.0.0.0, psw_only framed status.entry form.0.0.1 form.0.1)
-
-pub status_is_exact : (framed : Bool) → IsExact (status_field framed)
-status_is_exact framed =
-    let tested = passing status_tailed (λ parts. is_psw_in framed parts.1) in
-    restated_is_exact (told_by tested status_of status_parts) (IsStatusIn framed)
-    (told_by_is_exact tested status_of status_parts
-    (passing_is_exact status_tailed (λ parts. is_psw_in framed parts.1)
-    (with_tail_is_exact 64 psw_bits (relation_field 2 place_field) psw_bits_are_exact (relation_is_exact 2 place_field place_is_exact and_apart)
-    (psw_bits_avoid 64 refl)))
-    (λ parts form. refl))
-    (status_narrow framed) (status_wide framed)
-
-pub status_avoids : (framed : Bool) (at : ℕ) → none_has at ((48 ∷ []) ∷ (49 ∷ []) ∷ (120 ∷ []) ∷ []) ≡ true → is_digit at ≡ false → (64 == at) ≡ false
-    → (38 == at) ≡ false → (124 == at) ≡ false → Avoids place_field at
-    → Avoids (status_field framed) at
-status_avoids framed at no_bit no_digit no_at no_and no_bar apart =
-    let tested = passing status_tailed (λ parts. is_psw_in framed parts.1) in
-    restated_avoids (told_by tested status_of status_parts) (IsStatusIn framed) at (status_narrow framed)
-    (told_by_avoids tested status_of status_parts at
-    (passing_avoids status_tailed (λ parts. is_psw_in framed parts.1) at
-    (with_tail_avoids 64 at psw_bits (relation_field 2 place_field) no_at (psw_bits_avoid at no_bit)
-    (relation_avoids 2 place_field at no_digit no_and no_bar apart))))
+pub status_item : (framed : Bool) → IsItem (status_field framed)
+status_item framed =
+    let related = bits_related 2 place_field psw_bits (is_psw_in framed) in
+    restated_item (told_by related status_of status_parts) (IsStatusIn framed)
+    (λ status form. let back = psw_back framed status.entry form.1 in (((form.0, back.0), back.1), refl))
+    (λ status form. (form.0.0.0, psw_only framed status.entry form.0.0.1 form.0.1))
+    (told_item status_of status_parts (λ parts form. refl)
+    (bits_related_item 2 place_field psw_bits (is_psw_in framed) places psw_bits_item psw_bits_apart))
 
 -- CELLS
 
 related_back : (framed : Bool) (cells : List Cell) → AllByRecursion (IsChipCell framed) cells → AreRelated 2 IsPlace framed is_chip_cell cells
 related_back framed [] forms = tt
 related_back framed (cell ∷ cells) forms =
-    (relation_narrow framed cell.word.entry forms.0.entry, eq-eqb cell.size 1 forms.0.size, related_back framed cells forms.1)
+    ((relation_is framed cell.word.entry).0 forms.0.entry, eq-eqb cell.size 1 forms.0.size, related_back framed cells forms.1)
 
 related_only : (framed : Bool) (cells : List Cell) → AreRelated 2 IsPlace framed is_chip_cell cells → AllByRecursion (IsChipCell framed) cells
 related_only framed [] related = tt
 related_only framed (cell ∷ cells) related =
-    (record { size = eqb-true cell.size 1 related.1; entry = relation_wide framed cell.word.entry related.0 }, related_only framed cells related.2)
+    (record { size = eqb-true cell.size 1 related.1; entry = (relation_is framed cell.word.entry).1 related.0 }, related_only framed cells related.2)
 
 cells_narrow : (framed : Bool) (cells : List Cell) → AreChipCells framed cells → AreCellsIn 2 IsPlace framed is_chip_cell 0 255 cells
 cells_narrow framed cells form = (form.0, related_back framed cells (recursion_from_All (IsChipCell framed) cells form.1))
 
-pub chip_cells_are_exact : (framed : Bool) → IsExact (chip_cells framed)
-chip_cells_are_exact framed =
-    restated_is_exact (cells_field 2 place_field framed is_chip_cell 0 255) (AreChipCells framed)
-    (cells_is_exact 2 place_field framed is_chip_cell 0 255 (omega arith) place_is_exact and_apart (place_avoids 59 refl refl refl))
-    (cells_narrow framed) (λ cells form. (form.0, All-from_recursion (IsChipCell framed) cells (related_only framed cells form.1)))
-
-pub chip_cells_avoid : (framed : Bool) (at : ℕ) → is_cells_byte at ≡ false → Avoids place_field at → Avoids (chip_cells framed) at
-chip_cells_avoid framed at none apart =
-    restated_avoids (cells_field 2 place_field framed is_chip_cell 0 255) (AreChipCells framed) at (cells_narrow framed)
-    (cells_avoids 2 place_field framed is_chip_cell 0 255 at (omega arith) none apart)
-
--- TOUCHED RANGES
-
-empty_back : (framed : Bool) (ranges : List (ℕ × ℕ)) → (framed ≡ false → ranges ≡ []) → (framed || is_empty ranges) ≡ true
-empty_back true ranges none = refl
-empty_back false ranges none = rw (none refl) refl
-
-empty_only : (framed : Bool) (ranges : List (ℕ × ℕ)) → (framed || is_empty ranges) ≡ true → framed ≡ false → ranges ≡ []
-empty_only framed [] test base = refl
-empty_only true (range ∷ ranges) test base = absurd (true≢false base)
-empty_only false (range ∷ ranges) test base = absurd (false≢true test)
-
-touched_narrow : (framed : Bool) (ranges : List (ℕ × ℕ)) → AreTouched framed ranges
-    → (passing (ranges_field 2 0 255) (λ ranges. framed || is_empty ranges)).Form ranges
-touched_narrow framed ranges form = (form.0, empty_back framed ranges form.1)
-
-pub touched_is_exact : (framed : Bool) → IsExact (touched_field framed)
-touched_is_exact framed =
-    restated_is_exact (passing (ranges_field 2 0 255) (λ ranges. framed || is_empty ranges)) (AreTouched framed)
-    (passing_is_exact (ranges_field 2 0 255) (λ ranges. framed || is_empty ranges) (ranges_is_exact 2 0 255 (omega arith) (omega arith)))
-    (touched_narrow framed) (λ ranges form. (form.0, empty_only framed ranges form.1))
-
-pub touched_avoids : (framed : Bool) (at : ℕ) → is_digit at ≡ false → (44 == at) ≡ false → (45 == at) ≡ false → Avoids (touched_field framed) at
-touched_avoids framed at no_digit no_comma no_dash =
-    restated_avoids (passing (ranges_field 2 0 255) (λ ranges. framed || is_empty ranges)) (AreTouched framed) at (touched_narrow framed)
-    (passing_avoids (ranges_field 2 0 255) (λ ranges. framed || is_empty ranges) at (ranges_avoids 2 0 255 at (omega arith) no_digit no_comma no_dash))
+pub chip_cells_item : (framed : Bool) → IsItem (chip_cells framed)
+chip_cells_item framed =
+    restated_item (cells_field 2 place_field framed is_chip_cell 0 255) (AreChipCells framed) (cells_narrow framed)
+    (λ cells form. (form.0, All-from_recursion (IsChipCell framed) cells (related_only framed cells form.1)))
+    (cells_item 2 place_field framed is_chip_cell 0 255 (omega arith) places)

@@ -1,14 +1,15 @@
 -- The names of the places that a relation may name: A, B, DPL, DPH, PSW, IE, IP, the bytes of PC, and m with its address for a
 -- byte of RAM.
-use Rattle.std.specs.Prelude.{◌≡◌, ◌⊎◌, ℕ, zero, suc, ◌-◌, ◌<◌, ◌==◌, ◌&&◌, ◌||◌, nat_lt, not, if◌then◌else◌, Bool, true, false, List, [], ◌∷◌, codes, map}
-use Rattle.std.specs.List.{list_all}
-use Rattle.std.proofs.Common.{refl, sym, ◌∙◌, subst, inl, inr, arith}
-use Rattle.std.proofs.lemmas.Bool.{cases_Bool, and_parts, or_cases, false≢true, eqb-true, eqb-false, ltb-true, lt-ltb, not-true}
+use Rattle.std.specs.Prelude.{◌≡◌, ◌⊎◌, ℕ, ◌-◌, ◌<◌, ◌==◌, ◌||◌, nat_lt, not, if◌then◌else◌, true, false, List, [], ◌∷◌, codes, map}
+use Rattle.std.proofs.Common.{refl, sym, ◌∙◌, inl, inr, arith}
+use Rattle.std.proofs.lemmas.Bool.{cases_Bool, or_cases, false≢true, eqb-true, ltb-true, lt-ltb, not-true}
 use Rattle.mcs51_chip.specs.Registers.{sfr_at}
 use Rattle.mcs51_state.specs.Places.{is_place, is_remembered, sfr_of}
 use Rattle.text_fields.specs.Spelling.{Spelling, IsExact, Avoids, has_byte, has_byte-first}
 use Rattle.text_fields.specs.Numbers.{is_digit, hex_number, hex_number_is_exact, number_avoids}
-use Rattle.text_fields.specs.Fields.{either, either_is_exact, either_avoids, named, named_is_exact, named_avoids, one_named, one_named_is_exact, one_named_avoids, is_named, none_has, told_by, told_by_is_exact, told_by_avoids, restated, restated_is_exact, restated_avoids}
+use Rattle.plain_lemmas.specs.Cases.{implied}
+use Rattle.value_text.specs.Words.{ArePlaces}
+use Rattle.text_fields.specs.Fields.{below_passes, named_passes, either, either_is_exact, either_avoids, named, named_is_exact, named_avoids, one_named, one_named_is_exact, one_named_avoids, is_named, none_has, told_by, told_by_is_exact, told_by_avoids, restated, restated_is_exact, restated_avoids}
 
 -- the registers, and the low and the high byte of PC
 abbrev pub register_rows : List (ℕ × List ℕ)
@@ -38,26 +39,6 @@ place_field = restated (told_by kinds_field number_of kind_of) IsPlace
 
 -- LAWS
 
-abbrev pub passes_below : (ℕ → Bool) → ℕ → Bool
-passes_below test zero = true
-passes_below test (suc n) = test n && passes_below test n
-
-pub below_passes : (test : ℕ → Bool) (k n : ℕ) → passes_below test k ≡ true → n < k → test n ≡ true
-below_passes test zero n all less = absurd (omega (arith, less))
-below_passes test (suc k) n all less = elim (cases_Bool (n == k)) [
-  | inl same ↦ subst (λ m. test m ≡ true) (sym (eqb-true n k same)) (and_parts (test k) (passes_below test k) all).0
-  | inr other ↦ below_passes test k n (and_parts (test k) (passes_below test k) all).1 (omega (arith, less, eqb-false n k other))
-]
-
-named_passes : (test : ℕ → Bool) (rows : List (ℕ × List ℕ)) (n : ℕ) → list_all (λ row. test row.0) rows ≡ true → is_named rows n ≡ true → test n ≡ true
-named_passes test [] n all is = absurd (false≢true is)
-named_passes test (row ∷ rows) n all is =
-    let parts = and_parts (test row.0) (list_all (λ row. test row.0) rows) all in
-    elim (or_cases (row.0 == n) (is_named rows n) is) [
-      | inl here ↦ subst (λ m. test m ≡ true) (eqb-true row.0 n here) parts.0
-      | inr later ↦ named_passes test rows n parts.1 later
-    ]
-
 -- a register that is remembered stands below 100h
 pick : (at k : ℕ) (P : Type 0) → (at ≡ k → P) → ((at == k) ≡ false → P) → P
 pick at k P here other = elim (cases_Bool (at == k)) [ inl same ↦ here (eqb-true at k same) | inr none ↦ other none ]
@@ -85,10 +66,6 @@ place_below n is = elim (or_cases (nat_lt n 256 || is_remembered (sfr_of n) || (
   ]
   | inr pch ↦ omega (arith, eqb-true n 513 pch)
 ]
-
-implied : (a b : Bool) → (not a || b) ≡ true → a ≡ true → b ≡ true
-implied true b either is = either
-implied false b either is = absurd (false≢true is)
 
 -- a place is a byte of RAM, or it has a name
 place_named : (n : ℕ) → IsPlace n → nat_lt n 256 ≡ false → is_named register_rows n ≡ true
@@ -130,9 +107,18 @@ place_is_exact = restated_is_exact (told_by kinds_field number_of kind_of) IsPla
 pub ram_avoids : (at : ℕ) → is_digit at ≡ false → has_byte at (codes "m") ≡ false → Avoids ram_field at
 ram_avoids at no_digit no_name = named_avoids (hex_number 2) (codes "m") at no_name (number_avoids 2 at no_digit)
 
-pub place_avoids : (at : ℕ) → is_digit at ≡ false → has_byte at (codes "m") ≡ false → none_has at (map (λ row. row.1) register_rows) ≡ true
+place_avoids : (at : ℕ) → is_digit at ≡ false → has_byte at (codes "m") ≡ false → none_has at (map (λ row. row.1) register_rows) ≡ true
     → Avoids place_field at
 place_avoids at no_digit no_name none =
     restated_avoids (told_by kinds_field number_of kind_of) IsPlace at place_narrow
     (told_by_avoids kinds_field number_of kind_of at
     (either_avoids 109 at ram_field (one_named register_rows) (ram_avoids at no_digit no_name) (one_named_avoids register_rows at none)))
+
+pub places : ArePlaces place_field
+places = record {
+  exact = place_is_exact;
+  apart = place_avoids 38 refl refl refl;
+  parted = place_avoids 59 refl refl refl;
+  no_space = place_avoids 32 refl refl refl;
+  no_feed = place_avoids 10 refl refl refl;
+}

@@ -1,8 +1,7 @@
 //! The fields of a state in front of those of RAM, in groups.
 
-ghost use Rattle.std.specs.Prelude.{◌≡◌, ◌++◌, ◌∷◌, [], OnOk};
+ghost use Rattle.std.specs.Prelude.{◌≡◌, ◌++◌, OnOk};
 ghost use Rattle.std.specs.Option.{option_map};
-ghost use Rattle.text_fields.specs.Fields.{named};
 ghost use Rattle.mcs51_fields.specs.Fronts as fields;
 
 use crate::fact::{CarryField, LinearField};
@@ -10,7 +9,7 @@ use crate::parts::{ByteField, LevelsField, OwnField, SpField, StatusField};
 use entry_value::Byte;
 use mcs51_state::{CarryFact, Levels, LinearFact, Status};
 use std::alloc::AllocError;
-use text_fields::{Field, push_named, read_front};
+use text_fields::{push_front, read_front};
 use value_set::Vs8;
 
 /// SP, A, B and DPL.
@@ -116,21 +115,6 @@ pub(crate) fn read_fields(framed: bool, text: &[u8]) -> Option<((First, (Second,
     Some(((first, (second, third)), text))
 }
 
-/// Adds a name, a value and a space.
-fn push_front<F: Field>(
-    field: &F,
-    name: &[u8],
-    value: &F::Value,
-    out: &mut Vec<u8>,
-) -> Result<(), AllocError>
-    ensures { OnOk result (out.new.items ≡ out.old.items
-        ++ ((named (F.field field.now) name.now).text value.now ++ 32 ∷ [])) }
-{
-    push_named(field, name, value, out)?;
-    out.push(b' ')?;
-    Ok(())
-}
-
 /// Adds the first group.
 pub(crate) fn push_first(
     sp: &Vs8,
@@ -142,10 +126,10 @@ pub(crate) fn push_first(
     ensures { OnOk result (out.new.items ≡ out.old.items ++ fields.first_text sp.now a.now b.now dpl.now) }
 {
     let field = ByteField { framed: true };
-    push_front(&SpField, b"SP=", sp, out)?;
-    push_front(&field, b"A=", a, out)?;
-    push_front(&field, b"B=", b, out)?;
-    push_front(&field, b"DPL=", dpl, out)
+    push_front(&SpField, b"SP=", b' ', sp, out)?;
+    push_front(&field, b"A=", b' ', a, out)?;
+    push_front(&field, b"B=", b' ', b, out)?;
+    push_front(&field, b"DPL=", b' ', dpl, out)
 }
 
 /// Adds the second group.
@@ -157,9 +141,9 @@ pub(crate) fn push_second(
 ) -> Result<(), AllocError>
     ensures { OnOk result (out.new.items ≡ out.old.items ++ fields.second_text dph.now ie.now ip.now) }
 {
-    push_front(&ByteField { framed: true }, b"DPH=", dph, out)?;
-    push_front(&ie_field(true), b"IE=", ie, out)?;
-    push_front(&ip_field(true), b"IP=", ip, out)
+    push_front(&ByteField { framed: true }, b"DPH=", b' ', dph, out)?;
+    push_front(&ie_field(true), b"IE=", b' ', ie, out)?;
+    push_front(&ip_field(true), b"IP=", b' ', ip, out)
 }
 
 /// Adds the third group.
@@ -173,8 +157,8 @@ pub(crate) fn push_third(
     ensures { OnOk result (out.new.items ≡ out.old.items
         ++ fields.third_text psw.now levels.now linear.now carry.now) }
 {
-    push_front(&StatusField { framed: true }, b"PSW=", psw, out)?;
-    push_front(&LevelsField, b"LV=", levels, out)?;
-    push_front(&LinearField, b"K=", linear, out)?;
-    push_front(&CarryField, b"F=", carry, out)
+    push_front(&StatusField { framed: true }, b"PSW=", b' ', psw, out)?;
+    push_front(&LevelsField, b"LV=", b' ', levels, out)?;
+    push_front(&LinearField, b"K=", b' ', linear, out)?;
+    push_front(&CarryField, b"F=", b' ', carry, out)
 }

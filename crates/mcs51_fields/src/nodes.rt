@@ -7,6 +7,7 @@ ghost use Rattle.mcs51_state.specs.Known.{is_interrupt};
 ghost use Rattle.mcs51_fields.specs.Nodes as nodes;
 
 use call_context::{Frame, Node};
+use node_fields::has_entry;
 
 /// Each address has 16 bits.
 fn keep_words(words: &[u16])
@@ -36,16 +37,6 @@ fn is_frame(frame: &Frame) -> bool
         Frame::Irq { vector, sp, level } => {
             *vector < 6 && is_entry_sp(*sp) && 1 <= *level && *level <= 3
         }
-    }
-}
-
-/// Whether a frame was entered at one stack pointer.
-fn has_entry(frame: &Frame) -> bool
-    ensures { result ≡ nodes.has_entry frame.now }
-{
-    match frame {
-        Frame::Irq { sp: Some(_), .. } => true,
-        _ => false,
     }
 }
 

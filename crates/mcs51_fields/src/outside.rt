@@ -6,44 +6,12 @@ ghost use Rattle.mcs51_fields.specs.Outside as fields;
 use crate::fact::{CarryField, LinearField};
 use crate::parts::{ByteField, LevelsField, SpField, StatusField};
 use crate::places::Remembered;
-use call_context::Sequence;
 use entry_value::Cells;
 use mcs51_state::{State, is_carry_within, is_linear_within};
 use no_memory::Memory;
-use state_text::Outside;
+use state_text::{Outside, told};
 use std::alloc::Global;
-use text_fields::Field;
-use value_text::{push_cells, push_ranges};
-
-/// A field with this name and these texts.
-fn named(alloc: Global, name: &[u8], posted: Vec<u8>, held: Vec<u8>) -> Result<Outside, Memory>
-    ensures { IfOk result (λ outside. outside ≡ record { field = name.now; posted = posted.items; held = held.items }) }
-{
-    let mut field = Vec::new(alloc);
-    field.extend_from_slice(name)?;
-    Ok(Outside {
-        field: Sequence::from_vec(field),
-        posted: Sequence::from_vec(posted),
-        held: Sequence::from_vec(held),
-    })
-}
-
-/// A field with this name and the texts of two values.
-fn told<F: Field>(
-    alloc: Global,
-    field: &F,
-    name: &[u8],
-    new: &F::Value,
-    held: &F::Value,
-) -> Result<Outside, Memory>
-    ensures { IfOk result (λ outside. outside ≡ fields.told name.now (F.field field.now).text new.now held.now) }
-{
-    let mut posted = Vec::new(alloc);
-    field.push(new, &mut posted)?;
-    let mut kept = Vec::new(alloc);
-    field.push(held, &mut kept)?;
-    named(alloc, name, posted, kept)
-}
+use value_text::memory_outside;
 
 /// The first of SP, A, B and DPL.
 fn first_registers<M: Cells>(
@@ -120,31 +88,6 @@ fn third_fields<M: Cells>(
     Ok(None)
 }
 
-/// The first of the cells and the touched ranges.
-fn memory_outside<M: Cells>(
-    alloc: Global,
-    new: &State<M>,
-    held: &State<M>,
-) -> Result<Option<Outside>, Memory>
-    ensures { IfOk result (λ found. found ≡ fields.memory_outside new.now held.now) }
-{
-    if !new.cells.within(&held.cells) {
-        let mut posted = Vec::new(alloc);
-        push_cells(Remembered, &new.cells, &mut posted)?;
-        let mut kept = Vec::new(alloc);
-        push_cells(Remembered, &held.cells, &mut kept)?;
-        return Ok(Some(named(alloc, b"M", posted, kept)?));
-    }
-    if !new.touched.within(&held.touched) {
-        let mut posted = Vec::new(alloc);
-        push_ranges(2, &new.touched, &mut posted)?;
-        let mut kept = Vec::new(alloc);
-        push_ranges(2, &held.touched, &mut kept)?;
-        return Ok(Some(named(alloc, b"T", posted, kept)?));
-    }
-    Ok(None)
-}
-
 /// The first field of a state that isn't within that of a held one, in the order of the text.
 #[tactic(auto, unfolding(crate::specs::Outside::outside_of))]
 pub fn first_outside<M: Cells>(
@@ -163,5 +106,12 @@ pub fn first_outside<M: Cells>(
     if let Some(field) = third_fields(alloc, new, held)? {
         return Ok(Some(field));
     }
-    memory_outside(alloc, new, held)
+    memory_outside(
+        alloc,
+        Remembered,
+        &new.cells,
+        &held.cells,
+        &new.touched,
+        &held.touched,
+    )
 }

@@ -3,13 +3,21 @@
 use Rattle.std.proofs.Common.{◌≡◌, ℕ, zero, suc, ◌+◌, ◌*◌, ◌<◌, Bool, true, false, Option, None, Some, List, [], ◌∷◌, length, get_or, refl, sym, ◌∙◌, ap, subst, inl, inr, arith, All, Contains}
 use Rattle.std.specs.Option.{option_map}
 use Rattle.std.specs.Prelude.{nat_le}
-use Rattle.std.proofs.lemmas.Bool.{cases_Bool, cases_lt, le-leb}
+use Rattle.std.proofs.lemmas.Bool.{and_parts, cases_lt, le-leb}
 use Rattle.std.proofs.Math.ListN.{get_or-eq_default}
 use Rattle.std.proofs.lemmas.List.Elements.{All-get_or}
 use Rattle.call_context.specs.declared.node.Frame.TheVariants.{Base}
 use Rattle.call_context.specs.declared.node.Node.{Node}
 use Rattle.call_context.specs.declared.node.Node.TheVariants.{At, Exit}
+use Rattle.entry_value.specs.Cells.{are_within}
+use Rattle.entry_value.specs.Words.{byte_within, is_entry_within}
 use Rattle.irq_frames.specs.Ranges.{has_address, ranges_within}
+use Rattle.known_parts.specs.Bits.{agrees_more, is_bit_within}
+use Rattle.known_parts.specs.Options.{fact_more, is_fact_within}
+use Rattle.known_parts.specs.Orders.{seven_true}
+use Rattle.known_parts.specs.Touched.{untouched_more}
+use Rattle.value_bits.specs.Pointwise.{each_passes}
+use Rattle.value_set.specs.Joining.{is_within}
 use Rattle.value_set.specs.Form.{Has, gather}
 use Rattle.value_set.specs.Summing.{single}
 use Rattle.mcs51_chip.specs.declared.state.ChipState.{ChipState}
@@ -17,49 +25,79 @@ use Rattle.mcs51_chip.specs.State.{IsChipState, IsReset, reset_with}
 use Rattle.irq_frames.specs.KnownLaws.{KnownLaws}
 use Rattle.mcs51_state.specs.Facts.{is_same_linear, is_same_carry}
 use Rattle.mcs51_state.specs.Holding.{HoldsOfLinear, HoldsOfCarry, IsSuspendedState, KeepsUntouched, HoldsOfParts, HoldsOf, Covers}
-use Rattle.mcs51_state.specs.Known.{Known, all_touched, first_known, known_within, top_known}
-use Rattle.mcs51_state.specs.Levels.{all_levels, may_serve}
+use Rattle.mcs51_state.specs.Known.{Known, all_touched, first_known, known_within, registers_within, top_known}
+use Rattle.mcs51_state.specs.Levels.{all_levels, levels_within, may_serve}
 use Rattle.mcs51_state.specs.Places.{suspended_of}
-use Rattle.mcs51_state.proofs.BitLemmas.{agrees_more}
-use Rattle.mcs51_state.proofs.FactLemmas.{linear_equality, carry_equality, fact_more}
+use Rattle.mcs51_state.proofs.FactLemmas.{linear_equality, carry_equality}
 use Rattle.mcs51_state.proofs.LevelLemmas.{serve_more}
-use Rattle.mcs51_state.proofs.Orders.{partwise}
 use Rattle.mcs51_state.proofs.StateForms.{ie_bytes, ip_bytes}
 
 -- ONE WITHIN ANOTHER
 
-has_more : KnownLaws → (a b : List (ℕ × ℕ)) (at : ℕ) → ranges_within a b ≡ true → has_address b at ≡ false → has_address a at ≡ false
-has_more laws a b at within none = elim (cases_Bool (has_address a at)) [
-  | inl some ↦ let there : has_address b at ≡ true = laws.ranges.has at a b within some in absurd (cc)
-  | inr lacks ↦ lacks
-]
+record IsPartwise (new held : Known) : Type 0 where
+  sp : is_within 256 new.sp held.sp ≡ true
+  a : byte_within new.a held.a ≡ true
+  b : byte_within new.b held.b ≡ true
+  dpl : byte_within new.dpl held.dpl ≡ true
+  dph : byte_within new.dph held.dph ≡ true
+  ie : byte_within new.ie held.ie ≡ true
+  ip : byte_within new.ip held.ip ≡ true
+  bits : each_passes is_bit_within new.psw.bits held.psw.bits ≡ true
+  relation : is_entry_within new.psw.entry held.psw.entry ≡ true
+  levels : levels_within new.levels held.levels ≡ true
+  linear_fact : is_fact_within is_same_linear new.linear_fact held.linear_fact ≡ true
+  carry_fact : is_fact_within is_same_carry new.carry_fact held.carry_fact ≡ true
+  cells : are_within new.cells.cells held.cells.cells ≡ true
+  touched : ranges_within new.touched held.touched ≡ true
 
-untouched_more : KnownLaws → (a b : List (ℕ × ℕ)) (s : ChipState) (first : Option ChipState) → ranges_within a b ≡ true → KeepsUntouched a s first → KeepsUntouched b s first
-untouched_more laws a b s None within keeps = tt
-untouched_more laws a b s (Some f) within keeps = λ at none. keeps at (has_more laws a b at within none)
+partwise : (new held : Known) → known_within new held ≡ true → IsPartwise new held
+unfolding known_within registers_within
+partwise new held within =
+    let parts = seven_true (registers_within new held) _ _ _ _ _ _ within in
+    let registers = seven_true _ _ _ _ _ _ _ parts.0 in
+    let psw = and_parts _ _ parts.1 in
+    record {
+      sp = registers.0;
+      a = registers.1;
+      b = registers.2;
+      dpl = registers.3;
+      dph = registers.4;
+      ie = registers.5;
+      ip = registers.6;
+      bits = psw.0;
+      relation = psw.1;
+      levels = parts.2;
+      linear_fact = parts.3;
+      carry_fact = parts.4;
+      cells = parts.5;
+      touched = parts.6;
+    }
+
+keeps_more : KnownLaws → (a b : List (ℕ × ℕ)) (s : ChipState) (first : Option ChipState) → ranges_within a b ≡ true → KeepsUntouched a s first → KeepsUntouched b s first
+keeps_more laws a b s None within keeps = tt
+keeps_more laws a b s (Some f) within keeps = λ at none. keeps at (untouched_more laws a b at within none)
 
 pub parts_more : (laws : KnownLaws) (new held : Known) (s : ChipState) (first : Option ChipState) → known_within new held ≡ true → HoldsOfParts new s first → HoldsOfParts held s first
 parts_more laws new held s first within holds =
     let parts = partwise new held within in
-    let registers = parts.registers in
     let under = option_map suspended_of first in
     record {
-      sp = (laws.sets.tested 256 new.sp held.sp).0 registers.sp s.sp holds.sp;
-      a = laws.values.bytes.holds under s.a new.a held.a registers.a holds.a;
-      b = laws.values.bytes.holds under s.b new.b held.b registers.b holds.b;
-      dpl = laws.values.bytes.holds under s.dpl new.dpl held.dpl registers.dpl holds.dpl;
-      dph = laws.values.bytes.holds under s.dph new.dph held.dph registers.dph holds.dph;
-      ie = λ x may. laws.values.bytes.holds under x new.ie held.ie registers.ie (holds.ie x may);
-      ip = λ x may. laws.values.bytes.holds under x new.ip held.ip registers.ip (holds.ip x may);
+      sp = (laws.sets.tested 256 new.sp held.sp).0 parts.sp s.sp holds.sp;
+      a = laws.values.bytes.holds under s.a new.a held.a parts.a holds.a;
+      b = laws.values.bytes.holds under s.b new.b held.b parts.b holds.b;
+      dpl = laws.values.bytes.holds under s.dpl new.dpl held.dpl parts.dpl holds.dpl;
+      dph = laws.values.bytes.holds under s.dph new.dph held.dph parts.dph holds.dph;
+      ie = λ x may. laws.values.bytes.holds under x new.ie held.ie parts.ie (holds.ie x may);
+      ip = λ x may. laws.values.bytes.holds under x new.ip held.ip parts.ip (holds.ip x may);
       psw = record {
         bits = agrees_more new.psw.bits held.psw.bits _ parts.bits holds.psw.bits;
-        entry = laws.values.entries.holds under s.psw new.psw.entry held.psw.entry parts.entry holds.psw.entry;
+        entry = laws.values.entries.holds under s.psw new.psw.entry held.psw.entry parts.relation holds.psw.entry;
       };
       levels = serve_more new.levels held.levels s.serves_low s.serves_high parts.levels holds.levels;
       linear_fact = fact_more is_same_linear linear_equality (λ fact. HoldsOfLinear fact s) new.linear_fact held.linear_fact parts.linear_fact tt holds.linear_fact;
       carry_fact = fact_more is_same_carry carry_equality (λ fact. HoldsOfCarry fact s) new.carry_fact held.carry_fact parts.carry_fact tt holds.carry_fact;
       cells = laws.cells.holds under (λ at. get_or s.ram at 0) new.cells.cells held.cells.cells parts.cells holds.cells;
-      untouched = untouched_more laws new.touched held.touched s first parts.touched holds.untouched;
+      untouched = keeps_more laws new.touched held.touched s first parts.touched holds.untouched;
     }
 
 pub holds_more : (laws : KnownLaws) (new held : Known) (s : ChipState) (first : Option ChipState) → known_within new held ≡ true → HoldsOf new s first → HoldsOf held s first

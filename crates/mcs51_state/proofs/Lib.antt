@@ -1,8 +1,5 @@
-pub mod BitLemmas
 pub mod LevelLemmas
 pub mod FactLemmas
-pub mod CellForms
-pub mod Unions
-pub mod Orders
 pub mod StateForms
+pub mod Orders
 pub mod Covering

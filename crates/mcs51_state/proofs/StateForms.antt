@@ -1,40 +1,49 @@
 -- The first state and the greatest have the form of states, and joins and widenings keep it.
-use Rattle.std.proofs.Common.{◌≡◌, ℕ, ◌<◌, Bool, true, false, Option, None, List, [], ◌∷◌, refl, sym, ◌∙◌, subst, arith, Contains}
-use Rattle.std.proofs.lemmas.List.Elements.{All-nil, All-cons, All-contains}
+use Rattle.std.proofs.Common.{ℕ, ◌<◌, Bool, false, Option, List, [], ◌∷◌, get_or, refl, arith, All, Contains}
+use Rattle.std.proofs.lemmas.List.Elements.{All-nil, All-cons, All-contains, All-contains_itself}
 use Rattle.entry_value.specs.declared.byte.Byte.{Byte}
 use Rattle.entry_value.specs.declared.word.Entry.{Entry}
 use Rattle.entry_value.specs.declared.cells.Cell.{Cell}
-use Rattle.entry_value.specs.Words.{common_entry}
-use Rattle.entry_value.specs.Cells.{join_cells, widen_cells}
-use Rattle.irq_frames.specs.Ranges.{AreRanges, united}
+use Rattle.entry_value.specs.CellLists.{Each, each_from, each_in}
+use Rattle.entry_value.specs.RelationFacts.{common_entry_keeps}
+use Rattle.entry_value.specs.Words.{byte_within, common_entry}
+use Rattle.entry_value.specs.Cells.{AreCells}
+use Rattle.irq_frames.specs.KnownLaws.{KnownLaws}
+use Rattle.known_parts.specs.CellForms.{StaysSo}
+use Rattle.known_parts.specs.Options.{common_fact_keeps}
+use Rattle.known_parts.specs.Orders.{IsAny, IsOrdered, Part, both_ordered, part_ordered}
+use Rattle.known_parts.specs.Parts.{AreUnions, bit_ordered, relation_ordered}
+use Rattle.known_parts.specs.Pointwise.{AreEach, each_ordered}
+use Rattle.known_parts.specs.Touched.{AreTouched, all_are_touched, touched_ordered}
+use Rattle.value_bits.specs.declared.tri.Tri.{Tri}
 use Rattle.value_set.specs.declared.form.Form.{Form}
 use Rattle.value_set.specs.Form.{IsNormal, gather}
-use Rattle.value_set.specs.Joining.{join}
 use Rattle.value_set.specs.Summing.{single}
-use Rattle.value_set.specs.Widening.{widen}
-use Rattle.value_set.specs.Laws.{AreMarks}
-use Rattle.irq_frames.specs.KnownLaws.{KnownLaws}
+use Rattle.mcs51_state.specs.declared.fact.CarryFact.{CarryFact}
+use Rattle.mcs51_state.specs.declared.fact.LinearFact.{LinearFact}
+use Rattle.mcs51_state.specs.declared.levels.Levels.{Levels}
 use Rattle.mcs51_state.specs.Facts.{is_same_linear, is_same_carry}
+use Rattle.mcs51_state.specs.FormFacts.{byte_form, no_own_relation, no_relation}
 use Rattle.mcs51_state.specs.Forms.{IsRelation, IsOwnRelation, IsByte, IsOwnByte, IsLinear, IsCarry, IsChipCell, IsKnown}
-use Rattle.mcs51_state.specs.Known.{Known, any_byte, byte_of, first_known, top_known, all_touched, byte_united, known_united, known_joined, known_widened}
+use Rattle.mcs51_state.specs.Known.{Known, any_byte, byte_of, first_known, top_known, all_touched, byte_united, known_united}
 use Rattle.mcs51_state.specs.Places.{ie_place, ip_place, psw_place}
-use Rattle.mcs51_state.proofs.BitLemmas.{length-common_bits}
-use Rattle.mcs51_state.proofs.CellForms.{common_entry_keeps, no_relation}
-use Rattle.mcs51_state.proofs.FactLemmas.{common_fact_keeps}
 use Rattle.mcs51_state.proofs.LevelLemmas.{join_levels}
-use Rattle.mcs51_state.proofs.Unions.{IsUnion, join_union, widen_union}
-
--- BYTES WITHOUT RELATIONS
-
-no_own_relation : (framed : Bool) (place unheld : ℕ) → IsOwnRelation framed place unheld None
-no_own_relation true place unheld = tt
-no_own_relation false place unheld = tt
-
-byte_form : (framed : Bool) (set : Form) → IsNormal 256 set → IsByte framed (byte_of set)
-byte_form framed set normal = record { normal = normal; entry = no_relation framed }
 
 own_form : (framed : Bool) (place unheld : ℕ) (set : Form) → IsNormal 256 set → IsOwnByte framed place unheld (byte_of set)
 own_form framed place unheld set normal = record { normal = normal; entry = no_own_relation framed place unheld }
+
+-- cells stay in form with another set, with the same relation or with none
+chip_cell_stays : (framed : Bool) → StaysSo (IsChipCell framed)
+chip_cell_stays framed = record {
+  same = λ cell set form. record { size = form.size; entry = form.entry };
+  none = λ cell set form. record { size = form.size; entry = no_relation framed };
+}
+
+each_of : (P : Cell → Type 0) (cells : List Cell) → All P cells → Each P cells
+each_of P cells all = each_from P cells (λ cell there. All-contains P cells cell all there)
+
+all_of : (P : Cell → Type 0) (cells : List Cell) → Each P cells → All P cells
+all_of P cells each = λ k d lt. each_in P cells each (get_or cells k d) (All-contains_itself cells k d lt)
 
 -- THE FIRST AND THE GREATEST
 
@@ -73,23 +82,17 @@ first_form laws framed = record {
   none_touched = λ base. refl;
 }
 
-all_touched_form : (framed : Bool) → AreRanges 0 255 (all_touched framed)
-all_touched_form true = (omega arith, omega arith, omega arith, tt)
-all_touched_form false = tt
-
-none_touched_top : (framed : Bool) → framed ≡ false → all_touched framed ≡ []
-none_touched_top true base = absurd (cc)
-none_touched_top false base = refl
-
 pub top_form : KnownLaws → (framed : Bool) → IsKnown framed (top_known framed)
 top_form laws framed =
     let normal : IsNormal 256 any_byte = laws.sets.whole_normal 256 (omega arith) in
+    let all : AreTouched 0 255 framed (all_touched framed) = all_are_touched 0 255 framed (omega arith) in
+    let byte : IsByte framed (byte_of any_byte) = byte_form framed any_byte normal in
     record {
       sp = normal;
-      a = byte_form framed any_byte normal;
-      b = byte_form framed any_byte normal;
-      dpl = byte_form framed any_byte normal;
-      dph = byte_form framed any_byte normal;
+      a = byte;
+      b = byte;
+      dpl = byte;
+      dph = byte;
       ie = own_form framed ie_place 64 any_byte normal;
       ip = own_form framed ip_place 192 any_byte normal;
       bits = refl;
@@ -101,58 +104,107 @@ top_form laws framed =
       up_to = refl;
       cells = tt;
       each_cell = All-nil (IsChipCell framed);
-      touched = all_touched_form framed;
-      none_touched = none_touched_top framed;
+      touched = all.are;
+      none_touched = all.none;
     }
 
--- WHAT IS MADE OF TWO
+-- THE PARTS
 
-united_none : (a b : List (ℕ × ℕ)) → a ≡ [] → b ≡ [] → united a b ≡ []
-united_none a b e f = subst (λ xs. united a xs ≡ []) (sym f) e
+abbrev pub IsNormalByte : Byte → Type 0
+IsNormalByte byte = IsNormal 256 byte.set
+
+module _ (framed : Bool) where
+  abbrev pub sp_part : Part (IsKnown framed) (IsNormal 256)
+  sp_part = record { of = λ known. known.sp; formed = λ known form. form.sp }
+
+  abbrev pub a_part : Part (IsKnown framed) IsNormalByte
+  a_part = record { of = λ known. known.a; formed = λ known form. form.a.normal }
+
+  abbrev pub b_part : Part (IsKnown framed) IsNormalByte
+  b_part = record { of = λ known. known.b; formed = λ known form. form.b.normal }
+
+  abbrev pub dpl_part : Part (IsKnown framed) IsNormalByte
+  dpl_part = record { of = λ known. known.dpl; formed = λ known form. form.dpl.normal }
+
+  abbrev pub dph_part : Part (IsKnown framed) IsNormalByte
+  dph_part = record { of = λ known. known.dph; formed = λ known form. form.dph.normal }
+
+  abbrev pub ie_part : Part (IsKnown framed) IsNormalByte
+  ie_part = record { of = λ known. known.ie; formed = λ known form. form.ie.normal }
+
+  abbrev pub ip_part : Part (IsKnown framed) IsNormalByte
+  ip_part = record { of = λ known. known.ip; formed = λ known form. form.ip.normal }
+
+  abbrev pub bits_part : Part (IsKnown framed) (AreEach {A = Tri} 6 IsAny)
+  bits_part = record { of = λ known. known.psw.bits; formed = λ known form. record { count = form.bits; each = λ k d lt. tt } }
+
+  abbrev pub relation_part : Part {A = Option Entry} (IsKnown framed) IsAny
+  relation_part = record { of = λ known. known.psw.entry; formed = λ known form. tt }
+
+  abbrev pub levels_part : Part {A = Levels} (IsKnown framed) IsAny
+  levels_part = record { of = λ known. known.levels; formed = λ known form. tt }
+
+  abbrev pub linear_part : Part {A = Option LinearFact} (IsKnown framed) IsAny
+  linear_part = record { of = λ known. known.linear_fact; formed = λ known form. tt }
+
+  abbrev pub carry_part : Part {A = Option CarryFact} (IsKnown framed) IsAny
+  carry_part = record { of = λ known. known.carry_fact; formed = λ known form. tt }
+
+  abbrev pub cells_part : Part (IsKnown framed) (AreCells 0 255 0)
+  cells_part = record { of = λ known. known.cells.cells; formed = λ known form. form.cells }
+
+  abbrev pub touched_part : Part (IsKnown framed) (AreTouched 0 255 framed)
+  touched_part = record { of = λ known. known.touched; formed = λ known form. record { are = form.touched; none = form.none_touched } }
+
+-- WHAT IS MADE OF TWO
 
 common_own : (framed : Bool) (place unheld : ℕ) (a b : Option Entry) → IsOwnRelation framed place unheld a → IsOwnRelation framed place unheld (common_entry a b)
 common_own framed place unheld a b own = common_entry_keeps (IsOwnRelation framed place unheld) a b (no_own_relation framed place unheld) own
 
-byte_united_form : (framed : Bool) (sets : Form → Form → Form) (held new : Byte) → IsNormal 256 (sets held.set new.set) → IsByte framed held → IsByte framed (byte_united sets held new)
-byte_united_form framed sets held new normal form = record {
-  normal = normal;
-  entry = common_entry_keeps (IsRelation framed) held.entry new.entry (no_relation framed) form.entry;
-}
+module _ (laws : KnownLaws) (sets : Form → Form → Form) (cells : List Cell → List Cell → List Cell) (unions : AreUnions 256 0 255 sets cells) where
+  pub byte_ordered : IsOrdered IsNormalByte byte_within (byte_united sets) (byte_of any_byte)
+  byte_ordered =
+      let set_part : Part IsNormalByte (IsNormal 256) = record { of = λ byte. byte.set; formed = λ byte normal. normal } in
+      let entry_part : Part {A = Option Entry} IsNormalByte IsAny = record { of = λ byte. byte.entry; formed = λ byte normal. tt } in
+      let form : (a b : Byte) → IsNormalByte a → IsNormalByte b → IsNormalByte (byte_united sets a b) = λ a b f g. unions.sets.form a.set b.set f g in
+      both_ordered (part_ordered set_part form (λ a b. refl) unions.sets) (part_ordered entry_part form (λ a b. refl) (relation_ordered laws))
 
-own_united_form : (framed : Bool) (place unheld : ℕ) (sets : Form → Form → Form) (held new : Byte) → IsNormal 256 (sets held.set new.set) → IsOwnByte framed place unheld held
-    → IsOwnByte framed place unheld (byte_united sets held new)
-own_united_form framed place unheld sets held new normal form = record {
-  normal = normal;
-  entry = common_own framed place unheld held.entry new.entry form.entry;
-}
+  module _ (framed : Bool) where
+    byte_united_form : (held new : Byte) → IsByte framed held → IsByte framed new → IsByte framed (byte_united sets held new)
+    byte_united_form held new f g = record {
+      normal = unions.sets.form held.set new.set f.normal g.normal;
+      entry = common_entry_keeps (IsRelation framed) held.entry new.entry (no_relation framed) f.entry;
+    }
 
-pub united_form : (laws : KnownLaws) (sets : Form → Form → Form) (cells : List Cell → List Cell → List Cell) → IsUnion sets cells → (framed : Bool) (held new : Known) → IsKnown framed held → IsKnown framed new
-    → IsKnown framed (known_united sets cells held new)
-united_form laws sets cells union framed held new f g = record {
-  sp = union.normal held.sp new.sp f.sp g.sp;
-  a = byte_united_form framed sets held.a new.a (union.normal held.a.set new.a.set f.a.normal g.a.normal) f.a;
-  b = byte_united_form framed sets held.b new.b (union.normal held.b.set new.b.set f.b.normal g.b.normal) f.b;
-  dpl = byte_united_form framed sets held.dpl new.dpl (union.normal held.dpl.set new.dpl.set f.dpl.normal g.dpl.normal) f.dpl;
-  dph = byte_united_form framed sets held.dph new.dph (union.normal held.dph.set new.dph.set f.dph.normal g.dph.normal) f.dph;
-  ie = own_united_form framed ie_place 64 sets held.ie new.ie (union.normal held.ie.set new.ie.set f.ie.normal g.ie.normal) f.ie;
-  ip = own_united_form framed ip_place 192 sets held.ip new.ip (union.normal held.ip.set new.ip.set f.ip.normal g.ip.normal) f.ip;
-  bits = length-common_bits held.psw.bits new.psw.bits (f.bits ∙ sym g.bits) ∙ f.bits;
-  psw = common_own framed psw_place 3 held.psw.entry new.psw.entry f.psw;
-  levels = join_levels held.levels new.levels f.levels;
-  linear_fact = common_fact_keeps is_same_linear IsLinear held.linear_fact new.linear_fact tt f.linear_fact;
-  carry_fact = common_fact_keeps is_same_carry IsCarry held.carry_fact new.carry_fact tt f.carry_fact;
-  from = f.from;
-  up_to = f.up_to;
-  cells = union.cells_form held.cells.cells new.cells.cells f.cells g.cells;
-  each_cell = union.each_cell framed held.cells.cells new.cells.cells f.each_cell;
-  touched = laws.ranges.unite_form 0 255 held.touched new.touched f.touched g.touched;
-  none_touched = λ base. united_none held.touched new.touched (f.none_touched base) (g.none_touched base);
-}
+    own_united_form : (place unheld : ℕ) (held new : Byte) → IsOwnByte framed place unheld held → IsOwnByte framed place unheld new
+        → IsOwnByte framed place unheld (byte_united sets held new)
+    own_united_form place unheld held new f g = record {
+      normal = unions.sets.form held.set new.set f.normal g.normal;
+      entry = common_own framed place unheld held.entry new.entry f.entry;
+    }
 
-pub join_form : KnownLaws → (framed : Bool) (held new : Known) → IsKnown framed held → IsKnown framed new → IsKnown framed (known_joined held new)
-unfolding known_joined
-join_form laws = united_form laws (join 256) join_cells (join_union laws)
-
-pub widen_form : KnownLaws → (framed : Bool) (marks : List ℕ) → AreMarks 256 marks → (held new : Known) → IsKnown framed held → IsKnown framed new → IsKnown framed (known_widened marks held new)
-unfolding known_widened
-widen_form laws framed marks below = united_form laws (λ h n. widen 256 h n marks) (λ h n. widen_cells h n marks) (widen_union laws marks below) framed
+    pub united_form : (held new : Known) → IsKnown framed held → IsKnown framed new → IsKnown framed (known_united sets cells held new)
+    united_form held new f g =
+        let bits = (each_ordered 6 bit_ordered).form held.psw.bits new.psw.bits ((bits_part framed).formed held f) ((bits_part framed).formed new g) in
+        let touched = (touched_ordered laws 0 255 framed).form held.touched new.touched ((touched_part framed).formed held f) ((touched_part framed).formed new g) in
+        record {
+          sp = unions.sets.form held.sp new.sp f.sp g.sp;
+          a = byte_united_form held.a new.a f.a g.a;
+          b = byte_united_form held.b new.b f.b g.b;
+          dpl = byte_united_form held.dpl new.dpl f.dpl g.dpl;
+          dph = byte_united_form held.dph new.dph f.dph g.dph;
+          ie = own_united_form ie_place 64 held.ie new.ie f.ie g.ie;
+          ip = own_united_form ip_place 192 held.ip new.ip f.ip g.ip;
+          bits = bits.count;
+          psw = common_own framed psw_place 3 held.psw.entry new.psw.entry f.psw;
+          levels = join_levels held.levels new.levels f.levels;
+          linear_fact = common_fact_keeps is_same_linear IsLinear held.linear_fact new.linear_fact tt f.linear_fact;
+          carry_fact = common_fact_keeps is_same_carry IsCarry held.carry_fact new.carry_fact tt f.carry_fact;
+          from = f.from;
+          up_to = f.up_to;
+          cells = unions.cells.form held.cells.cells new.cells.cells f.cells g.cells;
+          each_cell = all_of (IsChipCell framed) (cells held.cells.cells new.cells.cells)
+              (unions.each_cell (IsChipCell framed) (chip_cell_stays framed) held.cells.cells new.cells.cells (each_of (IsChipCell framed) held.cells.cells f.each_cell));
+          touched = touched.are;
+          none_touched = touched.none;
+        }

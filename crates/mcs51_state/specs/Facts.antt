@@ -1,12 +1,11 @@
 -- What is known of the accumulator and of CY beside their values: how an index of a table is made of a byte of RAM, and what
 -- CJNE found (Intel, MCS-51 Microcontroller Family User's Manual, "Instruction Definitions").
-use Rattle.std.specs.Prelude.{◌==◌, ◌&&◌, if◌then◌else◌, Bool, true, false, Option, None, Some}
+use Rattle.std.specs.Prelude.{◌==◌, ◌&&◌, Bool, true, false}
+pub use Rattle.known_parts.specs.Options.{common_fact, is_fact_within}
 use Rattle.mcs51_state.specs.declared.fact.LinearFact.{LinearFact}
 use Rattle.mcs51_state.specs.declared.fact.Compared.{Compared}
 use Rattle.mcs51_state.specs.declared.fact.Compared.TheVariants.{Accumulator, Ram}
 use Rattle.mcs51_state.specs.declared.fact.CarryFact.{CarryFact}
-
--- EQUAL FACTS
 
 abbrev pub is_same_linear : LinearFact → LinearFact → Bool
 is_same_linear a b = (a.place == b.place) && (a.factor == b.factor) && (a.added == b.added)
@@ -19,17 +18,3 @@ is_same_compared (Ram at) Accumulator = false
 
 abbrev pub is_same_carry : CarryFact → CarryFact → Bool
 is_same_carry a b = is_same_compared a.compared b.compared && (a.bound == b.bound)
-
--- FACTS OF ONE KIND
-
--- a fact that both have
-abbrev pub common_fact : {F : Type 0} → (F → F → Bool) → Option F → Option F → Option F
-common_fact is_same None b = None
-common_fact is_same (Some a) None = None
-common_fact is_same (Some a) (Some b) = if is_same a b then Some a else None
-
--- the second has no fact that the first one lacks
-abbrev pub is_fact_within : {F : Type 0} → (F → F → Bool) → Option F → Option F → Bool
-is_fact_within is_same a None = true
-is_fact_within is_same None (Some b) = false
-is_fact_within is_same (Some a) (Some b) = is_same a b

@@ -2,9 +2,7 @@
 -- levels may be in service, and what is kept for the return from an interrupt (value sets after G. Balakrishnan and T. Reps,
 -- "WYSINWYX: What You See Is Not What You eXecute", 2010; the registers of Intel, MCS-51 Microcontroller Family User's
 -- Manual, "Special Function Registers").
-use Rattle.std.specs.Prelude.{ℕ, ◌&&◌, if◌then◌else◌, Bool, true, false, Option, None, List, [], ◌∷◌}
-use Rattle.call_context.specs.declared.node.Frame.{Frame}
-use Rattle.call_context.specs.declared.node.Frame.TheVariants.{Base, Irq}
+use Rattle.std.specs.Prelude.{ℕ, ◌&&◌, Bool, Option, None, List, [], ◌∷◌}
 use Rattle.entry_value.specs.declared.byte.Byte.{Byte}
 use Rattle.entry_value.specs.declared.cells.Cell.{Cell}
 use Rattle.entry_value.specs.Words.{common_entry, byte_within}
@@ -16,6 +14,8 @@ use Rattle.value_set.specs.Form.{gather, make}
 use Rattle.value_set.specs.Joining.{is_within, join}
 use Rattle.value_set.specs.Summing.{single}
 use Rattle.value_set.specs.Widening.{widen}
+use Rattle.known_parts.specs.Touched as ranges
+pub use Rattle.known_parts.specs.Touched.{is_interrupt}
 use Rattle.mcs51_state.specs.declared.fact.LinearFact.{LinearFact}
 use Rattle.mcs51_state.specs.declared.fact.CarryFact.{CarryFact}
 use Rattle.mcs51_state.specs.declared.levels.Levels.{Levels}
@@ -74,12 +74,8 @@ first_known = record {
   touched = [];
 }
 
-abbrev pub is_interrupt : Frame → Bool
-is_interrupt Base = false
-is_interrupt (Irq vector sp level) = true
-
 abbrev pub all_touched : Bool → List (ℕ × ℕ)
-all_touched framed = if framed then (0, 255) ∷ [] else []
+all_touched framed = ranges.all_touched framed 0 255
 
 -- nothing is known; in an interrupt's frame all RAM may be touched
 abbrev pub top_known : (framed : Bool) → Known

@@ -1,10 +1,10 @@
 //! What is known of PSW.
 
 ghost use Rattle.std.specs.Prelude.{◌≡◌};
-ghost use Rattle.entry_value.specs.Words.{is_entry_within as is_relation_within};
 ghost use Rattle.mcs51_state.specs.Status as the_status;
 
 use entry_value::{Entry, common};
+use known_parts::{are_bits_within, common_bits, is_relation_within};
 use value_bits::Tri;
 
 /// What is known of PSW.
@@ -14,59 +14,6 @@ pub struct Status {
     pub bits: [Tri; 6],
     /// How they came from those that it had when the interrupt came.
     pub entry: Option<Entry>,
-}
-
-/// What is known in both.
-fn common_bit(a: Tri, b: Tri) -> Tri
-    ensures { result ≡ the_status.common_bit a b }
-{
-    match (a, b) {
-        (Tri::Zero, Tri::Zero) => Tri::Zero,
-        (Tri::One, Tri::One) => Tri::One,
-        _ => Tri::Either,
-    }
-}
-
-/// Whether the first knows what the second knows.
-fn is_bit_within(new: Tri, held: Tri) -> bool
-    ensures { result ≡ the_status.is_bit_within new held }
-{
-    match (new, held) {
-        (_, Tri::Either) => true,
-        (Tri::Zero, Tri::Zero) => true,
-        (Tri::One, Tri::One) => true,
-        _ => false,
-    }
-}
-
-/// What is known in both lists.
-fn common_bits(held: &[Tri; 6], new: &[Tri; 6]) -> [Tri; 6]
-    ensures { result ≡ the_status.common_bits held.now new.now }
-{
-    let mut bits = *held;
-    for i in 0..6 {
-        bits[i] = common_bit(held[i], new[i]);
-    }
-    bits
-}
-
-/// Whether each bit is within the other list's.
-fn are_bits_within(new: &[Tri; 6], held: &[Tri; 6]) -> bool
-    ensures { result ≡ the_status.are_bits_within new.now held.now }
-{
-    for i in 0..6 {
-        if !is_bit_within(new[i], held[i]) {
-            return false;
-        }
-    }
-    true
-}
-
-/// Whether the second has no relation that the first one lacks.
-fn is_entry_within(new: &Option<Entry>, held: &Option<Entry>) -> bool
-    ensures { result ≡ is_relation_within new.now held.now }
-{
-    held.is_none() || new == held
 }
 
 impl Status {
@@ -94,6 +41,6 @@ impl Status {
     pub fn within(&self, held: &Status) -> bool
         ensures { result ≡ the_status.status_within self.now held.now }
     {
-        are_bits_within(&self.bits, &held.bits) && is_entry_within(&self.entry, &held.entry)
+        are_bits_within(&self.bits, &held.bits) && is_relation_within(&self.entry, &held.entry)
     }
 }

@@ -1,3 +1,2 @@
 pub mod RegisterLemmas
-pub mod StateLemmas
 pub mod OutsideLemmas

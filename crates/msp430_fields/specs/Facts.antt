@@ -11,6 +11,7 @@ use Rattle.msp430_state.specs.Forms.{IsFact}
 use Rattle.text_fields.specs.Spelling.{Spelling, IsExact, Avoids, has_byte}
 use Rattle.text_fields.specs.Numbers.{is_digit, hex_number, hex_number_is_exact, number_avoids}
 use Rattle.text_fields.specs.Fields.{IfForm, byte_differs, one_of, one_of_is_exact, one_of_avoids, none_has, passing, passing_is_exact, passing_avoids, or_mark, or_mark_is_exact, or_mark_avoids, beside, beside_is_exact, beside_avoids, told_by, told_by_is_exact, told_by_avoids, restated, restated_is_exact, restated_avoids}
+use Rattle.text_fields.specs.Items.{IsItem}
 use Rattle.msp430_fields.specs.Places.{register_field, register_is_exact, register_avoids, register_rows}
 
 -- THE FIELD
@@ -111,15 +112,22 @@ some_avoids at no_digit no_plus no_dot no_colon no_register no_width =
     (beside_avoids 46 at (hex_number 4) width_field no_dot (number_avoids 4 at no_digit)
     (one_of_avoids width_text (Word ∷ Byte ∷ []) at no_width)))))
 
-pub fact_is_exact : IsExact fact_field
+fact_is_exact : IsExact fact_field
 fact_is_exact =
     restated_is_exact (or_mark some_fact (codes "-")) IsFact
     (or_mark_is_exact some_fact (codes "-") (λ fact form. byte_differs 45 (some_fact.text fact) (codes "-") true refl
     (λ has. true≢false (sym has ∙ some_avoids 45 refl refl refl refl refl refl fact form))) some_is_exact)
     fact_narrow fact_wide
 
-pub fact_avoids : (at : ℕ) → is_digit at ≡ false → (43 == at) ≡ false → (46 == at) ≡ false → (58 == at) ≡ false → has_byte at (codes "-") ≡ false
+fact_avoids : (at : ℕ) → is_digit at ≡ false → (43 == at) ≡ false → (46 == at) ≡ false → (58 == at) ≡ false → has_byte at (codes "-") ≡ false
     → none_has at (map (λ row. row.1) register_rows) ≡ true → none_has at (codes "w" ∷ codes "b" ∷ []) ≡ true → Avoids fact_field at
 fact_avoids at no_digit no_plus no_dot no_colon no_dash no_register no_width =
     restated_avoids (or_mark some_fact (codes "-")) IsFact at fact_narrow
     (or_mark_avoids some_fact (codes "-") at no_dash (some_avoids at no_digit no_plus no_dot no_colon no_register no_width))
+
+pub fact_item : IsItem fact_field
+fact_item = record {
+  exact = fact_is_exact;
+  no_space = fact_avoids 32 refl refl refl refl refl refl refl;
+  no_feed = fact_avoids 10 refl refl refl refl refl refl refl;
+}

@@ -4,3 +4,4 @@ pub mod Parts
 pub mod Nodes
 pub mod States
 pub mod Outside
+pub mod Fronts

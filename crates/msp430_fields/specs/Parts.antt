@@ -1,5 +1,5 @@
 -- The other parts of a state: an even stack pointer, SR with its relation, cells, and touched ranges.
-use Rattle.std.specs.Prelude.{◌≡◌, ℕ, ◌%◌, ◌<◌, ◌==◌, ◌&&◌, ◌||◌, nat_lt, if◌then◌else◌, Bool, true, false, Option, None, Some, is_none, List, [], ◌∷◌, length, bit_and, Contains}
+use Rattle.std.specs.Prelude.{◌≡◌, ◌↔◌, ℕ, ◌%◌, ◌<◌, ◌==◌, ◌&&◌, ◌||◌, nat_lt, if◌then◌else◌, Bool, true, false, Option, None, Some, is_none, List, [], ◌∷◌, length, bit_and, Contains}
 use Rattle.std.proofs.Common.{refl, sym, ◌∙◌, inl, inr, arith}
 use Rattle.std.proofs.lemmas.Bool.{and_parts, and_from, true≢false, false≢true, eqb-true, eq-eqb, ltb-true, lt-ltb}
 use Rattle.entry_value.specs.declared.cells.Cell.{Cell}
@@ -7,21 +7,20 @@ use Rattle.entry_value.specs.declared.word.Entry.{Entry}
 use Rattle.entry_value.specs.declared.word.Word.{Word}
 use Rattle.entry_value.specs.Cells.{AreCells, IsCell}
 use Rattle.entry_value.specs.CellLists.{Each, each_from, each_in, each_cell}
-use Rattle.irq_frames.specs.Ranges.{AreRanges}
 use Rattle.value_bits.specs.declared.tri.Tri.{Tri}
 use Rattle.value_set.specs.declared.form.Form.{Form}
 use Rattle.msp430_state.specs.declared.status.Status.{Status}
 use Rattle.msp430_state.specs.Forms.{AreEvenWords, IsChipCell, IsRelation, IsStatusRelation, IsWord}
-use Rattle.text_fields.specs.Spelling.{Spelling, IsExact, Avoids}
-use Rattle.text_fields.specs.Numbers.{is_digit}
-use Rattle.text_fields.specs.Fields.{IfForm, none_has, passing, passing_is_exact, passing_avoids, with_tail, with_tail_is_exact, with_tail_avoids, told_by, told_by_is_exact, told_by_avoids, restated, restated_is_exact, restated_avoids}
-use Rattle.value_text.specs.Bits.{bits_field, bits_is_exact, bits_avoids}
-use Rattle.value_text.specs.Cells.{AreCellsIn, AreRelated, cells_field, cells_is_exact, cells_avoids, is_cells_byte}
+use Rattle.text_fields.specs.Spelling.{Spelling}
+use Rattle.text_fields.specs.Fields.{IfForm, passing, with_tail, told_by, restated}
+use Rattle.text_fields.specs.Items.{IsItem, passing_item, restated_item, told_item}
+use Rattle.value_text.specs.Bits.{bits_field, bits_avoids, bits_item}
+use Rattle.value_text.specs.Cells.{AreCellsIn, AreRelated, cells_field}
 use Rattle.value_text.specs.Members.{is_even_set, evens_back, evens_only}
-use Rattle.value_text.specs.Ranges.{ranges_field, ranges_is_exact, ranges_avoids}
-use Rattle.value_text.specs.Sets.{set_field, set_is_exact, set_avoids, is_set_byte}
-use Rattle.value_text.specs.Words.{HasRelation, is_word_byte, relation_field, relation_is_exact, relation_avoids, word_field, word_is_exact, word_avoids}
-use Rattle.msp430_fields.specs.Places.{IsPlace, place_field, place_is_exact, place_avoids}
+use Rattle.value_text.specs.Memories.{cells_item}
+use Rattle.value_text.specs.Sets.{set_field, set_item}
+use Rattle.value_text.specs.Words.{HasRelation, bits_related, bits_related_item, relation_field, word_field, word_item}
+use Rattle.msp430_fields.specs.Places.{IsPlace, place_field, places}
 
 -- THE FIELDS
 
@@ -52,7 +51,7 @@ status_tailed = with_tail 64 (bits_field 9) (relation_field 4 place_field)
 
 -- the bits 8 to 0 of SR, and perhaps a relation
 abbrev pub status_field : (framed : Bool) → Spelling Status
-status_field framed = restated (told_by (passing status_tailed (λ parts. is_own_in framed parts.1)) status_of status_parts) (IsStatusIn framed)
+status_field framed = restated (told_by (bits_related 4 place_field (bits_field 9) (is_own_in framed)) status_of status_parts) (IsStatusIn framed)
 
 abbrev pub register_value : (framed : Bool) → Spelling Word
 register_value framed = restated (word_field 4 place_field framed) (IsWord framed)
@@ -67,41 +66,20 @@ AreChipCells framed lo hi cells = AreCells lo hi lo cells × ((cell : Cell) → 
 abbrev pub chip_cells : (framed : Bool) → (lo hi : ℕ) → Spelling (List Cell)
 chip_cells framed lo hi = restated (cells_field 4 place_field framed is_chip_cell lo hi) (AreChipCells framed lo hi)
 
-abbrev pub is_empty : List (ℕ × ℕ) → Bool
-is_empty [] = true
-is_empty (range ∷ ranges) = false
-
-abbrev pub AreTouched : (framed : Bool) → (lo hi : ℕ) → List (ℕ × ℕ) → Type 0
-AreTouched framed lo hi ranges = AreRanges lo hi ranges × (framed ≡ false → ranges ≡ [])
-
--- touched ranges, of which there are some in an interrupt's frame alone
-abbrev pub touched_field : (framed : Bool) → (lo hi : ℕ) → Spelling (List (ℕ × ℕ))
-touched_field framed lo hi = restated (passing (ranges_field 4 lo hi) (λ ranges. framed || is_empty ranges)) (AreTouched framed lo hi)
-
 -- RELATIONS
 
-relation_narrow : (framed : Bool) (entry : Option Entry) → IsRelation framed entry → HasRelation 4 IsPlace framed entry
-relation_narrow true None form = tt
-relation_narrow false None form = tt
-relation_narrow true (Some entry) form = form
-relation_narrow false (Some entry) form = form
-
-relation_wide : (framed : Bool) (entry : Option Entry) → HasRelation 4 IsPlace framed entry → IsRelation framed entry
-relation_wide true None form = tt
-relation_wide false None form = tt
-relation_wide true (Some entry) form = form
-relation_wide false (Some entry) form = form
+relation_is : (framed : Bool) (entry : Option Entry) → IsRelation framed entry ↔ HasRelation 4 IsPlace framed entry
+relation_is true None = ((λ form. form), (λ form. form))
+relation_is false None = ((λ form. form), (λ form. form))
+relation_is true (Some entry) = ((λ form. form), (λ form. form))
+relation_is false (Some entry) = ((λ form. form), (λ form. form))
 
 -- THE STACK POINTER
 
-pub sp_is_exact : IsExact sp_field
-sp_is_exact = restated_is_exact (passing (set_field 4) is_even_set) AreEvenWords
-    (passing_is_exact (set_field 4) is_even_set (set_is_exact 4 (omega arith)))
+pub sp_item : IsItem sp_field
+sp_item = restated_item (passing (set_field 4) is_even_set) AreEvenWords
     (λ set form. (form.normal, evens_back set form.normal form.even)) (λ set form. record { normal = form.0; even = evens_only set form.1 })
-
-pub sp_avoids : (at : ℕ) → is_set_byte at ≡ false → Avoids sp_field at
-sp_avoids at none = restated_avoids (passing (set_field 4) is_even_set) AreEvenWords at (λ set form. (form.normal, evens_back set form.normal form.even))
-    (passing_avoids (set_field 4) is_even_set at (set_avoids 4 at (omega arith) none))
+    (passing_item is_even_set (set_item 4 (omega arith)))
 
 -- SR
 
@@ -126,49 +104,21 @@ own_only true (Some entry) form test =
     let two = and_parts (bit_and entry.and 65024 == 65024) _ one.1 in
     (eqb-true entry.place 2 one.0, form.0.1.0, eqb-true (bit_and entry.and 65024) 65024 two.0, ltb-true entry.or 512 two.1)
 
-status_narrow : (framed : Bool) (status : Status) → IsStatusIn framed status
-    → (told_by (passing status_tailed (λ parts. is_own_in framed parts.1)) status_of status_parts).Form status
-status_narrow framed status form = let back = own_back framed status.entry form.1 in (((form.0, back.0), back.1), refl)
-
-status_wide : (framed : Bool) (status : Status) → (told_by (passing status_tailed (λ parts. is_own_in framed parts.1)) status_of status_parts).Form status
-    → IsStatusIn framed status
-status_wide framed status form = (form.0.0.0, own_only framed status.entry form.0.0.1 form.0.1)
-
-pub status_is_exact : (framed : Bool) → IsExact (status_field framed)
-status_is_exact framed =
-    let tested = passing status_tailed (λ parts. is_own_in framed parts.1) in
-    restated_is_exact (told_by tested status_of status_parts) (IsStatusIn framed)
-    (told_by_is_exact tested status_of status_parts
-    (passing_is_exact status_tailed (λ parts. is_own_in framed parts.1)
-    (with_tail_is_exact 64 (bits_field 9) (relation_field 4 place_field) (bits_is_exact 9) (relation_is_exact 4 place_field place_is_exact
-    (place_avoids 38 refl))
-    (bits_avoids 9 64 refl)))
-    (λ parts form. refl))
-    (status_narrow framed) (status_wide framed)
-
-pub status_avoids : (framed : Bool) (at : ℕ) → none_has at ((48 ∷ []) ∷ (49 ∷ []) ∷ (120 ∷ []) ∷ []) ≡ true → is_digit at ≡ false → (64 == at) ≡ false
-    → (38 == at) ≡ false → (124 == at) ≡ false → Avoids place_field at
-    → Avoids (status_field framed) at
-status_avoids framed at no_bit no_digit no_at no_and no_bar apart =
-    let tested = passing status_tailed (λ parts. is_own_in framed parts.1) in
-    restated_avoids (told_by tested status_of status_parts) (IsStatusIn framed) at (status_narrow framed)
-    (told_by_avoids tested status_of status_parts at
-    (passing_avoids status_tailed (λ parts. is_own_in framed parts.1) at
-    (with_tail_avoids 64 at (bits_field 9) (relation_field 4 place_field) no_at (bits_avoids 9 at no_bit)
-    (relation_avoids 4 place_field at no_digit no_and no_bar apart))))
+pub status_item : (framed : Bool) → IsItem (status_field framed)
+status_item framed =
+    let related = bits_related 4 place_field (bits_field 9) (is_own_in framed) in
+    restated_item (told_by related status_of status_parts) (IsStatusIn framed)
+    (λ status form. let back = own_back framed status.entry form.1 in (((form.0, back.0), back.1), refl))
+    (λ status form. (form.0.0.0, own_only framed status.entry form.0.0.1 form.0.1))
+    (told_item status_of status_parts (λ parts form. refl)
+    (bits_related_item 4 place_field (bits_field 9) (is_own_in framed) places (bits_item 9) (bits_avoids 9 64 refl)))
 
 -- REGISTERS
 
-pub register_value_is_exact : (framed : Bool) → IsExact (register_value framed)
-register_value_is_exact framed =
-    restated_is_exact (word_field 4 place_field framed) (IsWord framed) (word_is_exact 4 place_field framed place_is_exact (place_avoids 38 refl))
-    (λ word form. (form.normal, relation_narrow framed word.entry form.entry))
-    (λ word form. record { normal = form.0; entry = relation_wide framed word.entry form.1 })
-
-pub register_value_avoids : (framed : Bool) (at : ℕ) → is_word_byte at ≡ false → Avoids place_field at → Avoids (register_value framed) at
-register_value_avoids framed at none apart =
-    restated_avoids (word_field 4 place_field framed) (IsWord framed) at (λ word form. (form.normal, relation_narrow framed word.entry form.entry))
-    (word_avoids 4 place_field framed at none apart)
+pub register_item : (framed : Bool) → IsItem (register_value framed)
+register_item framed =
+    restated_item (word_field 4 place_field framed) (IsWord framed) (λ word form. (form.normal, (relation_is framed word.entry).0 form.entry))
+    (λ word form. record { normal = form.0; entry = (relation_is framed word.entry).1 form.1 }) (word_item 4 place_field framed places)
 
 -- CELLS
 
@@ -188,14 +138,14 @@ test_only : (framed : Bool) (cell : Cell) → HasRelation 4 IsPlace framed cell.
 test_only framed cell relation test = record {
   even = λ two. eqb-true (cell.place % 2) 0 (rw (eq-eqb cell.size 2 two) at test);
   byte = λ one. let other : (cell.size == 2) ≡ false = rw one refl in none_is cell.word.entry (rw other at test);
-  entry = relation_wide framed cell.word.entry relation;
+  entry = (relation_is framed cell.word.entry).1 relation;
 }
 
 related_back : (framed : Bool) (lo hi : ℕ) (cells : List Cell) → Each (IsCell lo hi) cells → Each (IsChipCell framed) cells
     → AreRelated 4 IsPlace framed is_chip_cell cells
 related_back framed lo hi [] are forms = tt
 related_back framed lo hi (cell ∷ cells) are forms = (
-  relation_narrow framed cell.word.entry forms.0.entry,
+  (relation_is framed cell.word.entry).0 forms.0.entry,
   test_back framed cell (cell.size == 2) refl (one_byte lo hi cell are.0) forms.0,
   related_back framed lo hi cells are.1 forms.1,
 )
@@ -208,40 +158,8 @@ cells_narrow : (framed : Bool) (lo hi : ℕ) (cells : List Cell) → AreChipCell
 cells_narrow framed lo hi cells form =
     (form.0, related_back framed lo hi cells (each_cell lo hi lo cells form.0) (each_from (IsChipCell framed) cells form.1))
 
-pub chip_cells_are_exact : (framed : Bool) (lo hi : ℕ) → hi < 65536 → IsExact (chip_cells framed lo hi)
-chip_cells_are_exact framed lo hi top =
-    restated_is_exact (cells_field 4 place_field framed is_chip_cell lo hi) (AreChipCells framed lo hi)
-    (cells_is_exact 4 place_field framed is_chip_cell lo hi top place_is_exact (place_avoids 38 refl) (place_avoids 59 refl))
-    (cells_narrow framed lo hi) (λ cells form. (form.0, each_in (IsChipCell framed) cells (related_only framed cells form.1)))
-
-pub chip_cells_avoid : (framed : Bool) (lo hi at : ℕ) → hi < 65536 → is_cells_byte at ≡ false → Avoids place_field at → Avoids (chip_cells framed lo hi) at
-chip_cells_avoid framed lo hi at top none apart =
-    restated_avoids (cells_field 4 place_field framed is_chip_cell lo hi) (AreChipCells framed lo hi) at (cells_narrow framed lo hi)
-    (cells_avoids 4 place_field framed is_chip_cell lo hi at top none apart)
-
--- TOUCHED RANGES
-
-empty_back : (framed : Bool) (ranges : List (ℕ × ℕ)) → (framed ≡ false → ranges ≡ []) → (framed || is_empty ranges) ≡ true
-empty_back true ranges none = refl
-empty_back false ranges none = rw (none refl) refl
-
-empty_only : (framed : Bool) (ranges : List (ℕ × ℕ)) → (framed || is_empty ranges) ≡ true → framed ≡ false → ranges ≡ []
-empty_only framed [] test base = refl
-empty_only true (range ∷ ranges) test base = absurd (true≢false base)
-empty_only false (range ∷ ranges) test base = absurd (false≢true test)
-
-touched_narrow : (framed : Bool) (lo hi : ℕ) (ranges : List (ℕ × ℕ)) → AreTouched framed lo hi ranges
-    → (passing (ranges_field 4 lo hi) (λ ranges. framed || is_empty ranges)).Form ranges
-touched_narrow framed lo hi ranges form = (form.0, empty_back framed ranges form.1)
-
-pub touched_is_exact : (framed : Bool) (lo hi : ℕ) → hi < 65536 → IsExact (touched_field framed lo hi)
-touched_is_exact framed lo hi top =
-    restated_is_exact (passing (ranges_field 4 lo hi) (λ ranges. framed || is_empty ranges)) (AreTouched framed lo hi)
-    (passing_is_exact (ranges_field 4 lo hi) (λ ranges. framed || is_empty ranges) (ranges_is_exact 4 lo hi (omega arith) top))
-    (touched_narrow framed lo hi) (λ ranges form. (form.0, empty_only framed ranges form.1))
-
-pub touched_avoids : (framed : Bool) (lo hi at : ℕ) → hi < 65536 → is_digit at ≡ false → (44 == at) ≡ false → (45 == at) ≡ false
-    → Avoids (touched_field framed lo hi) at
-touched_avoids framed lo hi at top no_digit no_comma no_dash =
-    restated_avoids (passing (ranges_field 4 lo hi) (λ ranges. framed || is_empty ranges)) (AreTouched framed lo hi) at (touched_narrow framed lo hi)
-    (passing_avoids (ranges_field 4 lo hi) (λ ranges. framed || is_empty ranges) at (ranges_avoids 4 lo hi at top no_digit no_comma no_dash))
+pub chip_cells_item : (framed : Bool) (lo hi : ℕ) → hi < 65536 → IsItem (chip_cells framed lo hi)
+chip_cells_item framed lo hi top =
+    restated_item (cells_field 4 place_field framed is_chip_cell lo hi) (AreChipCells framed lo hi) (cells_narrow framed lo hi)
+    (λ cells form. (form.0, each_in (IsChipCell framed) cells (related_only framed cells form.1)))
+    (cells_item 4 place_field framed is_chip_cell lo hi top places)

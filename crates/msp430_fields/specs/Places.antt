@@ -1,11 +1,12 @@
 -- The names of the places that a relation may name, and of the registers that a fact of the flags may name.
-use Rattle.std.specs.Prelude.{◌≡◌, ℕ, zero, suc, ◌<◌, ◌==◌, ◌&&◌, ◌||◌, nat_lt, not, Bool, true, false, List, [], ◌∷◌, codes, map}
-use Rattle.std.specs.List.{list_all}
-use Rattle.std.proofs.Common.{refl, sym, subst, inl, inr, arith}
-use Rattle.std.proofs.lemmas.Bool.{cases_Bool, and_parts, and_from, or_cases, false≢true, eqb-true, eqb-false, ltb-true, lt-ltb}
+use Rattle.std.specs.Prelude.{◌≡◌, ℕ, ◌<◌, ◌==◌, ◌&&◌, ◌||◌, nat_lt, not, Bool, true, List, [], ◌∷◌, codes, map}
+use Rattle.std.proofs.Common.{refl, inl, inr, arith}
+use Rattle.std.proofs.lemmas.Bool.{and_parts, and_from, or_cases, eqb-true, ltb-true, lt-ltb}
 use Rattle.msp430_state.specs.Forms.{is_place}
 use Rattle.text_fields.specs.Spelling.{Spelling, IsExact, Avoids}
-use Rattle.text_fields.specs.Fields.{one_named, one_named_is_exact, one_named_avoids, is_named, none_has, restated, restated_is_exact, restated_avoids}
+use Rattle.plain_lemmas.specs.Cases.{implied}
+use Rattle.value_text.specs.Words.{ArePlaces}
+use Rattle.text_fields.specs.Fields.{below_passes, named_passes, one_named, one_named_is_exact, one_named_avoids, is_named, none_has, restated, restated_is_exact, restated_avoids}
 
 -- R4 to R15
 abbrev pub register_rows : List (ℕ × List ℕ)
@@ -31,30 +32,6 @@ register_field = restated (one_named register_rows) IsRegister
 
 -- LAWS
 
-abbrev passes_below : (ℕ → Bool) → ℕ → Bool
-passes_below test zero = true
-passes_below test (suc n) = test n && passes_below test n
-
-below_passes : (test : ℕ → Bool) (k n : ℕ) → passes_below test k ≡ true → n < k → test n ≡ true
-below_passes test zero n all less = absurd (omega (arith, less))
-below_passes test (suc k) n all less = elim (cases_Bool (n == k)) [
-  | inl same ↦ subst (λ m. test m ≡ true) (sym (eqb-true n k same)) (and_parts (test k) (passes_below test k) all).0
-  | inr other ↦ below_passes test k n (and_parts (test k) (passes_below test k) all).1 (omega (arith, less, eqb-false n k other))
-]
-
-named_passes : (test : ℕ → Bool) (rows : List (ℕ × List ℕ)) (n : ℕ) → list_all (λ row. test row.0) rows ≡ true → is_named rows n ≡ true → test n ≡ true
-named_passes test [] n all is = absurd (false≢true is)
-named_passes test (row ∷ rows) n all is =
-    let parts = and_parts (test row.0) (list_all (λ row. test row.0) rows) all in
-    elim (or_cases (row.0 == n) (is_named rows n) is) [
-      | inl here ↦ subst (λ m. test m ≡ true) (eqb-true row.0 n here) parts.0
-      | inr later ↦ named_passes test rows n parts.1 later
-    ]
-
-implied : (a b : Bool) → (not a || b) ≡ true → a ≡ true → b ≡ true
-implied true b either is = either
-implied false b either is = absurd (false≢true is)
-
 place_below : (n : ℕ) → is_place n ≡ true → n < 16
 place_below n is = elim (or_cases ((n == 0) || (n == 2)) (nat_lt 3 n && nat_lt n 16) is) [
   | inl low ↦ elim (or_cases (n == 0) (n == 2) low) [ inl first ↦ omega (arith, eqb-true n 0 first) | inr second ↦ omega (arith, eqb-true n 2 second) ]
@@ -70,8 +47,17 @@ pub place_is_exact : IsExact place_field
 place_is_exact = restated_is_exact (one_named place_rows) IsPlace (one_named_is_exact place_rows refl) place_narrow
     (λ n is. named_passes is_place place_rows n refl is)
 
-pub place_avoids : (at : ℕ) → none_has at (map (λ row. row.1) place_rows) ≡ true → Avoids place_field at
+place_avoids : (at : ℕ) → none_has at (map (λ row. row.1) place_rows) ≡ true → Avoids place_field at
 place_avoids at none = restated_avoids (one_named place_rows) IsPlace at place_narrow (one_named_avoids place_rows at none)
+
+pub places : ArePlaces place_field
+places = record {
+  exact = place_is_exact;
+  apart = place_avoids 38 refl;
+  parted = place_avoids 59 refl;
+  no_space = place_avoids 32 refl;
+  no_feed = place_avoids 10 refl;
+}
 
 abbrev is_register : ℕ → Bool
 is_register n = nat_lt 3 n && nat_lt n 16

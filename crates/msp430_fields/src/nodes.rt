@@ -7,6 +7,7 @@ ghost use Rattle.msp430_state.specs.Known.{is_interrupt};
 ghost use Rattle.msp430_fields.specs.Nodes as nodes;
 
 use call_context::{Frame, Node};
+use node_fields::has_entry;
 
 /// Whether an address is even.
 fn is_even_word(word: u16) -> bool
@@ -44,16 +45,6 @@ fn is_frame(frame: &Frame) -> bool
     match frame {
         Frame::Base => true,
         Frame::Irq { vector, sp, level } => *vector < 14 && is_entry_sp(*sp) && *level == 0,
-    }
-}
-
-/// Whether a frame was entered at one stack pointer.
-fn has_entry(frame: &Frame) -> bool
-    ensures { result ≡ nodes.has_entry frame.now }
-{
-    match frame {
-        Frame::Irq { sp: Some(_), .. } => true,
-        _ => false,
     }
 }
 

@@ -1,51 +1,19 @@
 //! The first field of a state that isn't within that of another.
 
 ghost use Rattle.std.specs.Prelude.{◌≡◌, IfOk};
-ghost use Rattle.value_text.specs.Cells.{cells_text};
 ghost use Rattle.msp430_fields.specs.Outside as fields;
-ghost use Rattle.msp430_fields.specs.Places.{place_field, register_rows};
+ghost use Rattle.msp430_fields.specs.Places.{register_rows};
 
 use crate::fact::{FactField, register_name};
 use crate::parts::{BitField, SpField, StatusField, WordField};
 use crate::places::Registers;
-use call_context::Sequence;
 use entry_value::{Cells, Word};
-use msp430_state::{State, is_bit_within, is_fact_within};
+use known_parts::is_bit_within;
+use msp430_state::{State, is_fact_within};
 use no_memory::Memory;
-use state_text::Outside;
+use state_text::{Outside, told};
 use std::alloc::Global;
-use text_fields::Field;
-use value_text::{push_cells, push_ranges};
-
-/// A field with this name and these texts.
-fn named(alloc: Global, name: &[u8], posted: Vec<u8>, held: Vec<u8>) -> Result<Outside, Memory>
-    ensures { IfOk result (λ outside. outside ≡ record { field = name.now; posted = posted.items; held = held.items }) }
-{
-    let mut field = Vec::new(alloc);
-    field.extend_from_slice(name)?;
-    Ok(Outside {
-        field: Sequence::from_vec(field),
-        posted: Sequence::from_vec(posted),
-        held: Sequence::from_vec(held),
-    })
-}
-
-/// A field with this name and the texts of two values.
-fn told<F: Field>(
-    alloc: Global,
-    field: &F,
-    name: &[u8],
-    new: &F::Value,
-    held: &F::Value,
-) -> Result<Outside, Memory>
-    ensures { IfOk result (λ outside. outside ≡ fields.told name.now (F.field field.now).text new.now held.now) }
-{
-    let mut posted = Vec::new(alloc);
-    field.push(new, &mut posted)?;
-    let mut kept = Vec::new(alloc);
-    field.push(held, &mut kept)?;
-    named(alloc, name, posted, kept)
-}
+use value_text::memory_outside;
 
 /// The first of SP, SR and the late interrupt.
 fn head_outside<M: Cells>(
@@ -99,31 +67,6 @@ fn fact_outside<M: Cells>(
     Ok(None)
 }
 
-/// The first of the cells and the touched ranges.
-fn memory_outside<M: Cells>(
-    alloc: Global,
-    new: &State<M>,
-    held: &State<M>,
-) -> Result<Option<Outside>, Memory>
-    ensures { IfOk result (λ found. found ≡ fields.memory_outside new.now held.now) }
-{
-    if !new.cells.within(&held.cells) {
-        let mut posted = Vec::new(alloc);
-        push_cells(Registers, &new.cells, &mut posted)?;
-        let mut kept = Vec::new(alloc);
-        push_cells(Registers, &held.cells, &mut kept)?;
-        return Ok(Some(named(alloc, b"M", posted, kept)?));
-    }
-    if !new.touched.within(&held.touched) {
-        let mut posted = Vec::new(alloc);
-        push_ranges(4, &new.touched, &mut posted)?;
-        let mut kept = Vec::new(alloc);
-        push_ranges(4, &held.touched, &mut kept)?;
-        return Ok(Some(named(alloc, b"T", posted, kept)?));
-    }
-    Ok(None)
-}
-
 /// The first field of a state that isn't within that of a held one, in the order of the text.
 #[tactic(auto, unfolding(crate::specs::Outside::outside_of))]
 pub fn first_outside<M: Cells>(
@@ -142,5 +85,12 @@ pub fn first_outside<M: Cells>(
     if let Some(field) = fact_outside(alloc, new, held)? {
         return Ok(Some(field));
     }
-    memory_outside(alloc, new, held)
+    memory_outside(
+        alloc,
+        Registers,
+        &new.cells,
+        &held.cells,
+        &new.touched,
+        &held.touched,
+    )
 }

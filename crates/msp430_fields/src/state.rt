@@ -1,9 +1,8 @@
 //! States.
 
-ghost use Rattle.std.specs.Prelude.{◌≡◌, ◌≤◌, ◌++◌, ◌∷◌, [], ℕ, List, true, IfOk, OnOk};
-ghost use Rattle.text_fields.specs.Fields.{named};
-ghost use Rattle.entry_value.specs.Cells.{CellMap};
+ghost use Rattle.std.specs.Prelude.{◌≡◌, ◌≤◌, ◌++◌, IfOk, OnOk};
 ghost use Rattle.std.specs.Option.{option_map};
+ghost use Rattle.msp430_fields.specs.Fronts.{fields_in_front};
 ghost use Rattle.msp430_fields.specs.States as fields;
 
 use crate::fact::FactField;
@@ -12,77 +11,40 @@ use crate::parts::{BitField, SpField, StatusField};
 use crate::places::Registers;
 use crate::registers::{push_registers, read_registers};
 use call_context::Node;
-use entry_value::Cells;
-use irq_frames::Ranges;
-use msp430_state::State;
+use entry_value::{Cells, Word};
+use msp430_state::{FlagFact, State, Status};
 use no_memory::Memory;
 use std::alloc::{AllocError, Global};
-use text_fields::{Field, behind, cut, push_named, read_front};
-use value_text::{push_cells, push_ranges, read_cells, read_ranges};
+use text_fields::{push_front, read_front};
+use value_bits::Tri;
+use value_set::Vs16;
+use value_text::{push_memory, read_memory};
 
-/// Touched ranges, of which there are some in an interrupt's frame alone.
-fn read_touched(
-    alloc: Global,
-    framed: bool,
-    lo: u16,
-    hi: u16,
-    text: &[u8],
-) -> Result<Option<Ranges>, Memory>
-    ensures { IfOk result (λ found. found ≡ (fields.touched_named framed lo hi).value text.now) }
-{
-    let Some(text) = behind(b"T=", text) else {
-        return Ok(None);
-    };
-    let Some(touched) = read_ranges(alloc, 4, lo, hi, text)? else {
-        return Ok(None);
-    };
-    if framed || touched.list().is_empty() {
-        Ok(Some(touched))
-    } else {
-        Ok(None)
-    }
-}
+/// What stands in front of the memory: SP, SR, L, R4 to R15, and F.
+type Front = (Vs16, (Status, (Tri, ([Word; 12], Option<FlagFact>))));
 
-/// The cells of RAM in front of a text, and the text behind them.
-fn read_front_cells<M: Cells>(
-    alloc: Global,
-    framed: bool,
-    lo: u16,
-    hi: u16,
-    text: &[u8],
-) -> Result<Option<M>, Memory>
-    requires { lo ≤ hi }
-    ensures { IfOk result (λ found. option_map (λ cells. M.map cells) found
-        ≡ option_map (fields.map_of lo hi) ((fields.cells_named framed lo hi).value text.now)) }
+/// The fields in front of a text, and the text behind them.
+fn read_fields(framed: bool, text: &[u8]) -> Option<(Front, &[u8])>
+    ensures { option_map (λ x. (x.0, x.1.now)) result ≡ fields_in_front framed text.now }
 {
-    let Some(text) = behind(b"M=", text) else {
-        return Ok(None);
+    let Some(front) = read_front(&SpField, b"SP=", b' ', text) else {
+        return None;
     };
-    read_cells(alloc, Registers, framed, lo, hi, text)
-}
-
-/// The cells of RAM, and the touched ranges.
-fn read_memory<M: Cells>(
-    alloc: Global,
-    framed: bool,
-    lo: u16,
-    hi: u16,
-    text: &[u8],
-) -> Result<Option<(M, Ranges)>, Memory>
-    requires { lo ≤ hi }
-    ensures { IfOk result (λ found. option_map {U = CellMap × List (ℕ × ℕ)} (λ x. (M.map x.0, x.1)) found
-        ≡ option_map (fields.memory_of lo hi) ((fields.memory_field framed lo hi).value text.now)) }
-{
-    let Some((cells, touched)) = cut(text, b' ') else {
-        return Ok(None);
+    let (sp, text) = front;
+    let Some((status, text)) = read_front(&StatusField { framed }, b"SR=", b' ', text) else {
+        return None;
     };
-    let Some(cells) = read_front_cells(alloc, framed, lo, hi, cells)? else {
-        return Ok(None);
+    let Some((late, text)) = read_front(&BitField, b"L=", b' ', text) else {
+        return None;
     };
-    let Some(touched) = read_touched(alloc, framed, lo, hi, touched)? else {
-        return Ok(None);
+    let Some(front) = read_registers(framed, text) else {
+        return None;
     };
-    Ok(Some((cells, touched)))
+    let (registers, text) = front;
+    let Some((fact, text)) = read_front(&FactField, b"F=", b' ', text) else {
+        return None;
+    };
+    Some(((sp, (status, (late, (registers, fact)))), text))
 }
 
 /// The state that a text spells, in an interrupt's frame or in none, with RAM from an address to another.
@@ -96,24 +58,11 @@ fn read_known<M: Cells>(
     requires { lo ≤ hi }
     ensures { IfOk result (λ found. found ≡ (fields.known_field framed lo hi).value text.now) }
 {
-    let Some(front) = read_front(&SpField, b"SP=", b' ', text) else {
+    let Some(front) = read_fields(framed, text) else {
         return Ok(None);
     };
-    let (sp, text) = front;
-    let Some((status, text)) = read_front(&StatusField { framed }, b"SR=", b' ', text) else {
-        return Ok(None);
-    };
-    let Some((late, text)) = read_front(&BitField, b"L=", b' ', text) else {
-        return Ok(None);
-    };
-    let Some(front) = read_registers(framed, text) else {
-        return Ok(None);
-    };
-    let (registers, text) = front;
-    let Some((fact, text)) = read_front(&FactField, b"F=", b' ', text) else {
-        return Ok(None);
-    };
-    let Some((cells, touched)) = read_memory(alloc, framed, lo, hi, text)? else {
+    let ((sp, (status, (late, (registers, fact)))), text) = front;
+    let Some((cells, touched)) = read_memory(alloc, Registers, framed, lo, hi, text)? else {
         return Ok(None);
     };
     Ok(Some(State {
@@ -144,40 +93,20 @@ pub fn read_state<M: Cells>(
     read_known(alloc, is_framed(node), lo, hi, text)
 }
 
-/// Adds the cells of RAM, and the touched ranges.
-fn push_memory<M: Cells>(state: &State<M>, out: &mut Vec<u8>) -> Result<(), AllocError>
-    ensures { OnOk result (out.new.items ≡ out.old.items
-        ++ (fields.memory_field true 0 0).text (state.now.cells.cells, state.now.touched)) }
-{
-    out.extend_from_slice(b"M=")?;
-    push_cells(Registers, &state.cells, out)?;
-    out.extend_from_slice(b" T=")?;
-    push_ranges(4, &state.touched, out)
-}
-
-/// Adds a name, a value and a space.
-fn push_front<F: Field>(
-    field: &F,
-    name: &[u8],
-    value: &F::Value,
-    out: &mut Vec<u8>,
-) -> Result<(), AllocError>
-    ensures { OnOk result (out.new.items ≡ out.old.items
-        ++ ((named (F.field field.now) name.now).text value.now ++ 32 ∷ [])) }
-{
-    push_named(field, name, value, out)?;
-    out.push(b' ')?;
-    Ok(())
-}
-
 /// Adds a state.
 pub fn push_state<M: Cells>(state: &State<M>, out: &mut Vec<u8>) -> Result<(), AllocError>
     ensures { OnOk result (out.new.items ≡ out.old.items ++ fields.known_text state.now) }
 {
-    push_front(&SpField, b"SP=", &state.sp, out)?;
-    push_front(&StatusField { framed: true }, b"SR=", &state.status, out)?;
-    push_front(&BitField, b"L=", &state.late, out)?;
+    push_front(&SpField, b"SP=", b' ', &state.sp, out)?;
+    push_front(
+        &StatusField { framed: true },
+        b"SR=",
+        b' ',
+        &state.status,
+        out,
+    )?;
+    push_front(&BitField, b"L=", b' ', &state.late, out)?;
     push_registers(&state.registers, out)?;
-    push_front(&FactField, b"F=", &state.fact, out)?;
-    push_memory(state, out)
+    push_front(&FactField, b"F=", b' ', &state.fact, out)?;
+    push_memory(Registers, &state.cells, &state.touched, out)
 }

@@ -1,8 +1,8 @@
 -- A state that stands under what is known stands under all that this is within, and each reset state under the first.
-use Rattle.std.proofs.Common.{◌≡◌, ℕ, ◌-◌, ◌<◌, ◌≤◌, Bool, true, false, Option, None, Some, List, [], length, get_or, refl, sym, subst, inl, inr, arith, All}
+use Rattle.std.proofs.Common.{◌≡◌, ℕ, ◌-◌, ◌<◌, ◌≤◌, Bool, true, Option, None, Some, List, [], length, get_or, refl, sym, subst, arith, All}
 use Rattle.std.specs.Prelude.{nat_le}
 use Rattle.std.specs.Option.{option_map}
-use Rattle.std.proofs.lemmas.Bool.{and_parts, cases_Bool, cond_both, leb-true}
+use Rattle.std.proofs.lemmas.Bool.{and_parts, cond_both, leb-true}
 use Rattle.std.proofs.lemmas.List.{get_or-replicate}
 use Rattle.std.proofs.lemmas.List.Elements.{All-get_or}
 use Rattle.call_context.specs.declared.node.Frame.TheVariants.{Base}
@@ -16,28 +16,55 @@ use Rattle.msp430_chip.specs.declared.state.ChipState.{ChipState}
 use Rattle.msp430_chip.specs.Memory.{is_ram}
 use Rattle.msp430_chip.specs.State.{register_of, reset_address, ram_size, IsResetOf}
 use Rattle.irq_frames.specs.KnownLaws.{KnownLaws}
+use Rattle.known_parts.specs.Bits.{agrees_more, flag_more, is_bit_within}
+use Rattle.known_parts.specs.Options.{fact_more}
+use Rattle.known_parts.specs.Orders.{seven_true}
+use Rattle.known_parts.specs.Pointwise.{passes_at}
+use Rattle.known_parts.specs.Touched.{untouched_more}
+use Rattle.value_bits.specs.Pointwise.{each_passes}
+use Rattle.value_set.specs.Joining.{is_within}
+use Rattle.entry_value.specs.Words.{is_entry_within}
+use Rattle.entry_value.specs.Cells.{are_within}
+use Rattle.msp430_state.specs.Facts.{is_fact_within, is_same_fact}
 use Rattle.msp430_state.specs.Forms.{IsKnown}
 use Rattle.msp430_state.specs.Holding.{suspended_of, ram_byte, HoldsOfStatus, HoldsOfFact, KeepsUntouched, HoldsOfParts, HoldsOf, Covers}
 use Rattle.msp430_state.specs.Known.{Known, word_of, first_known, known_within}
-use Rattle.irq_frames.specs.Ranges.{has_address, ranges_within}
+use Rattle.irq_frames.specs.Ranges.{ranges_within}
 use Rattle.msp430_state.specs.Status.{status_of}
-use Rattle.msp430_state.proofs.BitLemmas.{agrees_more, flag_more}
 use Rattle.msp430_state.proofs.EvenWords.{even_words_have}
-use Rattle.msp430_state.proofs.FactLemmas.{fact_more}
-use Rattle.msp430_state.proofs.Orders.{partwise}
-use Rattle.msp430_state.proofs.Pointwise.{passes_at}
+use Rattle.msp430_state.proofs.FactLemmas.{fact_equality}
 
 -- ONE WITHIN ANOTHER
 
-has_more : KnownLaws → (a b : List (ℕ × ℕ)) (at : ℕ) → ranges_within a b ≡ true → has_address b at ≡ false → has_address a at ≡ false
-has_more laws a b at within none = elim (cases_Bool (has_address a at)) [
-  | inl some ↦ let there : has_address b at ≡ true = laws.ranges.has at a b within some in absurd (cc)
-  | inr lacks ↦ lacks
-]
+record IsPartwise (new held : Known) : Type 0 where
+  sp : is_within 65536 new.sp held.sp ≡ true
+  bits : each_passes is_bit_within new.status.bits held.status.bits ≡ true
+  relation : is_entry_within new.status.entry held.status.entry ≡ true
+  late : is_bit_within new.late held.late ≡ true
+  words : each_passes word_within new.registers held.registers ≡ true
+  fact : is_fact_within new.fact held.fact ≡ true
+  cells : are_within new.cells.cells held.cells.cells ≡ true
+  touched : ranges_within new.touched held.touched ≡ true
 
-untouched_more : KnownLaws → (device : Device) (a b : List (ℕ × ℕ)) (ram : List ℕ) (first : Option ChipState) → ranges_within a b ≡ true → KeepsUntouched device a ram first → KeepsUntouched device b ram first
-untouched_more laws device a b ram None within keeps = tt
-untouched_more laws device a b ram (Some f) within keeps = λ at none. keeps at (has_more laws a b at within none)
+partwise : (new held : Known) → known_within new held ≡ true → IsPartwise new held
+unfolding known_within
+partwise new held within =
+    let parts = seven_true _ _ _ _ _ _ _ within in
+    let status = and_parts _ _ parts.1 in
+    record {
+      sp = parts.0;
+      bits = status.0;
+      relation = status.1;
+      late = parts.2;
+      words = parts.3;
+      fact = parts.4;
+      cells = parts.5;
+      touched = parts.6;
+    }
+
+keeps_more : KnownLaws → (device : Device) (a b : List (ℕ × ℕ)) (ram : List ℕ) (first : Option ChipState) → ranges_within a b ≡ true → KeepsUntouched device a ram first → KeepsUntouched device b ram first
+keeps_more laws device a b ram None within keeps = tt
+keeps_more laws device a b ram (Some f) within keeps = λ at none. keeps at (untouched_more laws a b at within none)
 
 pub parts_more : (laws : KnownLaws) (device : Device) (lo hi : ℕ) (framed : Bool) (a b : Known) (first : Option ChipState) (registers ram : List ℕ) → IsKnown lo hi framed a → known_within a b ≡ true
     → HoldsOfParts device a first registers ram → HoldsOfParts device b first registers ram
@@ -48,15 +75,15 @@ parts_more laws device lo hi framed a b first registers ram form within holds =
       sp = (laws.sets.tested 65536 a.sp b.sp).0 parts.sp (get_or registers 1 0) holds.sp;
       status = record {
         bits = agrees_more a.status.bits b.status.bits (get_or registers 2 0) parts.bits holds.status.bits;
-        entry = laws.values.entries.holds under (get_or registers 2 0) a.status.entry b.status.entry parts.status holds.status.entry;
+        entry = laws.values.entries.holds under (get_or registers 2 0) a.status.entry b.status.entry parts.relation holds.status.entry;
       };
       words = λ register low high.
           let inside : register - 4 < length a.registers = omega (arith, form.count) in
           laws.values.words.holds under (get_or registers register 0) (word_of a register) (word_of b register)
           (passes_at word_within a.registers b.registers (register - 4) (unknown 2) inside parts.words) (holds.words register low high);
-      fact = fact_more (λ fact. HoldsOfFact fact registers) a.fact b.fact parts.fact tt holds.fact;
+      fact = fact_more is_same_fact fact_equality (λ fact. HoldsOfFact fact registers) a.fact b.fact parts.fact tt holds.fact;
       cells = laws.cells.holds under (ram_byte device ram) a.cells.cells b.cells.cells parts.cells holds.cells;
-      untouched = untouched_more laws device a.touched b.touched ram first parts.touched holds.untouched;
+      untouched = keeps_more laws device a.touched b.touched ram first parts.touched holds.untouched;
     }
 
 pub holds_more : (laws : KnownLaws) (device : Device) (lo hi : ℕ) (framed : Bool) (a b : Known) (s : ChipState) (first : Option ChipState) → IsKnown lo hi framed a → known_within a b ≡ true

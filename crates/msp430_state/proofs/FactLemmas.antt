@@ -1,10 +1,11 @@
--- Facts that one state has and another one has too.
-use Rattle.std.proofs.Common.{◌≡◌, ℕ, ◌==◌, ◌&&◌, true, Option, None, Some, refl, sym, ap, ◌∙◌, subst}
-use Rattle.std.proofs.lemmas.Bool.{and_from, and_parts, cond_both, eqb-true, eq-eqb}
+-- When two facts of the flags are the same.
+use Rattle.std.proofs.Common.{◌≡◌, ℕ, ◌==◌, ◌&&◌, true, refl, ap, ◌∙◌}
+use Rattle.std.proofs.lemmas.Bool.{and_from, and_parts, eqb-true, eq-eqb}
 use Rattle.msp430_decode.specs.declared.instr.Width.{Width}
 use Rattle.msp430_decode.specs.declared.instr.Width.TheVariants.{Word, Byte}
 use Rattle.msp430_state.specs.declared.fact.FlagFact.{FlagFact}
-use Rattle.msp430_state.specs.Facts.{is_same_width, is_same_fact, common_fact, is_fact_within}
+use Rattle.known_parts.specs.Options.{IsEquality}
+use Rattle.msp430_state.specs.Facts.{is_same_width, is_same_fact}
 
 width_itself : (a : Width) → is_same_width a a ≡ true
 width_itself Word = refl
@@ -27,7 +28,7 @@ same_itself a =
     (eq-eqb a.compared a.compared refl))
     (width_itself a.width)
 
-pub same_is : (a b : FlagFact) → is_same_fact a b ≡ true → a ≡ b
+same_is : (a b : FlagFact) → is_same_fact a b ≡ true → a ≡ b
 same_is a b h =
     let register = a.register == b.register in
     let added = a.added == b.added in
@@ -43,41 +44,5 @@ same_is a b h =
     ap (λ x. made x a.added a.compared a.width) r ∙ ap (λ x. made b.register x a.compared a.width) k
     ∙ ap (λ x. made b.register b.added x a.width) n ∙ ap (made b.register b.added b.compared) w
 
-pub fact_itself : (a : Option FlagFact) → is_fact_within a a ≡ true
-fact_itself None = refl
-fact_itself (Some a) = same_itself a
-
-pub fact_along : (a b c : Option FlagFact) → is_fact_within a b ≡ true → is_fact_within b c ≡ true → is_fact_within a c ≡ true
-fact_along None b None h k = refl
-fact_along (Some a) b None h k = refl
-fact_along None None (Some c) h k = absurd (cc)
-fact_along (Some a) None (Some c) h k = absurd (cc)
-fact_along None (Some b) (Some c) h k = absurd (cc)
-fact_along (Some a) (Some b) (Some c) h k = subst (λ fact. is_same_fact fact c ≡ true) (sym (same_is a b h)) k
-
-pub fact_first : (a b : Option FlagFact) → is_fact_within a (common_fact a b) ≡ true
-fact_first None b = refl
-fact_first (Some a) None = refl
-fact_first (Some a) (Some b) = cond_both (is_same_fact a b) (Some a) None (λ fact. is_fact_within (Some a) fact ≡ true) (λ e. same_itself a) (λ e. refl)
-
-pub fact_second : (a b : Option FlagFact) → is_fact_within b (common_fact a b) ≡ true
-fact_second None None = refl
-fact_second None (Some b) = refl
-fact_second (Some a) None = refl
-fact_second (Some a) (Some b) = cond_both (is_same_fact a b) (Some a) None (λ fact. is_fact_within (Some b) fact ≡ true)
-    (λ e. subst (λ fact. is_same_fact b fact ≡ true) (sym (same_is a b e)) (same_itself b)) (λ e. refl)
-
-pub fact_top : (a : Option FlagFact) → is_fact_within a None ≡ true
-fact_top None = refl
-fact_top (Some a) = refl
-
--- what both have is nothing, or what the first has
-pub common_fact_keeps : (P : Option FlagFact → Type 0) (a b : Option FlagFact) → P None → P a → P (common_fact a b)
-common_fact_keeps P None b none some = none
-common_fact_keeps P (Some a) None none some = none
-common_fact_keeps P (Some a) (Some b) none some = cond_both (is_same_fact a b) (Some a) None P (λ e. some) (λ e. none)
-
-pub fact_more : (P : Option FlagFact → Type 0) (a b : Option FlagFact) → is_fact_within a b ≡ true → P None → P a → P b
-fact_more P a None h none some = none
-fact_more P None (Some b) h none some = absurd (cc)
-fact_more P (Some a) (Some b) h none some = subst (λ fact. P (Some fact)) (same_is a b h) some
+pub fact_equality : IsEquality is_same_fact
+fact_equality = record { itself = same_itself; same = same_is }

@@ -1,9 +1,5 @@
-pub mod Pointwise
-pub mod BitLemmas
 pub mod FactLemmas
 pub mod EvenWords
-pub mod Orders
-pub mod CellForms
 pub mod StateForms
+pub mod Orders
 pub mod Covering
-pub mod Members

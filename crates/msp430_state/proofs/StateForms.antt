@@ -1,29 +1,43 @@
 -- The first state and the greatest have the form of states, and joins and widenings keep it.
-use Rattle.std.proofs.Common.{◌≡◌, ℕ, ◌≤◌, Bool, true, false, None, List, [], refl, sym, ◌∙◌, subst, arith}
+use Rattle.std.proofs.Common.{ℕ, ◌≤◌, Bool, Option, List, refl, arith}
 use Rattle.std.proofs.lemmas.List.Elements.{All-replicate}
-use Rattle.value_set.specs.Laws.{AreMarks}
+use Rattle.entry_value.specs.declared.cells.Cell.{Cell}
+use Rattle.entry_value.specs.declared.word.Entry.{Entry}
+use Rattle.entry_value.specs.declared.word.Word.{Word}
+use Rattle.entry_value.specs.CellLists.{each_from, each_in}
+use Rattle.entry_value.specs.Cells.{AreCells, unknown}
+use Rattle.entry_value.specs.RelationFacts.{common_entry_keeps}
+use Rattle.entry_value.specs.Words.{word_within}
 use Rattle.irq_frames.specs.KnownLaws.{KnownLaws}
-use Rattle.msp430_state.proofs.Members.{in_none}
-use Rattle.entry_value.specs.Words.{word_join, word_widen}
-use Rattle.entry_value.specs.Cells.{unknown}
-use Rattle.msp430_state.specs.Forms.{IsRelation, IsStatusRelation, IsFact, IsWord, IsKnown}
-use Rattle.msp430_state.specs.Known.{Known, first_known, top_known, all_touched, known_joined, known_widened}
-use Rattle.irq_frames.specs.Ranges.{AreRanges, united}
-use Rattle.msp430_state.specs.Status.{common_bit}
-use Rattle.msp430_state.proofs.CellForms.{common_entry_keeps, no_relation, join_cell_form, widen_cell_form}
-use Rattle.msp430_state.proofs.EvenWords.{even_words_form}
-use Rattle.msp430_state.proofs.FactLemmas.{common_fact_keeps}
-use Rattle.msp430_state.proofs.Orders.{word_pairs}
-use Rattle.msp430_state.proofs.Pointwise.{length-each_with, All-each_with}
+use Rattle.known_parts.specs.CellForms.{StaysSo}
+use Rattle.known_parts.specs.Options.{common_fact_keeps}
+use Rattle.known_parts.specs.Orders.{IsAny, IsOrdered, Part, both_ordered, part_ordered}
+use Rattle.known_parts.specs.Parts.{AreUnions, bit_ordered, relation_ordered}
+use Rattle.known_parts.specs.Pointwise.{AreEach, each_ordered}
+use Rattle.known_parts.specs.Touched.{AreTouched, all_are_touched, touched_ordered}
+use Rattle.plain_lemmas.specs.Members.{in_none}
+use Rattle.value_bits.specs.declared.tri.Tri.{Tri}
+use Rattle.value_set.specs.declared.form.Form.{Form}
+use Rattle.value_set.specs.Form.{IsNormal}
+use Rattle.value_set.specs.Joining.{is_within}
+use Rattle.msp430_state.specs.declared.fact.FlagFact.{FlagFact}
+use Rattle.msp430_state.specs.Facts.{is_same_fact}
+use Rattle.msp430_state.specs.FormFacts.{no_relation, no_status_relation}
+use Rattle.msp430_state.specs.Forms.{AreEvenWords, IsChipCell, IsRelation, IsStatusRelation, IsFact, IsWord, IsKnown}
+use Rattle.msp430_state.specs.Known.{Known, even_words, first_known, top_known, all_touched, known_united, word_united}
+use Rattle.msp430_state.proofs.EvenWords.{even_words_form, even_words_have}
+
+-- cells stay in form with another set, with the same relation or with none
+chip_cell_stays : (framed : Bool) → StaysSo (IsChipCell framed)
+chip_cell_stays framed = record {
+  same = λ cell set form. record { even = form.even; byte = form.byte; entry = form.entry };
+  none = λ cell set form. record { even = form.even; byte = λ one. refl; entry = no_relation framed };
+}
 
 -- THE FIRST AND THE GREATEST
 
 unknown_form : KnownLaws → (framed : Bool) → IsWord framed (unknown 2)
 unknown_form laws framed = record { normal = laws.sets.whole_normal 65536 (omega arith); entry = no_relation framed }
-
-no_status_relation : (framed : Bool) → IsStatusRelation framed None
-no_status_relation true = tt
-no_status_relation false = tt
 
 pub first_form : KnownLaws → (lo hi : ℕ) (framed : Bool) → IsKnown lo hi framed (first_known lo hi)
 first_form laws lo hi framed = record {
@@ -41,77 +55,82 @@ first_form laws lo hi framed = record {
   none_touched = λ base. refl;
 }
 
-all_touched_form : (lo hi : ℕ) (framed : Bool) → lo ≤ hi → AreRanges lo hi (all_touched framed lo hi)
-all_touched_form lo hi true le = (omega arith, le, omega arith, tt)
-all_touched_form lo hi false le = tt
-
-none_touched_top : (lo hi : ℕ) (framed : Bool) → framed ≡ false → all_touched framed lo hi ≡ []
-none_touched_top lo hi true base = absurd (cc)
-none_touched_top lo hi false base = refl
-
 pub top_form : KnownLaws → (lo hi : ℕ) (framed : Bool) → lo ≤ hi → IsKnown lo hi framed (top_known lo hi framed)
-top_form laws lo hi framed le = record {
-  sp = even_words_form laws;
-  bits = refl;
-  status = no_status_relation framed;
-  count = refl;
-  registers = All-replicate (IsWord framed) 12 (unknown 2) (unknown_form laws framed);
-  fact = tt;
-  from = refl;
-  up_to = refl;
-  cells = tt;
-  each_cell = λ cell h. absurd (in_none cell h);
-  touched = all_touched_form lo hi framed le;
-  none_touched = none_touched_top lo hi framed;
-}
+top_form laws lo hi framed le =
+    let form : IsKnown lo hi framed (first_known lo hi) = first_form laws lo hi framed in
+    let all : AreTouched lo hi framed (all_touched framed lo hi) = all_are_touched lo hi framed le in
+    assumption (form, all.are, all.none)
+
+-- THE PARTS
+
+module _ (lo hi : ℕ) (framed : Bool) where
+  abbrev pub sp_part : Part (IsKnown lo hi framed) AreEvenWords
+  sp_part = record { of = λ a. a.sp; formed = λ a form. form.sp }
+
+  abbrev pub bits_part : Part (IsKnown lo hi framed) (AreEach {A = Tri} 9 IsAny)
+  bits_part = record { of = λ a. a.status.bits; formed = λ a form. record { count = form.bits; each = λ k d lt. tt } }
+
+  abbrev pub relation_part : Part {A = Option Entry} (IsKnown lo hi framed) IsAny
+  relation_part = record { of = λ a. a.status.entry; formed = λ a form. tt }
+
+  abbrev pub late_part : Part {A = Tri} (IsKnown lo hi framed) IsAny
+  late_part = record { of = λ a. a.late; formed = λ a form. tt }
+
+  abbrev pub words_part : Part (IsKnown lo hi framed) (AreEach 12 (IsWord framed))
+  words_part = record { of = λ a. a.registers; formed = λ a form. record { count = form.count; each = form.registers } }
+
+  abbrev pub fact_part : Part {A = Option FlagFact} (IsKnown lo hi framed) IsAny
+  fact_part = record { of = λ a. a.fact; formed = λ a form. tt }
+
+  abbrev pub cells_part : Part (IsKnown lo hi framed) (AreCells lo hi lo)
+  cells_part = record { of = λ a. a.cells.cells; formed = λ a form. form.cells }
+
+  abbrev pub touched_part : Part (IsKnown lo hi framed) (AreTouched lo hi framed)
+  touched_part = record { of = λ a. a.touched; formed = λ a form. record { are = form.touched; none = form.none_touched } }
 
 -- WHAT IS MADE OF TWO
 
-united_none : (a b : List (ℕ × ℕ)) → a ≡ [] → b ≡ [] → united a b ≡ []
-united_none a b e f = subst (λ xs. united a xs ≡ []) (sym f) e
+module _ (laws : KnownLaws) (lo hi : ℕ) (sets : Form → Form → Form) (cells : List Cell → List Cell → List Cell) (unions : AreUnions 65536 lo hi sets cells) where
+  pub sp_ordered : IsOrdered AreEvenWords (is_within 65536) sets even_words
+  sp_ordered = record {
+    itself = λ a f. unions.sets.itself a f.normal;
+    along = unions.sets.along;
+    form = λ a b f g. record { normal = unions.sets.form a b f.normal g.normal; even = unions.rest 2 0 a b refl f.normal g.normal f.even g.even };
+    held = λ a b f g. unions.sets.held a b f.normal g.normal;
+    new = λ a b f g. unions.sets.new a b f.normal g.normal;
+    whole = λ a f. (laws.sets.tested 65536 a even_words).1 (λ v has. even_words_have laws v (laws.sets.below 65536 v a f.normal has) (f.even v has));
+  }
 
-pub join_form : KnownLaws → (lo hi : ℕ) (framed : Bool) (a b : Known) → IsKnown lo hi framed a → IsKnown lo hi framed b → IsKnown lo hi framed (known_joined a b)
-unfolding known_joined
-join_form laws lo hi framed a b f g = record {
-  sp = record {
-    normal = laws.sets.join_normal 65536 a.sp b.sp f.sp.normal g.sp.normal;
-    even = laws.sets.join_rest 65536 2 0 a.sp b.sp refl f.sp.normal g.sp.normal f.sp.even g.sp.even;
-  };
-  bits = length-each_with common_bit a.status.bits b.status.bits (f.bits ∙ sym g.bits) ∙ f.bits;
-  status = common_entry_keeps (IsStatusRelation framed) a.status.entry b.status.entry (no_status_relation framed) f.status;
-  count = length-each_with word_join a.registers b.registers (f.count ∙ sym g.count) ∙ f.count;
-  registers = All-each_with word_join (IsWord framed) (λ x y h k. record {
-    normal = laws.values.words.join_normal x y h.normal k.normal;
-    entry = common_entry_keeps (IsRelation framed) x.entry y.entry (no_relation framed) h.entry;
-  }) a.registers b.registers (word_pairs lo hi framed a b f g);
-  fact = common_fact_keeps IsFact a.fact b.fact tt f.fact;
-  from = f.from;
-  up_to = f.up_to;
-  cells = laws.cells.join_form lo hi lo lo hi lo a.cells.cells b.cells.cells f.cells g.cells;
-  each_cell = join_cell_form framed a.cells.cells b.cells.cells f.each_cell;
-  touched = laws.ranges.unite_form lo hi a.touched b.touched f.touched g.touched;
-  none_touched = λ base. united_none a.touched b.touched (f.none_touched base) (g.none_touched base);
-}
+  module _ (framed : Bool) where
+    word_form : (held new : Word) → IsWord framed held → IsWord framed new → IsWord framed (word_united sets held new)
+    word_form held new f g = record {
+      normal = unions.sets.form held.set new.set f.normal g.normal;
+      entry = common_entry_keeps (IsRelation framed) held.entry new.entry (no_relation framed) f.entry;
+    }
 
-pub widen_form : KnownLaws → (lo hi : ℕ) (framed : Bool) (marks : List ℕ) → AreMarks 65536 marks → (a b : Known) → IsKnown lo hi framed a → IsKnown lo hi framed b → IsKnown lo hi framed (known_widened marks a b)
-unfolding known_widened
-widen_form laws lo hi framed marks below a b f g = record {
-  sp = record {
-    normal = laws.sets.widen_normal 65536 a.sp b.sp marks f.sp.normal g.sp.normal below;
-    even = laws.sets.widen_rest 65536 2 0 a.sp b.sp marks refl f.sp.normal g.sp.normal f.sp.even g.sp.even;
-  };
-  bits = length-each_with common_bit a.status.bits b.status.bits (f.bits ∙ sym g.bits) ∙ f.bits;
-  status = common_entry_keeps (IsStatusRelation framed) a.status.entry b.status.entry (no_status_relation framed) f.status;
-  count = length-each_with (λ h n. word_widen h n marks) a.registers b.registers (f.count ∙ sym g.count) ∙ f.count;
-  registers = All-each_with (λ h n. word_widen h n marks) (IsWord framed) (λ x y h k. record {
-    normal = laws.values.words.widen_normal x y marks h.normal k.normal below;
-    entry = common_entry_keeps (IsRelation framed) x.entry y.entry (no_relation framed) h.entry;
-  }) a.registers b.registers (word_pairs lo hi framed a b f g);
-  fact = common_fact_keeps IsFact a.fact b.fact tt f.fact;
-  from = f.from;
-  up_to = f.up_to;
-  cells = laws.cells.widen_form lo hi lo lo hi lo a.cells.cells b.cells.cells marks f.cells g.cells below;
-  each_cell = widen_cell_form framed marks a.cells.cells b.cells.cells f.each_cell;
-  touched = laws.ranges.unite_form lo hi a.touched b.touched f.touched g.touched;
-  none_touched = λ base. united_none a.touched b.touched (f.none_touched base) (g.none_touched base);
-}
+    pub word_ordered : IsOrdered (IsWord framed) word_within (word_united sets) (unknown 2)
+    word_ordered =
+        let set_part : Part (IsWord framed) (IsNormal 65536) = record { of = λ word. word.set; formed = λ word form. form.normal } in
+        let entry_part : Part {A = Option Entry} (IsWord framed) IsAny = record { of = λ word. word.entry; formed = λ word form. tt } in
+        both_ordered (part_ordered set_part word_form (λ a b. refl) unions.sets) (part_ordered entry_part word_form (λ a b. refl) (relation_ordered laws))
+
+    pub united_form : (a b : Known) → IsKnown lo hi framed a → IsKnown lo hi framed b → IsKnown lo hi framed (known_united sets cells a b)
+    united_form a b f g =
+        let bits = (each_ordered 9 bit_ordered).form a.status.bits b.status.bits ((bits_part lo hi framed).formed a f) ((bits_part lo hi framed).formed b g) in
+        let words = (each_ordered 12 word_ordered).form a.registers b.registers ((words_part lo hi framed).formed a f) ((words_part lo hi framed).formed b g) in
+        let touched = (touched_ordered laws lo hi framed).form a.touched b.touched ((touched_part lo hi framed).formed a f) ((touched_part lo hi framed).formed b g) in
+        record {
+          sp = sp_ordered.form a.sp b.sp f.sp g.sp;
+          bits = bits.count;
+          status = common_entry_keeps (IsStatusRelation framed) a.status.entry b.status.entry (no_status_relation framed) f.status;
+          count = words.count;
+          registers = words.each;
+          fact = common_fact_keeps is_same_fact IsFact a.fact b.fact tt f.fact;
+          from = f.from;
+          up_to = f.up_to;
+          cells = unions.cells.form a.cells.cells b.cells.cells f.cells g.cells;
+          each_cell = each_in (IsChipCell framed) (cells a.cells.cells b.cells.cells)
+              (unions.each_cell (IsChipCell framed) (chip_cell_stays framed) a.cells.cells b.cells.cells (each_from (IsChipCell framed) a.cells.cells f.each_cell));
+          touched = touched.are;
+          none_touched = touched.none;
+        }

@@ -1,5 +1,6 @@
 -- What the flags say of a register: CMP and SUB with a constant leave such a fact.
-use Rattle.std.specs.Prelude.{◌==◌, ◌&&◌, if◌then◌else◌, Bool, true, false, Option, None, Some}
+use Rattle.std.specs.Prelude.{◌==◌, ◌&&◌, Bool, true, false, Option}
+use Rattle.known_parts.specs.Options as options
 use Rattle.msp430_decode.specs.declared.instr.Width.{Width}
 use Rattle.msp430_decode.specs.declared.instr.Width.TheVariants.{Word, Byte}
 use Rattle.msp430_state.specs.declared.fact.FlagFact.{FlagFact}
@@ -16,12 +17,8 @@ is_same_fact a b =
 
 -- a fact that both have
 abbrev pub common_fact : Option FlagFact → Option FlagFact → Option FlagFact
-common_fact None b = None
-common_fact (Some a) None = None
-common_fact (Some a) (Some b) = if is_same_fact a b then Some a else None
+common_fact = options.common_fact is_same_fact
 
 -- the second has no fact that the first one lacks
 abbrev pub is_fact_within : Option FlagFact → Option FlagFact → Bool
-is_fact_within a None = true
-is_fact_within None (Some b) = false
-is_fact_within (Some a) (Some b) = is_same_fact a b
+is_fact_within = options.is_fact_within is_same_fact

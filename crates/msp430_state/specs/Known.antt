@@ -1,12 +1,11 @@
 -- What an analysis of the MSP430 knows of a state: sets of values for its registers and its RAM, bits, and what is kept for
 -- the return from an interrupt (value sets after G. Balakrishnan and T. Reps, "WYSINWYX: What You See Is Not What You
 -- eXecute", 2010; the registers of SLAU049, chapter 3, "CPU Registers").
-use Rattle.std.specs.Prelude.{ℕ, ◌-◌, ◌&&◌, if◌then◌else◌, Bool, true, false, Option, None, List, [], ◌∷◌, replicate}
+use Rattle.std.specs.Prelude.{ℕ, ◌-◌, ◌&&◌, Bool, Option, None, List, [], replicate}
 use Rattle.std.specs.List.{slice_index_or}
-use Rattle.call_context.specs.declared.node.Frame.{Frame}
-use Rattle.call_context.specs.declared.node.Frame.TheVariants.{Base, Irq}
+use Rattle.entry_value.specs.declared.cells.Cell.{Cell}
 use Rattle.entry_value.specs.declared.word.Word.{Word}
-use Rattle.entry_value.specs.Words.{word_join, word_widen, word_within}
+use Rattle.entry_value.specs.Words.{common_entry, word_within}
 use Rattle.entry_value.specs.Cells.{CellMap, unknown, join_cells, widen_cells, are_within}
 use Rattle.value_bits.specs.declared.tri.Tri.{Tri}
 use Rattle.value_bits.specs.declared.tri.Tri.TheVariants.{Zero, Either}
@@ -14,6 +13,7 @@ use Rattle.value_set.specs.declared.form.Form.{Form}
 use Rattle.value_set.specs.Form.{make}
 use Rattle.value_set.specs.Joining.{is_within, join}
 use Rattle.value_set.specs.Widening.{widen}
+pub use Rattle.known_parts.specs.Touched.{all_touched, is_interrupt}
 use Rattle.msp430_state.specs.declared.fact.FlagFact.{FlagFact}
 use Rattle.msp430_state.specs.declared.status.Status.{Status}
 use Rattle.msp430_state.specs.Facts.{common_fact, is_fact_within}
@@ -58,13 +58,6 @@ first_known lo hi = record {
   touched = [];
 }
 
-abbrev pub is_interrupt : Frame → Bool
-is_interrupt Base = false
-is_interrupt (Irq vector sp level) = true
-
-abbrev pub all_touched : Bool → (lo hi : ℕ) → List (ℕ × ℕ)
-all_touched framed lo hi = if framed then (lo, hi) ∷ [] else []
-
 -- Nothing is known but that SP is even; in an interrupt's frame all RAM may be touched.
 abbrev pub top_known : (lo hi : ℕ) → (framed : Bool) → Known
 top_known lo hi framed = record {
@@ -79,29 +72,28 @@ top_known lo hi framed = record {
 
 -- JOINING AND WIDENING
 
--- relations, facts and cells that both have, and the touched bytes of either
-unfoldable pub known_joined : (held new : Known) → Known
-known_joined held new = record {
-  sp = join 65536 held.sp new.sp;
+abbrev pub word_united : (of_sets : Form → Form → Form) → (held new : Word) → Word
+word_united of_sets held new = record { set = of_sets held.set new.set; entry = common_entry held.entry new.entry }
+
+-- What a union of sets and one of cells make of two states: relations, facts and cells that both have, and the touched bytes
+-- of either.
+abbrev pub known_united : (of_sets : Form → Form → Form) → (of_cells : List Cell → List Cell → List Cell) → (held new : Known) → Known
+known_united of_sets of_cells held new = record {
+  sp = of_sets held.sp new.sp;
   status = status_joined held.status new.status;
   late = common_bit held.late new.late;
-  registers = each_with word_join held.registers new.registers;
+  registers = each_with (word_united of_sets) held.registers new.registers;
   fact = common_fact held.fact new.fact;
-  cells = record held.cells { cells = join_cells held.cells.cells new.cells.cells };
+  cells = record held.cells { cells = of_cells held.cells.cells new.cells.cells };
   touched = united held.touched new.touched;
 }
 
+unfoldable pub known_joined : (held new : Known) → Known
+known_joined held new = known_united (join 65536) join_cells held new
+
 -- sets grow to the next marks; without marks to whole classes
 unfoldable pub known_widened : List ℕ → (held new : Known) → Known
-known_widened marks held new = record {
-  sp = widen 65536 held.sp new.sp marks;
-  status = status_joined held.status new.status;
-  late = common_bit held.late new.late;
-  registers = each_with (λ h n. word_widen h n marks) held.registers new.registers;
-  fact = common_fact held.fact new.fact;
-  cells = record held.cells { cells = widen_cells held.cells.cells new.cells.cells marks };
-  touched = united held.touched new.touched;
-}
+known_widened marks held new = known_united (λ h n. widen 65536 h n marks) (λ h n. widen_cells h n marks) held new
 
 -- THE ORDER
 

@@ -26,4 +26,4 @@ mod words;
 pub use fact::{FlagFact, is_fact_within};
 pub use laws::{states_are_ordered, states_cover, states_keep_form};
 pub use state::State;
-pub use status::{Status, is_bit_within};
+pub use status::Status;

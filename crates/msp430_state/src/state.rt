@@ -5,11 +5,12 @@ ghost use Rattle.entry_value.specs.Cells as the_cells;
 ghost use Rattle.msp430_state.specs.Known as known;
 
 use crate::fact::{FlagFact, common_fact, is_fact_within};
-use crate::status::{Status, common_bit, is_bit_within};
+use crate::status::Status;
 use crate::words::{are_within, copy_all, join_all, unknown, widen_all};
 use call_context::Frame;
 use entry_value::{Cells, Word};
 use irq_frames::Ranges;
+use known_parts::{common_bit, is_bit_within};
 use no_memory::Memory;
 use std::alloc::Global;
 use std::marker::Model;

@@ -1,9 +1,9 @@
 -- Kinds of fields, made of others: each has a law that it is exact where its parts are, and one on the bytes that it avoids.
-use Rattle.std.specs.Prelude.{◌≡◌, ◌⊎◌, ℕ, ◌==◌, ◌≤◌, ◌||◌, ◌&&◌, if◌then◌else◌, Bool, true, false, Option, None, Some, option_map, option_and_then, List, [], ◌∷◌, ◌++◌, length, map}
+use Rattle.std.specs.Prelude.{◌≡◌, ◌⊎◌, ℕ, zero, suc, ◌==◌, ◌<◌, ◌≤◌, ◌||◌, ◌&&◌, if◌then◌else◌, Bool, true, false, Option, None, Some, option_map, option_and_then, List, [], ◌∷◌, ◌++◌, length, map}
 use Rattle.std.specs.List.{find, list_all}
 use Rattle.std.specs.Str.{bytes_eq}
 use Rattle.std.proofs.Common.{refl, sym, ap, ap₂, ◌∙◌, subst, inl, inr, arith}
-use Rattle.std.proofs.lemmas.Bool.{cases_Bool, and_parts, false≢true, eq-eqb, eqb-true, eqb-false, ne_eqb}
+use Rattle.std.proofs.lemmas.Bool.{cases_Bool, and_parts, or_cases, false≢true, eq-eqb, eqb-true, eqb-false, ne_eqb}
 use Rattle.std.proofs.lemmas.Option.{none-some, same_Some}
 use Rattle.std.proofs.lemmas.Slice.Eq.{bytes_eq-Decides}
 use Rattle.text_fields.specs.Spelling.{Spelling, IsExact, Avoids, has_byte, has_byte-both, has_byte-between, then_only, map_only, test_only}
@@ -553,3 +553,27 @@ name_avoids (row ∷ rows) at n none is = elim (cases_Bool (has_byte at row.1)) 
 
 pub one_named_avoids : (rows : List (ℕ × List ℕ)) (at : ℕ) → none_has at (map (λ row. row.1) rows) ≡ true → Avoids (one_named rows) at
 one_named_avoids rows at none = λ n is. name_avoids rows at n none is
+
+-- TESTS OF NUMBERS
+
+-- a test passes for each number below another
+abbrev pub passes_below : (ℕ → Bool) → ℕ → Bool
+passes_below test zero = true
+passes_below test (suc n) = test n && passes_below test n
+
+pub below_passes : (test : ℕ → Bool) (k n : ℕ) → passes_below test k ≡ true → n < k → test n ≡ true
+below_passes test zero n all less = absurd (omega (arith, less))
+below_passes test (suc k) n all less = elim (cases_Bool (n == k)) [
+  | inl same ↦ subst (λ m. test m ≡ true) (sym (eqb-true n k same)) (and_parts (test k) (passes_below test k) all).0
+  | inr other ↦ below_passes test k n (and_parts (test k) (passes_below test k) all).1 (omega (arith, less, eqb-false n k other))
+]
+
+-- and for each number that a table names
+pub named_passes : (test : ℕ → Bool) (rows : List (ℕ × List ℕ)) (n : ℕ) → list_all (λ row. test row.0) rows ≡ true → is_named rows n ≡ true → test n ≡ true
+named_passes test [] n all is = absurd (false≢true is)
+named_passes test (row ∷ rows) n all is =
+    let parts = and_parts (test row.0) (list_all (λ row. test row.0) rows) all in
+    elim (or_cases (row.0 == n) (is_named rows n) is) [
+      | inl here ↦ subst (λ m. test m ≡ true) (eqb-true row.0 n here) parts.0
+      | inr later ↦ named_passes test rows n parts.1 later
+    ]

@@ -4,3 +4,4 @@ pub mod Fields
 pub mod Lists
 pub mod Lines
 pub mod Fronts
+pub mod Items

@@ -1,6 +1,6 @@
 //! Named fields, and fields in front of others.
 
-ghost use Rattle.std.specs.Prelude.{◌≡◌, ◌++◌, OnOk};
+ghost use Rattle.std.specs.Prelude.{◌≡◌, ◌++◌, ◌∷◌, [], OnOk};
 ghost use Rattle.std.specs.Option.{option_map};
 ghost use Rattle.text_fields.specs.Fields.{named};
 ghost use Rattle.text_fields.specs.Fronts.{in_front};
@@ -42,4 +42,20 @@ pub fn push_named<F: Field>(
 {
     out.extend_from_slice(name)?;
     field.push(value, out)
+}
+
+/// Adds a name, the value behind it, and a byte.
+pub fn push_front<F: Field>(
+    field: &F,
+    name: &[u8],
+    at: u8,
+    value: &F::Value,
+    out: &mut Vec<u8>,
+) -> Result<(), AllocError>
+    ensures { OnOk result (out.new.items ≡ out.old.items
+        ++ ((named (F.field field.now) name.now).text value.now ++ at ∷ [])) }
+{
+    push_named(field, name, value, out)?;
+    out.push(at)?;
+    Ok(())
 }

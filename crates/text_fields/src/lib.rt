@@ -9,6 +9,7 @@
 //! - `Fields.antt`: names, tests, marks, pairs, tails, one of two, tables, and other words for the same.
 //! - `Lists.antt`: lists with a byte between each two, and rows of single bytes.
 //! - `Fronts.antt`: fields in front of others, and several that each have a name.
+//! - `Items.antt`: the fields of one line, with a space between each two.
 //! - `Lines.antt`: the lines of a text, and machines that read line by line.
 //!
 //! The calls read and write the parts, each with one exact clause.
@@ -20,7 +21,7 @@ mod names;
 mod reading;
 mod writing;
 
-pub use fronts::{push_named, read_front, read_named};
+pub use fronts::{push_front, push_named, read_front, read_named};
 pub use lists::{Field, push_list, push_list_or_mark, read_list, read_list_or_mark};
 pub use names::{push_name, read_name};
 pub use reading::{behind, cut, has, number, short};

@@ -4,3 +4,4 @@ pub mod ReadLemmas
 pub mod BitLemmas
 pub mod RangeLemmas
 pub mod RamLemmas
+pub mod MemoryLemmas

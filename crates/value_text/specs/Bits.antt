@@ -7,6 +7,7 @@ use Rattle.value_bits.specs.declared.tri.Tri.{Tri}
 use Rattle.value_bits.specs.declared.tri.Tri.TheVariants.{Zero, One, Either}
 use Rattle.text_fields.specs.Spelling.{Spelling, IsExact, Avoids}
 use Rattle.text_fields.specs.Fields.{one_of, one_of_is_exact, one_of_avoids, none_has, told_by, told_by_is_exact, told_by_avoids, restated, restated_is_exact, restated_avoids}
+use Rattle.text_fields.specs.Items.{IsItem}
 use Rattle.text_fields.specs.Lists.{in_row, in_row_is_exact, in_row_avoids}
 
 abbrev pub bit_code : Tri → ℕ
@@ -56,3 +57,15 @@ pub bits_avoids : (count at : ℕ) → none_has at ((48 ∷ []) ∷ (49 ∷ []) 
 bits_avoids count at none =
     restated_avoids (told_by (in_row count bit_field) reverse reverse) (λ bits. length bits ≡ count) at (bits_narrow count)
     (told_by_avoids (in_row count bit_field) reverse reverse at (in_row_avoids count bit_field at (one_of_avoids (λ bit. bit_code bit ∷ []) all_bits at none)))
+
+-- AS ITEMS OF A LINE
+
+pub bit_item : IsItem bit_field
+bit_item = record {
+  exact = bit_is_exact;
+  no_space = one_of_avoids (λ bit. bit_code bit ∷ []) all_bits 32 refl;
+  no_feed = one_of_avoids (λ bit. bit_code bit ∷ []) all_bits 10 refl;
+}
+
+pub bits_item : (count : ℕ) → IsItem (bits_field count)
+bits_item count = record { exact = bits_is_exact count; no_space = bits_avoids count 32 refl; no_feed = bits_avoids count 10 refl }

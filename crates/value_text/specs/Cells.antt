@@ -8,13 +8,13 @@ use Rattle.value_set.specs.Form.{IsNormal}
 use Rattle.entry_value.specs.declared.cells.Cell.{Cell}
 use Rattle.entry_value.specs.declared.word.Word.{Word}
 use Rattle.entry_value.specs.Cells.{AreCells, CellMap, IsCell, is_nothing}
+use Rattle.plain_lemmas.specs.Cases.{neither}
 use Rattle.text_fields.specs.Spelling.{Spelling, IsExact, Avoids, has_byte, has_byte-at, has_byte-left}
 use Rattle.text_fields.specs.Numbers.{is_digit, hex_number, hex_number_is_exact, number_avoids}
 use Rattle.text_fields.specs.Fields.{byte_differs, passing, passing_is_exact, passing_avoids, beside, beside_is_exact, beside_avoids, told_by, told_by_is_exact, told_by_avoids, restated, restated_is_exact, restated_avoids}
 use Rattle.text_fields.specs.Lists.{listed, listed_has, listed_or_mark, listed_or_mark_is_exact, listed_or_mark_avoids}
 use Rattle.value_text.specs.Members.{is_byte_set, bytes_only, bytes_back}
 use Rattle.value_text.specs.Words.{HasRelation, is_word_byte, word_byte_parts, no_digits, word_field, word_is_exact, word_avoids}
-use Rattle.value_text.specs.Sets.{neither}
 
 -- THE TESTS
 

@@ -5,3 +5,4 @@ pub mod Bits
 pub mod Ranges
 pub mod Members
 pub mod Cells
+pub mod Memories

@@ -1,12 +1,12 @@
 -- What all members of a set are, by tests of its form.
 use Rattle.std.specs.Prelude.{◌≡◌, ℕ, zero, suc, ◌+◌, ◌-◌, ◌*◌, ◌%◌, ◌<◌, ◌≤◌, ◌==◌, ◌&&◌, nat_lt, Bool, true, List, [], ◌∷◌, length, slice_index_or}
 use Rattle.std.specs.List.{Contains, list_all}
-use Rattle.std.proofs.Common.{refl, sym, ◌∙◌, subst, arith, zero-add}
+use Rattle.std.proofs.Common.{refl, subst, arith}
 use Rattle.std.proofs.Math.Nat.{mod-eq_of_lt}
 use Rattle.std.proofs.lemmas.Bool.{and_parts, and_from, ltb-true, lt-ltb, eqb-true, eq-eqb}
-use Rattle.std.proofs.lemmas.List.FromFn.{get_or-map-range_with_len, length-map-range_with_len}
 use Rattle.value_set.specs.Form.{Has, IsNormal, IsNormalRun, steps}
 use Rattle.value_set.specs.Remainders.{HasRemainder}
+use Rattle.value_set.specs.StepFacts.{steps_from, steps_have}
 use Rattle.value_set.specs.declared.form.Form.{Form}
 use Rattle.value_set.specs.declared.form.Form.TheVariants.{Values, Run}
 
@@ -37,19 +37,6 @@ each_back test (x ∷ xs) all =
 
 -- RUNS
 
-steps_only : (m base stride count v : ℕ) → Contains (steps m base stride count) v → (i : ℕ) × (i < count) × (v ≡ (base + i * stride) % m)
-unfolding steps
-steps_only m base stride count v has =
-    let f = λ (i : ℕ). (base + i * stride) % m in
-    let inside : has.0 < count = omega (arith, has.1, length-map-range_with_len f 0 count) in
-    (has.0, inside, sym has.2 ∙ get_or-map-range_with_len f 0 count has.0 has.0 v inside (zero-add has.0))
-
-steps_have : (m base stride count i : ℕ) → i < count → Contains (steps m base stride count) ((base + i * stride) % m)
-unfolding steps
-steps_have m base stride count i inside =
-    let f = λ (i : ℕ). (base + i * stride) % m in
-    (i, omega (arith, inside, length-map-range_with_len f 0 count), get_or-map-range_with_len f 0 count i i _ inside (zero-add i))
-
 fewer : (i k s : ℕ) → i ≤ k → i * s ≤ k * s
 fewer zero k s h = omega arith
 fewer (suc i) zero s h = absurd (omega (arith, h))
@@ -59,7 +46,7 @@ fewer (suc i) (suc k) s h = omega (arith, fewer i k s (omega (arith, h)))
 
 below_only : (base stride count v : ℕ) → base + (count - 1) * stride < 256 → Contains (steps 65536 base stride count) v → v < 256
 below_only base stride count v small has =
-    let (i, inside, is) = steps_only 65536 base stride count v has in
+    let (i, inside, is) = steps_from 65536 base stride count v has in
     let reach = fewer i (count - 1) stride (omega (arith, inside)) in
     let near : (base + i * stride) % 65536 ≡ base + i * stride = mod-eq_of_lt (omega (arith, small, reach)) in
     omega (arith, is, near, small, reach)
@@ -99,7 +86,7 @@ even_whole n even = omega (arith, even)
 
 evens_in : (base stride count v : ℕ) → base % 2 ≡ 0 → stride % 2 ≡ 0 → Contains (steps 65536 base stride count) v → v % 2 ≡ 0
 evens_in base stride count v even strides has =
-    let (i, inside, is) = steps_only 65536 base stride count v has in
+    let (i, inside, is) = steps_from 65536 base stride count v has in
     let all = even_steps base stride i even strides in
     even_rest (base + i * stride) v is all
 

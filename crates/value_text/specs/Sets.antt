@@ -10,9 +10,11 @@ use Rattle.value_set.specs.Form.{IsNormal, IsNormalRun}
 use Rattle.value_set.specs.declared.form.Progression.{Progression}
 use Rattle.value_set.specs.declared.form.Form.{Form}
 use Rattle.value_set.specs.declared.form.Form.TheVariants.{Values, Run}
+use Rattle.plain_lemmas.specs.Cases.{neither}
 use Rattle.text_fields.specs.Spelling.{Spelling, IsExact, Avoids, has_byte, has_byte-at}
 use Rattle.text_fields.specs.Numbers.{is_digit, hex_number, hex_number_is_exact, number_avoids, short_number, short_number_is_exact, short_avoids, longer_power}
 use Rattle.text_fields.specs.Fields.{passing, passing_is_exact, passing_avoids, or_mark, or_mark_is_exact, or_mark_avoids, byte_differs, beside, beside_is_exact, beside_avoids, either, either_is_exact, either_avoids, told_by, told_by_is_exact, told_by_avoids, restated, restated_is_exact, restated_avoids, respelled, respelled_is_exact, respelled_avoids}
+use Rattle.text_fields.specs.Items.{IsItem}
 use Rattle.text_fields.specs.Lists.{listed, listed_is_exact, listed_avoids}
 use Rattle.value_text.specs.Runs.{is_list, is_run, ascends, ascends_only, ascends_back, run_only, run_back, whole_only, whole_back, run_is_below}
 
@@ -189,10 +191,6 @@ set_is_exact digits two =
     (form_narrow digits two) (form_wide digits two))
     (same_text digits)
 
-pub neither : (x y : Bool) → (x || y) ≡ false → (x ≡ false) × (y ≡ false)
-neither true y e = absurd (true≢false e)
-neither false y e = (refl, e)
-
 set_byte_parts : (at : ℕ) → is_set_byte at ≡ false → (is_digit at ≡ false) × ((42 == at) ≡ false) × ((44 == at) ≡ false) × ((47 == at) ≡ false)
 set_byte_parts at none =
     let last = neither (is_digit at || (42 == at) || (44 == at)) (47 == at) none in
@@ -207,3 +205,6 @@ set_avoids digits at two none =
     (restated_avoids (form_field digits) (IsNormal (16 ^ digits)) at (form_narrow digits two)
     (told_by_avoids (parts_field digits) (form_of (16 ^ digits)) (parts_of (16 ^ digits)) at
     (or_mark_avoids (either 47 (run_field digits) (list_field digits)) (codes "*") at (rw parts.1 refl) (one_avoids digits at parts.0 parts.2 parts.3))))
+
+pub set_item : (digits : ℕ) → 2 ≤ digits → IsItem (set_field digits)
+set_item digits two = record { exact = set_is_exact digits two; no_space = set_avoids digits 32 two refl; no_feed = set_avoids digits 10 two refl }

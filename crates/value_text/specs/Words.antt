@@ -7,10 +7,13 @@ use Rattle.value_set.specs.declared.form.Form.{Form}
 use Rattle.entry_value.specs.declared.word.Entry.{Entry}
 use Rattle.entry_value.specs.declared.word.Word.{Word}
 use Rattle.entry_value.specs.declared.byte.Byte.{Byte}
+use Rattle.plain_lemmas.specs.Cases.{neither}
 use Rattle.text_fields.specs.Spelling.{Spelling, IsExact, Avoids}
 use Rattle.text_fields.specs.Numbers.{is_digit, hex_number, hex_number_is_exact, number_avoids}
 use Rattle.text_fields.specs.Fields.{IfForm, passing, passing_is_exact, passing_avoids, beside, beside_is_exact, beside_avoids, with_tail, with_tail_is_exact, with_tail_avoids, told_by, told_by_is_exact, told_by_avoids, restated, restated_is_exact, restated_avoids}
-use Rattle.value_text.specs.Sets.{set_field, set_is_exact, set_avoids, is_set_byte, neither}
+use Rattle.text_fields.specs.Items.{IsItem, passing_item}
+use Rattle.value_bits.specs.declared.tri.Tri.{Tri}
+use Rattle.value_text.specs.Sets.{set_field, set_is_exact, set_avoids, is_set_byte}
 
 -- RELATIONS
 
@@ -36,17 +39,22 @@ HasRelation digits IsPlace true (Some entry) = IsPlace entry.place × (entry.and
 abbrev pub remembering : (width digits : ℕ) → Spelling ℕ → (framed : Bool) → Spelling (Form × Option Entry)
 remembering width digits place framed = passing (with_tail 64 (set_field width) (relation_field digits place)) (λ parts. framed || is_none parts.1)
 
+abbrev pub IsValueIn : (m digits : ℕ) → (IsPlace : ℕ → Type 0) → (framed : Bool) → Form × Option Entry → Type 0
+IsValueIn m digits IsPlace framed parts = IsNormal m parts.0 × HasRelation digits IsPlace framed parts.1
+
+-- a value of a set below m, which has so many digits, and perhaps a relation
+abbrev pub value_field : {A : Type 0} → (width m digits : ℕ) → Spelling ℕ → (framed : Bool) → (Form × Option Entry → A) → (A → Form × Option Entry) → Spelling A
+value_field width m digits place framed to from =
+    restated (told_by (remembering width digits place framed) to from) (λ a. IsValueIn m digits place.Form framed (from a))
+
 abbrev pub word_of : Form × Option Entry → Word
 word_of parts = record { set = parts.0; entry = parts.1 }
 
 abbrev pub word_parts : Word → Form × Option Entry
 word_parts word = (word.set, word.entry)
 
-abbrev pub IsWordIn : (digits : ℕ) → (IsPlace : ℕ → Type 0) → (framed : Bool) → Word → Type 0
-IsWordIn digits IsPlace framed word = IsNormal 65536 word.set × HasRelation digits IsPlace framed word.entry
-
 abbrev pub word_field : (digits : ℕ) → Spelling ℕ → (framed : Bool) → Spelling Word
-word_field digits place framed = restated (told_by (remembering 4 digits place framed) word_of word_parts) (IsWordIn digits place.Form framed)
+word_field digits place framed = value_field 4 65536 digits place framed word_of word_parts
 
 abbrev pub byte_of : Form × Option Entry → Byte
 byte_of parts = record { set = parts.0; entry = parts.1 }
@@ -54,11 +62,8 @@ byte_of parts = record { set = parts.0; entry = parts.1 }
 abbrev pub byte_parts : Byte → Form × Option Entry
 byte_parts byte = (byte.set, byte.entry)
 
-abbrev pub IsByteIn : (digits : ℕ) → (IsPlace : ℕ → Type 0) → (framed : Bool) → Byte → Type 0
-IsByteIn digits IsPlace framed byte = IsNormal 256 byte.set × HasRelation digits IsPlace framed byte.entry
-
 abbrev pub byte_field : (digits : ℕ) → Spelling ℕ → (framed : Bool) → Spelling Byte
-byte_field digits place framed = restated (told_by (remembering 2 digits place framed) byte_of byte_parts) (IsByteIn digits place.Form framed)
+byte_field digits place framed = value_field 2 256 digits place framed byte_of byte_parts
 
 -- the text of a word, and of a byte, whatever the frame
 abbrev pub word_text : (digits : ℕ) → Spelling ℕ → Word → List ℕ
@@ -128,44 +133,75 @@ frame_only width digits place framed None form test = tt
 frame_only width digits place false (Some entry) form test = absurd (false≢true test)
 frame_only width digits place true (Some entry) form test = (form.0.0, form.0.1.0, form.0.1.1)
 
-word_narrow : (digits : ℕ) (place : Spelling ℕ) (framed : Bool) (word : Word) → IsWordIn digits place.Form framed word
-    → (told_by (remembering 4 digits place framed) word_of word_parts).Form word
-word_narrow digits place framed word form = let back = frame_back 4 digits place framed word.entry form.1 in (((form.0, back.0), back.1), refl)
+-- a value is made of its parts, which are those of the value again
+module _ {A : Type 0} (width digits : ℕ) (place : Spelling ℕ) (framed : Bool) (to : Form × Option Entry → A) (from : A → Form × Option Entry) (again : (a : A) → to (from a) ≡ a) where
+  value_narrow : (a : A) → IsValueIn (16 ^ width) digits place.Form framed (from a) → (told_by (remembering width digits place framed) to from).Form a
+  value_narrow a form = let back = frame_back width digits place framed (from a).1 form.1 in (((form.0, back.0), back.1), again a)
 
-word_wide : (digits : ℕ) (place : Spelling ℕ) (framed : Bool) (word : Word) → (told_by (remembering 4 digits place framed) word_of word_parts).Form word
-    → IsWordIn digits place.Form framed word
-word_wide digits place framed word form = (form.0.0.0, frame_only 4 digits place framed word.entry form.0.0.1 form.0.1)
+  value_wide : (a : A) → (told_by (remembering width digits place framed) to from).Form a → IsValueIn (16 ^ width) digits place.Form framed (from a)
+  value_wide a form = (form.0.0.0, frame_only width digits place framed (from a).1 form.0.0.1 form.0.1)
+
+  value_is_exact : ((parts : Form × Option Entry) → from (to parts) ≡ parts) → 2 ≤ width → IsExact place → Avoids place 38
+      → IsExact (value_field width (16 ^ width) digits place framed to from)
+  value_is_exact same two h apart =
+      restated_is_exact (told_by (remembering width digits place framed) to from) (λ a. IsValueIn (16 ^ width) digits place.Form framed (from a))
+      (told_by_is_exact (remembering width digits place framed) to from (remembering_is_exact width digits place framed two h apart) (λ parts form. same parts))
+      value_narrow value_wide
+
+  value_avoids : (at : ℕ) → 2 ≤ width → is_word_byte at ≡ false → Avoids place at → Avoids (value_field width (16 ^ width) digits place framed to from) at
+  value_avoids at two none apart =
+      restated_avoids (told_by (remembering width digits place framed) to from) (λ a. IsValueIn (16 ^ width) digits place.Form framed (from a)) at value_narrow
+      (told_by_avoids (remembering width digits place framed) to from at (remembering_avoids width digits place framed at two none apart))
 
 pub word_is_exact : (digits : ℕ) (place : Spelling ℕ) (framed : Bool) → IsExact place → Avoids place 38 → IsExact (word_field digits place framed)
-word_is_exact digits place framed h apart =
-    restated_is_exact (told_by (remembering 4 digits place framed) word_of word_parts) (IsWordIn digits place.Form framed)
-    (told_by_is_exact (remembering 4 digits place framed) word_of word_parts (remembering_is_exact 4 digits place framed (omega arith) h apart)
-    (λ parts form. refl))
-    (word_narrow digits place framed) (word_wide digits place framed)
+word_is_exact digits place framed h apart = value_is_exact 4 digits place framed word_of word_parts (λ word. refl) (λ parts. refl) (omega arith) h apart
 
 pub word_avoids : (digits : ℕ) (place : Spelling ℕ) (framed : Bool) (at : ℕ) → is_word_byte at ≡ false → Avoids place at
     → Avoids (word_field digits place framed) at
-word_avoids digits place framed at none apart =
-    restated_avoids (told_by (remembering 4 digits place framed) word_of word_parts) (IsWordIn digits place.Form framed) at (word_narrow digits place framed)
-    (told_by_avoids (remembering 4 digits place framed) word_of word_parts at (remembering_avoids 4 digits place framed at (omega arith) none apart))
+word_avoids digits place framed at none apart = value_avoids 4 digits place framed word_of word_parts (λ word. refl) at (omega arith) none apart
 
-byte_narrow : (digits : ℕ) (place : Spelling ℕ) (framed : Bool) (byte : Byte) → IsByteIn digits place.Form framed byte
-    → (told_by (remembering 2 digits place framed) byte_of byte_parts).Form byte
-byte_narrow digits place framed byte form = let back = frame_back 2 digits place framed byte.entry form.1 in (((form.0, back.0), back.1), refl)
+-- AS ITEMS OF A LINE
 
-byte_wide : (digits : ℕ) (place : Spelling ℕ) (framed : Bool) (byte : Byte) → (told_by (remembering 2 digits place framed) byte_of byte_parts).Form byte
-    → IsByteIn digits place.Form framed byte
-byte_wide digits place framed byte form = (form.0.0.0, frame_only 2 digits place framed byte.entry form.0.0.1 form.0.1)
+-- the names of places, of which none has an ampersand or a semicolon
+pub record ArePlaces (place : Spelling ℕ) : Type 0 where
+  pub exact : IsExact place
+  pub apart : Avoids place 38
+  pub parted : Avoids place 59
+  pub no_space : Avoids place 32
+  pub no_feed : Avoids place 10
 
-pub byte_is_exact : (digits : ℕ) (place : Spelling ℕ) (framed : Bool) → IsExact place → Avoids place 38 → IsExact (byte_field digits place framed)
-byte_is_exact digits place framed h apart =
-    restated_is_exact (told_by (remembering 2 digits place framed) byte_of byte_parts) (IsByteIn digits place.Form framed)
-    (told_by_is_exact (remembering 2 digits place framed) byte_of byte_parts (remembering_is_exact 2 digits place framed (omega arith) h apart)
-    (λ parts form. refl))
-    (byte_narrow digits place framed) (byte_wide digits place framed)
+pub relation_item : (digits : ℕ) (place : Spelling ℕ) → ArePlaces place → IsItem (relation_field digits place)
+relation_item digits place places = record {
+  exact = relation_is_exact digits place places.exact places.apart;
+  no_space = relation_avoids digits place 32 refl refl refl places.no_space;
+  no_feed = relation_avoids digits place 10 refl refl refl places.no_feed;
+}
 
-pub byte_avoids : (digits : ℕ) (place : Spelling ℕ) (framed : Bool) (at : ℕ) → is_word_byte at ≡ false → Avoids place at
-    → Avoids (byte_field digits place framed) at
-byte_avoids digits place framed at none apart =
-    restated_avoids (told_by (remembering 2 digits place framed) byte_of byte_parts) (IsByteIn digits place.Form framed) at (byte_narrow digits place framed)
-    (told_by_avoids (remembering 2 digits place framed) byte_of byte_parts at (remembering_avoids 2 digits place framed at (omega arith) none apart))
+value_item : {A : Type 0} (width digits : ℕ) (place : Spelling ℕ) (framed : Bool) (to : Form × Option Entry → A) (from : A → Form × Option Entry)
+    → ((a : A) → to (from a) ≡ a) → ((parts : Form × Option Entry) → from (to parts) ≡ parts) → 2 ≤ width → ArePlaces place
+    → IsItem (value_field width (16 ^ width) digits place framed to from)
+value_item width digits place framed to from again same two places = record {
+  exact = value_is_exact width digits place framed to from again same two places.exact places.apart;
+  no_space = value_avoids width digits place framed to from again 32 two refl places.no_space;
+  no_feed = value_avoids width digits place framed to from again 10 two refl places.no_feed;
+}
+
+pub word_item : (digits : ℕ) (place : Spelling ℕ) (framed : Bool) → ArePlaces place → IsItem (word_field digits place framed)
+word_item digits place framed places = value_item 4 digits place framed word_of word_parts (λ word. refl) (λ parts. refl) (omega arith) places
+
+pub byte_item : (digits : ℕ) (place : Spelling ℕ) (framed : Bool) → ArePlaces place → IsItem (byte_field digits place framed)
+byte_item digits place framed places = value_item 2 digits place framed byte_of byte_parts (λ byte. refl) (λ parts. refl) (omega arith) places
+
+-- bits, and perhaps a relation that passes a test
+abbrev pub bits_related : (digits : ℕ) → Spelling ℕ → Spelling (List Tri) → (Option Entry → Bool) → Spelling (List Tri × Option Entry)
+bits_related digits place bits test = passing (with_tail 64 bits (relation_field digits place)) (λ parts. test parts.1)
+
+pub bits_related_item : (digits : ℕ) (place : Spelling ℕ) (bits : Spelling (List Tri)) (test : Option Entry → Bool) → ArePlaces place → IsItem bits
+    → Avoids bits 64 → IsItem (bits_related digits place bits test)
+bits_related_item digits place bits test places item apart =
+    let relation = relation_item digits place places in
+    passing_item (λ parts. test parts.1) (record {
+      exact = with_tail_is_exact 64 bits (relation_field digits place) item.exact relation.exact apart;
+      no_space = with_tail_avoids 64 32 bits (relation_field digits place) refl item.no_space relation.no_space;
+      no_feed = with_tail_avoids 64 10 bits (relation_field digits place) refl item.no_feed relation.no_feed;
+    })

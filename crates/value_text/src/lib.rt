@@ -8,6 +8,7 @@
 mod bits;
 mod cells;
 mod members;
+mod memory;
 mod ram;
 mod ranges;
 mod sets;
@@ -16,6 +17,7 @@ mod writing;
 
 pub use bits::{push_bit, push_bits, read_bit, read_bits};
 pub use members::is_even_set;
+pub use memory::{memory_outside, push_memory, read_memory};
 pub use ram::{push_cells, read_cells};
 pub use ranges::{push_ranges, read_ranges};
 pub use sets::{read_byte_set, read_word_set};

@@ -1,6 +1,6 @@
-use Rattle.std.proofs.Common.{◌≡◌, ◌++◌, OnOk, subst, sym, true}
+use Rattle.std.proofs.Common.{◌≡◌, ◌++◌, OnOk, subst}
 use Rattle.mcs51_state.specs.Known.{Known}
-use Rattle.mcs51_fields.specs.States.{known_text, memory_field}
+use Rattle.mcs51_fields.specs.States.{known_text}
 use Rattle.mcs51_fields.proofs.StateLemmas.{all_written}
 use Rattle.mcs51_fields.proofs.state.push_state.Goals as goal
 
@@ -27,5 +27,4 @@ returns g c =
     (subst (λ text. OnOk c.push_memory.result (c.push_memory.new.out.items ≡ text))
     (all_written k c.args.out.now.items c.push_first.new.out.items c.push_second.new.out.items c.push_third.new.out.items c.in_ok-push_first.ensures
     c.in_ok-push_second.ensures c.in_ok-push_third.ensures)
-    (subst (λ (known : Known). OnOk c.push_memory.result (c.push_memory.new.out.items
-    ≡ c.push_third.new.out.items ++ (memory_field true).text (known.cells.cells, known.touched))) (sym is) c.push_memory.ensures))
+    c.push_memory.ensures)

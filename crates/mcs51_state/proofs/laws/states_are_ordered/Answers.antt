@@ -1,15 +1,16 @@
-use Rattle.mcs51_state.proofs.Orders.{known_itself, known_along, join_held, join_new, widen_held, widen_new, within_top}
+use Rattle.std.proofs.Common.{false}
+use Rattle.mcs51_state.proofs.Orders.{joined_ordered, widened_ordered}
 use Rattle.mcs51_state.proofs.laws.states_are_ordered.Goals as goal
 
 pub returns : goal.returns
 returns c =
     let laws = c.known_laws.ensures in
     record {
-      itself = known_itself laws;
-      along = known_along laws;
-      join_held = join_held laws;
-      join_new = join_new laws;
-      widen_held = widen_held laws;
-      widen_new = widen_new laws;
-      greatest = within_top laws;
+      itself = λ framed. (joined_ordered laws framed).itself;
+      along = (joined_ordered laws false).along;
+      join_held = λ framed. (joined_ordered laws framed).held;
+      join_new = λ framed. (joined_ordered laws framed).new;
+      widen_held = λ framed marks below. (widened_ordered laws framed marks below).held;
+      widen_new = λ framed marks below. (widened_ordered laws framed marks below).new;
+      greatest = λ framed. (joined_ordered laws framed).whole;
     }

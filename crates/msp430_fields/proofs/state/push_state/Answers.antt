@@ -1,10 +1,10 @@
-use Rattle.std.proofs.Common.{◌≡◌, ◌∷◌, ◌++◌, ◌∙◌, OnOk, subst, sym, true}
+use Rattle.std.proofs.Common.{◌≡◌, ◌∷◌, ◌++◌, ◌∙◌, OnOk, subst, true}
 use Rattle.text_fields.specs.Fronts.{named_texts}
+use Rattle.text_fields.specs.Items.{behind_space, behind_text}
 use Rattle.value_text.specs.Words.{word_text}
 use Rattle.msp430_state.specs.Known.{Known}
 use Rattle.msp430_fields.specs.Places.{place_field}
 use Rattle.msp430_fields.specs.States.{fact_named, known_text, late_named, memory_field, register_names, sp_named, status_named}
-use Rattle.msp430_fields.proofs.StateLemmas.{behind_space, behind_text}
 use Rattle.msp430_fields.proofs.state.push_state.Goals as goal
 
 pub returns : goal.returns
@@ -35,5 +35,4 @@ returns g c =
     c.in_ok-push_front-2.ensures
     ∙ behind_space c.args.out.now.items c.push_front.new.out.items sp (status ++ 32 ∷ (late ++ 32 ∷ (registers ++ (fact ++ 32 ∷ memory))))
     c.in_ok-push_front.ensures)
-    (subst (λ (known : Known). OnOk c.push_memory.result (c.push_memory.new.out.items
-    ≡ c.push_front-4.new.out.items ++ (memory_field true 0 0).text (known.cells.cells, known.touched))) (sym is) c.push_memory.ensures))
+    c.push_memory.ensures)

@@ -1,15 +1,16 @@
-use Rattle.msp430_state.proofs.Orders.{known_itself, known_along, join_held, join_new, widen_held, widen_new, within_top}
+use Rattle.std.proofs.Common.{false}
+use Rattle.msp430_state.proofs.Orders.{joined_ordered, widened_ordered}
 use Rattle.msp430_state.proofs.laws.states_are_ordered.Goals as goal
 
 pub returns : goal.returns
 returns c =
     let laws = c.known_laws.ensures in
     record {
-      itself = known_itself laws;
-      along = known_along laws;
-      join_held = join_held laws;
-      join_new = join_new laws;
-      widen_held = widen_held laws;
-      widen_new = widen_new laws;
-      greatest = within_top laws;
+      itself = λ lo hi framed. (joined_ordered laws lo hi framed).itself;
+      along = (joined_ordered laws 0 0 false).along;
+      join_held = λ lo hi framed. (joined_ordered laws lo hi framed).held;
+      join_new = λ lo hi framed. (joined_ordered laws lo hi framed).new;
+      widen_held = λ lo hi framed marks below. (widened_ordered laws lo hi framed marks below).held;
+      widen_new = λ lo hi framed marks below. (widened_ordered laws lo hi framed marks below).new;
+      greatest = λ lo hi framed. (joined_ordered laws lo hi framed).whole;
     }

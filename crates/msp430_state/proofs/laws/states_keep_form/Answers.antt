@@ -1,4 +1,5 @@
-use Rattle.msp430_state.proofs.StateForms.{first_form, top_form, join_form, widen_form}
+use Rattle.msp430_state.proofs.Orders.{joined_ordered, widened_ordered}
+use Rattle.msp430_state.proofs.StateForms.{first_form, top_form}
 use Rattle.msp430_state.proofs.laws.states_keep_form.Goals as goal
 
 pub returns : goal.returns
@@ -7,6 +8,6 @@ returns c =
     record {
       first = first_form laws;
       greatest = top_form laws;
-      join = join_form laws;
-      widen = widen_form laws;
+      join = λ lo hi framed. (joined_ordered laws lo hi framed).form;
+      widen = λ lo hi framed marks below. (widened_ordered laws lo hi framed marks below).form;
     }

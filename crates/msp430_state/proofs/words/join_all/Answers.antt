@@ -1,5 +1,5 @@
 use Rattle.entry_value.specs.Words.{word_join}
-use Rattle.msp430_state.proofs.Pointwise.{all_made}
+use Rattle.known_parts.specs.Pointwise.{all_made}
 use Rattle.msp430_state.proofs.words.join_all.Goals as goal
 
 pub returns : goal.returns

@@ -1,5 +1,5 @@
-use Rattle.msp430_fields.specs.Places.{place_is_exact}
+use Rattle.msp430_fields.specs.Places.{places}
 use Rattle.msp430_fields.proofs.places.RegistersPlaces.names_are_exact.Goals as goal
 
-pub returns-clause-exact : goal.returns-clause-exact
-returns-clause-exact c = place_is_exact
+pub returns : goal.returns
+returns c = record { exact = places.exact; apart = places.apart; parted = places.parted }

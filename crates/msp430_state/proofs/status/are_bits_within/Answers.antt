@@ -1,9 +1,0 @@
-use Rattle.std.proofs.Common.{◌∙◌, sym, arith}
-use Rattle.value_bits.specs.declared.tri.Tri.TheVariants.{Zero}
-use Rattle.msp430_state.specs.Status.{is_bit_within}
-use Rattle.msp430_state.proofs.Pointwise.{fails_at}
-use Rattle.msp430_state.proofs.status.are_bits_within.Goals as goal
-
-pub returns-then-not-is_bit_within : goal.returns-then-not-is_bit_within
-returns-then-not-is_bit_within c =
-    sym (fails_at is_bit_within c.args.new.now c.args.held.now c.loop-i.i Zero (omega (arith, c.told-new)) (omega (arith, c.told-held)) (sym c.is_bit_within.ensures ∙ c.if-not-is_bit_within.true))
