@@ -11,7 +11,7 @@ use Rattle.chip_numbers.specs.Single.Single.{Stack as StackAt}
 use Rattle.chip_numbers.specs.declared.space.Space.{Space}
 use Rattle.assert_check.specs.declared.assertion.Assertion.TheVariants.{NoExec, NoRead, NoWrite, Stack}
 use Rattle.assert_check.specs.Assertions.{breaks, breaks_item, is_between, is_same, numbers_in, reaches}
-use Rattle.assert_check.proofs.Members.{any_map, any_never, any_behind}
+use Rattle.plain_lemmas.specs.AnyOf.{any_behind, any_map, any_never}
 
 or_nothing : (b : Bool) → b ≡ (b || false)
 or_nothing true = refl

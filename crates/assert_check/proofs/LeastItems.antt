@@ -21,7 +21,8 @@ use Rattle.assert_check.specs.declared.assertion.Assertion.{Assertion}
 use Rattle.assert_check.specs.declared.deciding.Broken.{Broken}
 use Rattle.assert_check.specs.Holding.{Holds}
 use Rattle.assert_check.specs.Assertions.{breaks, breaks_item, broken_by, broken_of, least_of, lesser, numbers_in, singles_of}
-use Rattle.assert_check.proofs.Members.{in_none, in_cons, in_first, in_filter, in_flat_map, in_map, none_passes}
+use Rattle.plain_lemmas.specs.AnyOf.{none_passes}
+use Rattle.plain_lemmas.specs.Members.{in_cons, in_filter, in_first, in_flat_map, in_map, in_none}
 
 -- behind the whole list nothing is left to tell
 pub all_told : (line_of : Item → List ℕ) (list : List (ℕ × Assertion)) (items : List Item) (told all : List Broken) (n : ℕ) → length list ≤ n

@@ -1,4 +1,3 @@
-pub mod Members
 pub mod Windows
 pub mod ItemTests
 pub mod LeastItems

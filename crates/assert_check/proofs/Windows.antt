@@ -8,7 +8,7 @@ use Rattle.std.proofs.lemmas.Bool.{and_parts, or_cases, or_left, or_right, ltb-t
 use Rattle.value_set.specs.Form.{above}
 use Rattle.value_set.specs.declared.form.Form.{Form}
 use Rattle.assert_check.specs.Assertions.{is_between, reaches}
-use Rattle.assert_check.proofs.Members.{none_passes, some_passes}
+use Rattle.plain_lemmas.specs.AnyOf.{none_passes, some_passes}
 
 -- whether a cut is there tells whether some number stands in the window
 pub cut_tells : (m from len : ℕ) (xs : List ℕ) (part : Option Form)

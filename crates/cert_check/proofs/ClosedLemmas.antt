@@ -1,10 +1,10 @@
 -- A table without a refusal is closed, and its units with their works are a closed book's.
-use Rattle.std.proofs.Common.{◌≡◌, ℕ, zero, suc, ◌+◌, ◌<◌, refl, sym, ap, ap₂, ◌∙◌, subst, Bool, true, false, ◌⊎◌, inl, inr, arith, Option, None, Some, List, [], ◌∷◌, ◌++◌, map, get_or, length}
+use Rattle.std.proofs.Common.{◌≡◌, ℕ, ◌+◌, refl, sym, ap, ap₂, ◌∙◌, subst, Bool, true, false, inl, inr, Option, None, Some, List, [], ◌∷◌, ◌++◌, map}
 use Rattle.std.specs.Prelude.{◌↔◌, if◌then◌else◌, Contains, option_map}
 use Rattle.std.specs.List.{AllByRecursion, IsDistinct, flat_map, list_any}
 use Rattle.std.specs.Map.{keys_of}
 use Rattle.std.proofs.lemmas.Bool.{cases_Bool, true≢false, false≢true}
-use Rattle.std.proofs.lemmas.List.Elements.{All-contains, All-contains_itself, All-from_recursion, Contains-append_left, Contains-append_right, recursion_from_All}
+use Rattle.std.proofs.lemmas.List.Elements.{All-contains, All-contains_itself, All-from_recursion, recursion_from_All}
 use Rattle.std.proofs.lemmas.Map.Views.{Contains-from_lookup, lookup-from_Contains}
 use Rattle.std.proofs.lemmas.Option.{none-some}
 use Rattle.call_context.specs.declared.node.Frame.{Frame}
@@ -23,38 +23,9 @@ use Rattle.cert_text.specs.Writing.{AreNodes}
 use Rattle.cert_check.proofs.TableLemmas.{flips_from}
 use Rattle.cert_check.specs.declared.refusal.Refusal.TheVariants.{NotIn}
 use Rattle.cert_check.specs.Refusal.{exits_in, first_of, held_refusal, Input, Open, open_refusal, or_else, post_refusal, refusal_of, return_from, rows_refusal, start_refusal, unit_refusal, units_of, work_refusal, worked, works_in}
+use Rattle.plain_lemmas.specs.Members.{in_cons, in_first, in_flat_map, in_map, in_none, in_rest}
 
--- MEMBERS
-
-here : {X : Type 0} (x : X) (xs : List X) → Contains (x ∷ xs) x
-here x xs = (0, omega arith, refl)
-
-later : {X : Type 0} (x : X) (xs : List X) (y : X) → Contains xs y → Contains (x ∷ xs) y
-later x xs y c = (suc c.0, omega (arith, c.1), c.2)
-
-contains_at : {X : Type 0} (x : X) (xs : List X) (y : X) (k : ℕ) → k < length (x ∷ xs) → get_or (x ∷ xs) k y ≡ y → (x ≡ y) ⊎ Contains xs y
-contains_at x xs y zero h e = inl e
-contains_at x xs y (suc k) h e = inr (k, omega (arith, h), e)
-
-cases_Contains : {X : Type 0} (x : X) (xs : List X) (y : X) → Contains (x ∷ xs) y → (x ≡ y) ⊎ Contains xs y
-cases_Contains x xs y c = contains_at x xs y c.0 c.1 c.2
-
-contains_none : {X : Type 0} (y : X) → Contains [] y → ⊥
-contains_none y c = absurd (omega (arith, c.1))
-
-in_flat_map : {X Y : Type 0} (f : X → List Y) (xs : List X) (x : X) (y : Y) → Contains xs x → Contains (f x) y → Contains (flat_map f xs) y
-in_flat_map f [] x y c d = absurd (contains_none x c)
-in_flat_map f (z ∷ xs) x y c d = elim (cases_Contains z xs x c) [
-  | inl same ↦ Contains-append_left (f z) (flat_map f xs) y (subst (λ w. Contains (f w) y) (sym same) d)
-  | inr behind ↦ Contains-append_right (f z) (flat_map f xs) y (in_flat_map f xs x y behind d)
-]
-
-in_map : {X Y : Type 0} (f : X → Y) (xs : List X) (x : X) → Contains xs x → Contains (map f xs) (f x)
-in_map f [] x c = absurd (contains_none x c)
-in_map f (z ∷ xs) x c = elim (cases_Contains z xs x c) [
-  | inl same ↦ subst (λ y. Contains (f z ∷ map f xs) y) (ap f same) (here (f z) (map f xs))
-  | inr behind ↦ later (f z) (map f xs) (f x) (in_map f xs x behind)
-]
+-- ALL OF A LIST
 
 all_append : {X : Type 0} (P : X → Type 0) (xs ys : List X) → AllByRecursion P xs → AllByRecursion P ys → AllByRecursion P (xs ++ ys)
 all_append P [] ys a b = b
@@ -120,13 +91,13 @@ module _ (frames : (f g : Frame) → (same_frame f g ≡ true) ↔ (f ≡ g)) wh
   waits_from : (waits : List Frame) (frame : Frame) → list_any (same_frame frame) waits ≡ true → Contains waits frame
   waits_from [] frame e = absurd (false≢true e)
   waits_from (w ∷ waits) frame e = elim (cases_Bool (same_frame frame w)) [
-    | inl is ↦ subst (λ f. Contains (f ∷ waits) frame) ((frames frame w).0 is) (here frame waits)
-    | inr other ↦ later w waits frame (waits_from waits frame (rw other at e))
+    | inl is ↦ subst (λ f. Contains (f ∷ waits) frame) ((frames frame w).0 is) (in_first frame waits)
+    | inr other ↦ in_rest w waits frame (waits_from waits frame (rw other at e))
   ]
 
   waits_at : (waits : List Frame) (frame : Frame) → Contains waits frame → list_any (same_frame frame) waits ≡ true
-  waits_at [] frame c = absurd (contains_none frame c)
-  waits_at (w ∷ waits) frame c = elim (cases_Contains w waits frame c) [
+  waits_at [] frame c = absurd (in_none frame c)
+  waits_at (w ∷ waits) frame c = elim (in_cons w waits frame c) [
     | inl same ↦ rw ((frames frame w).1 (sym same)) refl
     | inr behind ↦ (elim (cases_Bool (same_frame frame w)) [
       | inl is ↦ rw is refl
@@ -143,7 +114,7 @@ at_isnt_exit {A} pc pc' calls frame frame' state left same = let e : At pc' call
 exit_is_in : {A : Type 0} (rows : List (Node × A)) (pc : ℕ) (frame : Frame) (left : A) → Contains rows (Exit pc frame, left)
     → Contains (exits_in rows) (Exit pc frame, left)
 exit_is_in [] pc frame left c = c
-exit_is_in ((At pc' calls frame', state) ∷ rows) pc frame left c = elim (cases_Contains (At pc' calls frame', state) rows (Exit pc frame, left) c) [
+exit_is_in ((At pc' calls frame', state) ∷ rows) pc frame left c = elim (in_cons (At pc' calls frame', state) rows (Exit pc frame, left) c) [
   | inl same ↦ absurd (at_isnt_exit pc pc' calls frame frame' state left same)
   | inr behind ↦ exit_is_in rows pc frame left behind
 ]
@@ -303,16 +274,16 @@ module _ {A : Type 0} (a : Analysis A) (texts : StateTexts A) (rows : List (Node
   listed : (unit : WorkUnit) (at : A) (exit : Option A) → IsUnitOver a (table_in rows) unit at exit
       → Contains inputs (record { unit = unit; at = at; exit = exit })
   listed (One (At pc calls frame)) at None is =
-      in_flat_map (units_of a (exits_in rows)) rows (At pc calls frame, at) _ (row_of (At pc calls frame) at is) (here _ _)
+      in_flat_map (units_of a (exits_in rows)) rows (At pc calls frame, at) _ (row_of (At pc calls frame) at is) (in_first _ _)
   listed (One (At pc calls frame)) at (Some exit) is = absurd is
   listed (One (Exit pc frame)) at exit is = absurd is
   listed (Back (At pc calls frame) (Exit from left)) at (Some exit) is =
       let node = At pc calls frame in
       let waits = (a.work (One node) at None).waits in
       let back : Input A = record { unit = Back node (Exit from left); at = at; exit = Some exit } in
-      let returned : Contains (return_from node at waits (Exit from left, exit)) back = rw (waits_at known.frames waits left is.2) (here back []) in
+      let returned : Contains (return_from node at waits (Exit from left, exit)) back = rw (waits_at known.frames waits left is.2) (in_first back []) in
       in_flat_map (units_of a (exits_in rows)) rows (node, at) back (row_of node at is.0)
-      (later _ _ back (in_flat_map (return_from node at waits) (exits_in rows) (Exit from left, exit) back (exit_is_in rows from left exit (row_of
+      (in_rest _ _ back (in_flat_map (return_from node at waits) (exits_in rows) (Exit from left, exit) back (exit_is_in rows from left exit (row_of
       (Exit from left) exit is.1)) returned))
   listed (Back (At pc calls frame) (Exit from left)) at None is = absurd is
   listed (Back (At pc calls frame) (At from calls' frame')) at exit is = absurd is

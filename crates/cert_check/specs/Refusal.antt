@@ -1,7 +1,7 @@
 -- Why a table isn't closed: the first refusal in a stated order. The start comes first, and then the locations in the order of
 -- the rows: the unit of each, and then its returns in the order of the exits. Of a unit come its opens, of which the one with
 -- the least line in a report is told, and then its posts in order.
-use Rattle.std.specs.Prelude.{◌≡◌, ℕ, ◌+◌, if◌then◌else◌, Option, None, Some, option_map, List, [], ◌∷◌, map}
+use Rattle.std.specs.Prelude.{◌≡◌, ℕ, ◌+◌, if◌then◌else◌, Option, None, Some, option_map, Result, Ok, Err, List, [], ◌∷◌, map}
 use Rattle.std.specs.List.{flat_map, list_any}
 use Rattle.call_context.specs.declared.node.Frame.{Frame}
 use Rattle.call_context.specs.declared.node.Node.{Node}
@@ -119,3 +119,8 @@ module _ {A : Type 0} (a : Analysis A) (outside : A → A → Option Outside) (r
 abbrev pub Tells : Option Refusal → CheckError → Type 0
 Tells refusal (errors.Refused why) = refusal ≡ Some why
 Tells refusal errors.Memory = Unit {0}
+
+-- a value is answered where nothing is refused, and else an error that tells the refusal
+abbrev pub Decides : {A : Type 0} → Option Refusal → Result A CheckError → Type 0
+Decides refusal (Ok value) = refusal ≡ None
+Decides refusal (Err error) = Tells refusal error

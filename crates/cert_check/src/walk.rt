@@ -8,7 +8,7 @@ ghost use Rattle.closing_law.specs.ClosedBook.{table_in};
 ghost use Rattle.cert_text.specs.Certificate.{is_below};
 ghost use Rattle.cert_check.specs.Exits.{returned};
 ghost use Rattle.cert_check.specs.Refusal as refusals;
-ghost use Rattle.cert_check.specs.Refusal.{Tells, first_of, least_from, open_refusal, post_refusal, refusal_of, return_from, rows_refusal, start_refusal, unit_refusal, units_of, work_refusal, worked, works_in};
+ghost use Rattle.cert_check.specs.Refusal.{Decides, Tells, first_of, least_from, open_refusal, post_refusal, refusal_of, return_from, rows_refusal, start_refusal, unit_refusal, units_of, work_refusal, worked, works_in};
 
 use crate::exits::{Exits, exits_in};
 use crate::refusal::{CheckError, Refusal};
@@ -28,10 +28,8 @@ fn hold_start<C: LawfulText>(
     chip: &C,
     table: &Table<C::Abs>,
 ) -> Result<(), CheckError>
-    ensures ok { (let b = C.base chip.now in let a = C.analysis b in OnOk result (start_refusal (C.texts b).outside a.first_node a.first_state
-        (table_in table.now a.first_node) ≡ None)) }
-    ensures refused { (let b = C.base chip.now in let a = C.analysis b in IfErr result (Tells (start_refusal (C.texts b).outside a.first_node a.first_state
-        (table_in table.now a.first_node)))) }
+    ensures { (let b = C.base chip.now in let a = C.analysis b in
+        Decides (start_refusal (C.texts b).outside a.first_node a.first_state (table_in table.now a.first_node)) result) }
 {
     let (node, state) = chip.start(alloc)?;
     let Some(held) = table.get(&node) else {
@@ -55,10 +53,8 @@ fn hold_post<C: LawfulText>(
     line: u32,
     post: &(Node, C::Abs),
 ) -> Result<(), CheckError>
-    ensures ok { (let b = C.base chip.now in
-        OnOk result (post_refusal (C.texts b).outside table.now line post.now ≡ None)) }
-    ensures refused { (let b = C.base chip.now in
-        IfErr result (Tells (post_refusal (C.texts b).outside table.now line post.now))) }
+    ensures { (let b = C.base chip.now in
+        Decides (post_refusal (C.texts b).outside table.now line post.now) result) }
 {
     let (node, state) = post;
     let Some(held) = table.get(node) else {
@@ -85,10 +81,8 @@ fn hold_posts<C: LawfulText>(
     line: u32,
     posts: &[(Node, C::Abs)],
 ) -> Result<(), CheckError>
-    ensures ok { (let b = C.base chip.now in
-        OnOk result (first_of (post_refusal (C.texts b).outside table.now line) posts.now ≡ None)) }
-    ensures refused { (let b = C.base chip.now in
-        IfErr result (Tells (first_of (post_refusal (C.texts b).outside table.now line) posts.now))) }
+    ensures { (let b = C.base chip.now in
+        Decides (first_of (post_refusal (C.texts b).outside table.now line) posts.now) result) }
 {
     for post in posts {
         hold_post(alloc, chip, table, line, post)?;
@@ -111,8 +105,7 @@ fn lesser(alloc: Global, least: (u16, Cause), site: &(u16, Cause)) -> Result<(u1
 
 /// Refuses open sites.
 fn refuse_opens(alloc: Global, line: u32, opens: &[(u16, Cause)]) -> Result<(), CheckError>
-    ensures ok { OnOk result (open_refusal line opens.now ≡ None) }
-    ensures refused { IfErr result (Tells (open_refusal line opens.now)) }
+    ensures { Decides (open_refusal line opens.now) result }
 {
     let [first, others @ ..] = opens else {
         return Ok(());
@@ -148,10 +141,8 @@ fn held_work<C: LawfulText>(
 ) -> Result<Work<C::Abs>, CheckError>
     ensures work { (let b = C.base chip.now in
         IfOk result (λ work. work ≡ (C.analysis b).work unit.now at.now (option_copied exit.entry))) }
-    ensures ok { (let b = C.base chip.now in let work = (C.analysis b).work unit.now at.now (option_copied exit.entry) in
-        OnOk result (work_refusal (C.texts b).outside table.now line work ≡ None)) }
-    ensures refused { (let b = C.base chip.now in let work = (C.analysis b).work unit.now at.now (option_copied exit.entry) in
-        IfErr result (Tells (work_refusal (C.texts b).outside table.now line work))) }
+    ensures held { (let b = C.base chip.now in let work = (C.analysis b).work unit.now at.now (option_copied exit.entry) in
+        Decides (work_refusal (C.texts b).outside table.now line work) result) }
 {
     let work = chip.work(alloc, unit, at, exit)?;
     refuse_opens(alloc, line, work.opens.as_slice())?;
@@ -169,10 +160,8 @@ fn add_return<C: LawfulText>(
     exit: &(Node, C::Abs),
     works: &mut Vec<(Unit, Work<C::Abs>)>,
 ) -> Result<(), CheckError>
-    ensures ok { (let a = C.analysis (C.base chip.now) in let inputs = returned row.now.0 row.now.1 exit.now in
-        OnOk result (first_of (unit_refusal a (C.texts (C.base chip.now)).outside table.now line) inputs ≡ None)) }
-    ensures refused { (let a = C.analysis (C.base chip.now) in let inputs = returned row.now.0 row.now.1 exit.now in
-        IfErr result (Tells (first_of (unit_refusal a (C.texts (C.base chip.now)).outside table.now line) inputs))) }
+    ensures held { (let a = C.analysis (C.base chip.now) in let inputs = returned row.now.0 row.now.1 exit.now in
+        Decides (first_of (unit_refusal a (C.texts (C.base chip.now)).outside table.now line) inputs) result) }
     ensures works { (let a = C.analysis (C.base chip.now) in let inputs = returned row.now.0 row.now.1 exit.now in
         OnOk result (works.new.items ≡ works.old.items ++ map (worked a) inputs)) }
 {
@@ -196,10 +185,8 @@ fn returns_of<C: LawfulText>(
     waits: &[Frame],
     exits: &Exits<'_, C::Abs>,
 ) -> Result<Vec<(Unit, Work<C::Abs>)>, CheckError>
-    ensures ok { (let a = C.analysis (C.base chip.now) in let inputs = flat_map (return_from row.now.0 row.now.1 waits.now) exits.now in
-        OnOk result (first_of (unit_refusal a (C.texts (C.base chip.now)).outside table.now line) inputs ≡ None)) }
-    ensures refused { (let a = C.analysis (C.base chip.now) in let inputs = flat_map (return_from row.now.0 row.now.1 waits.now) exits.now in
-        IfErr result (Tells (first_of (unit_refusal a (C.texts (C.base chip.now)).outside table.now line) inputs))) }
+    ensures held { (let a = C.analysis (C.base chip.now) in let inputs = flat_map (return_from row.now.0 row.now.1 waits.now) exits.now in
+        Decides (first_of (unit_refusal a (C.texts (C.base chip.now)).outside table.now line) inputs) result) }
     ensures works { (let a = C.analysis (C.base chip.now) in let inputs = flat_map (return_from row.now.0 row.now.1 waits.now) exits.now in
         IfOk result (λ works. works.items ≡ map (worked a) inputs)) }
 {
@@ -238,10 +225,8 @@ fn add_units<C: LawfulText>(
     row: &(Node, C::Abs),
     works: &mut Vec<(Unit, Work<C::Abs>)>,
 ) -> Result<(), CheckError>
-    ensures ok { (let a = C.analysis (C.base chip.now) in let inputs = units_of a exits.now row.now in
-        OnOk result (first_of (unit_refusal a (C.texts (C.base chip.now)).outside table.now line) inputs ≡ None)) }
-    ensures refused { (let a = C.analysis (C.base chip.now) in let inputs = units_of a exits.now row.now in
-        IfErr result (Tells (first_of (unit_refusal a (C.texts (C.base chip.now)).outside table.now line) inputs))) }
+    ensures held { (let a = C.analysis (C.base chip.now) in let inputs = units_of a exits.now row.now in
+        Decides (first_of (unit_refusal a (C.texts (C.base chip.now)).outside table.now line) inputs) result) }
     ensures works { (let a = C.analysis (C.base chip.now) in let inputs = units_of a exits.now row.now in
         OnOk result (works.new.items ≡ works.old.items ++ map (worked a) inputs)) }
 {
@@ -267,10 +252,8 @@ fn works_by<C: LawfulText>(
 ) -> Result<Vec<(Unit, Work<C::Abs>)>, CheckError>
     requires lines { first + length table.now < 2 ^ 32 }
     requires exits { exits.now ≡ refusals.exits_in table.now }
-    ensures ok { (let a = C.analysis (C.base chip.now) in
-        OnOk result (rows_refusal a (C.texts (C.base chip.now)).outside table.now first table.now ≡ None)) }
-    ensures refused { (let a = C.analysis (C.base chip.now) in
-        IfErr result (Tells (rows_refusal a (C.texts (C.base chip.now)).outside table.now first table.now))) }
+    ensures held { (let a = C.analysis (C.base chip.now) in
+        Decides (rows_refusal a (C.texts (C.base chip.now)).outside table.now first table.now) result) }
     ensures works { (let a = C.analysis (C.base chip.now) in
         IfOk result (λ works. works.items ≡ works_in a table.now)) }
 {
@@ -298,10 +281,8 @@ fn works_of<C: LawfulText>(
     first: u32,
 ) -> Result<Vec<(Unit, Work<C::Abs>)>, CheckError>
     requires { first + length table.now < 2 ^ 32 }
-    ensures ok { (let a = C.analysis (C.base chip.now) in
-        OnOk result (rows_refusal a (C.texts (C.base chip.now)).outside table.now first table.now ≡ None)) }
-    ensures refused { (let a = C.analysis (C.base chip.now) in
-        IfErr result (Tells (rows_refusal a (C.texts (C.base chip.now)).outside table.now first table.now))) }
+    ensures held { (let a = C.analysis (C.base chip.now) in
+        Decides (rows_refusal a (C.texts (C.base chip.now)).outside table.now first table.now) result) }
     ensures works { (let a = C.analysis (C.base chip.now) in
         IfOk result (λ works. works.items ≡ works_in a table.now)) }
 {

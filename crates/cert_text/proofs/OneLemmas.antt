@@ -1,7 +1,6 @@
 -- Nodes have one certificate: lists that ascend and have the same rows are the same.
-use Rattle.std.proofs.Common.{◌≡◌, ℕ, refl, sym, ap, ap₂, ◌∙◌, subst, true, inl, inr, List, [], ◌∷◌, arith}
-use Rattle.std.specs.Prelude.{◌⊎◌, Contains}
-use Rattle.std.proofs.lemmas.List.Elements.{Contains-append_cases, Contains-push_cases, Contains-append_right}
+use Rattle.std.proofs.Common.{◌≡◌, ℕ, refl, sym, ap, ap₂, ◌∙◌, subst, true, inl, inr, List, [], ◌∷◌}
+use Rattle.std.specs.Prelude.{Contains}
 use Rattle.std.proofs.lemmas.List.Sorted.{Contains-permutation, IsPermutation-sym}
 use Rattle.call_context.specs.declared.node.Node.{Node}
 use Rattle.chip_law.specs.Analysis.{Analysis}
@@ -10,21 +9,7 @@ use Rattle.state_text.specs.Texts.{StateTexts}
 use Rattle.cert_text.specs.Certificate.{Ascend, cert_of, is_below, node_text, table_row}
 use Rattle.cert_text.specs.Writing.{IsCert}
 use Rattle.cert_text.proofs.OrderLemmas.{below_along, not_below_itself}
-
-in_none : {X : Type 0} (x : X) → Contains [] x → ⊥
-in_none x h = absurd (omega (arith, h.1))
-
-in_cons : {X : Type 0} (first : X) (xs : List X) (x : X) → Contains (first ∷ xs) x → (first ≡ x) ⊎ Contains xs x
-in_cons first xs x h = elim (Contains-append_cases (first ∷ []) xs x h) [
-  | inl one ↦ elim (Contains-push_cases [] first x one) [ inl none ↦ absurd (in_none x none) | inr same ↦ inl same ]
-  | inr rest ↦ inr rest
-]
-
-here : {X : Type 0} (x : X) (xs : List X) → Contains (x ∷ xs) x
-here x xs = (0, omega arith, refl)
-
-behind : {X : Type 0} (x : X) (xs : List X) (y : X) → Contains xs y → Contains (x ∷ xs) y
-behind x xs y h = Contains-append_right (x ∷ []) xs y h
+use Rattle.plain_lemmas.specs.Members.{in_cons, in_first, in_none, in_rest}
 
 module _ {R : Type 0} (row : Spelling R) (key : R → List ℕ) where
   -- each row stands above what all stand above
@@ -54,7 +39,7 @@ module _ {R : Type 0} (row : Spelling R) (key : R → List ℕ) where
   -- what is behind the first of the one list is behind that of the other
   rest_in : (x y : R) (xs ys : List R) → Ascend row key (key x) xs → x ≡ y → ((z : R) → Contains (x ∷ xs) z → Contains (y ∷ ys) z)
       → (z : R) → Contains xs z → Contains ys z
-  rest_in x y xs ys up same within z h = elim (in_cons y ys z (within z (behind x xs z h))) [
+  rest_in x y xs ys up same within z h = elim (in_cons y ys z (within z (in_rest x xs z h))) [
     | inl is ↦ absurd (never_behind x xs up (subst (Contains xs) (sym (same ∙ is)) h))
     | inr rest ↦ rest
   ]
@@ -62,10 +47,10 @@ module _ {R : Type 0} (row : Spelling R) (key : R → List ℕ) where
   same_rows : (above over : List ℕ) (xs ys : List R) → Ascend row key above xs → Ascend row key over ys → ((z : R) → Contains xs z → Contains ys z)
       → ((z : R) → Contains ys z → Contains xs z) → xs ≡ ys
   same_rows above over [] [] up also within around = refl
-  same_rows above over [] (y ∷ ys) up also within around = absurd (in_none y (around y (here y ys)))
-  same_rows above over (x ∷ xs) [] up also within around = absurd (in_none x (within x (here x xs)))
+  same_rows above over [] (y ∷ ys) up also within around = absurd (in_none y (around y (in_first y ys)))
+  same_rows above over (x ∷ xs) [] up also within around = absurd (in_none x (within x (in_first x xs)))
   same_rows above over (x ∷ xs) (y ∷ ys) up also within around =
-      let same = first_same x y xs ys up.2 also.2 (within x (here x xs)) (around y (here y ys)) in
+      let same = first_same x y xs ys up.2 also.2 (within x (in_first x xs)) (around y (in_first y ys)) in
       ap₂ (λ r rs. r ∷ rs) same
       (same_rows (key x) (key y) xs ys up.2 also.2 (rest_in x y xs ys up.2 same within) (rest_in y x ys xs also.2 (sym same) around))
 

@@ -1,8 +1,7 @@
 -- A text by its whole lines and the line that has begun, and one that goes on.
-use Rattle.std.proofs.Common.{◌≡◌, ℕ, suc, take, drop, get_or, subst, ◌+◌, ◌<◌, refl, sym, ap, ◌∙◌, arith, append_assoc, length-append, true, false, List, [], ◌∷◌, ◌++◌, length, map, Ok, Err}
+use Rattle.std.proofs.Common.{◌≡◌, ℕ, suc, take, drop, get_or, subst, ◌+◌, ◌<◌, ◌≤◌, ◌^◌, refl, sym, ap, ◌∙◌, arith, append_assoc, length-append, true, false, List, [], ◌∷◌, ◌++◌, length, map, Ok, Err}
 use Rattle.std.specs.Prelude.{◌==◌, ◌&&◌}
 use Rattle.std.specs.List.{AllByRecursion}
-use Rattle.std.proofs.lemmas.Bool.Decides.{nat_tests}
 use Rattle.std.proofs.lemmas.List.{length-map, take-append-drop}
 use Rattle.std.proofs.Math.Seq.{take-suc}
 use Rattle.call_context.specs.declared.node.Node.{Node}
@@ -16,7 +15,7 @@ use Rattle.cert_text.specs.declared.fault.ReadError.{ReadError}
 use Rattle.cert_text.specs.declared.fault.ReadError.TheVariants.{Bad, Memory}
 use Rattle.cert_text.specs.Certificate.{Read, at_first, finish, is_empty, table_of, table_step}
 use Rattle.cert_text.specs.Reading.{HasRead, IsFaultyFront, TellsFront, TellsLine}
-use Rattle.cert_text.proofs.RowLemmas.{err-ok}
+use Rattle.cert_text.proofs.RowLemmas.{err-ok, lines_fit}
 
 pub joined_feed : (lines : List (List ℕ)) (line : List ℕ) → joined (lines ++ line ∷ []) [] ≡ joined lines line ++ 10 ∷ []
 joined_feed lines line = joined-line lines line [] ∙ sym (joined-rest lines line (10 ∷ []))
@@ -28,9 +27,6 @@ lines_one : (lines : List (List ℕ)) (line : List ℕ) → AllByRecursion IsOne
 lines_one [] line are is = (is, tt)
 lines_one (first ∷ lines) line are is = (are.0, lines_one lines line are.1 is)
 
-pub differs : (b : ℕ) → (b ≡ 10 → ⊥) → (b == 10) ≡ false
-differs b other = grind (arith, nat_tests)
-
 -- a further byte of a piece
 pub piece_step : (text piece : List ℕ) (i : ℕ) → i < length piece → (text ++ take i piece) ++ get_or piece i 0 ∷ [] ≡ text ++ take (i + 1) piece
 piece_step text piece i h =
@@ -39,6 +35,12 @@ piece_step text piece i h =
 
 pub count_lines : {A : Type 0} (line_of : A → List ℕ) (items : List A) (n size : ℕ) → n ≡ size → size ≡ length items → n ≡ length (map line_of items)
 count_lines line_of items n size count is = count ∙ is ∙ sym (length-map items line_of)
+
+-- the line behind so many others has a number
+pub has_number : {A : Type 0} (line_of : A → List ℕ) (items : List A) (rest : List ℕ) (n size : ℕ) → n ≡ size → size ≡ length items
+    → length (joined (map line_of items) rest) ≤ 268435456 → n + 1 < 2 ^ 32
+has_number line_of items rest n size count is small =
+    omega (arith, count_lines line_of items n size count is, lines_fit (map line_of items) rest, small)
 
 module _ {A : Type 0} (a : Analysis A) (texts : StateTexts A) where
   -- the line behind others

@@ -115,6 +115,18 @@ pub fn write_nodes<C: LawfulText, K: Sink>(
     }
 }
 
+/// The nodes of a book, as its certificate lists them.
+fn listed<'a, C: LawfulText>(chip: &C, book: &'a Book<C>) -> &'a [(Node, C::Abs)]
+    requires { C.base chip.now ≡ book.now.base }
+    ensures nodes { result.now ≡ nodes_of (replay (C.analysis book.now.base) book.now.journal) }
+    ensures formed { AreNodes (C.analysis (C.base chip.now)) result.now }
+{
+    chip.is_program();
+    nodes_of_books_are_formed::<C>();
+    let _journal = book.journal();
+    book.nodes()
+}
+
 /// The certificate of a book: that of its nodes.
 pub fn book_certificate<C: LawfulText>(
     alloc: Global,
@@ -125,10 +137,7 @@ pub fn book_certificate<C: LawfulText>(
     ensures { (let b = book.now.base in IfOk result (λ text.
         IsCert (C.analysis b) (C.texts b) (nodes_of (replay (C.analysis b) book.now.journal)) text.items)) }
 {
-    chip.is_program();
-    nodes_of_books_are_formed::<C>();
-    let _journal = book.journal();
-    certificate_of(alloc, chip, book.nodes())
+    certificate_of(alloc, chip, listed(chip, book))
 }
 
 /// Writes the certificate of a book: that of its nodes.
@@ -152,8 +161,5 @@ pub fn write<C: LawfulText, K: Sink>(
     ensures unwritten { IfErr result (λ error. error ≡ PrintError.Memory
         → K.held sink.new ≡ K.held sink.old) }
 {
-    chip.is_program();
-    nodes_of_books_are_formed::<C>();
-    let _journal = book.journal();
-    write_nodes(alloc, chip, book.nodes(), sink)
+    write_nodes(alloc, chip, listed(chip, book), sink)
 }

@@ -1,9 +1,6 @@
 -- From a finished book without opens to its closed table, and back to the works that it has.
-use Prim.Native.Nat.{zero, suc}
-use Rattle.std.proofs.Common.{◌≡◌, Option, None, Some, List, [], ◌∷◌, sym, ap, ◌∙◌, subst, arith}
+use Rattle.std.proofs.Common.{◌≡◌, Option, None, Some, sym, ap, ◌∙◌, subst}
 use Rattle.std.specs.Prelude.{ℕ, Contains}
-use Rattle.std.specs.Map.{values_of}
-use Rattle.std.proofs.lemmas.Map.Made.{Contains-values_of}
 use Rattle.call_context.specs.declared.node.Node.{Node}
 use Rattle.call_context.specs.declared.node.Node.TheVariants.{At, Exit}
 use Rattle.call_context.specs.declared.node.Unit.{Unit as WorkUnit}
@@ -15,16 +12,13 @@ use Rattle.chip_law.specs.Analysis.{Analysis, AreFormed}
 use Rattle.chip_law.specs.Laws.{Cover, IsLawful, location_of}
 use Rattle.chip_law.specs.Machine.{Machine}
 use Rattle.chip_law.specs.Table.{IsFormedTable, IsUnitOver}
-use Rattle.closing_law.specs.ClosedBook.{IsClosedBook, table_in}
 use Rattle.closing_law.specs.Covered.{AreCovering, CoversRuns, IsBroken, NoneIsOpen}
 use Rattle.round_core.specs.Kept.{live_pairs, live_works}
 use Rattle.round_core.specs.Machine.{BookState, Done, done_at, IsUnit, IsFinished, IsClosed}
 use Rattle.round_core.specs.Table.{table_of}
 use Rattle.closing_law.proofs.ClosedBooks.{ArePairs, IsItsTable, one_done}
-
--- what is known of the works of a book
-abbrev AreListed : {A : Type 0} → BookState A → Type 0
-AreListed b = (unit : WorkUnit) (d : Done _) → IsUnit b unit → done_at b.done unit ≡ Some d → Contains (live_works b) d.work
+use Rattle.plain_lemmas.specs.Members.{from_values}
+use Rattle.closing_law.specs.BookFacts.{AreListed}
 
 abbrev AreKnown : {A : Type 0} → Analysis A → BookState A → Type 0
 AreKnown {A = A} m b = (unit : WorkUnit) (at : A) (exit : Option A) → IsUnitOver m (table_of b.nodes) unit at exit → IsUnit b unit
@@ -48,18 +42,6 @@ are_covering machine m covers b listed known worked runs = record {
   stays = runs.stays;
 }
 
--- the works of a closed book cover the runs that its table covers
-pub works_cover : {S A : Type 0} (machine : Machine S) (m : Analysis A) (covers : Cover S A) (nodes : List (Node × A)) (works : List (WorkUnit × Work A))
-    → IsClosedBook m nodes works → CoversRuns machine m covers (table_in nodes) → AreCovering machine (values_of works)
-works_cover machine m covers nodes works closed runs = record {
-  shows = λ n item met. let shown = runs.shows n item met in (
-    m.work shown.unit shown.at shown.exit,
-    Contains-values_of works shown.unit _ (closed.each shown.unit shown.at shown.exit shown.is_unit),
-    shown.shows,
-  );
-  stays = runs.stays;
-}
-
 -- the location of a unit over a formed table, and the form of its states
 record IsHome {A : Type 0} (m : Analysis A) (table : Node → Option A) (unit : WorkUnit) (at : A) (exit : Option A) : Type 0 where
   pub is_location : IsLocation (location_of unit)
@@ -77,21 +59,6 @@ home_of m table formed (Back (At pc calls frame) (Exit from left)) at (Some exit
 home_of m table formed (Back (At pc calls frame) (Exit from left)) at None over = absurd over
 home_of m table formed (Back (At pc calls frame) (At from calls' frame')) at exit over = absurd over
 home_of m table formed (Back (Exit pc frame) node) at exit over = absurd over
-
--- a value stands with some key
-from_values : {K X : Type 0} (pairs : List (K × X)) (value : X) → Contains (values_of pairs) value → (key : K) × Contains pairs (key, value)
-from_values [] value h = absurd (omega (arith, h.1))
-from_values (pair ∷ pairs) value (zero, inside, is) = (pair.0, (0, omega arith, ap (λ v. (pair.0, v)) is))
-from_values (pair ∷ pairs) value (suc k, inside, is) = let (key, there) = from_values pairs value (k, omega (arith, inside), is) in
-    (key, (suc there.0, omega (arith, there.1), there.2))
-
--- the works of a closed book leave none open
-pub none_open : {A : Type 0} (m : Analysis A) (nodes : List (Node × A)) (works : List (WorkUnit × Work A)) → IsClosedBook m nodes works
-    → NoneIsOpen (values_of works)
-none_open m nodes works closed work h =
-    let (unit, there) = from_values works work h in
-    let is = closed.units (unit, work) there in
-    ap (λ (w : Work _). w.opens) is.is_work ∙ closed.closed.no_open unit is.at is.exit is.is_unit
 
 -- a work that a finished book lists is that of a unit over its table's states
 record IsOver {A : Type 0} (m : Analysis A) (b : BookState A) (work : Work A) : Type 0 where

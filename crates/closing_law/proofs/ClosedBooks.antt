@@ -19,6 +19,7 @@ use Rattle.round_core.specs.Kept.{live_pairs, nodes_of}
 use Rattle.round_core.specs.Machine.{BookState, Held, Done, done_at, held_at, IsUnit, IsFinished, IsClosed}
 use Rattle.round_core.specs.Same.{same_node, same_unit}
 use Rattle.round_core.specs.Table.{table_of}
+use Rattle.plain_lemmas.specs.Cases.{both}
 
 -- TABLES THAT HOLD THE SAME
 module _ {A : Type 0} (m : Analysis A) (f g : Node → Option A) (same : (node : Node) → f node ≡ g node) where
@@ -76,10 +77,6 @@ none_of (x ∷ xs) e = let n : length (x ∷ xs) ≡ 0 = eqb-true (length (x ∷
 of_none : {X : Type 0} (xs : List X) → xs ≡ [] → (length xs == 0) ≡ true
 of_none [] e = refl
 of_none (x ∷ xs) e = absurd (cc)
-
-both : (x y : Bool) → (x && y) ≡ true → (x ≡ true) × (y ≡ true)
-both true y h = (refl, h)
-both false y h = absurd (cc)
 
 module _ {A : Type 0} (live : WorkUnit → Bool) where
   abbrev is_shut : WorkUnit × Work A → Bool

@@ -1,3 +1,4 @@
+pub mod BookFacts
 pub mod Bounded
 pub mod ClosedBook
 pub mod Covered

@@ -10,11 +10,7 @@ use Rattle.ihex_read.specs.ImageText.{placed_from, placed_of, Denotes, IsImage}
 use Rattle.image.specs.declared.rule_set.Rules.{Rules}
 use Rattle.ihex_read.specs.declared.tail.Tail.{Tail}
 use Rattle.ihex_read.specs.Record.{bytes_of, record_of, data_of, placed_by, base_behind, offset_of, type_of}
-
-both : (x y : Bool) → (x && y) ≡ true → (x ≡ true) × (y ≡ true)
-both true true h = (refl, refl)
-both true false h = absurd (cc)
-both false y h = absurd (cc)
+use Rattle.std.proofs.lemmas.Bool.{and_parts}
 
 abbrev AreBytes : List ℕ → Type 0
 AreBytes xs = All (λ x. x < 256) xs
@@ -28,15 +24,15 @@ digit_below : (c : ℕ) → unwrap_or (hex_digit_value c) 0 < 16
 digit_below c = upper (nat_le 65 c && nat_le c 70) refl
   where
     decimal : (b : Bool) → (nat_le 48 c && nat_le c 57) ≡ b → unwrap_or (if b then Some (c - 48) else None) 0 < 16
-    decimal true e = let top = leb-true c 57 (both (nat_le 48 c) (nat_le c 57) e).1 in omega (arith, top)
+    decimal true e = let top = leb-true c 57 (and_parts (nat_le 48 c) (nat_le c 57) e).1 in omega (arith, top)
     decimal false e = omega arith
 
     lower : (b : Bool) → (nat_le 97 c && nat_le c 102) ≡ b → unwrap_or (if b then Some (c - 87) else if nat_le 48 c && nat_le c 57 then Some (c - 48) else None) 0 < 16
-    lower true e = let top = leb-true c 102 (both (nat_le 97 c) (nat_le c 102) e).1 in omega (arith, top)
+    lower true e = let top = leb-true c 102 (and_parts (nat_le 97 c) (nat_le c 102) e).1 in omega (arith, top)
     lower false e = decimal (nat_le 48 c && nat_le c 57) refl
 
     upper : (b : Bool) → (nat_le 65 c && nat_le c 70) ≡ b → unwrap_or (if b then Some (c - 55) else if nat_le 97 c && nat_le c 102 then Some (c - 87) else if nat_le 48 c && nat_le c 57 then Some (c - 48) else None) 0 < 16
-    upper true e = let top = leb-true c 70 (both (nat_le 65 c) (nat_le c 70) e).1 in omega (arith, top)
+    upper true e = let top = leb-true c 70 (and_parts (nat_le 65 c) (nat_le c 70) e).1 in omega (arith, top)
     upper false e = lower (nat_le 97 c && nat_le c 102) refl
 
 bytes_of-are : (digits : List ℕ) → AreBytes (bytes_of digits)

@@ -17,7 +17,8 @@ use Rattle.ihex_read.specs.ImageText.{fault_of, is_end, IsOpen, Ends, IsImage, I
 use Rattle.ihex_read.specs.Loading.{Made, placing_fault, written}
 use Rattle.ihex_read.specs.Record.{record_of, base_behind, placed_by}
 use Rattle.ihex_read.proofs.MadeLemmas.{made_nothing, made_more, made_blank, fault-made}
-use Rattle.ihex_read.proofs.TextLemmas.{among_open, same_cut, open_more, one_end, no_end_behind_fault, no_end_among_open}
+use Rattle.ihex_read.specs.TextFacts.{open_more}
+use Rattle.ihex_read.proofs.TextLemmas.{among_open, same_cut, one_end, no_end_behind_fault, no_end_among_open}
 
 -- an image of nothing
 nothing : ℕ → List (Option ℕ)

@@ -1,5 +1,5 @@
 -- What one line more makes, and its fault, told by the base and the image.
-use Rattle.std.proofs.Common.{◌≡◌, ℕ, ◌+◌, ◌<◌, ◌≤◌, Bool, true, false, List, [], ◌∷◌, ◌++◌, length, refl, sym, ◌∙◌, ap, subst, append_assoc, arith}
+use Rattle.std.proofs.Common.{◌≡◌, ℕ, ◌+◌, ◌<◌, ◌≤◌, Bool, true, false, List, [], ◌∷◌, ◌++◌, length, refl, sym, ◌∙◌, ap, subst, arith}
 use Rattle.std.specs.Prelude.{◌==◌, ◌&&◌, not, if◌then◌else◌, Option, None, Some, find, nat_lt, Result, Ok, Err, OnOk}
 use Rattle.std.specs.List.{list_any, enumerate_from}
 use Rattle.std.specs.Option.{option_or}
@@ -18,18 +18,14 @@ use Rattle.ihex_read.specs.Loading.{Made, is_outside, is_taken, is_resettable, p
 use Rattle.ihex_read.specs.Record.{record_of, type_of, offset_of, data_of, base_behind, placed_by}
 use Rattle.ihex_read.proofs.PlacingLemmas.{outside-row}
 use Rattle.ihex_read.proofs.WrittenLemmas.{Holds, clashes-taken, has_byte-some, row_written, length-written}
+use Rattle.ihex_read.specs.TextFacts.{base_from-append, placed_from-append}
 
 base_from-push : (base : ℕ) (lines : List (List ℕ)) (line : List ℕ) → base_from base (lines ++ line ∷ []) ≡ base_behind (base_from base lines) (record_of line)
-base_from-push base [] line = refl
-base_from-push base (first ∷ lines) line = base_from-push (base_behind base (record_of first)) lines line
+base_from-push base lines line = base_from-append base lines (line ∷ [])
 
 placed_from-push : (base : ℕ) (lines : List (List ℕ)) (line : List ℕ)
     → placed_from base (lines ++ line ∷ []) ≡ placed_from base lines ++ placed_by (base_from base lines) (record_of line)
-placed_from-push base [] line = append-nil _
-placed_from-push base (first ∷ lines) line =
-    let rest = placed_from-push (base_behind base (record_of first)) lines line in
-    ap (λ places. placed_by base (record_of first) ++ places) rest ∙ sym (append_assoc (placed_by base (record_of first)) (placed_from (base_behind base (record_of first)) lines)
-    (placed_by (base_from (base_behind base (record_of first)) lines) (record_of line)))
+placed_from-push base lines line = placed_from-append base lines (line ∷ []) ∙ ap (λ places. placed_from base lines ++ places) (append-nil _)
 
 pub placed_of-push : (lines : List (List ℕ)) (line : List ℕ) → placed_of (lines ++ line ∷ []) ≡ placed_of lines ++ placed_by (base_of lines) (record_of line)
 placed_of-push lines line = placed_from-push 0 lines line

@@ -13,7 +13,7 @@ use Rattle.ihex_read.specs.Loading.{Made}
 use Rattle.ihex_read.specs.Record.{record_of, type_of}
 use Rattle.ihex_read.specs.Stages.{IsUsed, IsGoing, Stands, GoesOn, next_fault}
 use Rattle.ihex_read.proofs.MadeLemmas.{placed_of-end}
-use Rattle.ihex_read.proofs.TextLemmas.{open_more}
+use Rattle.ihex_read.specs.TextFacts.{open_more}
 use Rattle.ihex_read.proofs.WrittenLemmas.{Holds}
 
 -- a blank line behind the end record's

@@ -2,8 +2,7 @@
 use Rattle.std.proofs.Common.{◌≡◌, ℕ, ◌<◌, inl, inr, Bool, true, false, List, [], ◌∷◌, ◌++◌, length, take, get_or, refl, sym, ◌∙◌, ap, length-append, arith}
 use Rattle.std.specs.Prelude.{None, Some}
 use Rattle.std.proofs.lemmas.Bool.{cases_lt}
-use Rattle.std.proofs.lemmas.List.{append-nil, take-append-le, get_or_append_left}
-use Rattle.std.proofs.Math.Seq.{take-append_seam, get_or-append_seam}
+use Rattle.std.proofs.lemmas.List.{append-nil}
 use Rattle.image.specs.declared.rule_set.Rules.{Rules}
 use Rattle.ihex_read.specs.declared.fault.HexFault.{HexFault}
 use Rattle.ihex_read.specs.ImageText.{fault_of, is_end, IsOpen, Ends}
@@ -41,19 +40,6 @@ among_open rules b₁ b₂ line r₁ r₂ e h all_open =
     let place = prefix_at b₁ b₂ line r₁ r₂ e h in
     let facts = all_open (length b₁) h in
     (ap (λ b. fault_of rules b line) (sym place.0) ∙ ap (λ l. fault_of rules (take (length b₁) b₂) l) (sym place.1) ∙ facts.0, ap is_end (sym place.1) ∙ facts.1)
-
--- open lines, and one more
-pub open_more : (rules : Rules) (before : List (List ℕ)) (line : List ℕ) → IsOpen rules before → fault_of rules before line ≡ None → is_end line ≡ false
-    → IsOpen rules (before ++ line ∷ [])
-open_more rules before line all_open accepted no_end k h = elim (cases_lt k (length before)) [
-  | inl less ↦
-      let front = take-append-le k before (line ∷ []) (omega arith) in
-      let place = get_or_append_left before (line ∷ []) [] k less in
-      rw (front, place) (all_open k less)
-  | inr past ↦
-      let last : k ≡ length before = omega (arith, length-append before (line ∷ [])) in
-      rw (last, take-append_seam before (line ∷ []), get_or-append_seam before line [] []) (accepted, no_end)
-]
 
 -- the lines before the end record are determined
 pub one_end : (rules : Rules) (lines b₁ b₂ : List (List ℕ)) (l₁ l₂ : List ℕ) (r₁ r₂ : List (List ℕ)) → Ends rules lines b₁ l₁ r₁ → Ends rules lines b₂ l₂ r₂

@@ -1,6 +1,6 @@
 -- An image that has the bytes of a list of places, and one byte more, and a row of bytes more.
 use Rattle.std.proofs.Common.{◌≡◌, ◌≢◌, ℕ, ◌+◌, ◌<◌, ◌≤◌, ◌↔◌, inl, inr, Bool, true, false, List, [], ◌∷◌, ◌++◌, length, refl, sym, ◌∙◌, ap, subst, append_assoc, eq-eqb, arith}
-use Rattle.std.specs.Prelude.{◌&&◌, ◌||◌, ◌==◌, not, Option, None, Some, is_some, slice_set, Contains}
+use Rattle.std.specs.Prelude.{◌&&◌, ◌==◌, not, Option, None, Some, is_some, slice_set, Contains}
 use Rattle.std.specs.List.{list_any, enumerate_from}
 use Rattle.std.specs.Cmp.{both_ways}
 use Rattle.std.proofs.lemmas.Bool.{cases_eq, and_parts, and_from}
@@ -11,6 +11,7 @@ use Rattle.std.proofs.lemmas.List.Folds.{Any-from_list_any, list_any_at}
 use Rattle.image.specs.Image.{byte_at}
 use Rattle.ihex_read.specs.ImageText.{clashes, has_byte}
 use Rattle.ihex_read.specs.Loading.{differs, is_taken, written}
+use Rattle.std.proofs.lemmas.Bool.{or_parts}
 
 -- the image has the bytes that were placed, and no others
 abbrev pub Holds : List (Option ℕ) → List (ℕ × ℕ) → Type 0
@@ -111,10 +112,6 @@ untouched image at start value (b ∷ bytes) h =
     let kept = get_or-set_other image at start (Some value) None other in
     let rest = untouched image at (start + 1) value bytes (omega arith) in
     rw (kept, rest) refl
-
-or_parts : (a b : Bool) → (a || b) ≡ false → (a ≡ false) × (b ≡ false)
-or_parts true b h = cc h
-or_parts false b h = (refl, h)
 
 -- a row of bytes more
 pub row_written : (image : List (Option ℕ)) (placed : List (ℕ × ℕ)) (start : ℕ) (bytes : List ℕ) → Holds image placed

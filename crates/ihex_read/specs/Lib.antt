@@ -6,3 +6,4 @@ pub mod Record
 pub mod Loading
 pub mod Reading
 pub mod Stages
+pub mod TextFacts

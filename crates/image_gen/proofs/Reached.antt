@@ -7,7 +7,7 @@ use Rattle.std.proofs.lemmas.List.{append-nil}
 use Rattle.std.proofs.Math.Seq.{drop-append_seam, drop-append-add, take-append_seam}
 use Rattle.image_gen.specs.Made.{StandsAt, low_first, msp430_call, msp430_function, msp430_function_at, msp430_program, mcs51_call, mcs51_function, mcs51_function_at, mcs51_program}
 use Rattle.image_gen.specs.Records.{each}
-use Rattle.image_gen.proofs.Parts.{length-each, length-low_first}
+use Rattle.image_gen.specs.LengthFacts.{length-each, length-low_first}
 
 -- the parts in front of one, that one, and those behind it
 split : (part : ℕ → List ℕ) (i n : ℕ) → i < n → (rest : List ℕ) × (each part n ≡ (each part i ++ part i) ++ rest)

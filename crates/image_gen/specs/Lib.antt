@@ -1,2 +1,3 @@
+pub mod LengthFacts
 pub mod Made
 pub mod Records

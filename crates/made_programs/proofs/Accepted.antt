@@ -1,18 +1,17 @@
 -- A data record behind lines whose bytes stand below it, and the end record.
-use Rattle.std.proofs.Common.{◌≡◌, ℕ, ◌+◌, ◌<◌, ◌≤◌, ◌==◌, ◌&&◌, not, nat_lt, inl, inr, Bool, false, List, [], ◌∷◌, ◌++◌, length, None, refl, sym, ◌∙◌, ap, append_assoc, append-nil, length-append, le-ltb, ne_eqb, arith}
+use Rattle.std.proofs.Common.{◌≡◌, ℕ, ◌+◌, ◌<◌, ◌≤◌, ◌==◌, ◌&&◌, not, nat_lt, Bool, false, List, [], ◌∷◌, ◌++◌, length, None, refl, ◌∙◌, ap, append-nil, le-ltb, ne_eqb, arith}
 use Rattle.std.specs.Prelude.{All, find}
 use Rattle.std.specs.List.{list_any, enumerate_from}
-use Rattle.std.proofs.Math.Seq.{take-append_seam, get_or-append_seam}
-use Rattle.std.proofs.lemmas.Bool.{cases_lt, and_left}
-use Rattle.std.proofs.lemmas.List.{take-append-le, get_or_append_left}
+use Rattle.std.proofs.lemmas.Bool.{and_left}
 use Rattle.std.proofs.lemmas.List.Elements.{All-nil, All-cons, All-append, All-weaker}
 use Rattle.std.proofs.lemmas.List.Folds.{list_any_none}
 use Rattle.ihex_read.specs.declared.fault.HexFault.{HexFault}
 use Rattle.ihex_read.specs.declared.fault.HexFault.TheVariants.{NoColon, BadDigit, BadLength, BadSum, BadType, BadTypeLength, OutOfRange, Clash, Misplaced, NoReset}
 use Rattle.image.specs.declared.rule_set.Rules.{Rules}
-use Rattle.ihex_read.specs.ImageText.{IsOpen, alone_faults, placing_faults, base_from, base_of, placed_from, placed_of, clashes, fault_of, has, is_end, is_misplaced}
+use Rattle.ihex_read.specs.ImageText.{IsOpen, alone_faults, placing_faults, base_of, placed_from, placed_of, clashes, fault_of, has, is_end, is_misplaced}
 use Rattle.ihex_read.specs.Record.{record_of, base_behind, placed_by}
 use Rattle.made_programs.proofs.RecordLines.{IsRow, base_stays, line_at, no_end, none_alone, placed_back}
+use Rattle.ihex_read.specs.TextFacts.{base_from-append, open_more, placed_from-append}
 
 -- no byte may be refused for its place from this address on
 abbrev pub IsFree : Rules → ℕ → Type 0
@@ -24,16 +23,6 @@ pub record IsLaid (rules : Rules) (lines : List (List ℕ)) (top : ℕ) : Type 0
   pub based : base_of lines ≡ 0
   pub below : All (λ (byte : ℕ × ℕ). byte.0 < top) (placed_of lines)
 
-pub base_from-append : (base : ℕ) (lines more : List (List ℕ)) → base_from base (lines ++ more) ≡ base_from (base_from base lines) more
-base_from-append base [] more = refl
-base_from-append base (line ∷ lines) more = base_from-append (base_behind base (record_of line)) lines more
-
-pub placed_from-append : (base : ℕ) (lines more : List (List ℕ)) → placed_from base (lines ++ more) ≡ placed_from base lines ++ placed_from (base_from base lines) more
-placed_from-append base [] more = refl
-placed_from-append base (line ∷ lines) more =
-    ap (λ bytes. placed_by base (record_of line) ++ bytes) (placed_from-append (base_behind base (record_of line)) lines more)
-    ∙ sym (append_assoc (placed_by base (record_of line)) (placed_from (base_behind base (record_of line)) lines) _)
-
 -- the addresses of bytes in a row
 rows_within : (at : ℕ) (bytes : List ℕ) → All (λ (byte : ℕ × ℕ). (at ≤ byte.0) × (byte.0 < at + length bytes)) (enumerate_from at bytes)
 rows_within at [] = All-nil (λ (byte : ℕ × ℕ). (at ≤ byte.0) × (byte.0 < at + 0))
@@ -43,11 +32,16 @@ rows_within at (b ∷ bytes) =
     (All-weaker (λ (byte : ℕ × ℕ). (at + 1 ≤ byte.0) × (byte.0 < at + 1 + length bytes)) within
     (λ byte h. let low = h.0 in let high = h.1 in (omega arith, omega arith)) (enumerate_from (at + 1) bytes) (rows_within (at + 1) bytes))
 
+-- a test that fails at each address of a row
+none_in_row : (test : ℕ × ℕ → Bool) (at : ℕ) (bytes : List ℕ) → ((byte : ℕ × ℕ) → at ≤ byte.0 → byte.0 < at + length bytes → test byte ≡ false)
+    → list_any test (enumerate_from at bytes) ≡ false
+none_in_row test at bytes fails =
+    list_any_none test (enumerate_from at bytes)
+    (All-weaker (λ (byte : ℕ × ℕ). (at ≤ byte.0) × (byte.0 < at + length bytes)) (λ byte. test byte ≡ false) (λ byte h. fails byte h.0 h.1)
+    (enumerate_from at bytes) (rows_within at bytes))
+
 in_range : (at : ℕ) (bytes : List ℕ) → at + length bytes ≤ 65536 → list_any (λ (byte : ℕ × ℕ). nat_lt 65535 byte.0) (enumerate_from at bytes) ≡ false
-in_range at bytes fits =
-    list_any_none (λ (byte : ℕ × ℕ). nat_lt 65535 byte.0) (enumerate_from at bytes)
-    (All-weaker (λ (byte : ℕ × ℕ). (at ≤ byte.0) × (byte.0 < at + length bytes)) (λ byte. nat_lt 65535 byte.0 ≡ false)
-    (λ byte h. let high = h.1 in le-ltb 65535 byte.0 (omega arith)) (enumerate_from at bytes) (rows_within at bytes))
+in_range at bytes fits = none_in_row _ at bytes (λ byte low high. le-ltb 65535 byte.0 (omega arith))
 
 apart : (placed : List (ℕ × ℕ)) (top : ℕ) (byte : ℕ × ℕ) → All (λ (other : ℕ × ℕ). other.0 < top) placed → top ≤ byte.0 → clashes placed byte ≡ false
 apart placed top byte below above =
@@ -58,16 +52,10 @@ apart placed top byte below above =
 
 all_apart : (placed : List (ℕ × ℕ)) (top at : ℕ) (bytes : List ℕ) → All (λ (other : ℕ × ℕ). other.0 < top) placed → top ≤ at
     → list_any (clashes placed) (enumerate_from at bytes) ≡ false
-all_apart placed top at bytes below above =
-    list_any_none (clashes placed) (enumerate_from at bytes)
-    (All-weaker (λ (byte : ℕ × ℕ). (at ≤ byte.0) × (byte.0 < at + length bytes)) (λ byte. clashes placed byte ≡ false)
-    (λ byte h. let low = h.0 in apart placed top byte below (omega arith)) (enumerate_from at bytes) (rows_within at bytes))
+all_apart placed top at bytes below above = none_in_row (clashes placed) at bytes (λ byte low high. apart placed top byte below (omega arith))
 
 all_free : (rules : Rules) (at : ℕ) (bytes : List ℕ) → IsFree rules at → list_any (λ (byte : ℕ × ℕ). is_misplaced rules byte.0) (enumerate_from at bytes) ≡ false
-all_free rules at bytes free =
-    list_any_none (λ (byte : ℕ × ℕ). is_misplaced rules byte.0) (enumerate_from at bytes)
-    (All-weaker (λ (byte : ℕ × ℕ). (at ≤ byte.0) × (byte.0 < at + length bytes)) (λ byte. is_misplaced rules byte.0 ≡ false)
-    (λ byte h. free byte.0 h.0) (enumerate_from at bytes) (rows_within at bytes))
+all_free rules at bytes free = none_in_row _ at bytes (λ byte low high. free byte.0 low)
 
 -- none of the faults of a line
 none_found : (test : HexFault → Bool) → test NoColon ≡ false → test BadDigit ≡ false → test BadLength ≡ false → test BadSum ≡ false
@@ -88,19 +76,6 @@ accepted rules lines top at bytes laid above row fits free =
     (ap (list_any (clashes (placed_of lines))) places ∙ all_apart (placed_of lines) top at bytes laid.below above)
     (ap (list_any (λ (byte : ℕ × ℕ). is_misplaced rules byte.0)) places ∙ all_free rules at bytes free)
     (and_left (is_end line) _ (no_end at bytes row))
-
--- open lines, and one more
-open_more : (rules : Rules) (lines : List (List ℕ)) (line : List ℕ) → IsOpen rules lines → fault_of rules lines line ≡ None
-    → is_end line ≡ false → IsOpen rules (lines ++ line ∷ [])
-open_more rules lines line all_open taken going k h = elim (cases_lt k (length lines)) [
-  | inl less ↦
-      let front = take-append-le k lines (line ∷ []) (omega arith) in
-      let place = get_or_append_left lines (line ∷ []) [] k less in
-      rw (front, place) (all_open k less)
-  | inr past ↦
-      let last : k ≡ length lines = omega (arith, length-append lines (line ∷ [])) in
-      rw (last, take-append_seam lines (line ∷ []), get_or-append_seam lines line [] []) (taken, going)
-]
 
 -- the bytes that a data record adds
 pub placed_more : (rules : Rules) (lines : List (List ℕ)) (top at : ℕ) (bytes : List ℕ) → IsLaid rules lines top → IsRow at bytes

@@ -16,7 +16,8 @@ use Rattle.ihex_read.specs.ImageText.{Denotes, Ends, FirstFault, of_line, no_end
 use Rattle.ihex_read.specs.Lines.{lines_of}
 use Rattle.made_programs.specs.Chips.{rules_of}
 use Rattle.made_programs.proofs.Accepted.{IsFree, IsLaid, laid_none, laid_below, placed_more}
-use Rattle.made_programs.proofs.Programs.{low_first_bytes, mcs51_jump_bytes, msp430_bytes, mcs51_bytes, length-msp430_program, length-mcs51_program}
+use Rattle.image_gen.specs.LengthFacts.{length-mcs51_program, length-msp430_program}
+use Rattle.made_programs.proofs.Programs.{low_first_bytes, mcs51_jump_bytes, msp430_bytes, mcs51_bytes}
 use Rattle.made_programs.proofs.RecordLines.{IsRow}
 use Rattle.made_programs.proofs.Sizes.{text_short}
 use Rattle.made_programs.proofs.Stretches.{IsStretch, last_line, laid_stretch, rows_of, two_end, two_found}

@@ -1,5 +1,5 @@
 -- Programs are bytes, and how many.
-use Rattle.std.proofs.Common.{◌≡◌, ℕ, ◌+◌, ◌*◌, ◌<◌, ◌≤◌, zero, suc, List, [], ◌∷◌, ◌++◌, length, refl, length-append, arith}
+use Rattle.std.proofs.Common.{ℕ, ◌+◌, ◌<◌, ◌≤◌, zero, suc, List, [], ◌∷◌, ◌++◌, arith}
 use Rattle.std.specs.Prelude.{All, flat_map}
 use Rattle.std.specs.List.{AllByRecursion}
 use Rattle.std.proofs.lemmas.List.Elements.{All-append, All-from_recursion, All-head, All-tail}
@@ -74,28 +74,3 @@ mcs51_bytes number most =
 -- LJMP 0030h
 pub mcs51_jump_bytes : AreBytes (0x02 ∷ high_first 0x0030)
 mcs51_jump_bytes = listed 256 (0x02 ∷ high_first 0x0030) (omega arith, (omega arith, (omega arith, tt)))
-
-length-each : (part : ℕ → List ℕ) (size : ℕ) → ((i : ℕ) → length (part i) ≡ size) → (n : ℕ) → length (each part n) ≡ n * size
-unfolding each
-length-each part size same zero = omega arith
-length-each part size same (suc n) = omega (arith, length-append (each part n) (part n), length-each part size same n, same n)
-
-length-low_first : (words : List ℕ) → length (flat_map low_first words) ≡ 2 * length words
-length-low_first [] = refl
-length-low_first (word ∷ words) = let rest = length-low_first words in omega (arith, rest)
-
-pub length-msp430_program : (number : ℕ) → length (msp430_program number) ≡ 6 + 14 * number
-length-msp430_program number =
-    let calls = length-each (msp430_call number) 2 (λ i. refl) number in
-    let functions = length-each msp430_function 5 (λ i. refl) number in
-    let front = length-append (each (msp430_call number) number) (0x3FFF ∷ []) in
-    let whole = length-append (each (msp430_call number) number ++ 0x3FFF ∷ []) (each msp430_function number) in
-    omega (arith, length-low_first (msp430_words number), calls, functions, front, whole)
-
-pub length-mcs51_program : (number : ℕ) → length (mcs51_program number) ≡ 5 + 10 * number
-length-mcs51_program number =
-    let calls = length-each (mcs51_call number) 3 (λ i. refl) number in
-    let functions = length-each mcs51_function 7 (λ i. refl) number in
-    let front = length-append (each (mcs51_call number) number) (0x80 ∷ 0xFE ∷ []) in
-    let whole = length-append (each (mcs51_call number) number ++ 0x80 ∷ 0xFE ∷ []) (each mcs51_function number) in
-    omega (arith, calls, functions, front, whole)

@@ -9,8 +9,8 @@ use Rattle.value_set.specs.declared.form.Form.TheVariants.{Values, Run}
 use Rattle.value_set.specs.declared.form.Progression.{Progression}
 use Rattle.value_set.specs.Form.{Ascends, IsNormal, steps, IsNormalRun}
 use Rattle.report_text.specs.Deepest.{last_value, greatest_in_run, greatest_byte, IsGreatest}
-use Rattle.report_text.proofs.LeastLemmas.{steps_from, steps_have}
-use Rattle.report_text.proofs.ShownLemmas.{in_none, in_cons, in_first, in_rest}
+use Rattle.value_set.specs.StepFacts.{steps_from, steps_have}
+use Rattle.plain_lemmas.specs.Members.{in_cons, in_first, in_none, in_rest}
 
 -- the last number of a run before the turn
 before_turn_is : (base stride count : ℕ) → 0 < stride → 0 < count → base < 256 → (count - 1) * stride < 256 → 256 ≤ base + (count - 1) * stride

@@ -1,6 +1,5 @@
 -- The least number of a set of words is one of its numbers, and at most each of them.
 use Rattle.std.proofs.Common.{◌≡◌, ℕ, Bool, false, if◌then◌else◌, Option, Some, None, refl, List, [], ◌∷◌, ◌+◌, ◌-◌, ◌*◌, ◌/◌, ◌%◌, ◌<◌, ◌≤◌, nat_lt, sym, ◌∙◌, ap, subst, inl, inr, arith, Contains}
-use Rattle.std.proofs.lemmas.List.FromFn.{length-map-range_with_len, get_or-map-range_with_len}
 use Rattle.std.proofs.lemmas.Bool.{cond_both, cases_lt, cases_eq, ltb-true, ltb-false}
 use Rattle.std.proofs.Math.Nat.{div-add-mod, mul-le-mul_right, le_of_mul-le-mul_right, mod-lt, mod_self, mod-eq_of_lt}
 use Rattle.std.specs.Prelude.{IfSome}
@@ -10,21 +9,8 @@ use Rattle.value_set.specs.declared.form.Form.TheVariants.{Values, Run}
 use Rattle.value_set.specs.declared.form.Progression.{Progression}
 use Rattle.value_set.specs.Form.{Ascends, IsNormal, steps, IsNormalRun}
 use Rattle.report_text.specs.Deepest.{first_value, is_whole, least_in_run, least_word, IsLeast}
-use Rattle.report_text.proofs.ShownLemmas.{in_none, in_cons, in_first}
-
--- the numbers of a run, by their places in it
-pub steps_have : (m base stride count i : ℕ) → i < count → Contains (steps m base stride count) ((base + i * stride) % m)
-unfolding steps
-steps_have m base stride count i h =
-    let f : ℕ → ℕ = λ k. (base + k * stride) % m in
-    (i, rw (length-map-range_with_len f 0 count) h, get_or-map-range_with_len f 0 count i i ((base + i * stride) % m) h (omega arith))
-
-pub steps_from : (m base stride count v : ℕ) → Contains (steps m base stride count) v → (i : ℕ) × (i < count) × (v ≡ (base + i * stride) % m)
-unfolding steps
-steps_from m base stride count v h =
-    let f : ℕ → ℕ = λ k. (base + k * stride) % m in
-    let inside : h.0 < count = rw (length-map-range_with_len f 0 count) at h.1 in
-    (h.0, inside, sym h.2 ∙ get_or-map-range_with_len f 0 count h.0 h.0 v inside (omega arith))
+use Rattle.plain_lemmas.specs.Members.{in_cons, in_first, in_none}
+use Rattle.value_set.specs.StepFacts.{steps_from, steps_have}
 
 -- a multiple of a stride that isn't below a number is at least the next multiple
 next_multiple : (gap stride i : ℕ) → gap ≤ i * stride → 0 < gap % stride → gap + stride ≤ i * stride + gap % stride

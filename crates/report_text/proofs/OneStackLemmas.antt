@@ -8,7 +8,7 @@ use Rattle.report_text.specs.declared.deepest.Deepest.{Deepest}
 use Rattle.report_text.specs.declared.deepest.Deepest.TheVariants.{Least, Greatest}
 use Rattle.report_text.specs.Deepest.{deeper, deeper_of, deepest_in, deepest_of, greatest_byte, least_word}
 use Rattle.report_text.specs.Stacks.{GrowsOneWay, HasNoByteStack, HasNoWordStack}
-use Rattle.report_text.proofs.ShownLemmas.{in_none, in_cons, in_first, in_rest}
+use Rattle.plain_lemmas.specs.Members.{in_cons, in_first, in_none, in_rest}
 
 -- A least or a greatest of numbers, where there are any.
 module _ (op : ℕ → ℕ → ℕ) (along : (a b c : ℕ) → op (op a b) c ≡ op a (op b c)) (turned : (a b : ℕ) → op a b ≡ op b a) (itself : (a : ℕ) → op a a ≡ a) where

@@ -1,9 +1,8 @@
 -- In whatever order works stand, they have the same report.
-use Rattle.std.proofs.Common.{◌≡◌, ℕ, Bool, true, false, Option, None, List, [], ◌∷◌, refl, sym, ap, ap₂, ◌∙◌, subst, inl, inr}
+use Rattle.std.proofs.Common.{◌≡◌, ℕ, Bool, true, Option, None, List, [], ap, ap₂, ◌∙◌, subst, inl, inr}
 use Rattle.std.specs.Prelude.{◌&&◌, Contains}
 use Rattle.std.specs.List.{flat_map}
 use Rattle.std.specs.Map.{values_of}
-use Rattle.std.proofs.lemmas.List.Elements.{Contains-append_cases}
 use Rattle.std.proofs.lemmas.Map.Made.{Contains-values_of}
 use Rattle.call_context.specs.declared.node.Node.{Node}
 use Rattle.call_context.specs.declared.node.Unit.{Unit as WorkUnit}
@@ -15,25 +14,14 @@ use Rattle.report_text.specs.Deepest.{deepest_of}
 use Rattle.report_text.specs.Report.{are_closed, items_of, lines_of, report_of, report_text, with_lines}
 use Rattle.report_text.specs.Stacks.{GrowsOneWay, HasOneStack}
 use Rattle.report_text.proofs.OneStackLemmas.{one_deepest}
-use Rattle.report_text.proofs.PromiseLemmas.{all_closed, none_open}
+use Rattle.report_text.specs.ClosedWorks.{all_closed, none_open}
 use Rattle.report_text.proofs.SetLemmas.{one_set}
-use Rattle.report_text.proofs.ShownLemmas.{in_none, in_cons, in_first, in_rest, in_flat_map}
-
-from_flat_map : {X Y : Type 0} (f : X → List Y) (xs : List X) (y : Y) → Contains (flat_map f xs) y → (x : X) × Contains xs x × Contains (f x) y
-from_flat_map f [] y there = absurd (in_none y there)
-from_flat_map f (first ∷ xs) y there = elim (Contains-append_cases (f first) (flat_map f xs) y there) [
-  | inl own ↦ (first, in_first first xs, own)
-  | inr rest ↦ let found = from_flat_map f xs y rest in (found.0, in_rest first xs found.0 found.1, found.2)
-]
+use Rattle.plain_lemmas.specs.Members.{from_flat_map, from_values, in_flat_map}
+use Rattle.plain_lemmas.specs.Cases.{one_test}
 
 flat_among : {X Y : Type 0} (f : X → List Y) (xs ys : List X) → ((x : X) → Contains xs x → Contains ys x) → (y : Y) → Contains (flat_map f xs) y
     → Contains (flat_map f ys) y
 flat_among f xs ys are y there = let found = from_flat_map f xs y there in in_flat_map f ys found.0 y (are found.0 found.1) found.2
-
-one_test : (x y : Bool) → (x ≡ true → y ≡ true) → (y ≡ true → x ≡ true) → x ≡ y
-one_test true y f g = sym (f refl)
-one_test false true f g = g refl
-one_test false false f g = refl
 
 module _ {A : Type 0} where
   closed_among : (works others : List (Work A)) → ((work : Work A) → Contains others work → Contains works work) → are_closed works ≡ true
@@ -55,17 +43,10 @@ module _ {A : Type 0} where
 
   -- CLOSED BOOKS OF ONE TABLE
 
-  in_values : (pairs : List (WorkUnit × Work A)) (work : Work A) → Contains (values_of pairs) work → (unit : WorkUnit) × Contains pairs (unit, work)
-  in_values [] work there = absurd (in_none work there)
-  in_values (pair ∷ pairs) work there = elim (in_cons pair.1 (values_of pairs) work there) [
-    | inl same ↦ (pair.0, subst (λ (w : Work A). Contains (pair ∷ pairs) (pair.0, w)) same (in_first pair pairs))
-    | inr behind ↦ let found = in_values pairs work behind in (found.0, in_rest pair pairs (found.0, work) found.1)
-  ]
-
   values_among : (works more : List (WorkUnit × Work A)) → ((pair : WorkUnit × Work A) → Contains works pair → Contains more pair) → (work : Work A)
       → Contains (values_of works) work → Contains (values_of more) work
   values_among works more are work there =
-      let found = in_values works work there in
+      let found = from_values works work there in
       Contains-values_of more found.0 work (are (found.0, work) found.1)
 
   pub same_values : (works more : List (WorkUnit × Work A)) → HaveSame works more → HaveSame (values_of works) (values_of more)
@@ -80,7 +61,7 @@ module _ {A : Type 0} where
         → (unit : WorkUnit) × (at : A) × (exit : Option A) × Contains (a.work unit at exit).items item
     shown_by item there =
         let by = from_flat_map (λ (work : Work A). work.items) (values_of works) item there in
-        let unit = in_values works by.0 by.1 in
+        let unit = from_values works by.0 by.1 in
         let is = closed.units (unit.0, by.0) unit.1 in
         (unit.0, is.at, is.exit, subst (λ (work : Work A). Contains work.items item) is.is_work by.2)
 

@@ -1,5 +1,5 @@
 -- The report of a book without opens covers every run, and that of another one shows its open sites.
-use Rattle.std.proofs.Common.{◌≡◌, ◌++◌, ℕ, Bool, true, false, Option, Some, List, [], ◌∷◌, refl, sym, ap, subst, ◌∙◌, append_assoc, inl, inr}
+use Rattle.std.proofs.Common.{◌≡◌, ◌++◌, ℕ, Bool, true, false, Option, Some, List, [], ◌∷◌, refl, sym, ap, subst, ◌∙◌, append_assoc}
 use Rattle.std.specs.Prelude.{Contains, map, ◌&&◌}
 use Rattle.std.specs.List.{flat_map}
 use Rattle.std.specs.Map.{values_of}
@@ -17,40 +17,17 @@ use Rattle.chip_law.specs.Shown.{HasLine}
 use Rattle.chip_law.specs.Table.{IsUnitOver}
 use Rattle.closing_law.specs.ClosedBook.{IsClosedBook, table_in}
 use Rattle.closing_law.specs.Covered.{NoneIsOpen, AreCovering, CoversRuns, IsBroken}
-use Rattle.round_core.specs.Kept.{live_works}
 use Rattle.round_core.specs.Machine.{BookState, Done, done_at, replay, IsLegalJournal, IsFinished, IsUnit}
 use Rattle.round_core.specs.Table.{table_of}
 use Rattle.round_core.specs.declared.event.Event.{Event}
 use Rattle.report_text.specs.Promise.{Says, CoversEveryRun, ShowsOpenSites, ShowsTable}
 use Rattle.report_text.specs.Deepest.{deepest_of}
 use Rattle.report_text.specs.Report.{are_closed, is_empty, lines_of, with_lines, head_line, summary_of, report_text, report_of, last_works, report_of_journal, closed_report}
-use Rattle.report_text.proofs.ShownLemmas.{in_none, in_cons, in_first, in_rest, in_flat_map, in_map, in_with_lines_new, report_has, report_has_item}
-
-pub both : (x y : Bool) → (x && y) ≡ true → (x ≡ true) × (y ≡ true)
-both true true h = (refl, refl)
-both true false h = absurd (cc)
-both false y h = absurd (cc)
-
-pub none_of : (opens : List (ℕ × Cause)) → is_empty opens ≡ true → opens ≡ []
-none_of [] h = refl
-none_of (o ∷ os) h = absurd (cc)
-
--- a value stands with some key
-with_key : {K X : Type 0} (pairs : List (K × X)) (value : X) → Contains (values_of pairs) value → (key : K) × Contains pairs (key, value)
-with_key [] value h = absurd (in_none value h)
-with_key {X = X} (pair ∷ pairs) value h = elim (in_cons pair.1 (values_of pairs) value h) [
-  | inl same ↦ (pair.0, subst (λ (v : X). Contains (pair ∷ pairs) (pair.0, v)) same (in_first pair pairs))
-  | inr rest ↦ let found = with_key pairs value rest in (found.0, in_rest pair pairs (found.0, value) found.1)
-]
-
--- works that are closed leave none open
-pub none_open : {A : Type 0} (works : List (Work A)) → are_closed works ≡ true → NoneIsOpen works
-none_open [] h work k = absurd (in_none work k)
-none_open (first ∷ works) h work k = let b = both (is_empty first.opens) (are_closed works) h in
-    elim (in_cons first works work k) [
-      | inl same ↦ subst (λ (w : Work _). w.opens ≡ []) same (none_of first.opens b.0)
-      | inr rest ↦ none_open works b.1 work rest
-    ]
+use Rattle.plain_lemmas.specs.Members.{in_first, in_flat_map, in_map, in_rest}
+use Rattle.report_text.proofs.ShownLemmas.{in_with_lines_new, report_has, report_has_item}
+use Rattle.closing_law.specs.BookFacts as book
+use Rattle.closing_law.specs.BookFacts.{AreListed}
+use Rattle.report_text.specs.ClosedWorks.{all_closed, none_open}
 
 -- works that aren't closed leave one open
 abbrev LeavesOpen : {A : Type 0} → List (Work A) → Type 0
@@ -85,10 +62,6 @@ report_has_open text works work site w o =
     (Contains-append_right (map (item_line_of text) work.items) (map (λ o. open_line_of o.0 o.1) work.opens) (open_line_of site.0 site.1)
     (in_map (λ (o : ℕ × Cause). open_line_of o.0 o.1) work.opens site o))))
 
--- what the laws of a finished book tell: its units' last works are listed, and are those over its table's states
-abbrev pub AreListed : {A : Type 0} → BookState A → Type 0
-AreListed {A = A} b = (unit : WorkUnit) (d : Done A) → IsUnit b unit → done_at b.done unit ≡ Some d → Contains (live_works b) d.work
-
 abbrev pub AreWorked : {A : Type 0} → Analysis A → BookState A → Type 0
 AreWorked {A = A} m b = (unit : WorkUnit) (at : A) (exit : Option A) → IsUnitOver m (table_of b.nodes) unit at exit
     → IsUnit b unit × (d : Done A) × (done_at b.done unit ≡ Some d) × (d.work ≡ m.work unit at exit)
@@ -117,42 +90,16 @@ works_cover machine text works closed covering = record {
   stays = covering.stays;
 }
 
-pub all_closed : {A : Type 0} (works : List (Work A)) → NoneIsOpen works → are_closed works ≡ true
-all_closed [] none = refl
-all_closed (work ∷ works) none =
-    let first : is_empty work.opens ≡ true = ap is_empty (none work (in_first work works)) in
-    ap (λ b. b && are_closed works) first ∙ all_closed works (λ other there. none other (in_rest work works other there))
-
 -- the report of a closed book says CLOSED, covers every run, and shows its table
 pub closed_covers : {S A : Type 0} (machine : Machine S) (text : ℕ → List ℕ → List ℕ) (works : List (WorkUnit × Work A)) → NoneIsOpen (values_of works)
     → AreCovering machine (values_of works) → CoversEveryRun machine text (closed_report text works)
 closed_covers machine text works none covering = works_cover machine text (values_of works) (all_closed (values_of works) none) covering
 
--- the works of a closed book leave none open
-book_none : {A : Type 0} (m : Analysis A) (nodes : List (Node × A)) (works : List (WorkUnit × Work A)) → IsClosedBook m nodes works
-    → NoneIsOpen (values_of works)
-book_none m nodes works closed work h =
-    let (unit, there) = with_key works work h in
-    let is = closed.units (unit, work) there in
-    ap (λ (w : Work _). w.opens) is.is_work ∙ closed.closed.no_open unit is.at is.exit is.is_unit
-
--- they show what their table's works show
-book_covering : {S A : Type 0} (machine : Machine S) (m : Analysis A) (covers : Cover S A) (nodes : List (Node × A)) (works : List (WorkUnit × Work A))
-    → IsClosedBook m nodes works → CoversRuns machine m covers (table_in nodes) → AreCovering machine (values_of works)
-book_covering machine m covers nodes works closed runs = record {
-  shows = λ n item met. let shown = runs.shows n item met in (
-    m.work shown.unit shown.at shown.exit,
-    Contains-values_of works shown.unit _ (closed.each shown.unit shown.at shown.exit shown.is_unit),
-    shown.shows,
-  );
-  stays = runs.stays;
-}
-
 pub book_covers : {S A : Type 0} (machine : Machine S) (text : ℕ → List ℕ → List ℕ) (m : Analysis A) (covers : Cover S A) (nodes : List (Node × A))
     (works : List (WorkUnit × Work A)) → IsClosedBook m nodes works → CoversRuns machine m covers (table_in nodes)
     → CoversEveryRun machine text (closed_report text works)
 book_covers machine text m covers nodes works closed runs =
-    closed_covers machine text works (book_none m nodes works closed) (book_covering machine m covers nodes works closed runs)
+    closed_covers machine text works (book.none_open m nodes works closed) (book.works_cover machine m covers nodes works closed runs)
 
 pub closed_shows : {A : Type 0} (text : ℕ → List ℕ → List ℕ) (m : Analysis A) (nodes : List (Node × A)) (works : List (WorkUnit × Work A))
     → IsClosedBook m nodes works → ShowsTable text m (table_in nodes) (closed_report text works)

@@ -10,7 +10,8 @@ use Rattle.std.specs.declared.cmp.Ordering.TheVariants.{Less, Equal, Greater}
 use Rattle.std.proofs.lemmas.Cmp.{nat_list_cmp_total, tied_itself}
 use Rattle.std.proofs.lemmas.List.Elements.{All-contains, All-from_recursion}
 use Rattle.report_text.specs.Report.{with_lines}
-use Rattle.report_text.proofs.ShownLemmas.{in_none, in_cons, in_first, in_rest, in_with_lines_new}
+use Rattle.plain_lemmas.specs.Members.{in_cons, in_first, in_none, in_rest}
+use Rattle.report_text.proofs.ShownLemmas.{in_with_lines_new}
 
 abbrev order : List ℕ → List ℕ → Ordering
 order = slice_cmp nat_cmp

@@ -1,12 +1,12 @@
 -- The report of works has a line for each item of each of them.
-use Rattle.std.proofs.Common.{◌≡◌, ◌++◌, ℕ, List, [], ◌∷◌, Bool, true, false, refl, ap, sym, ◌∙◌, subst, inl, inr, append_assoc, append-nil, arith}
-use Rattle.std.specs.Prelude.{◌⊎◌, Contains, map, Option, codes}
+use Rattle.std.proofs.Common.{◌≡◌, ◌++◌, ℕ, List, [], ◌∷◌, Bool, true, false, refl, ap, sym, ◌∙◌, subst, inl, inr, append_assoc, append-nil}
+use Rattle.std.specs.Prelude.{Contains, map, Option, codes}
 use Rattle.std.specs.List.{flat_map}
 use Rattle.std.specs.Ordering.{nat_cmp, match_ordering}
 use Rattle.std.specs.BTreeSet.{insert_key}
 use Rattle.std.specs.Cmp.Lexicographic.{slice_cmp}
 use Rattle.std.specs.declared.cmp.Ordering.TheVariants.{Less, Equal, Greater}
-use Rattle.std.proofs.lemmas.List.Elements.{Contains-append_left, Contains-append_right, Contains-push, Contains-push_cases, Contains-append_cases}
+use Rattle.std.proofs.lemmas.List.Elements.{Contains-append_left}
 use Rattle.std.proofs.lemmas.Map.Lookups.{exact_bytes}
 use Rattle.call_context.specs.declared.shown.Item.{Item}
 use Rattle.chip_law.specs.Line.{item_line_of, open_line_of}
@@ -15,36 +15,7 @@ use Rattle.chip_law.specs.declared.chip.Work.{Work}
 use Rattle.report_text.specs.declared.deepest.Deepest.{Deepest}
 use Rattle.report_text.specs.Deepest.{deepest_of}
 use Rattle.report_text.specs.Report.{with_lines, lines_of, head_line, summary_of, report_text, report_of, are_closed}
-
--- membership, element by element
-pub in_none : {X : Type 0} (x : X) → Contains [] x → ⊥
-in_none x h = absurd (omega (arith, h.1))
-
-pub in_cons : {X : Type 0} (first : X) (xs : List X) (x : X) → Contains (first ∷ xs) x → (first ≡ x) ⊎ Contains xs x
-in_cons first xs x h = elim (Contains-append_cases (first ∷ []) xs x h) [
-  | inl one ↦ elim (Contains-push_cases [] first x one) [ inl none ↦ absurd (in_none x none) | inr same ↦ inl same ]
-  | inr rest ↦ inr rest
-]
-
-pub in_first : {X : Type 0} (x : X) (xs : List X) → Contains (x ∷ xs) x
-in_first x xs = Contains-append_left (x ∷ []) xs x (Contains-push [] x)
-
-pub in_rest : {X : Type 0} (first : X) (xs : List X) (x : X) → Contains xs x → Contains (first ∷ xs) x
-in_rest first xs x h = Contains-append_right (first ∷ []) xs x h
-
-pub in_map : {X Y : Type 0} (f : X → Y) (xs : List X) (x : X) → Contains xs x → Contains (map f xs) (f x)
-in_map f [] x h = absurd (in_none x h)
-in_map f (first ∷ xs) x h = elim (in_cons first xs x h) [
-  | inl same ↦ subst (λ y. Contains (f first ∷ map f xs) (f y)) same (in_first (f first) (map f xs))
-  | inr rest ↦ in_rest (f first) (map f xs) (f x) (in_map f xs x rest)
-]
-
-pub in_flat_map : {X Y : Type 0} (f : X → List Y) (xs : List X) (x : X) (y : Y) → Contains xs x → Contains (f x) y → Contains (flat_map f xs) y
-in_flat_map f [] x y h k = absurd (in_none x h)
-in_flat_map f (first ∷ xs) x y h k = elim (in_cons first xs x h) [
-  | inl same ↦ Contains-append_left (f first) (flat_map f xs) y (subst (λ z. Contains (f z) y) (sym same) k)
-  | inr rest ↦ Contains-append_right (f first) (flat_map f xs) y (in_flat_map f xs x y rest k)
-]
+use Rattle.plain_lemmas.specs.Members.{in_cons, in_first, in_flat_map, in_map, in_none, in_rest}
 
 -- a set of lines has what was put into it
 in_insert_new : (set : List (List ℕ)) (line : List ℕ) → Contains (insert_key (slice_cmp nat_cmp) set line) line

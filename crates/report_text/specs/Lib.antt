@@ -1,3 +1,4 @@
+pub mod ClosedWorks
 pub mod Deepest
 pub mod Promise
 pub mod Report

@@ -1,5 +1,5 @@
 -- The number of a line.
-use Rattle.std.proofs.Common.{◌≡◌, ℕ, zero, suc, ◌+◌, ◌*◌, ◌^◌, ◌<◌, ◌≤◌, refl, arith, Bool, true, false, ◌⊎◌, inl, inr, List, length}
+use Rattle.std.proofs.Common.{◌≡◌, ℕ, zero, suc, ◌+◌, ◌*◌, ◌^◌, ◌<◌, ◌≤◌, arith, true, List, length}
 use Rattle.std.proofs.lemmas.Bool.Decides.{nat_tests}
 use Rattle.script_text.specs.Script.{is_number}
 
@@ -9,10 +9,6 @@ digit_room (suc zero) n d h room digit = (omega arith, omega arith)
 digit_room (suc (suc zero)) n d h room digit = (omega arith, omega arith)
 digit_room (suc (suc (suc zero))) n d h room digit = (omega arith, omega arith)
 digit_room (suc (suc (suc (suc i)))) n d h room digit = absurd (omega arith)
-
-pub told : (b : Bool) → (b ≡ true) ⊎ (b ≡ false)
-told true = inl refl
-told false = inr refl
 
 pub number_short : (line : List ℕ) → is_number line ≡ true → length line ≤ 4
 number_short line h = grind (arith, nat_tests)

@@ -1,7 +1,7 @@
 -- The numbers of lines that follow others.
 use Rattle.std.proofs.Common.{◌≡◌, ℕ, suc, ◌+◌, ◌<◌, refl, arith, inl, inr, List, [], ◌∷◌, ◌++◌, length, Ok, Err}
 use Rattle.script_text.specs.Script.{is_number, number_of, numbers_behind}
-use Rattle.script_text.proofs.LineLemmas.{told}
+use Rattle.std.proofs.lemmas.Bool.{cases_Bool}
 
 -- lines behind those that gave these numbers
 pub behind_more : (whole lines : List (List ℕ)) (count n : ℕ) (numbers got : List ℕ) → numbers_behind count numbers whole ≡ Ok got → n ≡ count + length whole →
@@ -11,7 +11,7 @@ behind_more [] lines count n numbers got e is =
     let number : n ≡ count = omega arith in
     rw (same, number) refl
 behind_more ([] ∷ whole) lines count n numbers got e is = behind_more whole lines (suc count) n numbers got e (omega arith)
-behind_more ((b ∷ bytes) ∷ whole) lines count n numbers got e is = elim (told (is_number (b ∷ bytes))) [
+behind_more ((b ∷ bytes) ∷ whole) lines count n numbers got e is = elim (cases_Bool (is_number (b ∷ bytes))) [
   | inl number ↦ rw number (behind_more whole lines (suc count) n (numbers ++ number_of (b ∷ bytes) ∷ []) got (rw number at e) (omega arith))
   | inr other ↦ absurd (cc (rw other at e))
 ]
@@ -20,7 +20,7 @@ behind_more ((b ∷ bytes) ∷ whole) lines count n numbers got e is = elim (tol
 pub refused_above : (lines : List (List ℕ)) (count k : ℕ) (numbers : List ℕ) → numbers_behind count numbers lines ≡ Err k → count < k
 refused_above [] count k numbers e = absurd (cc)
 refused_above ([] ∷ lines) count k numbers e = omega (arith, refused_above lines (suc count) k numbers e)
-refused_above ((b ∷ bytes) ∷ lines) count k numbers e = elim (told (is_number (b ∷ bytes))) [
+refused_above ((b ∷ bytes) ∷ lines) count k numbers e = elim (cases_Bool (is_number (b ∷ bytes))) [
   | inl number ↦ omega (arith, refused_above lines (suc count) k (numbers ++ number_of (b ∷ bytes) ∷ []) (rw number at e))
   | inr other ↦
       (let refused : Err (suc count) ≡ Err k = rw other at e in

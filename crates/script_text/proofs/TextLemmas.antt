@@ -1,7 +1,6 @@
 -- A text by its whole lines and the line that has begun, and one that goes on.
 use Rattle.std.proofs.Common.{◌≡◌, ℕ, suc, take, drop, get_or, subst, ◌+◌, ◌<◌, ◌≤◌, refl, sym, ap, ◌∙◌, arith, append_assoc, length-append, true, false, inl, inr, List, [], ◌∷◌, ◌++◌, length, map, Ok, Err}
 use Rattle.std.specs.Prelude.{◌==◌}
-use Rattle.std.proofs.lemmas.Bool.Decides.{nat_tests}
 use Rattle.std.proofs.lemmas.List.{append-nil, map-append, length-map, take-append-drop}
 use Rattle.std.proofs.Math.Seq.{take-suc}
 use Rattle.std.proofs.lemmas.List.Sums.{sum_by-append}
@@ -11,7 +10,7 @@ use Rattle.script_text.specs.declared.fault.ScriptError.{ScriptError}
 use Rattle.script_text.specs.declared.fault.ScriptError.TheVariants.{Syntax, Memory}
 use Rattle.script_text.specs.Script.{is_number, number_of, numbers_behind, numbers_of, script_of}
 use Rattle.script_text.specs.Reading.{IsRefusedWithin, TellsFront, TellsWhole, TellsLine, joined, HasRead}
-use Rattle.script_text.proofs.LineLemmas.{told}
+use Rattle.std.proofs.lemmas.Bool.{cases_Bool}
 use Rattle.script_text.proofs.ScriptLemmas.{behind_more, refused_above}
 
 pub joined_more : (whole : List (List ℕ)) (begun more : List ℕ) → joined whole (begun ++ more) ≡ joined whole begun ++ more
@@ -109,7 +108,7 @@ line_stays : (line : List ℕ) (these those : List (List ℕ)) (numbers : List �
     ((got : List ℕ) → numbers_behind (suc count) got these ≡ Err k → numbers_behind (suc count) got those ≡ Err k) →
     numbers_behind count numbers (line ∷ those) ≡ Err k
 line_stays [] these those numbers count k e next = next numbers e
-line_stays (b ∷ bytes) these those numbers count k e next = elim (told (is_number (b ∷ bytes))) [
+line_stays (b ∷ bytes) these those numbers count k e next = elim (cases_Bool (is_number (b ∷ bytes))) [
   | inl number ↦ rw number (next (numbers ++ number_of (b ∷ bytes) ∷ []) (rw number at e))
   | inr other ↦ rw other (rw other at e)
 ]
@@ -118,7 +117,7 @@ line_stays (b ∷ bytes) these those numbers count k e next = elim (told (is_num
 front_refused : (text more begun numbers : List ℕ) (count k : ℕ) → numbers_behind count numbers (lines_behind begun text) ≡ Err k →
     k ≤ count + feeds_of text → numbers_behind count numbers (lines_behind begun (text ++ more)) ≡ Err k
 front_refused [] more begun numbers count k e h = absurd (omega (arith, refused_above (last_line begun) count k numbers e))
-front_refused (b ∷ text) more begun numbers count k e h = elim (told (b == 10)) [
+front_refused (b ∷ text) more begun numbers count k e h = elim (cases_Bool (b == 10)) [
   | inl feed ↦
       (let few : k ≤ suc count + feeds_of text = omega (arith, feeds_more b text, feeds_one b feed) in
       rw feed (line_stays (without_return begun) (lines_behind [] text) (lines_behind [] (text ++ more)) numbers count k (rw feed at e)
@@ -153,9 +152,6 @@ tells_end whole begun numbers count Memory read some is tells = tt
 pub tells_more : (text more : List ℕ) (error : ScriptError) → TellsFront text error → TellsFront (text ++ more) error
 tells_more text more (Syntax k) tells = refusal_stays text more k tells
 tells_more text more Memory tells = tt
-
-pub differs : (b : ℕ) → (b ≡ 10 → ⊥) → (b == 10) ≡ false
-differs b other = grind (arith, nat_tests)
 
 -- a further byte of a piece
 pub piece_step : (text piece : List ℕ) (i : ℕ) → i < length piece → (text ++ take i piece) ++ get_or piece i 0 ∷ [] ≡ text ++ take (i + 1) piece

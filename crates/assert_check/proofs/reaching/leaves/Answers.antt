@@ -1,7 +1,7 @@
 use Rattle.std.proofs.Common.{◌+◌, ◌%◌, ◌∙◌, refl, arith}
 use Rattle.std.specs.Prelude.{not}
 use Rattle.assert_check.specs.Assertions.{is_between, numbers_in}
-use Rattle.assert_check.proofs.Members.{any_alike}
+use Rattle.plain_lemmas.specs.AnyOf.{any_alike}
 use Rattle.assert_check.proofs.Windows.{outside_window}
 use Rattle.assert_check.proofs.reaching.leaves.Goals as goal
 

@@ -1,6 +1,6 @@
 use Rattle.std.proofs.Common.{◌∙◌, sym}
 use Rattle.value_set.specs.Form.{members}
-use Rattle.assert_check.proofs.Members.{any_alike}
+use Rattle.plain_lemmas.specs.AnyOf.{any_alike}
 use Rattle.assert_check.proofs.Windows.{cut_tells}
 use Rattle.assert_check.proofs.reaching.meets_bytes.Goals as goal
 

@@ -1,6 +1,6 @@
 use Rattle.std.proofs.Common.{◌+◌, ◌-◌, ◌%◌, ◌∙◌, sym, refl, arith}
 use Rattle.assert_check.specs.Assertions.{numbers_in, reaches}
-use Rattle.assert_check.proofs.Members.{any_alike, any_never}
+use Rattle.plain_lemmas.specs.AnyOf.{any_alike, any_never}
 use Rattle.assert_check.proofs.Windows.{reach_window, reaches_none}
 use Rattle.assert_check.proofs.reaching.reaches.Goals.{then-size-eq0-via-then-size-eq0, then-size-eq0-via-else-size-eq0+then-hi-lo}
 use Rattle.assert_check.proofs.reaching.reaches.Goals as goal

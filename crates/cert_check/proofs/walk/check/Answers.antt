@@ -21,6 +21,6 @@ of_table-requires-after_bounds g c κs within =
       units = c.tests_tell_which_are_one.ensures.units;
     } in
     let book = closed_book a (g.C.StateText.texts b) table known c.first-first.result
-    (no_refusal a (g.C.StateText.texts b).outside table c.first-first.result c.in_ok-hold_start.ensures.ok c.in_ok-works.ensures.ok) in
+    (no_refusal a (g.C.StateText.texts b).outside table c.first-first.result c.in_ok-hold_start.ensures c.in_ok-works.ensures.held) in
     subst (IsClosedBook a c.into_rows.result.items) (sym c.in_ok-works.ensures.works)
     (subst (λ nodes. IsClosedBook a nodes (works_in a table)) (sym c.into_rows.ensures) book)

@@ -1,6 +1,7 @@
 use Rattle.std.proofs.Common.{◌≡◌, refl, append_assoc, arith}
 use Rattle.image_gen.specs.Made.{mcs51_function}
-use Rattle.image_gen.proofs.Parts.{begun, each-none, each-more, length-mcs51_program}
+use Rattle.image_gen.specs.LengthFacts.{length-mcs51_program}
+use Rattle.image_gen.proofs.Parts.{begun, each-none, each-more}
 use Rattle.image_gen.proofs.mcs51.program.Goals as goal
 
 pub loop-i-init : goal.loop-i-init

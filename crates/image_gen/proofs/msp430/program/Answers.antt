@@ -1,5 +1,5 @@
 use Rattle.std.proofs.lemmas.List.{take_all}
-use Rattle.image_gen.proofs.Parts.{length-msp430_program}
+use Rattle.image_gen.specs.LengthFacts.{length-msp430_program}
 use Rattle.image_gen.proofs.msp430.program.Goals as goal
 
 pub returns-clause-size : goal.returns-clause-size

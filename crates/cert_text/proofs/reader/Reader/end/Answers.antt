@@ -3,21 +3,17 @@ use Rattle.cert_text.specs.declared.fault.LineFault.TheVariants.{Syntax}
 use Rattle.text_fields.specs.Lines.{joined}
 use Rattle.cert_text.specs.Certificate.{table_row}
 use Rattle.cert_text.specs.Reading.{IsTable}
-use Rattle.cert_text.proofs.RowLemmas.{lines_fit, rows_fit}
-use Rattle.cert_text.proofs.TextLemmas.{as_it_stands, count_lines, finish_bad, finish_complete}
+use Rattle.cert_text.proofs.RowLemmas.{rows_fit}
+use Rattle.cert_text.proofs.TextLemmas.{as_it_stands, count_lines, finish_bad, finish_complete, has_number}
 use Rattle.cert_text.proofs.reader.Reader.end.Goals as goal
 
 pub overflow_cast-number : goal.overflow_cast-number
 overflow_cast-number g c =
-    let lines = map (λ line. line.value.items) c.self.inside.lines.items in
-    let count = count_lines (λ line. line.value.items) c.self.inside.lines.items _ _ c.len.ensures c.self.inside.lines.ok.0 in
-    omega (arith, count, lines_fit lines c.self.inside.line.items, c.self.invariant.1.small)
+    omega (arith, has_number (λ line. line.value.items) _ _ _ _ c.len.ensures c.self.inside.lines.ok.0 c.self.invariant.1.small)
 
 pub overflow_add-number : goal.overflow_add-number
 overflow_add-number g c =
-    let lines = map (λ line. line.value.items) c.self.inside.lines.items in
-    let count = count_lines (λ line. line.value.items) c.self.inside.lines.items _ _ c.len.ensures c.self.inside.lines.ok.0 in
-    omega (arith, count, lines_fit lines c.self.inside.line.items, c.self.invariant.1.small)
+    omega (arith, has_number (λ line. line.value.items) _ _ _ _ c.len.ensures c.self.inside.lines.ok.0 c.self.invariant.1.small)
 
 pub returns-then-is_complete-clause-table : goal.returns-then-is_complete-clause-table
 returns-then-is_complete-clause-table g c =

@@ -1,20 +1,15 @@
 use Rattle.std.proofs.Common.{refl, map, arith}
 use Rattle.std.proofs.lemmas.List.{map-append}
-use Rattle.cert_text.proofs.RowLemmas.{lines_fit}
-use Rattle.cert_text.proofs.TextLemmas.{count_lines, joined_feed, read_feed, tells_feed, none_refused}
+use Rattle.cert_text.proofs.TextLemmas.{count_lines, has_number, joined_feed, read_feed, tells_feed, none_refused}
 use Rattle.cert_text.proofs.reader.Reader.end_line.Goals as goal
 
 pub overflow_cast-number : goal.overflow_cast-number
 overflow_cast-number g c =
-    let lines = map (λ line. line.value.items) c.self.inside.lines.items in
-    let count = count_lines (λ line. line.value.items) c.self.inside.lines.items _ _ c.len.ensures c.self.inside.lines.ok.0 in
-    omega (arith, count, lines_fit lines c.self.inside.line.items, c.self.invariant.1.small)
+    omega (arith, has_number (λ line. line.value.items) _ _ _ _ c.len.ensures c.self.inside.lines.ok.0 c.self.invariant.1.small)
 
 pub overflow_add-number : goal.overflow_add-number
 overflow_add-number g c =
-    let lines = map (λ line. line.value.items) c.self.inside.lines.items in
-    let count = count_lines (λ line. line.value.items) c.self.inside.lines.items _ _ c.len.ensures c.self.inside.lines.ok.0 in
-    omega (arith, count, lines_fit lines c.self.inside.line.items, c.self.invariant.1.small)
+    omega (arith, has_number (λ line. line.value.items) _ _ _ _ c.len.ensures c.self.inside.lines.ok.0 c.self.invariant.1.small)
 
 pub returns-in-Err-clause-bad : goal.returns-in-Err-clause-bad
 returns-in-Err-clause-bad g c =

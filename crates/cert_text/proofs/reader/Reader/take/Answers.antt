@@ -1,11 +1,12 @@
 use Rattle.std.proofs.Common.{refl, map}
-use Rattle.cert_text.proofs.TextLemmas.{differs, joined_more, read_byte, none_refused}
+use Rattle.std.proofs.lemmas.Bool.{ne_eqb}
+use Rattle.cert_text.proofs.TextLemmas.{joined_more, read_byte, none_refused}
 use Rattle.cert_text.proofs.reader.Reader.take.Goals as goal
 
 pub invariant_of-self-2 : goal.invariant_of-self-2
 invariant_of-self-2 g c =
     let room = rw (← c.self.view_is) at c.requires.room in
-    rw c.in_ok-push.ensures.items (c.self.invariant.0, read_byte _ _ _ _ _ _ c.self.invariant.1 (differs c.args.byte c.if-byte-eq10.false) room)
+    rw c.in_ok-push.ensures.items (c.self.invariant.0, read_byte _ _ _ _ _ _ c.self.invariant.1 (ne_eqb c.args.byte 10 c.if-byte-eq10.false) room)
 
 pub returns-clause-text : goal.returns-clause-text
 returns-clause-text g c =

@@ -2,7 +2,7 @@ use Rattle.std.proofs.Common.{subst}
 use Rattle.std.specs.Map.{values_of}
 use Rattle.closing_law.specs.ClosedBook.{Closed, IsClosedBook, table_in}
 use Rattle.closing_law.specs.Covered.{AreCovering, CoversRuns, NoneIsOpen}
-use Rattle.closing_law.proofs.Books.{none_open, works_cover}
+use Rattle.closing_law.specs.BookFacts.{none_open, works_cover}
 use Rattle.closing_law.proofs.closed.ClosedBook.covers_runs.Goals as goal
 
 pub returns-clause-closed : goal.returns-clause-closed

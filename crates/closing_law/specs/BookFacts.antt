@@ -1,0 +1,40 @@
+-- What the works of a book show: lemmas, also for the proofs of crates above.
+use Rattle.std.proofs.Common.{◌≡◌, Some, List, ap, ◌∙◌}
+use Rattle.std.specs.Prelude.{Contains}
+use Rattle.std.specs.Map.{values_of}
+use Rattle.std.proofs.lemmas.Map.Made.{Contains-values_of}
+use Rattle.call_context.specs.declared.node.Node.{Node}
+use Rattle.call_context.specs.declared.node.Unit.{Unit as WorkUnit}
+use Rattle.chip_law.specs.Analysis.{Analysis}
+use Rattle.chip_law.specs.Laws.{Cover}
+use Rattle.chip_law.specs.Machine.{Machine}
+use Rattle.chip_law.specs.declared.chip.Work.{Work}
+use Rattle.closing_law.specs.ClosedBook.{IsClosedBook, table_in}
+use Rattle.closing_law.specs.Covered.{AreCovering, CoversRuns, NoneIsOpen}
+use Rattle.plain_lemmas.specs.Members.{from_values}
+use Rattle.round_core.specs.Kept.{live_works}
+use Rattle.round_core.specs.Machine.{BookState, Done, done_at, IsUnit}
+
+-- the last works of a book's units are listed
+abbrev pub AreListed : {A : Type 0} → BookState A → Type 0
+AreListed b = (unit : WorkUnit) (d : Done _) → IsUnit b unit → done_at b.done unit ≡ Some d → Contains (live_works b) d.work
+
+-- the works of a closed book leave none open
+pub none_open : {A : Type 0} (m : Analysis A) (nodes : List (Node × A)) (works : List (WorkUnit × Work A)) → IsClosedBook m nodes works
+    → NoneIsOpen (values_of works)
+none_open m nodes works closed work h =
+    let (unit, there) = from_values works work h in
+    let is = closed.units (unit, work) there in
+    ap (λ (w : Work _). w.opens) is.is_work ∙ closed.closed.no_open unit is.at is.exit is.is_unit
+
+-- the works of a closed book cover the runs that its table covers
+pub works_cover : {S A : Type 0} (machine : Machine S) (m : Analysis A) (covers : Cover S A) (nodes : List (Node × A)) (works : List (WorkUnit × Work A))
+    → IsClosedBook m nodes works → CoversRuns machine m covers (table_in nodes) → AreCovering machine (values_of works)
+works_cover machine m covers nodes works closed runs = record {
+  shows = λ n item met. let shown = runs.shows n item met in (
+    m.work shown.unit shown.at shown.exit,
+    Contains-values_of works shown.unit _ (closed.each shown.unit shown.at shown.exit shown.is_unit),
+    shown.shows,
+  );
+  stays = runs.stays;
+}
