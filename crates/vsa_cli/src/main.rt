@@ -2,28 +2,16 @@
 #![tactic(auto)]
 
 mod advice;
-mod inputs;
-mod mcs51_warnings;
-mod msp430_warnings;
-mod need;
-mod noted;
 mod output;
 mod progress;
-mod slips;
-mod source;
-#[cfg(test)]
-mod tests;
-mod usage;
-mod warnings;
 
-use crate::advice::{kept_text, print_advice, watch_of};
-use crate::noted::Noted;
+use crate::advice::print_advice;
 use crate::output::Output;
 use crate::progress::Progress;
-use crate::source::NotedSource;
 use std::io::IsTerminal;
 use std::process::ExitCode;
 use std::{env, io};
+use vsa_advice::{Noted, NotedSource, kept_text, watch_of};
 use vsa_io::StdinSource;
 use vsa_top::{Status, vsa};
 

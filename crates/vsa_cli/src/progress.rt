@@ -1,11 +1,10 @@
 //! How far an analysis is, on standard error.
 
-use std::alloc::{AllocError, Global};
-use std::fmt::Write;
 use std::rt::{Clock, Files};
 use std::sync::atomic::{AtomicU64, Ordering};
 use std::time::Instant;
 use std::{fs, io};
+use vsa_advice::{line_of, megabytes_in};
 use vsa_top::Gate;
 
 /// After so many seconds it is told for the first time, and from then on once a second.
@@ -58,36 +57,6 @@ impl<'a, R: Clock> Progress<'a, R> {
             .ok()?;
         Some(second)
     }
-}
-
-/// The line of so many seconds, units and nodes. Several workers don't know the nodes, which are then 0.
-pub fn line_of(
-    alloc: Global,
-    second: u64,
-    memory: Option<u64>,
-    turns: u64,
-    (nodes, waiting): (u64, u64),
-) -> Result<String, AllocError> {
-    let (minutes, seconds) = (second / 60, second % 60);
-    let mut line = format!(in alloc; "vsa: at work for {minutes}:{seconds:02}")?;
-    if let Some(megabytes) = memory {
-        write!(line, ", {megabytes} MB")?;
-    }
-    if nodes > 0 {
-        write!(line, ", {nodes} nodes")?;
-    }
-    write!(line, ", {turns} turns")?;
-    if nodes > 0 {
-        write!(line, ", {waiting} units left")?;
-    }
-    Ok(line)
-}
-
-/// The megabytes that a process takes, by what the system tells of it.
-pub fn megabytes_in(status: &str) -> Option<u64> {
-    let line = status.lines().find(|line| line.starts_with("VmRSS:"))?;
-    let kilobytes = line.split_ascii_whitespace().nth(1)?.parse::<u64>().ok()?;
-    Some(kilobytes.saturating_add(1023) / 1024)
 }
 
 impl<R: Clock + Eprint + Files + AllocGlobal> Progress<'_, R> {

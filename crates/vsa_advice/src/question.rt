@@ -1,51 +1,9 @@
-//! What a run asks whose script ends too early, and how it is answered.
+//! The questions of a step, in words.
 
-ghost use Rattle.image.specs.Kept.{IsRamRange};
-
-use crate::advice::has_word;
 use arrayvec::ArrayVec;
 use chip_numbers::Space;
-use ihex_read::{Image, MOST_BYTES, Reader, Rules, Tail};
-use run_question::{Asked, Question, mcs51_asks, msp430_asks};
-use script_text::Reader as ScriptReader;
+use run_question::Question;
 use std::alloc::{AllocError, Global};
-use std::io;
-use vsa_words::{Reading, Target, reading_of};
-
-/// What the run asks that the words and a text say, if it can be told.
-pub fn asked_of(alloc: Global, words: &[String], text: &[u8]) -> Option<Asked> {
-    let Reading::Run { target, .. } = reading_of(alloc, words).ok()?? else {
-        return None;
-    };
-    let (image, script) = parts_of(alloc, target.rules(), text)?;
-    match target {
-        Target::Msp430 { ram } => msp430_asks(alloc, &image, ram, script.as_slice()).ok()?,
-        Target::Mcs51 => mcs51_asks(alloc, &image, script.as_slice()).ok()?,
-    }
-}
-
-/// The image and the script of a text.
-fn parts_of(alloc: Global, rules: Rules, text: &[u8]) -> Option<(Image, Vec<u16>)>
-    requires { IsRamRange rules }
-{
-    let front = &text[..text.len().min(MOST_BYTES)];
-    let mut reader = Reader::new(alloc, rules, Tail::Second).ok()?;
-    let Ok(used) = reader.feed(front) else {
-        return None;
-    };
-    let image = reader.end().ok()?;
-    Some((image, script_of(alloc, &text[used..])?))
-}
-
-/// The numbers of a script.
-fn script_of(alloc: Global, text: &[u8]) -> Option<Vec<u16>> {
-    if text.len() > script_text::MOST_BYTES {
-        return None;
-    }
-    let mut reader = ScriptReader::new(alloc);
-    reader.feed(text).ok()?;
-    reader.end().ok()
-}
 
 /// The options of the question which interrupt comes.
 fn interrupts_text(
@@ -136,36 +94,4 @@ pub fn question_text(
         Question::Byte { space, at } => byte_text(alloc, *space, *at),
         other => String::from_str(alloc, fixed_text(other)),
     }
-}
-
-/// Says which number of the script is missing, what it answers, and which options there are. False says that it can't be told.
-pub fn print_question(
-    rt: &impl Eprint,
-    alloc: Global,
-    words: &[String],
-    text: &[u8],
-    number: usize,
-) -> io::Result<bool> {
-    let Some(asked) = asked_of(alloc, words, text) else {
-        return Ok(false);
-    };
-    let Some(question) = &asked.question else {
-        return Ok(false);
-    };
-    let (step, pc, options) = (asked.step, asked.pc, question.options());
-    let Ok(sentence) = question_text(alloc, question, has_word(words, "mcs51")) else {
-        return Ok(false);
-    };
-    let place = match asked.instr.as_str() {
-        "" => "where no instruction stands",
-        instr => instr,
-    };
-    eprintln!(rt;
-        "vsa: number {number} of the script is missing: step {step}, {place} at {pc:04X}h, asks a question."
-    )?;
-    eprintln!(rt; "vsa: {sentence}")?;
-    eprintln!(rt;
-        "vsa: add a line with one of these {options} numbers, in hexadecimal, to the script. docs/REPORT.md says all of each question."
-    )?;
-    Ok(true)
 }

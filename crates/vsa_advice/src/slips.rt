@@ -1,9 +1,11 @@
 //! What is wrong with the words of a command line that asks nothing.
 
+use crate::usage::USAGE;
 use clap::error::ErrorKind;
 use clap::{ArgMatches, Error};
 use image::{ChipName, RamRange};
 use std::alloc::{AllocError, Global};
+use std::io;
 use vsa_words::{
     Mode, OptionName, Span, USUAL_RAM, Value, chip_of, mode_of, number_in, range_of, vsa_command,
 };
@@ -214,5 +216,19 @@ pub fn slip_of(alloc: Global, words: &[String]) -> Result<Slip, AllocError> {
     match foreign_option(alloc, &matches, mode, chip)? {
         Some(text) => Ok(Slip::Wrong(text)),
         None => Ok(Slip::Wrong(String::from_str(alloc, wrong_memory(&matches, mode))?)),
+    }
+}
+
+/// Says what is wrong with the words.
+pub fn print_slip(rt: &impl Eprint, alloc: Global, words: &[String]) -> io::Result<()> {
+    match slip_of(alloc, words) {
+        Ok(Slip::Help) => eprintln!(rt; "{USAGE}"),
+        Ok(Slip::Wrong(text)) => {
+            eprintln!(rt; "vsa: {text}")?;
+            eprintln!(rt; "vsa: ./vsa --help says which words there are.")
+        }
+        Err(_) => eprintln!(rt;
+            "vsa: the command line isn't valid; ./vsa --help says which words there are."
+        ),
     }
 }

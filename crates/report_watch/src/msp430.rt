@@ -1,6 +1,6 @@
 //! What is seen of a report of the MSP430.
 
-use crate::warnings::Variable;
+use crate::watch::Variable;
 use hex_digits::word;
 use image::RamRange;
 use report_lines::{Access, Instr, Kind, Line, Stack, cut};

@@ -1,7 +1,7 @@
 //! A sink that remembers how its output begins and ends.
 
-use crate::warnings::Watch;
 use arrayvec::ArrayVec;
+use report_watch::Watch;
 use vsa_io::{Failed, Sink};
 
 /// How many bytes are remembered: a line that tells a refusal has fewer, and so have the last two lines of a trace.

@@ -1,6 +1,8 @@
 //! A source that remembers how its text begins, and how a line of it does.
 
+use crate::words::has_word;
 use arrayvec::ArrayVec;
+use std::alloc::Global;
 use vsa_io::{Failed, Source};
 use vsa_words::number_of;
 
@@ -198,5 +200,14 @@ impl<S: Source + Drop> Source for NotedSource<S> {
         note(&mut self.place, &mut self.piece, &buffer[..count]);
         keep(&mut self.text, &buffer[..count]);
         Ok(count)
+    }
+}
+
+/// A list for the text of a run, whose question is looked up where its script ends too early.
+pub fn kept_text(alloc: Global, words: &[String]) -> Option<Vec<u8>> {
+    if has_word(words, "run") {
+        Some(Vec::new(alloc))
+    } else {
+        None
     }
 }

@@ -1,7 +1,7 @@
-//! What a person should know of a report, also where it is closed.
+//! What looks at a report, line by line.
 
-use crate::mcs51_warnings::Mcs51Seen;
-use crate::msp430_warnings::Msp430Seen;
+use crate::mcs51::Mcs51Seen;
+use crate::msp430::Msp430Seen;
 use arrayvec::ArrayVec;
 use report_lines::Line;
 

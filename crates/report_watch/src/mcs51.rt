@@ -1,6 +1,6 @@
 //! What is seen of a report of the MCS-51.
 
-use crate::warnings::Variable;
+use crate::watch::Variable;
 use hex_digits::byte;
 use report_lines::{Access, Instr, Line, Space, cut};
 use std::alloc::Global;

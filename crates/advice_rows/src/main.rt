@@ -1,0 +1,93 @@
+//! Rows of words on standard error: the standard output says how many lines of the standard input hold, and which don't.
+//!
+//! `text TEXT` begins a text, and `+ TEXT` adds a line to it; `\n`, `\r` and `\t` in it are what they are in Rust. Each other line
+//! is a row, as `WORD ASKED | PART`: it holds where what is said has the part, or is the rest of a part that begins with `=`. What is
+//! said is `none` where nothing is.
+//!
+//! - `slip WORDS`: what is wrong with the words of a command line.
+//! - `number DIGITS LEAST MOST` and `range TEXT`: what an option makes of its text.
+//! - `usage`: the first option that the usage lacks, or whose numbers it lacks.
+//! - `progress SECOND MEGABYTES TURNS NODES WAITING`: how far an analysis is, and `memory`: the megabytes that the text tells.
+//! - `input TEXT` and `bytes DIGITS`: what an input is that begins so.
+//! - `vain WORDS` and `overwritten WORDS`: what is seen of the text, as the report that these words ask for.
+//! - `numbers PIECES` and `address PIECES LINE`: how many numbers the script has, and the address of a record, behind so many
+//!   pieces of sixteen bytes of the text.
+//! - `asks CHIP CODE SCRIPT`: what a run asks of code at F000h of the MSP430, or at 0000h of the MCS-51, along a script.
+#![tactic(auto)]
+
+mod questions;
+mod reports;
+mod sources;
+mod texts;
+mod words;
+
+use crate::questions::asks;
+use crate::reports::{overwritten, vain};
+use crate::sources::{address, numbers};
+use crate::texts::{binary, input, memory, progress, text_of};
+use crate::words::{number, range, slip, usage};
+use std::alloc::{AllocError, Global};
+use std::io::{self, BufRead, BufReader};
+
+/// What is said of what a row asks about a text.
+fn said(alloc: Global, word: &str, asked: &str, text: &str) -> Result<String, AllocError> {
+    match word {
+        "slip" => slip(alloc, asked),
+        "number" => number(alloc, asked),
+        "range" => range(alloc, asked),
+        "usage" => usage(alloc),
+        "progress" => progress(alloc, asked),
+        "memory" => memory(alloc, text),
+        "input" => input(alloc, asked),
+        "bytes" => binary(alloc, asked),
+        "vain" => vain(alloc, asked, text),
+        "overwritten" => overwritten(alloc, asked, text),
+        "numbers" => numbers(alloc, asked, text),
+        "address" => address(alloc, asked, text),
+        "asks" => asks(alloc, asked),
+        _ => String::from_str(alloc, "no such row"),
+    }
+}
+
+/// Whether what is said has a part, or is the rest of it.
+fn has(said: &str, part: &str) -> bool {
+    match part.strip_prefix('=') {
+        Some(whole) => said == whole,
+        None => said.contains(part),
+    }
+}
+
+/// Does what a line says, and tells whether it holds where it is a row.
+fn take(alloc: Global, text: &mut String, line: &str) -> Result<Option<bool>, AllocError> {
+    let (word, rest) = line.split_once(' ').unwrap_or((line, ""));
+    match word {
+        "" | "#" => return Ok(None),
+        "text" => *text = text_of(alloc, rest)?,
+        "+" => {
+            text.push_str(rest)?;
+            text.push('\n')?;
+        }
+        _ => {
+            let (asked, part) = rest.split_once('|').unwrap_or((rest, ""));
+            let said = said(alloc, word, asked.trim_end(), text.as_str())?;
+            return Ok(Some(has(said.as_str(), part.trim())));
+        }
+    }
+    Ok(None)
+}
+
+fn main(rt: HostRuntime) -> io::Result<()> {
+    let alloc = rt.alloc();
+    let mut text = String::new(alloc);
+    let mut count = 0u32;
+    for line in BufReader::new(alloc, rt.reader())?.lines(alloc) {
+        let line = line?;
+        match take(alloc, &mut text, line.as_str())? {
+            Some(true) => count = count.wrapping_add(1),
+            Some(false) => println!(rt; "doesn't hold: {line}")?,
+            None => {}
+        }
+    }
+    println!(rt; "{count} rows hold")?;
+    Ok(())
+}

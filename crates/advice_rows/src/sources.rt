@@ -1,0 +1,44 @@
+//! What a source remembers of a text that was read in pieces.
+
+use std::alloc::{AllocError, Global};
+use vsa_advice::NotedSource;
+use vsa_io::{CleanSource, Source};
+
+/// How many bytes a read gives.
+const PIECE: usize = 16;
+
+/// A source of a text, behind so many reads.
+fn read_of(
+    alloc: Global,
+    text: &str,
+    pieces: usize,
+) -> Result<NotedSource<CleanSource>, AllocError> {
+    let bytes = Vec::from_slice(alloc, text.as_bytes())?;
+    let mut source = NotedSource::new(CleanSource::new(bytes, PIECE), None);
+    let mut buffer = [0u8; PIECE];
+    for _ in 0..pieces {
+        let _ = source.read(&mut buffer);
+    }
+    Ok(source)
+}
+
+/// A number of a row.
+fn number_of(text: Option<&str>) -> usize {
+    text.unwrap_or("").parse::<usize>().unwrap_or(0)
+}
+
+/// How many numbers the script of a text has, behind so many reads.
+pub fn numbers(alloc: Global, asked: &str, text: &str) -> Result<String, AllocError> {
+    let source = read_of(alloc, text, number_of(Some(asked)))?;
+    format!(in alloc; "{}", source.numbers())
+}
+
+/// The address of the record in a line, behind so many reads.
+pub fn address(alloc: Global, asked: &str, text: &str) -> Result<String, AllocError> {
+    let mut words = asked.split(' ');
+    let source = read_of(alloc, text, number_of(words.next()))?;
+    match source.address_of(number_of(words.next())) {
+        Some(address) => format!(in alloc; "{address:04X}"),
+        None => String::from_str(alloc, "none"),
+    }
+}

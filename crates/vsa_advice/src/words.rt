@@ -1,0 +1,6 @@
+//! The words of a command line.
+
+/// Whether a word stands among the words.
+pub fn has_word(words: &[String], word: &str) -> bool {
+    words.iter().any(|own| own.as_str() == word)
+}
