@@ -1,4 +1,5 @@
 pub mod AnyOf
+pub mod Below
 pub mod Cases
 pub mod Members
 pub mod Small
