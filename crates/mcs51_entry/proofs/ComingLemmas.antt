@@ -26,7 +26,7 @@ use Rattle.mcs51_entry.specs.declared.coming.Coming.{Coming}
 use Rattle.mcs51_entry.specs.Coming.{ComesSo, comings_at, comings_of, frame_of_coming, level_comings, level_in, may_be, may_enable, may_have, may_level, source_comings}
 use Rattle.mcs51_entry.specs.Premises.{Premises}
 use Rattle.mcs51_entry.proofs.Levels.{allowed_so, allows, level_by, level_may}
-use Rattle.mcs51_entry.proofs.Members.{in_none, in_first, in_map, from_map, in_flat_map, from_flat_map, only, from_filter, in_range}
+use Rattle.plain_lemmas.specs.Members.{in_none, in_first, in_map, from_map, in_flat_map, from_flat_map, in_one, from_filter, in_range}
 
 -- WHAT IS ALLOWED
 
@@ -164,7 +164,7 @@ at_listed laws (Values sps) source level coming_so normal below least most h =
 at_listed laws (Run p) source level coming_so normal below least most h =
     let one : Coming = record { source = source; level = level; known_sp = None; sp = Run p } in
     let is : IsListed one = record { below = below; least = least; most = most; normal = normal; entry = tt } in
-    subst IsListed (only one coming_so h) is
+    subst IsListed (in_one one coming_so h) is
 
 level_listed : (laws : Premises) (a : Known) (source level : ℕ) (coming_so : Coming) → IsNormal 256 a.sp → source < 6 → 1 ≤ level → level ≤ 3 → Contains (level_comings a source level) coming_so → IsListed coming_so
 level_listed laws a source level coming_so normal below least most h =
@@ -207,7 +207,7 @@ at_source (Values sps) source level coming_so h =
     ap (λ (one : Coming). one.source) (sym found.2)
 at_source (Run p) source level coming_so h =
     let one : Coming = record { source = source; level = level; known_sp = None; sp = Run p } in
-    ap (λ (c : Coming). c.source) (sym (only one coming_so h))
+    ap (λ (c : Coming). c.source) (sym (in_one one coming_so h))
 
 level_source : (a : Known) (source level : ℕ) (coming_so : Coming) → Contains (level_comings a source level) coming_so → coming_so.source ≡ source
 level_source a source level coming_so h =

@@ -36,7 +36,7 @@ use Rattle.mcs51_entry.specs.Premises.{Premises}
 use Rattle.mcs51_entry.proofs.ComingLemmas.{allowed_when, is_listed}
 use Rattle.mcs51_entry.proofs.HandingLemmas.{handed_form, handed_under}
 use Rattle.mcs51_entry.proofs.Levels.{level_by, level_serves, levels_some}
-use Rattle.mcs51_entry.proofs.Members.{in_cons, in_none}
+use Rattle.plain_lemmas.specs.Members.{in_cons, in_none}
 use Rattle.mcs51_entry.proofs.Relations.{from_itself}
 
 -- THE PUSHED COUNTER

@@ -1,4 +1,3 @@
-pub mod Members
 pub mod Levels
 pub mod ComingLemmas
 pub mod Relations

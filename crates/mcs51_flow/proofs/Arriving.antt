@@ -1,6 +1,12 @@
--- Where instructions go on, and the forms of what is known there.
-use Rattle.std.proofs.Common.{◌≡◌, ℕ, ◌<◌, Bool, true, Option, Some, List, [], refl, sym, ◌∙◌, subst, inl, inr, Contains, IfSome}
+-- Where instructions go on: the form of what is known there, and where the state behind stands.
+use Rattle.std.proofs.Common.{◌≡◌, ℕ, ◌<◌, Bool, true, false, Option, None, Some, refl, sym, subst, IfSome}
 use Rattle.call_context.specs.declared.shown.Item.{Item}
+use Rattle.chip_flow.specs.Along.{HasWay, IsOnward, limited_is, limited_open, way_jumped, way_on}
+use Rattle.chip_flow.specs.Going.{limited}
+use Rattle.chip_flow.specs.declared.going.Onward.{Onward}
+use Rattle.chip_flow.specs.declared.going.Onward.TheVariants as onward
+use Rattle.value_set.specs.declared.form.Form.{Form}
+use Rattle.value_set.specs.Summing.{count_of}
 use Rattle.mcs51_chip.specs.declared.state.ChipState.{ChipState}
 use Rattle.mcs51_chip.specs.Step.{Effect}
 use Rattle.mcs51_state.specs.Forms.{IsKnown}
@@ -10,49 +16,39 @@ use Rattle.mcs51_operands.specs.Doing.{Goes as GoesOneWay}
 use Rattle.mcs51_operands.specs.Doing.Goes.{GoesOn, Jumps}
 use Rattle.mcs51_running.specs.declared.ran.Way.{Way}
 use Rattle.mcs51_running.specs.declared.ran.Way.TheVariants.{Lands, Goes}
-use Rattle.mcs51_running.specs.Doing.{IsWay, IsWaySo}
-use Rattle.unit_ways.specs.Between.{IsWayOf, StandsAt}
-use Rattle.unit_ways.specs.Between.IsWayOf.{goes_on, joins, jumps}
-use Rattle.unit_ways.specs.Ways.{Way as Arrival, ways_of, ways_to}
-use Rattle.mcs51_flow.specs.Going.{all_arrivals, arrivals_by, opens_by}
+use Rattle.mcs51_running.specs.Doing.{IsWay}
+use Rattle.unit_ways.specs.Ways.{ways_of}
+use Rattle.mcs51_flow.specs.Chip.{LeadsTo}
+use Rattle.mcs51_flow.specs.Going.{onward_by}
 use Rattle.mcs51_flow.proofs.Premises.{Laws}
 
 -- FORMS
 
-pub record IsArrival (framed : Bool) (arrival : Arrival Known) : Type 0 where
-  pub below : arrival.0 < 65536
-  pub known : IsKnown framed arrival.1
+abbrev pub IsAddress : ℕ → Type 0
+IsAddress address = address < 65536
 
-some_formed : (framed : Bool) (known : Option Known) (a : Known) → IfSome known (IsKnown framed) → known ≡ Some a → IsKnown framed a
-some_formed framed known a form is = subst (λ (k : Option Known). IfSome k (IsKnown framed)) is form
+pub onward_formed : Laws → (framed leaves : Bool) (limit behind : ℕ) (way : Way Known) → behind < 65536 → IsWay framed way
+    → IsOnward IsAddress (IsKnown framed) (onward_by way leaves limit behind)
+onward_formed laws framed true limit behind (Lands targets a) below form = form.1
+onward_formed laws framed false limit behind (Lands targets a) below form =
+    limited_is limit targets (onward.Lands targets a) (IsOnward IsAddress (IsKnown framed)) tt (λ to has. laws.sets.below to targets form.0 has, form.1)
+onward_formed laws framed leaves limit behind (Goes target on jumped) below form = (below, form.0, form.1, form.2)
 
-either_formed : Laws → (framed : Bool) (behind target : ℕ) (on jumped : Option Known) (arrival : Arrival Known) → behind < 65536 → target < 65536 → IfSome on (IsKnown framed) → IfSome jumped (IsKnown framed)
-    → IsWayOf known_joined behind target on jumped arrival → IsArrival framed arrival
-either_formed laws framed behind target on jumped arrival f g a b (goes_on is to) =
-    record { below = subst (λ n. n < 65536) (sym to) f; known = some_formed framed on arrival.1 a is }
-either_formed laws framed behind target on jumped arrival f g a b (jumps is to) =
-    record { below = subst (λ n. n < 65536) (sym to) g; known = some_formed framed jumped arrival.1 b is }
-either_formed laws framed behind target on jumped arrival f g a b (joins one other is_on is_jumped same to is) = record {
-  below = subst (λ n. n < 65536) (sym to) f;
-  known = subst (IsKnown framed) (sym is) (laws.states.join_form framed one other (some_formed framed on one a is_on) (some_formed framed jumped other b is_jumped));
-}
+-- a site that is left open has more targets than are followed
+pub open_leads : (way : Way Known) (leaves : Bool) (limit behind : ℕ) (values : Form) → onward_by way leaves limit behind ≡ onward.Open values
+    → LeadsTo way values × (limit < count_of 65536 values)
+open_leads (Lands targets a) true limit behind values is = absurd (cc)
+open_leads (Lands targets a) false limit behind values is = limited_open limit targets values (onward.Lands targets a) (λ e. cc) is
+open_leads (Goes target on jumped) leaves limit behind values is = absurd (cc)
 
-pub arrivals_formed : Laws → (framed : Bool) (behind : ℕ) (way : Way Known) → behind < 65536 → IsWay framed way → (arrival : Arrival Known) → Contains (all_arrivals behind way) arrival
-    → IsArrival framed arrival
-arrivals_formed laws framed behind (Lands targets a) below form arrival h =
-    let (there, is) = laws.ways.member targets a arrival h in
-    record { below = laws.sets.below arrival.0 targets form.0 there; known = subst (IsKnown framed) (sym is) form.1 }
-arrivals_formed laws framed behind (Goes target on jumped) below form arrival h =
-    either_formed laws framed behind target on jumped arrival below form.0 form.1 form.2 (laws.ways.either known_joined behind target on jumped arrival h)
+-- what is left at the exit of a frame is behind a return
+pub leaves_back : (way : Way Known) (leaves : Bool) (limit behind : ℕ) (b : Known) → onward_by way leaves limit behind ≡ onward.Leaves b → leaves ≡ true
+leaves_back (Lands targets a) true limit behind b is = refl
+leaves_back (Lands targets a) false limit behind b is =
+    limited_is limit targets (onward.Lands targets a) (λ (o : Onward Known). o ≡ onward.Leaves b → false ≡ true) (λ e. absurd (cc)) (λ e. absurd (cc)) is
+leaves_back (Goes target on jumped) leaves limit behind b is = absurd (cc)
 
--- COVER
-
--- a state has arrived at one of these
-pub record HasArrived (all : List (Arrival Known)) (t : ChipState) (first : Option ChipState) : Type 0 where
-  pub arrival : Arrival Known
-  pub listed : Contains all arrival
-  pub goes : t.pc ≡ arrival.0
-  pub holds : HoldsOf arrival.1 t first
+-- THE STATE BEHIND
 
 -- what stands under a state stands under one that this is within
 holds_more : Laws → (a b : Known) (t : ChipState) (first : Option ChipState) → known_within a b ≡ true → HoldsOf a t first → HoldsOf b t first
@@ -62,53 +58,14 @@ holds_more laws a b t first within holds = record {
   parts = laws.states.parts a b t first within holds.parts;
 }
 
--- alone, or joined with what is known on the other way
-stands_arrived : Laws → (framed : Bool) (all : List (Arrival Known)) (to : ℕ) (a : Known) (other : Option Known) (both : Known → Known) (t : ChipState) (first : Option ChipState)
-    → ((b : Known) → IsKnown framed b → known_within a (both b) ≡ true) → IfSome other (IsKnown framed) → StandsAt all to a other both
-    → t.pc ≡ to → HoldsOf a t first → HasArrived all t first
-stands_arrived laws framed all to a other both t first within form stands goes holds =
-    let known : HoldsOf stands.way.1 t first = elim stands.known [
-      | inl is ↦ subst (λ b. HoldsOf b t first) (sym is) holds
-      | inr found ↦ let (b, there, is) = found in subst (λ c. HoldsOf c t first) (sym is) (holds_more laws a (both b) t first (within b (some_formed framed other b form there)) holds)
-    ] in
-    record { arrival = stands.way; listed = stands.listed; goes = goes ∙ sym stands.goes; holds = known }
-
-on_arrives : Laws → (framed : Bool) (behind target : ℕ) (a : Known) (jumped : Option Known) (t : ChipState) (first : Option ChipState) → IsKnown framed a → IfSome jumped (IsKnown framed)
-    → t.pc ≡ behind → HoldsOf a t first → HasArrived (ways_of known_joined behind target (Some a) jumped) t first
-on_arrives laws framed behind target a jumped t first form other goes holds =
-    stands_arrived laws framed (ways_of known_joined behind target (Some a) jumped) behind a jumped (known_joined a) t first (λ b formed. laws.states.join_held framed a b form formed) other
-    (laws.ways.on known_joined behind target a jumped) goes holds
-
-jumped_arrives : Laws → (framed : Bool) (behind target : ℕ) (on : Option Known) (b : Known) (t : ChipState) (first : Option ChipState) → IfSome on (IsKnown framed) → IsKnown framed b
-    → t.pc ≡ target → HoldsOf b t first → HasArrived (ways_of known_joined behind target on (Some b)) t first
-jumped_arrives laws framed behind target on b t first other form goes holds =
-    stands_arrived laws framed (ways_of known_joined behind target on (Some b)) target b on (λ a. known_joined a b) t first (λ a formed. laws.states.join_new framed a b formed form) other
-    (laws.ways.jumped known_joined behind target on b) goes holds
-
--- on one of the two ways of a jump
-either_arrives : Laws → (framed : Bool) (first : Option ChipState) (target : ℕ) (on jumped : Option Known) (s t : ChipState) → IfSome on (IsKnown framed) → IfSome jumped (IsKnown framed)
-    → GoesOneWay framed first target on jumped s t → HasArrived (ways_of known_joined s.pc target on jumped) t first
-either_arrives laws framed first target on jumped s t f g (GoesOn behind is leads) =
-    subst (λ (way : Option Known). HasArrived (ways_of known_joined s.pc target way jumped) t first) (sym is)
-    (on_arrives laws framed s.pc target behind jumped t first (subst (λ (way : Option Known). IfSome way (IsKnown framed)) is f) g leads.onward leads.under.holds)
-either_arrives laws framed first target on jumped s t f g (Jumps behind is goes under) =
-    subst (λ (way : Option Known). HasArrived (ways_of known_joined s.pc target on way) t first) (sym is)
-    (jumped_arrives laws framed s.pc target on behind t first f (subst (λ (way : Option Known). IfSome way (IsKnown framed)) is g) goes under.holds)
-
--- s has the address behind the instruction
-pub way_arrives : Laws → (framed : Bool) (first : Option ChipState) (shown : List Item) (pc : ℕ) (way : Way Known) (s : ChipState) (effect : Effect) → IsWay framed way
-    → IsWaySo framed first shown pc way s effect → HasArrived (all_arrivals s.pc way) effect.1 first
-way_arrives laws framed first shown pc (Lands targets a) s effect form so =
-    record { arrival = (effect.1.pc, a); listed = laws.ways.to targets a effect.1.pc so.target; goes = refl; holds = so.under.holds }
-way_arrives laws framed first shown pc (Goes target on jumped) s effect form so = either_arrives laws framed first target on jumped s effect.1 form.1 form.2 so.goes
-
--- WHICH ARE FOLLOWED
-
--- a work with no open has few targets
-pub all_followed : Laws → (limit pc behind : ℕ) (way : Way Known) → opens_by limit pc way ≡ [] → arrivals_by limit behind way ≡ all_arrivals behind way
-all_followed laws limit pc behind (Lands targets a) none = laws.ways.few limit pc targets (ways_to targets a) none
-all_followed laws limit pc behind (Goes target on jumped) none = refl
-
-pub followed_all : Laws → (limit behind : ℕ) (way : Way Known) (arrival : Arrival Known) → Contains (arrivals_by limit behind way) arrival → Contains (all_arrivals behind way) arrival
-followed_all laws limit behind (Lands targets a) arrival h = laws.ways.followed limit targets (ways_to targets a) arrival h
-followed_all laws limit behind (Goes target on jumped) arrival h = h
+-- on one of the two ways of a jump; s has the address behind it
+pub either_way : Laws → (framed : Bool) (first : Option ChipState) (target : ℕ) (on jumped : Option Known) (s t : ChipState) → IfSome on (IsKnown framed) → IfSome jumped (IsKnown framed)
+    → GoesOneWay framed first target on jumped s t → HasWay (λ b. HoldsOf b t first) (ways_of known_joined s.pc target on jumped) t.pc
+either_way laws framed first target on jumped s t f g (GoesOn behind is leads) =
+    subst (HasWay (λ b. HoldsOf b t first) (ways_of known_joined s.pc target on jumped)) (sym leads.onward)
+    (way_on laws.ways known_joined (IsKnown framed) (λ b. HoldsOf b t first) s.pc target on jumped f g
+    (λ a b form other. holds_more laws a (known_joined a b) t first (laws.states.join_held framed a b form other)) behind is leads.under.holds)
+either_way laws framed first target on jumped s t f g (Jumps behind is goes under) =
+    subst (HasWay (λ b. HoldsOf b t first) (ways_of known_joined s.pc target on jumped)) (sym goes)
+    (way_jumped laws.ways known_joined (IsKnown framed) (λ b. HoldsOf b t first) s.pc target on jumped f g
+    (λ a b form other. holds_more laws b (known_joined a b) t first (laws.states.join_new framed a b form other)) behind is under.holds)

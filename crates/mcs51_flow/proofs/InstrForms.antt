@@ -2,6 +2,7 @@
 use Rattle.std.proofs.Common.{ℕ, zero, suc, ◌+◌, ◌*◌, ◌/◌, ◌%◌, ◌<◌, ◌==◌, Option, List, [], ◌∷◌, All, refl, subst, arith}
 use Rattle.std.proofs.lemmas.Bool.{cond_both}
 use Rattle.std.proofs.lemmas.List.Elements.{All-rest}
+use Rattle.plain_lemmas.specs.Below.{one_of_sixteen}
 use Rattle.mcs51_decode.specs.declared.instr.Instr.{Instr}
 use Rattle.mcs51_decode.specs.declared.instr.Instr.TheVariants.{AbsoluteCall, AbsoluteJump}
 use Rattle.mcs51_decode.specs.declared.instr.Working.{Working}
@@ -23,143 +24,41 @@ line_D_fits (Register n) x hx = (tt, hx)
 
 column_0_fits : (line : ℕ) (x y : ℕ) → line < 16 → x < 256 → y < 256 → IsInstr (column_0 line x y).1
 unfolding column_0
-column_0_fits zero x y h hx hy = tt
-column_0_fits (suc zero) x y h hx hy = (hx, hy)
-column_0_fits (suc (suc zero)) x y h hx hy = (hx, hy)
-column_0_fits (suc (suc (suc zero))) x y h hx hy = (hx, hy)
-column_0_fits (suc (suc (suc (suc zero)))) x y h hx hy = hx
-column_0_fits (suc (suc (suc (suc (suc zero))))) x y h hx hy = hx
-column_0_fits (suc (suc (suc (suc (suc (suc zero)))))) x y h hx hy = hx
-column_0_fits (suc (suc (suc (suc (suc (suc (suc zero))))))) x y h hx hy = hx
-column_0_fits (suc (suc (suc (suc (suc (suc (suc (suc zero)))))))) x y h hx hy = hx
-column_0_fits (suc (suc (suc (suc (suc (suc (suc (suc (suc zero))))))))) x y h hx hy = omega arith
-column_0_fits (suc (suc (suc (suc (suc (suc (suc (suc (suc (suc zero)))))))))) x y h hx hy = hx
-column_0_fits (suc (suc (suc (suc (suc (suc (suc (suc (suc (suc (suc zero))))))))))) x y h hx hy = hx
-column_0_fits (suc (suc (suc (suc (suc (suc (suc (suc (suc (suc (suc (suc zero)))))))))))) x y h hx hy = hx
-column_0_fits (suc (suc (suc (suc (suc (suc (suc (suc (suc (suc (suc (suc (suc zero))))))))))))) x y h hx hy = hx
-column_0_fits (suc (suc (suc (suc (suc (suc (suc (suc (suc (suc (suc (suc (suc (suc zero)))))))))))))) x y h hx hy = tt
-column_0_fits (suc (suc (suc (suc (suc (suc (suc (suc (suc (suc (suc (suc (suc (suc (suc zero))))))))))))))) x y h hx hy = tt
-column_0_fits (suc (suc (suc (suc (suc (suc (suc (suc (suc (suc (suc (suc (suc (suc (suc (suc line)))))))))))))))) x y h hx hy = absurd (omega arith)
+column_0_fits line x y h hx hy = one_of_sixteen (λ row. IsInstr (column_0 row x y).1)
+    tt (hx, hy) (hx, hy) (hx, hy) hx hx hx hx hx (omega arith) hx hx hx hx tt tt line h
 
 column_2_fits : (line : ℕ) (x y : ℕ) → line < 16 → x < 256 → y < 256 → IsInstr (column_2 line x y).1
 unfolding column_2
-column_2_fits zero x y h hx hy = omega arith
-column_2_fits (suc zero) x y h hx hy = omega arith
-column_2_fits (suc (suc zero)) x y h hx hy = tt
-column_2_fits (suc (suc (suc zero))) x y h hx hy = tt
-column_2_fits (suc (suc (suc (suc zero)))) x y h hx hy = (hx, tt)
-column_2_fits (suc (suc (suc (suc (suc zero))))) x y h hx hy = (hx, tt)
-column_2_fits (suc (suc (suc (suc (suc (suc zero)))))) x y h hx hy = (hx, tt)
-column_2_fits (suc (suc (suc (suc (suc (suc (suc zero))))))) x y h hx hy = hx
-column_2_fits (suc (suc (suc (suc (suc (suc (suc (suc zero)))))))) x y h hx hy = hx
-column_2_fits (suc (suc (suc (suc (suc (suc (suc (suc (suc zero))))))))) x y h hx hy = hx
-column_2_fits (suc (suc (suc (suc (suc (suc (suc (suc (suc (suc zero)))))))))) x y h hx hy = hx
-column_2_fits (suc (suc (suc (suc (suc (suc (suc (suc (suc (suc (suc zero))))))))))) x y h hx hy = hx
-column_2_fits (suc (suc (suc (suc (suc (suc (suc (suc (suc (suc (suc (suc zero)))))))))))) x y h hx hy = hx
-column_2_fits (suc (suc (suc (suc (suc (suc (suc (suc (suc (suc (suc (suc (suc zero))))))))))))) x y h hx hy = hx
-column_2_fits (suc (suc (suc (suc (suc (suc (suc (suc (suc (suc (suc (suc (suc (suc zero)))))))))))))) x y h hx hy = tt
-column_2_fits (suc (suc (suc (suc (suc (suc (suc (suc (suc (suc (suc (suc (suc (suc (suc zero))))))))))))))) x y h hx hy = tt
-column_2_fits (suc (suc (suc (suc (suc (suc (suc (suc (suc (suc (suc (suc (suc (suc (suc (suc line)))))))))))))))) x y h hx hy = absurd (omega arith)
+column_2_fits line x y h hx hy = one_of_sixteen (λ row. IsInstr (column_2 row x y).1)
+    (omega arith) (omega arith) tt tt (hx, tt) (hx, tt) (hx, tt) hx hx hx hx hx hx hx tt tt line h
 
 column_3_fits : (line : ℕ) (x y : ℕ) → line < 16 → x < 256 → y < 256 → IsInstr (column_3 line x y).1
 unfolding column_3
-column_3_fits zero x y h hx hy = tt
-column_3_fits (suc zero) x y h hx hy = tt
-column_3_fits (suc (suc zero)) x y h hx hy = tt
-column_3_fits (suc (suc (suc zero))) x y h hx hy = tt
-column_3_fits (suc (suc (suc (suc zero)))) x y h hx hy = (hx, hy)
-column_3_fits (suc (suc (suc (suc (suc zero))))) x y h hx hy = (hx, hy)
-column_3_fits (suc (suc (suc (suc (suc (suc zero)))))) x y h hx hy = (hx, hy)
-column_3_fits (suc (suc (suc (suc (suc (suc (suc zero))))))) x y h hx hy = tt
-column_3_fits (suc (suc (suc (suc (suc (suc (suc (suc zero)))))))) x y h hx hy = tt
-column_3_fits (suc (suc (suc (suc (suc (suc (suc (suc (suc zero))))))))) x y h hx hy = tt
-column_3_fits (suc (suc (suc (suc (suc (suc (suc (suc (suc (suc zero)))))))))) x y h hx hy = tt
-column_3_fits (suc (suc (suc (suc (suc (suc (suc (suc (suc (suc (suc zero))))))))))) x y h hx hy = tt
-column_3_fits (suc (suc (suc (suc (suc (suc (suc (suc (suc (suc (suc (suc zero)))))))))))) x y h hx hy = tt
-column_3_fits (suc (suc (suc (suc (suc (suc (suc (suc (suc (suc (suc (suc (suc zero))))))))))))) x y h hx hy = tt
-column_3_fits (suc (suc (suc (suc (suc (suc (suc (suc (suc (suc (suc (suc (suc (suc zero)))))))))))))) x y h hx hy = tt
-column_3_fits (suc (suc (suc (suc (suc (suc (suc (suc (suc (suc (suc (suc (suc (suc (suc zero))))))))))))))) x y h hx hy = tt
-column_3_fits (suc (suc (suc (suc (suc (suc (suc (suc (suc (suc (suc (suc (suc (suc (suc (suc line)))))))))))))))) x y h hx hy = absurd (omega arith)
+column_3_fits line x y h hx hy = one_of_sixteen (λ row. IsInstr (column_3 row x y).1)
+    tt tt tt tt (hx, hy) (hx, hy) (hx, hy) tt tt tt tt tt tt tt tt tt line h
 
 column_4_fits : (line : ℕ) (x y : ℕ) → line < 16 → x < 256 → y < 256 → IsInstr (column_4 line x y).1
 unfolding column_4
-column_4_fits zero x y h hx hy = tt
-column_4_fits (suc zero) x y h hx hy = tt
-column_4_fits (suc (suc zero)) x y h hx hy = hx
-column_4_fits (suc (suc (suc zero))) x y h hx hy = hx
-column_4_fits (suc (suc (suc (suc zero)))) x y h hx hy = hx
-column_4_fits (suc (suc (suc (suc (suc zero))))) x y h hx hy = hx
-column_4_fits (suc (suc (suc (suc (suc (suc zero)))))) x y h hx hy = hx
-column_4_fits (suc (suc (suc (suc (suc (suc (suc zero))))))) x y h hx hy = (tt, hx)
-column_4_fits (suc (suc (suc (suc (suc (suc (suc (suc zero)))))))) x y h hx hy = tt
-column_4_fits (suc (suc (suc (suc (suc (suc (suc (suc (suc zero))))))))) x y h hx hy = hx
-column_4_fits (suc (suc (suc (suc (suc (suc (suc (suc (suc (suc zero)))))))))) x y h hx hy = tt
-column_4_fits (suc (suc (suc (suc (suc (suc (suc (suc (suc (suc (suc zero))))))))))) x y h hx hy = (hx, hy)
-column_4_fits (suc (suc (suc (suc (suc (suc (suc (suc (suc (suc (suc (suc zero)))))))))))) x y h hx hy = tt
-column_4_fits (suc (suc (suc (suc (suc (suc (suc (suc (suc (suc (suc (suc (suc zero))))))))))))) x y h hx hy = tt
-column_4_fits (suc (suc (suc (suc (suc (suc (suc (suc (suc (suc (suc (suc (suc (suc zero)))))))))))))) x y h hx hy = tt
-column_4_fits (suc (suc (suc (suc (suc (suc (suc (suc (suc (suc (suc (suc (suc (suc (suc zero))))))))))))))) x y h hx hy = tt
-column_4_fits (suc (suc (suc (suc (suc (suc (suc (suc (suc (suc (suc (suc (suc (suc (suc (suc line)))))))))))))))) x y h hx hy = absurd (omega arith)
+column_4_fits line x y h hx hy = one_of_sixteen (λ row. IsInstr (column_4 row x y).1)
+    tt tt hx hx hx hx hx (tt, hx) tt hx tt (hx, hy) tt tt tt tt line h
 
 working_columns_fits : (line : ℕ) (w : Working) (x y : ℕ) → line < 16 → x < 256 → y < 256 → IsInstr (working_columns line w x y).1
 unfolding working_columns
-working_columns_fits zero w x y h hx hy = tt
-working_columns_fits (suc zero) w x y h hx hy = tt
-working_columns_fits (suc (suc zero)) w x y h hx hy = tt
-working_columns_fits (suc (suc (suc zero))) w x y h hx hy = tt
-working_columns_fits (suc (suc (suc (suc zero)))) w x y h hx hy = tt
-working_columns_fits (suc (suc (suc (suc (suc zero))))) w x y h hx hy = tt
-working_columns_fits (suc (suc (suc (suc (suc (suc zero)))))) w x y h hx hy = tt
-working_columns_fits (suc (suc (suc (suc (suc (suc (suc zero))))))) w x y h hx hy = (tt, hx)
-working_columns_fits (suc (suc (suc (suc (suc (suc (suc (suc zero)))))))) w x y h hx hy = (hx, tt)
-working_columns_fits (suc (suc (suc (suc (suc (suc (suc (suc (suc zero))))))))) w x y h hx hy = tt
-working_columns_fits (suc (suc (suc (suc (suc (suc (suc (suc (suc (suc zero)))))))))) w x y h hx hy = hx
-working_columns_fits (suc (suc (suc (suc (suc (suc (suc (suc (suc (suc (suc zero))))))))))) w x y h hx hy = (hx, hy)
-working_columns_fits (suc (suc (suc (suc (suc (suc (suc (suc (suc (suc (suc (suc zero)))))))))))) w x y h hx hy = tt
-working_columns_fits (suc (suc (suc (suc (suc (suc (suc (suc (suc (suc (suc (suc (suc zero))))))))))))) w x y h hx hy = line_D_fits w x hx
-working_columns_fits (suc (suc (suc (suc (suc (suc (suc (suc (suc (suc (suc (suc (suc (suc zero)))))))))))))) w x y h hx hy = tt
-working_columns_fits (suc (suc (suc (suc (suc (suc (suc (suc (suc (suc (suc (suc (suc (suc (suc zero))))))))))))))) w x y h hx hy = tt
-working_columns_fits (suc (suc (suc (suc (suc (suc (suc (suc (suc (suc (suc (suc (suc (suc (suc (suc line)))))))))))))))) w x y h hx hy = absurd (omega arith)
+working_columns_fits line w x y h hx hy = one_of_sixteen (λ row. IsInstr (working_columns row w x y).1)
+    tt tt tt tt tt tt tt (tt, hx) (hx, tt) tt hx (hx, hy) tt (line_D_fits w x hx) tt tt line h
 
 column_5_fits : (line : ℕ) (x y : ℕ) → line < 16 → x < 256 → y < 256 → IsInstr (column_5 line x y).1
 unfolding column_5
-column_5_fits zero x y h hx hy = hx
-column_5_fits (suc zero) x y h hx hy = hx
-column_5_fits (suc (suc zero)) x y h hx hy = hx
-column_5_fits (suc (suc (suc zero))) x y h hx hy = hx
-column_5_fits (suc (suc (suc (suc zero)))) x y h hx hy = hx
-column_5_fits (suc (suc (suc (suc (suc zero))))) x y h hx hy = hx
-column_5_fits (suc (suc (suc (suc (suc (suc zero)))))) x y h hx hy = hx
-column_5_fits (suc (suc (suc (suc (suc (suc (suc zero))))))) x y h hx hy = (hx, hy)
-column_5_fits (suc (suc (suc (suc (suc (suc (suc (suc zero)))))))) x y h hx hy = (hy, hx)
-column_5_fits (suc (suc (suc (suc (suc (suc (suc (suc (suc zero))))))))) x y h hx hy = hx
-column_5_fits (suc (suc (suc (suc (suc (suc (suc (suc (suc (suc zero)))))))))) x y h hx hy = hx
-column_5_fits (suc (suc (suc (suc (suc (suc (suc (suc (suc (suc (suc zero))))))))))) x y h hx hy = (hx, hy)
-column_5_fits (suc (suc (suc (suc (suc (suc (suc (suc (suc (suc (suc (suc zero)))))))))))) x y h hx hy = hx
-column_5_fits (suc (suc (suc (suc (suc (suc (suc (suc (suc (suc (suc (suc (suc zero))))))))))))) x y h hx hy = (hx, hy)
-column_5_fits (suc (suc (suc (suc (suc (suc (suc (suc (suc (suc (suc (suc (suc (suc zero)))))))))))))) x y h hx hy = hx
-column_5_fits (suc (suc (suc (suc (suc (suc (suc (suc (suc (suc (suc (suc (suc (suc (suc zero))))))))))))))) x y h hx hy = hx
-column_5_fits (suc (suc (suc (suc (suc (suc (suc (suc (suc (suc (suc (suc (suc (suc (suc (suc line)))))))))))))))) x y h hx hy = absurd (omega arith)
+column_5_fits line x y h hx hy = one_of_sixteen (λ row. IsInstr (column_5 row x y).1)
+    hx hx hx hx hx hx hx (hx, hy) (hy, hx) hx hx (hx, hy) hx (hx, hy) hx hx line h
 
 row_fits : (line column x y : ℕ) → line < 16 → column < 16 → x < 256 → y < 256 → IsInstr (row_in line column x y).1
 unfolding row_in
-row_fits line zero x y h hc hx hy = column_0_fits line x y h hx hy
-row_fits line (suc zero) x y h hc hx hy = column_1_fits line x h hx
-row_fits line (suc (suc zero)) x y h hc hx hy = column_2_fits line x y h hx hy
-row_fits line (suc (suc (suc zero))) x y h hc hx hy = column_3_fits line x y h hx hy
-row_fits line (suc (suc (suc (suc zero)))) x y h hc hx hy = column_4_fits line x y h hx hy
-row_fits line (suc (suc (suc (suc (suc zero))))) x y h hc hx hy = column_5_fits line x y h hx hy
-row_fits line (suc (suc (suc (suc (suc (suc zero)))))) x y h hc hx hy = working_columns_fits line (working_at 6) x y h hx hy
-row_fits line (suc (suc (suc (suc (suc (suc (suc zero))))))) x y h hc hx hy = working_columns_fits line (working_at 7) x y h hx hy
-row_fits line (suc (suc (suc (suc (suc (suc (suc (suc zero)))))))) x y h hc hx hy = working_columns_fits line (working_at 8) x y h hx hy
-row_fits line (suc (suc (suc (suc (suc (suc (suc (suc (suc zero))))))))) x y h hc hx hy = working_columns_fits line (working_at 9) x y h hx hy
-row_fits line (suc (suc (suc (suc (suc (suc (suc (suc (suc (suc zero)))))))))) x y h hc hx hy = working_columns_fits line (working_at 10) x y h hx hy
-row_fits line (suc (suc (suc (suc (suc (suc (suc (suc (suc (suc (suc zero))))))))))) x y h hc hx hy = working_columns_fits line (working_at 11) x y h hx hy
-row_fits line (suc (suc (suc (suc (suc (suc (suc (suc (suc (suc (suc (suc zero)))))))))))) x y h hc hx hy = working_columns_fits line (working_at 12) x y h hx hy
-row_fits line (suc (suc (suc (suc (suc (suc (suc (suc (suc (suc (suc (suc (suc zero))))))))))))) x y h hc hx hy = working_columns_fits line (working_at 13) x y h hx hy
-row_fits line (suc (suc (suc (suc (suc (suc (suc (suc (suc (suc (suc (suc (suc (suc zero)))))))))))))) x y h hc hx hy = working_columns_fits line (working_at 14) x y h hx hy
-row_fits line (suc (suc (suc (suc (suc (suc (suc (suc (suc (suc (suc (suc (suc (suc (suc zero))))))))))))))) x y h hc hx hy = working_columns_fits line (working_at 15) x y h hx hy
-row_fits line (suc (suc (suc (suc (suc (suc (suc (suc (suc (suc (suc (suc (suc (suc (suc (suc column)))))))))))))))) x y h hc hx hy = absurd (omega arith)
+row_fits line column x y h hc hx hy =
+    let working : (c : ℕ) → IsInstr (working_columns line (working_at c) x y).1 = λ c. working_columns_fits line (working_at c) x y h hx hy in
+    one_of_sixteen (λ c. IsInstr (row_in line c x y).1)
+    (column_0_fits line x y h hx hy) (column_1_fits line x h hx) (column_2_fits line x y h hx hy) (column_3_fits line x y h hx hy) (column_4_fits line x y h hx hy) (column_5_fits line x y h hx hy)
+    (working 6) (working 7) (working 8) (working 9) (working 10) (working 11) (working 12) (working 13) (working 14) (working 15) column hc
 
 operand_below : (operands : List ℕ) (i : ℕ) → All (λ byte. byte < 256) operands → operand operands i < 256
 operand_below [] i h = omega arith

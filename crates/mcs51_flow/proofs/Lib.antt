@@ -1,9 +1,7 @@
 pub mod Arriving
-pub mod CallStrings
 pub mod InstrForms
 pub mod Landing
 pub mod Lawful
-pub mod Made
 pub mod MarksLemmas
 pub mod Premises
 pub mod Returning

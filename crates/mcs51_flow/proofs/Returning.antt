@@ -1,5 +1,5 @@
 -- RETI that goes back to where the interrupt of its frame came.
-use Rattle.std.proofs.Common.{◌≡◌, ℕ, Bool, true, Option, List, refl, sym, ap, subst}
+use Rattle.std.proofs.Common.{◌≡◌, ℕ, Bool, true, Option, List, refl, sym, ap, ◌∙◌, subst}
 use Rattle.call_context.specs.declared.node.Frame.{Frame}
 use Rattle.choosing.specs.Asking.{value_is}
 use Rattle.mcs51_decode.specs.declared.instr.Instr.{Instr}
@@ -16,7 +16,7 @@ use Rattle.mcs51_state.specs.Under.{IsUnder}
 use Rattle.mcs51_control.specs.Returning.{goes_back, interrupt_returned, return_targets}
 use Rattle.mcs51_operands.specs.Doing.{LandsSo}
 use Rattle.mcs51_running.specs.declared.ran.Way.{Way}
-use Rattle.mcs51_running.specs.declared.ran.Way.TheVariants.{Lands}
+use Rattle.mcs51_running.specs.declared.ran.Way.TheVariants.{Lands, Goes}
 use Rattle.mcs51_running.specs.Doing.{IsWaySo, RunsSo}
 use Rattle.mcs51_running.specs.Running.{behind_of, items_of, ran_from, ran_of, targets_of}
 use Rattle.mcs51_flow.specs.Going.{leaves_frame}
@@ -62,10 +62,15 @@ is_return (instr.Exchange one) frame a h = absurd (cc)
 is_return (instr.ExchangeDigit one) frame a h = absurd (cc)
 
 -- it lands at the addresses of the stack
-pub return_way : (image : List (Option ℕ)) (framed : Bool) (pc : ℕ) (a : Known)
+return_way : (image : List (Option ℕ)) (framed : Bool) (pc : ℕ) (a : Known)
     → (ran_of image framed pc a instr.ReturnFromInterrupt).way ≡ Lands (return_targets framed a) (interrupt_returned a)
 unfolding ran_from items_of targets_of behind_of
 return_way image framed pc a = refl
+
+pub return_lands : (image : List (Option ℕ)) (frame : Frame) (pc : ℕ) (a : Known) (instr_so : Instr) (target : ℕ) (on jumped : Option Known) → instr_so ≡ instr.ReturnFromInterrupt
+    → (ran_of image (is_interrupt frame) pc a instr_so).way ≡ Goes target on jumped → ⊥
+return_lands image frame pc a instr_so target on jumped is goes =
+    let same = sym (return_way image (is_interrupt frame) pc a) ∙ sym (ap (λ (i : Instr). (ran_of image (is_interrupt frame) pc a i).way) is) ∙ goes in absurd (cc)
 
 -- what it leaves
 return_effect : (image : List (Option ℕ)) (s : ChipState) (effect : Effect) → MayDo image s instr.ReturnFromInterrupt effect
@@ -76,22 +81,10 @@ return_effect image s effect (choices, rest, does) =
     let left : Effect = (pop_reads next, level_ended (returned next)) in
     ap (λ (e : Effect). e.1) (sym (value_is left effect choices rest does))
 
--- the state behind it goes on where the interrupt came, and stands under what is known there
-pub record Leaves (frame : Frame) (a : Known) (t : ChipState) (first : Option ChipState) : Type 0 where
-  pub goes : GoesOn frame t first
-  pub holds : HoldsOf (interrupt_returned a) t first
-
-pub return_leaves : Laws → (image : List (Option ℕ)) (frame : Frame) (a : Known) (s : ChipState) (first : Option ChipState) (effect : Effect)
-    → IsUnder (is_interrupt frame) a s first → StandsIn frame first → goes_back (is_interrupt frame) frame a ≡ true → MayDo image s instr.ReturnFromInterrupt effect
-    → RunsSo (is_interrupt frame) first s.pc (ran_of image (is_interrupt frame) s.pc a instr.ReturnFromInterrupt) (going_to (following s.pc instr.ReturnFromInterrupt) s) effect
-    → Leaves frame a effect.1 first
-return_leaves laws image frame a s first effect under stands_so back may runs =
-    let framed = is_interrupt frame in
-    let next = going_to (following s.pc instr.ReturnFromInterrupt) s in
-    let ran = ran_of image framed s.pc a instr.ReturnFromInterrupt in
-    let lands : LandsSo framed first ran.items s.pc (return_targets framed a) (interrupt_returned a) effect =
-    subst (λ (way : Way Known). IsWaySo framed first ran.items s.pc way next effect) (return_way image framed s.pc a) runs in
-    record {
-      goes = subst (λ t. GoesOn frame t first) (sym (return_effect image s effect may)) (laws.returns.back framed a s first frame under stands_so back);
-      holds = lands.under.holds;
-    }
+-- the state behind it goes on where the interrupt came
+pub return_goes : Laws → (image : List (Option ℕ)) (frame : Frame) (a : Known) (s : ChipState) (first : Option ChipState) (instr_so : Instr) (effect : Effect) → instr_so ≡ instr.ReturnFromInterrupt
+    → IsUnder (is_interrupt frame) a s first → StandsIn frame first → leaves_frame frame a instr_so ≡ true → MayDo image s instr_so effect → GoesOn frame effect.1 first
+return_goes laws image frame a s first instr_so effect is under stands_so back may =
+    let goes = subst (λ (i : Instr). leaves_frame frame a i ≡ true) is back in
+    subst (λ t. GoesOn frame t first) (sym (return_effect image s effect (subst (λ (i : Instr). MayDo image s i effect) is may)))
+    (laws.returns.back (is_interrupt frame) a s first frame under stands_so goes)

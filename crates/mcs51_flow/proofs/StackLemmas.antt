@@ -1,23 +1,15 @@
 -- A work of the MCS-51 shows bytes as stack pointers.
 use Rattle.std.proofs.Common.{ℕ, ◌++◌, Bool, true, false, Option, None, Some, List, [], ◌∷◌}
-use Rattle.std.specs.Prelude.{Contains, if◌then◌else◌}
-use Rattle.std.specs.List.{AllByRecursion, flat_map}
-use Rattle.std.proofs.lemmas.List.Elements.{All-contains, All-from_recursion}
+use Rattle.std.specs.Prelude.{Contains}
 use Rattle.value_set.specs.declared.form.Form.{Form}
-use Rattle.value_set.specs.Joining.{is_in}
-use Rattle.call_context.specs.declared.node.Frame.{Frame}
-use Rattle.call_context.specs.declared.node.Frame.TheVariants.{Base, Irq}
-use Rattle.call_context.specs.declared.node.Node.{Node}
-use Rattle.call_context.specs.declared.node.Node.TheVariants.{At, Exit}
 use Rattle.call_context.specs.declared.node.Unit.{Unit as WorkUnit}
-use Rattle.call_context.specs.declared.node.Unit.TheVariants.{One, Back}
 use Rattle.call_context.specs.declared.shown.Item.{Item}
 use Rattle.call_context.specs.declared.shown.Item.TheVariants as items
+use Rattle.call_context.specs.declared.shown.Set.{Set}
 use Rattle.call_context.specs.declared.shown.Set.TheVariants.{B, W}
-use Rattle.chip_law.specs.declared.chip.Work.{Work}
-use Rattle.unit_ways.specs.Ways.{Going, Way as Arrival, edges_of}
+use Rattle.chip_flow.specs.Stacks.{AreStacksOf, IsStackOf, ShowsStacks, both_stacks, stacks_shown}
 use Rattle.mcs51_decode.specs.declared.instr.BitTest.{BitTest}
-use Rattle.mcs51_decode.specs.declared.instr.BitTest.TheVariants.{Set, Clear, SetAndClear}
+use Rattle.mcs51_decode.specs.declared.instr.BitTest.TheVariants as test
 use Rattle.mcs51_decode.specs.declared.instr.Comparison.TheVariants.{AccumulatorImmediate, AccumulatorDirect, WorkingImmediate}
 use Rattle.mcs51_decode.specs.declared.instr.External.TheVariants as external
 use Rattle.mcs51_decode.specs.declared.instr.Instr.{Instr}
@@ -31,35 +23,28 @@ use Rattle.mcs51_decode.specs.declared.instr.Working.TheVariants.{Indirect, Regi
 use Rattle.mcs51_decode.specs.Targets.{following}
 use Rattle.mcs51_state.specs.declared.addresses.Addresses.{Addresses}
 use Rattle.mcs51_state.specs.declared.addresses.Addresses.TheVariants.{InRam, InSfr}
-use Rattle.mcs51_state.specs.Known.{Known, is_interrupt}
+use Rattle.mcs51_state.specs.Known.{Known, is_interrupt, known_joined}
 use Rattle.mcs51_operands.specs.Accesses.{read_at, read_items, update_items, write_at, write_items}
 use Rattle.mcs51_operands.specs.Showing.{access_of, address_accesses, pointer_accesses}
 use Rattle.mcs51_jumps.specs.Jumps.{bit_items, clearing_items}
 use Rattle.mcs51_control.specs.Returning.{below_top}
-use Rattle.mcs51_entry.specs.declared.coming.Coming.{Coming}
-use Rattle.mcs51_entry.specs.Coming.{comings_of}
-use Rattle.mcs51_running.specs.declared.ran.Way.{Way}
-use Rattle.mcs51_running.specs.declared.ran.Way.TheVariants.{Lands, Goes}
 use Rattle.mcs51_running.specs.Running.{Ran, items_of, ran_from, ran_of}
 use Rattle.mcs51_flow.specs.declared.setting.Setting.{Setting}
-use Rattle.mcs51_flow.specs.Chip.{entry_items, going_of, labels_of, mcs51_analysis, return_work, work_at, work_by, work_of}
-use Rattle.mcs51_flow.specs.Going.{arrivals_by, going_back, going_on, leaves_frame}
-use Rattle.mcs51_flow.specs.Standing.{fetched}
+use Rattle.mcs51_flow.specs.Chip.{mcs51_analysis, mcs51_flow}
 
--- if it shows a stack pointer, it shows a byte
+abbrev IsByteSet : Set → Type 0
+IsByteSet (B values) = Unit {0}
+IsByteSet (W values) = ⊥
+
+-- if an item shows a stack pointer, it shows a byte
 abbrev IsBytely : Item → Type 0
-IsBytely (items.Stack pc (B values)) = Unit {0}
-IsBytely (items.Stack pc (W values)) = ⊥
-IsBytely (items.Instr pc bytes) = Unit {0}
-IsBytely (items.Edge origin target) = Unit {0}
-IsBytely (items.Access pc space write size at) = Unit {0}
+IsBytely = IsStackOf IsByteSet
 
 abbrev AreBytely : List Item → Type 0
-AreBytely = AllByRecursion IsBytely
+AreBytely = AreStacksOf IsByteSet
 
 joined : (xs ys : List Item) → AreBytely xs → AreBytely ys → AreBytely (xs ++ ys)
-joined [] ys first second = second
-joined (x ∷ xs) ys first second = (first.0, joined xs ys first.1 second)
+joined = both_stacks IsByteSet
 
 -- THE ACCESSES OF AN INSTRUCTION
 
@@ -95,9 +80,9 @@ clearing_bytes pc bit None = (one_access pc false _, tt)
 clearing_bytes pc bit (Some way) = (one_access pc false _, (one_access pc true _, tt))
 
 bit_bytes : (pc : ℕ) (test : BitTest) (bit : ℕ) (jumped : Option Known) → AreBytely (bit_items pc test bit jumped)
-bit_bytes pc Set bit jumped = (one_access pc false _, tt)
-bit_bytes pc Clear bit jumped = (one_access pc false _, tt)
-bit_bytes pc SetAndClear bit jumped = clearing_bytes pc bit jumped
+bit_bytes pc test.Set bit jumped = (one_access pc false _, tt)
+bit_bytes pc test.Clear bit jumped = (one_access pc false _, tt)
+bit_bytes pc test.SetAndClear bit jumped = clearing_bytes pc bit jumped
 
 ran_bytes : (image : List (Option ℕ)) (framed : Bool) (pc next : ℕ) (a : Known) (instr : Instr) → AreBytely (ran_from image framed pc next a instr).items
 unfolding ran_from items_of
@@ -146,69 +131,16 @@ ran_bytes image framed pc next a (Pop direct) = (tt, (one_access pc true _, tt))
 ran_bytes image framed pc next a (Exchange m) = update_bytes pc a m
 ran_bytes image framed pc next a (ExchangeDigit i) = update_bytes pc a (InWorking (Indirect i))
 
--- THE WORK OF A LOCATION
+-- WORKS
 
-edge_bytes : (pc : ℕ) (ways : List (Arrival Known)) → AreBytely (edges_of pc ways)
-edge_bytes pc [] = tt
-edge_bytes pc (way ∷ ways) = (tt, edge_bytes pc ways)
-
-coming_bytes : (pc : ℕ) (comings : List Coming) → AreBytely (flat_map (entry_items pc) comings)
-coming_bytes pc [] = tt
-coming_bytes pc (coming ∷ comings) = (tt, (tt, (tt, coming_bytes pc comings)))
-
-going_back_bytes : (pc : ℕ) (frame : Frame) (way : Way Known) → AreBytely (going_back pc frame way).edges
-going_back_bytes pc frame (Lands targets a) = tt
-going_back_bytes pc frame (Goes target on jumped) = tt
-
-either_going : (is : Bool) (x y : Going Known) → AreBytely x.edges → AreBytely y.edges → AreBytely (if is then x else y).edges
-either_going true x y first second = first
-either_going false x y first second = second
-
-either_work : (is : Bool) (x y : Work Known) → AreBytely x.items → AreBytely y.items → AreBytely (if is then x else y).items
-either_work true x y first second = first
-either_work false x y first second = second
-
-module _ (setting : Setting) (pc : ℕ) (calls : List ℕ) (frame : Frame) (a : Known) where
-  entering_bytes : (accesses : List Item) → AreBytely accesses
-      → AreBytely (accesses ++ items.Stack pc (B a.sp) ∷ flat_map (entry_items pc) (comings_of a))
-  entering_bytes accesses bytes =
-      joined accesses (items.Stack pc (B a.sp) ∷ flat_map (entry_items pc) (comings_of a)) bytes (tt, coming_bytes pc (comings_of a))
-
-  going_bytes : (instr : Instr) (way : Way Known) → AreBytely (going_of setting pc calls frame a instr way).edges
-  going_bytes instr way =
-      either_going (leaves_frame frame a instr) (going_back pc frame way)
-      (going_on setting.limits.targets (labels_of setting pc calls instr) pc (following pc instr) frame way) (going_back_bytes pc frame way)
-      (edge_bytes pc (arrivals_by setting.limits.targets (following pc instr) way))
-
-  made_bytes : (instr : Instr) (ran : Ran) → AreBytely ran.items → AreBytely (work_by setting pc calls frame a instr ran).items
-  made_bytes instr ran bytes =
-      joined (ran.items ++ items.Stack pc (B a.sp) ∷ flat_map (entry_items pc) (comings_of a)) _ (entering_bytes ran.items bytes)
-      (tt, going_bytes instr ran.way)
-
-  location_bytes : (instr : Option Instr) → AreBytely (work_at setting pc calls frame a instr).items
-  location_bytes None = entering_bytes [] tt
-  location_bytes (Some instr) = made_bytes instr (ran_of setting.image (is_interrupt frame) pc a instr)
-      (ran_bytes setting.image (is_interrupt frame) pc (following pc instr) a instr)
-
--- THE WORK OF A RETURN
-
-back_bytes : (pc : ℕ) (calls : List ℕ) (frame : Frame) (exit_node : Node) (a : Known) (exit : Option Known)
-    → AreBytely (return_work pc calls frame exit_node a exit).items
-back_bytes pc calls frame (Exit from (Irq vector (Some sp) level)) a (Some exit) = either_work (is_in 256 a.sp sp) _ _ (tt, tt) tt
-back_bytes pc calls frame (Exit from (Irq vector (Some sp) level)) a None = tt
-back_bytes pc calls frame (Exit from (Irq vector None level)) a exit = tt
-back_bytes pc calls frame (Exit from Base) a exit = tt
-back_bytes pc calls frame (At from others frame_so) a exit = tt
-
-work_bytes : (setting : Setting) (unit : WorkUnit) (a : Known) (exit : Option Known) → AreBytely (work_of setting unit a exit).items
-work_bytes setting (One (At pc calls frame)) a exit = location_bytes setting pc calls frame a (fetched setting.image pc)
-work_bytes setting (One (Exit pc frame)) a exit = tt
-work_bytes setting (Back (At pc calls frame) other) a exit = back_bytes pc calls frame other a exit
-work_bytes setting (Back (Exit pc frame) other) a exit = tt
+shows_bytes : (setting : Setting) → ShowsStacks IsByteSet (mcs51_flow setting)
+shows_bytes setting = record {
+  stack = λ a. tt;
+  entry = λ pc coming. (tt, (tt, (tt, tt)));
+  accesses = λ frame a pc instr. ran_bytes setting.image (is_interrupt frame) pc (following pc instr) a instr;
+}
 
 pub no_word_stack : (setting : Setting) (unit : WorkUnit) (a : Known) (exit : Option Known) (pc : ℕ) (values : Form)
     → Contains ((mcs51_analysis setting).work unit a exit).items (items.Stack pc (W values)) → ⊥
 unfolding mcs51_analysis
-no_word_stack setting unit a exit pc values there =
-    let shown = (work_of setting unit a exit).items in
-    All-contains IsBytely shown (items.Stack pc (W values)) (All-from_recursion IsBytely shown (work_bytes setting unit a exit)) there
+no_word_stack setting unit a exit pc values there = stacks_shown IsByteSet known_joined (mcs51_flow setting) (shows_bytes setting) unit a exit pc (W values) there

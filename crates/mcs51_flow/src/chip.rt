@@ -1,45 +1,28 @@
 //! The chip.
 
-ghost use Rattle.std.specs.Prelude.{◌≡◌, [], ◌++◌, ◌≤◌, ◌<◌, IfOk, IfSome, IsTrue, OnOk};
-ghost use Rattle.std.specs.Option.{option_copied};
-ghost use Rattle.call_context.specs.Nodes.{frame_of as the_frame};
-ghost use Rattle.call_context.specs.declared.shown.Item.TheVariants as items;
+ghost use Rattle.std.specs.Prelude.{◌≡◌, ◌≤◌, IfOk, IfSome};
 ghost use Rattle.image.specs.Kept.{IsReadUnder};
 ghost use Rattle.image.specs.declared.rule_set.Rules.{Rules};
-ghost use Rattle.value_set.specs.Joining.{is_in};
-ghost use Rattle.mcs51_decode.specs.Encoding.{bytes_of};
 ghost use Rattle.mcs51_decode.specs.Fitting.{IsInstr};
-ghost use Rattle.mcs51_state.specs.Known.{is_interrupt as the_interrupt};
-ghost use Rattle.mcs51_flow.specs.Chip.{IsSetting, followed_work, going_of, mcs51_analysis, nothing, resumption, return_work, stopped as the_stopped, work_at, work_by as the_work};
-ghost use Rattle.mcs51_flow.specs.Going.{leaves_frame as the_leaving};
+ghost use Rattle.mcs51_flow.specs.Chip.{IsSetting, mcs51_analysis};
 ghost use Rattle.mcs51_flow.specs.Marks.{stops};
 ghost use Rattle.mcs51_flow.specs.Standing.{fetched, instr_text as the_text};
 
-use crate::entries::entering;
-use crate::kept::{Kept, RamCells};
-use crate::labels::effect_on_calls;
+use crate::kept::Kept;
 use crate::marks::marks_of;
 use crate::setting::Setting;
 use crate::text::Mcs51Text;
-use crate::ways::{Site, add_all, leave};
 use analysis_limits::Limits;
 use arrayvec::ArrayString;
-use call_context::{Calls, Cause, Frame, InstrBytes, Item, Node, Sequence, Unit};
+use call_context::{Node, Unit};
+use chip_flow::{frame_of, start_node, work};
 use chip_law::{Chip, ChipText, InstrText, Work};
 use image::Image;
-use mcs51_control::goes_back;
-use mcs51_decode::{Instr, decode, encode};
-use mcs51_resume::resume;
-use mcs51_running::{Ran, Way, run};
+use mcs51_decode::{Instr, decode};
 use mcs51_state::State;
 use no_memory::Memory;
 use std::alloc::Global;
 use std::marker::Model;
-use unit_ways::Ways;
-use value_set::members_are_below;
-
-/// What is known of a state, with the cells of its RAM.
-type Abs = State<RamCells>;
 
 /// The chip with a program, which contracts see as what its analysis is set to.
 #[derive(Drop)]
@@ -82,9 +65,23 @@ impl Mcs51Chip {
         let _marks = self.marks.as_slice();
     }
 
+    /// The program.
+    pub(crate) fn image(&self) -> &Image
+        ensures { result.now ≡ self.now.image }
+    {
+        &self.setting.image
+    }
+
+    /// The limits of the analysis.
+    pub(crate) fn limits(&self) -> &Limits
+        ensures { result.now ≡ self.now.limits }
+    {
+        &self.setting.limits
+    }
+
     /// The instruction at an address, if one stands there.
     #[tactic(auto, unfolding(crate::specs::Standing::fetched))]
-    fn fetch(&self, pc: u16) -> Option<Instr>
+    pub(crate) fn instr_at(&self, pc: u16) -> Option<Instr>
         ensures exact { result ≡ fetched self.now.image pc }
         ensures in_range { IfSome result IsInstr }
     {
@@ -103,237 +100,6 @@ impl Mcs51Chip {
         }
         self.marks.as_slice()
     }
-
-    /// Adds where an instruction goes on: a return from the frame's interrupt to the exit, and all else to each address, or
-    /// an open where there are too many.
-    fn go_on(
-        &self,
-        alloc: Global,
-        ways: &mut Ways<Kept>,
-        pc: u16,
-        calls: &Calls,
-        frame: Frame,
-        at: &Abs,
-        instr: &Instr,
-        way: Way<State<RamCells>>,
-    ) -> Result<(), Memory>
-        ensures items { OnOk result (ways.new.items ≡ ways.old.items ++ (going_of self.now pc calls.now frame at.now instr.now way).edges) }
-        ensures posts { OnOk result (ways.new.posts ≡ ways.old.posts ++ (going_of self.now pc calls.now frame at.now instr.now way).posts) }
-        ensures opens { OnOk result (ways.new.opens ≡ ways.old.opens ++ (going_of self.now pc calls.now frame at.now instr.now way).opens) }
-    {
-        self.keeps_rules();
-        if leaves_frame(&frame, at, instr) {
-            return leave(alloc, ways, pc, frame, way);
-        }
-        let site = Site {
-            limit: self.setting.limits.calls,
-            image: &self.setting.image,
-            pc,
-            calls,
-            frame,
-            effect: effect_on_calls(instr),
-        };
-        let behind = instr.following(pc);
-        add_all(alloc, ways, &site, self.setting.limits.targets, behind, way)
-    }
-
-    /// The work of a location, by what its instruction makes of what is known.
-    fn work_by(
-        &self,
-        alloc: Global,
-        pc: u16,
-        calls: &Calls,
-        frame: Frame,
-        at: &Abs,
-        instr: &Instr,
-        ran: Ran<RamCells>,
-    ) -> Result<Work<Kept>, Memory>
-        requires { IsInstr instr.now }
-        ensures { IfOk result (λ work. work ≡ the_work self.now pc calls.now frame at.now instr.now ran) }
-    {
-        let Ran { items, way } = ran;
-        let entered = entering(alloc, pc, at, items)?;
-        let Work {
-            items,
-            posts,
-            waits,
-            opens,
-        } = entered;
-        let mut ways = Ways {
-            items,
-            posts,
-            opens,
-        };
-        ways.items.push(instr_item(pc, instr))?;
-        self.go_on(alloc, &mut ways, pc, calls, frame, at, instr, way)?;
-        let Ways {
-            items,
-            posts,
-            opens,
-        } = ways;
-        Ok(Work {
-            items,
-            posts,
-            waits,
-            opens,
-        })
-    }
-
-    /// The work of a location whose instruction is followed.
-    fn followed_work(
-        &self,
-        alloc: Global,
-        pc: u16,
-        calls: &Calls,
-        frame: Frame,
-        at: &Abs,
-        instr: Instr,
-    ) -> Result<Work<Kept>, Memory>
-        requires { IsInstr instr }
-        ensures { IfOk result (λ work. work ≡ followed_work self.now pc calls.now frame at.now instr) }
-    {
-        let framed = is_interrupt(&frame);
-        let ran = run(alloc, &self.setting.image, framed, at, pc, &instr)?;
-        self.work_by(alloc, pc, calls, frame, at, &instr, ran)
-    }
-
-    /// The work of a location.
-    fn one(
-        &self,
-        alloc: Global,
-        pc: u16,
-        calls: &Calls,
-        frame: Frame,
-        at: &Abs,
-    ) -> Result<Work<Kept>, Memory>
-        ensures { IfOk result (λ work. work ≡ work_at self.now pc calls.now frame at.now (fetched self.now.image pc)) }
-    {
-        match self.fetch(pc) {
-            Some(instr) => self.followed_work(alloc, pc, calls, frame, at, instr),
-            None => stopped(alloc, pc, at),
-        }
-    }
-}
-
-/// The work of a location at which no instruction stands.
-fn stopped(alloc: Global, pc: u16, at: &Abs) -> Result<Work<Kept>, Memory>
-    ensures { IfOk result (λ work. work ≡ the_stopped pc at.now) }
-{
-    let mut work = entering(alloc, pc, at, Sequence::new(alloc))?;
-    work.opens.push((pc, Cause::Fetch))?;
-    Ok(work)
-}
-
-/// Whether an instruction is a return from the interrupt of its frame.
-fn leaves_frame(frame: &Frame, at: &Abs, instr: &Instr) -> bool
-    ensures { result ≡ the_leaving frame.now at.now instr.now }
-{
-    match instr {
-        Instr::ReturnFromInterrupt => goes_back(is_interrupt(frame), frame, at),
-        _ => false,
-    }
-}
-
-/// The item of an instruction.
-fn instr_item(pc: u16, instr: &Instr) -> Item
-    requires { IsInstr instr.now }
-    ensures { result ≡ items.Instr pc (bytes_of instr.now) }
-{
-    Item::Instr {
-        pc,
-        bytes: InstrBytes::from_slice(encode(instr).as_slice()),
-    }
-}
-
-/// Whether SP may have a value.
-fn may_stand_at(at: &Abs, sp: u16) -> bool
-    ensures exact { result ≡ is_in 256 at.now.sp sp }
-    ensures below { IsTrue result → sp < 256 }
-{
-    let _form = at.sp.form();
-    members_are_below();
-    if sp >= 256 {
-        return false;
-    }
-    at.sp.has(sp as u8)
-}
-
-/// Where the handler of an interrupt goes on, at the stack pointer of its frame.
-fn resumed(
-    alloc: Global,
-    pc: u16,
-    calls: &Calls,
-    frame: Frame,
-    from: u16,
-    sp: u16,
-    at: &Abs,
-    exit: &Abs,
-) -> Result<Work<Kept>, Memory>
-    ensures { IfOk result (λ work. work ≡ resumption pc calls.now frame from sp at.now exit.now) }
-{
-    let mut work = empty_work(alloc);
-    if may_stand_at(at, sp) {
-        work.items.push(Item::Edge { from, to: pc })?;
-        let state = resume(alloc, is_interrupt(&frame), at, pc, sp as u8, exit)?;
-        let kept = Kept::new(alloc, state)?;
-        work.posts.push((Node::At(pc, *calls, frame), kept))?;
-    }
-    Ok(work)
-}
-
-/// The work of a return to a location.
-fn back(
-    alloc: Global,
-    pc: u16,
-    calls: &Calls,
-    frame: Frame,
-    exit_node: &Node,
-    at: &Abs,
-    exit: Option<&Kept>,
-) -> Result<Work<Kept>, Memory>
-    ensures { IfOk result (λ work. work ≡ return_work pc calls.now frame exit_node.now at.now (option_copied exit.entry)) }
-{
-    match (exit_node, exit) {
-        (Node::Exit(from, Frame::Irq { sp: Some(sp), .. }), Some(exit)) => {
-            resumed(alloc, pc, calls, frame, *from, *sp, at, exit.state())
-        }
-        _ => Ok(empty_work(alloc)),
-    }
-}
-
-/// Whether a frame is an interrupt's.
-fn is_interrupt(frame: &Frame) -> bool
-    ensures { result ≡ the_interrupt frame.now }
-{
-    matches!(frame, Frame::Irq { .. })
-}
-
-/// The node that each run begins in.
-fn start_node() -> Node
-    ensures { result ≡ Node.At 0 [] Frame.Base }
-{
-    Node::At(0, Calls::new(), Frame::Base)
-}
-
-/// A work that gives nothing.
-fn empty_work(alloc: Global) -> Work<Kept>
-    ensures { result ≡ nothing }
-{
-    Work {
-        items: Sequence::new(alloc),
-        posts: Sequence::new(alloc),
-        waits: Sequence::new(alloc),
-        opens: Sequence::new(alloc),
-    }
-}
-
-/// The frame of a node.
-fn frame_of(node: &Node) -> &Frame
-    ensures { result.now ≡ the_frame node.now }
-{
-    match node {
-        Node::At(_, _, frame) | Node::Exit(_, frame) => frame,
-    }
 }
 
 #[tactic(auto, unfolding(crate::specs::Chip::mcs51_analysis))]
@@ -348,7 +114,7 @@ impl Chip for Mcs51Chip {
 
     fn start(&self, alloc: Global) -> Result<(Node, Kept), Memory> {
         let first = State::first(alloc)?;
-        Ok((start_node(), Kept::new(alloc, first)?))
+        Ok((start_node(0), Kept::new(alloc, first)?))
     }
 
     fn work(
@@ -358,15 +124,7 @@ impl Chip for Mcs51Chip {
         at: &Kept,
         exit: Option<&Kept>,
     ) -> Result<Work<Kept>, Memory> {
-        match unit {
-            Unit::One(Node::At(pc, calls, frame)) => {
-                self.one(alloc, *pc, calls, *frame, at.state())
-            }
-            Unit::Back(Node::At(pc, calls, frame), left) => {
-                back(alloc, *pc, calls, *frame, left, at.state(), exit)
-            }
-            _ => Ok(empty_work(alloc)),
-        }
+        work(self, alloc, unit, at, exit)
     }
 
     fn copy(&self, _alloc: Global, a: &Kept) -> Result<Kept, Memory> {

@@ -15,7 +15,7 @@
 #![tactic(auto)]
 
 mod chip;
-mod entries;
+mod following;
 mod kept;
 mod labels;
 mod laws;
@@ -24,7 +24,6 @@ mod setting;
 mod stacks;
 mod state_fields;
 mod text;
-mod ways;
 
 pub use analysis_limits::Limits;
 pub use chip::Mcs51Chip;

@@ -2,7 +2,8 @@
 
 ghost use Rattle.std.specs.Prelude.{◌≡◌, ◌++◌, ◌+◌, ◌<◌, IfOk, OnOk};
 ghost use Rattle.mcs51_decode.specs.Decoding.{decoded};
-ghost use Rattle.mcs51_flow.specs.Marks.{mark, constant_of as the_constant, marks_with, marks_in, marks_found, marks_from, marks_of as the_marks};
+ghost use Rattle.chip_flow.specs.Marks.{mark, marks_along, marks_by};
+ghost use Rattle.mcs51_flow.specs.Marks.{constant_of as the_constant, marks_at, marks_in, marks_found, marks_of as the_marks};
 
 use mcs51_decode::{Comparison, Image, Instr, decode};
 use std::alloc::{AllocError, Global};
@@ -12,7 +13,7 @@ const ADDRESSES: u32 = 65536;
 
 /// Adds a number, where it is below 256.
 fn push_mark(marks: &mut Vec<u8>, value: u16) -> Result<(), AllocError>
-    ensures { OnOk result (marks.new.items ≡ marks.old.items ++ mark value) }
+    ensures { OnOk result (marks.new.items ≡ marks.old.items ++ mark 256 value) }
 {
     if value < 256 {
         marks.push(value as u8)?;
@@ -33,7 +34,7 @@ fn constant_of(comparison: Comparison) -> Option<u8>
 
 /// Adds a constant and the number behind it.
 fn push_constant(marks: &mut Vec<u8>, constant: Option<u8>) -> Result<(), AllocError>
-    ensures { OnOk result (marks.new.items ≡ marks.old.items ++ marks_with constant) }
+    ensures { OnOk result (marks.new.items ≡ marks.old.items ++ marks_by 256 constant) }
 {
     if let Some(value) = constant {
         let value = value as u16;
@@ -65,7 +66,7 @@ fn push_found(marks: &mut Vec<u8>, image: &Image, at: u16) -> Result<(), AllocEr
 
 /// Adds the marks of an image.
 fn push_image(marks: &mut Vec<u8>, image: &Image) -> Result<(), AllocError>
-    ensures { OnOk result (marks.new.items ≡ marks.old.items ++ marks_from image.now 0 65536) }
+    ensures { OnOk result (marks.new.items ≡ marks.old.items ++ marks_along (marks_at image.now) 0 65536) }
 {
     for at in 0..ADDRESSES {
         push_found(marks, image, at as u16)?;

@@ -25,7 +25,7 @@ use Rattle.msp430_alu.specs.Memory.{IsDevice}
 use Rattle.msp430_entry.specs.declared.coming.Coming.{Coming}
 use Rattle.msp430_entry.specs.Entry.{ComesSo, comings_at, comings_of, frame_of_coming, may_be_set, may_interrupt, vectors_of}
 use Rattle.msp430_alu.specs.Laws.{MemoryLaws}
-use Rattle.msp430_entry.proofs.Members.{in_none, in_first, in_map, from_map, in_flat_map, from_flat_map, only, from_filter, in_range}
+use Rattle.plain_lemmas.specs.Members.{in_none, in_first, in_map, from_map, in_flat_map, from_flat_map, in_one, from_filter, in_range}
 
 -- WHERE INTERRUPTS ARE ALLOWED
 
@@ -130,14 +130,14 @@ one_of laws (Values sps) vector coming_so words h =
     let even_so = words.even found.0 found.1 in
     let one : IsOneOf vector (made found.0) = record {
       vector_is = refl;
-      words = record { normal = (laws.known.sets.single 65536 found.0 below).0; even = λ v has. subst (λ n. n % 2 ≡ 0) (only found.0 v has) even_so };
+      words = record { normal = (laws.known.sets.single 65536 found.0 below).0; even = λ v has. subst (λ n. n % 2 ≡ 0) (in_one found.0 v has) even_so };
       entry = (below, even_so);
     } in
     subst (IsOneOf vector) found.2 one
 one_of laws (Run p) vector coming_so words h =
     let one : Coming = record { vector = vector; known_sp = None; sp = Run p } in
     let is : IsOneOf vector one = record { vector_is = refl; words = words; entry = tt } in
-    subst (IsOneOf vector) (only one coming_so h) is
+    subst (IsOneOf vector) (in_one one coming_so h) is
 
 -- a listed interrupt: its vector, and where SP is
 pub record IsListed (device : Device) (coming_so : Coming) : Type 0 where
@@ -173,7 +173,7 @@ vector_of (Values sps) vector coming_so h =
     ap (λ (one : Coming). one.vector) (sym found.2)
 vector_of (Run p) vector coming_so h =
     let one : Coming = record { vector = vector; known_sp = None; sp = Run p } in
-    ap (λ (c : Coming). c.vector) (sym (only one coming_so h))
+    ap (λ (c : Coming). c.vector) (sym (in_one one coming_so h))
 
 pub vector_below : (device : Device) (a : Known) (coming_so : Coming) → Contains (comings_of device a) coming_so → coming_so.vector < 14
 vector_below device a coming_so h = elim (cases_Bool (may_interrupt a)) [

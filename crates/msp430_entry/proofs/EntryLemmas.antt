@@ -37,7 +37,7 @@ use Rattle.msp430_entry.specs.Entry.{ComesSo, comings_of, counted_sp, counter_sl
 use Rattle.msp430_entry.proofs.ComingLemmas.{is_listed}
 use Rattle.msp430_alu.specs.Laws.{MemoryLaws}
 use Rattle.msp430_entry.proofs.HandingLemmas.{from_itself, handed_form, handed_parts}
-use Rattle.msp430_entry.proofs.Members.{only}
+use Rattle.plain_lemmas.specs.Members.{in_one}
 
 -- THE SLOTS
 
@@ -46,7 +46,7 @@ slot_words laws sp offset words small no_bit =
     let one = (laws.known.sets.single 65536 offset small).0 in
     record {
       normal = laws.known.sets.add_normal 65536 sp (single offset) words.normal one;
-      even = laws.known.sets.add_rest 65536 2 0 0 sp (single offset) refl words.normal one words.even (λ v has. subst (λ n. n % 2 ≡ 0) (only offset v has) no_bit);
+      even = laws.known.sets.add_rest 65536 2 0 0 sp (single offset) refl words.normal one words.even (λ v has. subst (λ n. n % 2 ≡ 0) (in_one offset v has) no_bit);
     }
 
 pub slot_has : (laws : MemoryLaws) (sp : Form) (offset v : ℕ) → AreEvenWords sp → offset < 65536 → Has 65536 sp v → Has 65536 (add 65536 sp (single offset)) ((v + offset) % 65536)

@@ -1,4 +1,3 @@
-pub mod Members
 pub mod ComingLemmas
 pub mod HandingLemmas
 pub mod EntryLemmas

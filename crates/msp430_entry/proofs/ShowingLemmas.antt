@@ -26,7 +26,7 @@ use Rattle.msp430_entry.specs.Entry.{ComesSo, counter_slot, entry_items, entry_s
 use Rattle.msp430_entry.proofs.ComingLemmas.{is_listed}
 use Rattle.msp430_alu.specs.Laws.{MemoryLaws}
 use Rattle.msp430_entry.proofs.EntryLemmas.{slot_has, slot_words}
-use Rattle.msp430_entry.proofs.Members.{in_cons, in_first, in_none, in_rest}
+use Rattle.plain_lemmas.specs.Members.{in_cons, in_first, in_none, in_rest}
 
 abbrev show_of : (pc : ℕ) → Form → Item
 show_of pc set = shown_items.Access pc Mem true 2 (W set)

@@ -1,7 +1,5 @@
-pub mod CallStrings
 pub mod Landing
 pub mod Lawful
-pub mod Made
 pub mod MarksLemmas
 pub mod Premises
 pub mod RegisterViews
@@ -10,3 +8,4 @@ pub mod Stepping
 pub mod StackLemmas
 pub mod Stores
 pub mod Texts
+pub mod Ways

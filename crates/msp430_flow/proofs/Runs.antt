@@ -1,5 +1,5 @@
 -- What an instruction may lead to, from a state that stands under what is known.
-use Rattle.std.proofs.Common.{◌≡◌, ℕ, ◌+◌, ◌%◌, ◌<◌, ◌++◌, inl, inr, cond, Bool, true, false, Option, None, Some, List, [], length, slice_index, slice_set, refl, sym, ap, ◌∙◌, subst, arith, Contains}
+use Rattle.std.proofs.Common.{◌≡◌, ℕ, ◌+◌, ◌%◌, ◌<◌, ◌++◌, cond, Bool, true, false, Option, None, Some, List, [], length, slice_index, slice_set, refl, sym, ap, ◌∙◌, subst, arith, Contains, IfSome}
 use Rattle.std.proofs.lemmas.List.{get_or-set_same, get_or-set_other}
 use Rattle.chip_numbers.specs.Single.{Single}
 use Rattle.std.specs.Option.{option_map}
@@ -41,18 +41,19 @@ use Rattle.msp430_state.specs.Known.{Known, known_joined, word_of}
 use Rattle.msp430_alu.specs.Formats.{AreShown, IsHit, IsLeft, IsUnder, LeavesStatus, LeavesStatusAlone, Worked, double_worked, push_worked, single_worked}
 use Rattle.msp430_results.specs.Results.{HasWidth}
 use Rattle.msp430_branch.specs.Cuts.{known_cut}
-use Rattle.unit_ways.specs.Between.{StandsAt}
-use Rattle.unit_ways.specs.Ways.{Way, ways_of, ways_to}
-use Rattle.msp430_flow.specs.Running.{all_ways, fact_of, followed, gie_of, known_behind, leaves_frame, single_or_status, stored_width, ways_behind, worked}
+use Rattle.chip_flow.specs.Along.{HasWay as GoesAlong, way_jumped, way_on}
+use Rattle.chip_flow.specs.Going.{ways_in}
+use Rattle.unit_ways.specs.Ways.{Way, ways_to}
+use Rattle.msp430_flow.specs.Running.{all_ways, fact_of, followed, gie_of, known_behind, leaves_frame, single_or_status, stored_width, ways_onward, worked}
 use Rattle.msp430_flow.proofs.RegisterViews.{OperandView, TargetView, operand_view, target_view}
 use Rattle.msp430_flow.proofs.RegisterViews.OperandView.{other_operand, status_operand}
 use Rattle.msp430_flow.proofs.RegisterViews.TargetView.{other_target, status_target}
 use Rattle.msp430_flow.proofs.Premises.{Laws}
-use Rattle.unit_ways.specs.Members.{in_none}
+use Rattle.plain_lemmas.specs.Members.{in_none}
 
 -- one of some ways goes to an address, and the registers and RAM stand under what is known there
 abbrev pub HasWay : Device → Option ChipState → List (Way Known) → (to : ℕ) → (registers ram : List ℕ) → Type 0
-HasWay device first all to registers ram = (way : Way Known) × Contains all way × (way.0 ≡ to) × HoldsOfParts device way.1 first registers ram
+HasWay device first all to registers ram = GoesAlong (λ b. HoldsOfParts device b first registers ram) all to
 
 -- what an instruction comes to that goes on behind itself, by what is made of what is known and the width of its store
 pub record ComesTo (device : Device) (s : ChipState) (first : Option ChipState) (instr_so : Instr) (made_so : Worked) (width : Width) (outcome : Outcome ChipState) : Type 0 where
@@ -85,8 +86,7 @@ pub record IsRun (device : Device) (framed : Bool) (a : Known) (s : ChipState) (
 
 parts_followed : (device : Device) (late : Tri) (fact : Option FlagFact) (b : Known) (first : Option ChipState) (registers ram : List ℕ) → HoldsOfParts device b first registers ram
     → HoldsOfFact fact registers → HoldsOfParts device (followed late fact b) first registers ram
-parts_followed device late fact b first registers ram h told =
-    record { sp = h.sp; status = h.status; words = h.words; fact = told; cells = h.cells; untouched = h.untouched }
+parts_followed device late fact b first registers ram h told = assumption (h, told)
 
 -- an instruction that goes to each address that PC may have
 by_next : Laws → (device : Device) (framed : Bool) (a : Known) (s : ChipState) (first : Option ChipState) (instr_so : Instr) (outcome : Outcome ChipState)
@@ -105,12 +105,12 @@ by_next laws device framed a s first instr_so outcome is comes back =
       left = comes.left;
       accesses = comes.accesses;
       outcome_is = comes.outcome_is;
-      way = (
-        way,
-        subst (λ all. Contains all way) (sym is) (laws.ways.to next behind_so to comes.left_so.next_is.has),
-        refl,
-        parts_followed device (gie_of a) (fact_of instr_so after) after first comes.left.registers comes.left.ram comes.left_so.parts comes.fact,
-      );
+      way = record {
+        way = way;
+        listed = subst (λ all. Contains all way) (sym is) (laws.ways.to next behind_so to comes.left_so.next_is.has);
+        goes = refl;
+        holds = parts_followed device (gie_of a) (fact_of instr_so after) after first comes.left.registers comes.left.ram comes.left_so.parts comes.fact;
+      };
       shown = comes.shown;
       hit = comes.hit;
       back = back;
@@ -334,74 +334,37 @@ jump_is s condition offset taken e =
     ap (λ t. done s (instr.Jump condition offset) [] (record { registers = slice_set s.registers 0 (cond t (target_of (register_of s 0) offset) (behind s 2)); ram = s.ram; hit = None })) e
 
 module _ (laws : Laws) (device : Device) (framed : Bool) (first : Option ChipState) (registers ram : List ℕ) where
+  abbrev Is : Known → Type 0
+  Is = IsKnown device.ram.lo device.ram.hi framed
+
+  abbrev Holds : Known → Type 0
+  Holds b = HoldsOfParts device b first registers ram
+
   -- what is known on one of two ways that are joined
-  joined_first : (a b : Known) → IsKnown device.ram.lo device.ram.hi framed a → IsKnown device.ram.lo device.ram.hi framed b → HoldsOfParts device a first registers ram
-      → HoldsOfParts device (known_joined a b) first registers ram
+  joined_first : (a b : Known) → Is a → Is b → Holds a → Holds (known_joined a b)
   joined_first a b f g h = laws.states.parts device device.ram.lo device.ram.hi framed a (known_joined a b) first registers ram f (laws.states.join_held device.ram.lo device.ram.hi framed a b f g) h
 
-  joined_second : (a b : Known) → IsKnown device.ram.lo device.ram.hi framed a → IsKnown device.ram.lo device.ram.hi framed b → HoldsOfParts device b first registers ram
-      → HoldsOfParts device (known_joined a b) first registers ram
+  joined_second : (a b : Known) → Is a → Is b → Holds b → Holds (known_joined a b)
   joined_second a b f g h = laws.states.parts device device.ram.lo device.ram.hi framed b (known_joined a b) first registers ram g (laws.states.join_new device.ram.lo device.ram.hi framed a b f g) h
 
-  abbrev AreKnown : Option Known → Type 0
-  AreKnown None = Unit {0}
-  AreKnown (Some a) = IsKnown device.ram.lo device.ram.hi framed a
-
-  known_of : (known : Option Known) (a : Known) → AreKnown known → known ≡ Some a → IsKnown device.ram.lo device.ram.hi framed a
-  known_of known a form is = subst AreKnown is form
-
-  -- alone, or joined with what is known on the other way
-  way_of_stands : (all : List (Way Known)) (to : ℕ) (a : Known) (other : Option Known) (both : Known → Known)
-      → ((b : Known) → IsKnown device.ram.lo device.ram.hi framed b → HoldsOfParts device (both b) first registers ram) → AreKnown other → StandsAt all to a other both
-      → HoldsOfParts device a first registers ram → HasWay device first all to registers ram
-  way_of_stands all to a other both joined form stands h =
-      let known : HoldsOfParts device stands.way.1 first registers ram = elim stands.known [
-        | inl is ↦ subst (λ k. HoldsOfParts device k first registers ram) (sym is) h
-        | inr found ↦ let (b, there, is) = found in subst (λ k. HoldsOfParts device k first registers ram) (sym is) (joined b (known_of other b form there))
-      ] in
-      (stands.way, stands.listed, stands.goes, known)
-
-  way_jumped : (ahead target : ℕ) (on : Option Known) (b : Known) → AreKnown on → IsKnown device.ram.lo device.ram.hi framed b → HoldsOfParts device b first registers ram
-      → HasWay device first (ways_of known_joined ahead target on (Some b)) target registers ram
-  way_jumped ahead target on b f g h =
-      way_of_stands (ways_of known_joined ahead target on (Some b)) target b on (λ a. known_joined a b) (λ a k. joined_second a b k g h) f (laws.ways.jumped known_joined ahead target on b) h
-
-  way_on : (ahead target : ℕ) (a : Known) (jumped : Option Known) → IsKnown device.ram.lo device.ram.hi framed a → AreKnown jumped → HoldsOfParts device a first registers ram
-      → HasWay device first (ways_of known_joined ahead target (Some a) jumped) ahead registers ram
-  way_on ahead target a jumped f g h =
-      way_of_stands (ways_of known_joined ahead target (Some a) jumped) ahead a jumped (known_joined a) (λ b k. joined_first a b f k h) g (laws.ways.on known_joined ahead target a jumped) h
-
-  cut_known : (condition : Condition) (taken : Bool) (a : Known) (found : Option Known) → IsKnown device.ram.lo device.ram.hi framed a → known_cut condition taken a ≡ found → AreKnown found
+  cut_known : (condition : Condition) (taken : Bool) (a : Known) (found : Option Known) → Is a → known_cut condition taken a ≡ found → IfSome found Is
   cut_known condition taken a None f e = tt
   cut_known condition taken a (Some b) f e = laws.cuts.form device.ram.lo device.ram.hi framed a b condition taken f e
 
   -- the way that a jump takes
-  way_of_jump : (pc offset : ℕ) (condition : Condition) (taken : Bool) (a b : Known) → IsKnown device.ram.lo device.ram.hi framed a → known_cut condition taken a ≡ Some b → HoldsOfParts device b first registers ram
-      → HasWay device first (ways_behind pc (instr.Jump condition offset) (single ((pc + 2) % 65536)) a) (cond taken (target_of pc offset) ((pc + 2) % 65536)) registers ram
+  way_of_jump : (pc offset : ℕ) (condition : Condition) (taken : Bool) (a b : Known) → Is a → known_cut condition taken a ≡ Some b → Holds b
+      → HasWay device first (ways_in known_joined (ways_onward pc (instr.Jump condition offset) (single ((pc + 2) % 65536)) a)) (cond taken (target_of pc offset) ((pc + 2) % 65536)) registers ram
   way_of_jump pc offset condition true a b f e h =
       let on = known_cut condition false a in
-      subst (λ found. HasWay device first (ways_of known_joined ((pc + 2) % 65536) (target_of pc offset) on found) (target_of pc offset) registers ram) (sym e)
-      (way_jumped ((pc + 2) % 65536) (target_of pc offset) on b (cut_known condition false a on f refl) (laws.cuts.form device.ram.lo device.ram.hi framed a b condition true f e) h)
-  way_of_jump pc offset condition false a b f e h =
       let jumped = known_cut condition true a in
-      subst (λ found. HasWay device first (ways_of known_joined ((pc + 2) % 65536) (target_of pc offset) found jumped) ((pc + 2) % 65536) registers ram) (sym e)
-      (way_on ((pc + 2) % 65536) (target_of pc offset) b jumped (laws.cuts.form device.ram.lo device.ram.hi framed a b condition false f e) (cut_known condition true a jumped f refl) h)
+      way_jumped laws.ways known_joined Is Holds ((pc + 2) % 65536) (target_of pc offset) on jumped (cut_known condition false a on f refl) (cut_known condition true a jumped f refl) joined_second b e h
+  way_of_jump pc offset condition false a b f e h =
+      let on = known_cut condition false a in
+      let jumped = known_cut condition true a in
+      way_on laws.ways known_joined Is Holds ((pc + 2) % 65536) (target_of pc offset) on jumped (cut_known condition false a on f refl) (cut_known condition true a jumped f refl) joined_first b e h
 
 pub late_form : (lo hi : ℕ) (framed : Bool) (late : Tri) (fact : Option FlagFact) (b : Known) → IsFact fact → IsKnown lo hi framed b → IsKnown lo hi framed (followed late fact b)
-late_form lo hi framed late fact b told form = record {
-  sp = form.sp;
-  bits = form.bits;
-  status = form.status;
-  count = form.count;
-  registers = form.registers;
-  fact = told;
-  from = form.from;
-  up_to = form.up_to;
-  cells = form.cells;
-  each_cell = form.each_cell;
-  touched = form.touched;
-  none_touched = form.none_touched;
-}
+late_form lo hi framed late fact b told form = assumption (form, told)
 
 jump_run : Laws → (device : Device) (framed : Bool) (a : Known) (s : ChipState) (first : Option ChipState) (condition : Condition) (offset : ℕ) (outcome : Outcome ChipState)
     → IsUnder device framed a s first → outcome ≡ jump s condition offset
@@ -422,7 +385,7 @@ jump_run laws device framed a s first condition offset outcome under is =
       left = record { registers = registers; ram = s.ram; hit = None };
       accesses = [];
       outcome_is = is ∙ jump_is s condition offset taken refl;
-      way = subst (λ to. HasWay device first (ways_behind pc (instr.Jump condition offset) (single ((pc + 2) % 65536)) ahead) to registers s.ram) (sym (get_or-set_same s.registers 0 next 0 long)) way;
+      way = subst (λ to. HasWay device first (ways_in known_joined (ways_onward pc (instr.Jump condition offset) (single ((pc + 2) % 65536)) ahead)) to registers s.ram) (sym (get_or-set_same s.registers 0 next 0 long)) way;
       shown = λ single_so there. absurd (in_none single_so there);
       hit = λ at none. absurd (cc);
       back = λ frame standing leaves. absurd (stays_in device frame a (instr.Jump condition offset) refl leaves);

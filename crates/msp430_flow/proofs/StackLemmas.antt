@@ -1,22 +1,14 @@
 -- A work of the MSP430 shows words as stack pointers.
 use Rattle.std.proofs.Common.{ℕ, ◌+◌, ◌%◌, ◌++◌, Bool, true, false, Option, None, Some, List, [], ◌∷◌, sym, subst}
-use Rattle.std.specs.Prelude.{Contains, if◌then◌else◌}
-use Rattle.std.specs.List.{AllByRecursion, flat_map}
-use Rattle.std.proofs.lemmas.List.Elements.{All-contains, All-from_recursion}
+use Rattle.std.specs.Prelude.{Contains}
 use Rattle.value_set.specs.declared.form.Form.{Form}
-use Rattle.value_set.specs.Joining.{is_in}
 use Rattle.value_set.specs.Summing.{single}
-use Rattle.call_context.specs.declared.node.Frame.{Frame}
-use Rattle.call_context.specs.declared.node.Frame.TheVariants.{Base, Irq}
-use Rattle.call_context.specs.declared.node.Node.{Node}
-use Rattle.call_context.specs.declared.node.Node.TheVariants.{At, Exit}
 use Rattle.call_context.specs.declared.node.Unit.{Unit as WorkUnit}
-use Rattle.call_context.specs.declared.node.Unit.TheVariants.{One, Back}
 use Rattle.call_context.specs.declared.shown.Item.{Item}
 use Rattle.call_context.specs.declared.shown.Item.TheVariants as items
+use Rattle.call_context.specs.declared.shown.Set.{Set}
 use Rattle.call_context.specs.declared.shown.Set.TheVariants.{B, W}
-use Rattle.chip_law.specs.declared.chip.Work.{Work}
-use Rattle.unit_ways.specs.Ways.{Going, Way, edges_of}
+use Rattle.chip_flow.specs.Stacks.{AreStacksOf, ShowsStacks, both_stacks, stacks_shown}
 use Rattle.msp430_decode.specs.declared.instr.Destination.{Destination}
 use Rattle.msp430_decode.specs.declared.instr.Instr.{Instr}
 use Rattle.msp430_decode.specs.declared.instr.Instr.TheVariants.{Double, Jump, Single, ReturnFromInterrupt}
@@ -29,37 +21,30 @@ use Rattle.msp430_decode.specs.declared.instr.Width.TheVariants.{Word}
 use Rattle.msp430_decode.specs.Table.{length_of}
 use Rattle.msp430_chip.specs.declared.device.Device.{Device}
 use Rattle.msp430_chip.specs.Arithmetic.{writes_result, reads_destination}
-use Rattle.msp430_state.specs.Known.{Known, is_interrupt}
+use Rattle.msp430_state.specs.Known.{Known, is_interrupt, known_joined}
 use Rattle.msp430_alu.specs.declared.reach.Reach.{Reach}
 use Rattle.msp430_alu.specs.declared.reach.Reach.TheVariants.{InRegister, InMemory, Fixed}
 use Rattle.msp430_alu.specs.Formats.{Worked, access_if, access_of, double_worked, lowered_known, push_worked, single_worked}
 use Rattle.msp430_alu.specs.Operands.{grown_known}
 use Rattle.msp430_status.specs.Status.{single_status_worked, status_worked}
 use Rattle.msp430_return.specs.Return.{return_worked}
-use Rattle.msp430_entry.specs.declared.coming.Coming.{Coming}
-use Rattle.msp430_entry.specs.Entry.{comings_of, entry_items}
 use Rattle.msp430_flow.specs.declared.setting.Setting.{Setting}
-use Rattle.msp430_flow.specs.Chip.{going_back, going_of, going_on, msp430_analysis, return_work, work_at, work_by, work_of}
-use Rattle.msp430_flow.specs.Running.{double_or_status, leaves_frame, one_operand, single_or_status, ways_by, worked}
-use Rattle.msp430_flow.specs.Standing.{fetched}
+use Rattle.msp430_flow.specs.Chip.{msp430_analysis, msp430_flow}
+use Rattle.msp430_flow.specs.Running.{double_or_status, one_operand, single_or_status, worked}
 use Rattle.msp430_flow.proofs.RegisterViews.{OperandView, TargetView, operand_view, target_view}
 use Rattle.msp430_flow.proofs.RegisterViews.OperandView.{other_operand, status_operand}
 use Rattle.msp430_flow.proofs.RegisterViews.TargetView.{other_target, status_target}
 
--- if it shows a stack pointer, it shows a word
-abbrev IsWordly : Item → Type 0
-IsWordly (items.Stack pc (B values)) = ⊥
-IsWordly (items.Stack pc (W values)) = Unit {0}
-IsWordly (items.Instr pc bytes) = Unit {0}
-IsWordly (items.Edge origin target) = Unit {0}
-IsWordly (items.Access pc space write size at) = Unit {0}
+abbrev IsWordSet : Set → Type 0
+IsWordSet (W values) = Unit {0}
+IsWordSet (B values) = ⊥
 
+-- if an item shows a stack pointer, it shows a word
 abbrev AreWordly : List Item → Type 0
-AreWordly = AllByRecursion IsWordly
+AreWordly = AreStacksOf IsWordSet
 
 joined : (xs ys : List Item) → AreWordly xs → AreWordly ys → AreWordly (xs ++ ys)
-joined [] ys first second = second
-joined (x ∷ xs) ys first second = (first.0, joined xs ys first.1 second)
+joined = both_stacks IsWordSet
 
 -- THE ACCESSES OF AN INSTRUCTION
 
@@ -147,65 +132,16 @@ module _ (device : Device) (framed : Bool) (a : Known) (pc : ℕ) where
   worked_words (Jump condition offset) = tt
   worked_words ReturnFromInterrupt = return_words
 
--- THE WORK OF A LOCATION
+-- WORKS
 
-edge_words : (pc : ℕ) (ways : List (Way Known)) → AreWordly (edges_of pc ways)
-edge_words pc [] = tt
-edge_words pc (way ∷ ways) = (tt, edge_words pc ways)
-
-coming_words : (device : Device) (pc : ℕ) (comings : List Coming) → AreWordly (flat_map (entry_items device pc) comings)
-coming_words device pc [] = tt
-coming_words device pc (coming ∷ comings) = (tt, (tt, (tt, coming_words device pc comings)))
-
-either_going : (is : Bool) (x y : Going Known) → AreWordly x.edges → AreWordly y.edges → AreWordly (if is then x else y).edges
-either_going true x y first second = first
-either_going false x y first second = second
-
-either_work : (is : Bool) (x y : Work Known) → AreWordly x.items → AreWordly y.items → AreWordly (if is then x else y).items
-either_work true x y first second = first
-either_work false x y first second = second
-
-module _ (setting : Setting) (pc : ℕ) (calls : List ℕ) (frame : Frame) (a : Known) where
-  entering_words : (accesses : List Item) → AreWordly accesses
-      → AreWordly (accesses ++ items.Stack pc (W a.sp) ∷ flat_map (entry_items setting.device pc) (comings_of setting.device a))
-  entering_words accesses words =
-      joined accesses (items.Stack pc (W a.sp) ∷ flat_map (entry_items setting.device pc) (comings_of setting.device a)) words
-      (tt, coming_words setting.device pc (comings_of setting.device a))
-
-  going_words : (instr : Instr) (made : Worked) → AreWordly (going_of setting pc calls frame a instr made).edges
-  going_words instr made =
-      either_going (leaves_frame setting.device frame a instr) (going_back pc frame a made) (going_on setting pc calls frame a instr made) tt
-      (edge_words pc (ways_by setting.limits.targets a pc instr made))
-
-  made_words : (instr : Instr) (made : Worked) → AreWordly made.accesses → AreWordly (work_by setting pc calls frame a instr made).items
-  made_words instr made words =
-      joined (made.accesses ++ items.Stack pc (W a.sp) ∷ flat_map (entry_items setting.device pc) (comings_of setting.device a)) _
-      (entering_words made.accesses words) (tt, going_words instr made)
-
-  location_words : (instr : Option Instr) → AreWordly (work_at setting pc calls frame a instr).items
-  location_words None = entering_words [] tt
-  location_words (Some instr) = made_words instr (worked setting.device (is_interrupt frame) a pc instr)
-      (worked_words setting.device (is_interrupt frame) a pc instr)
-
--- THE WORK OF A RETURN
-
-back_words : (pc : ℕ) (calls : List ℕ) (frame : Frame) (exit_node : Node) (a : Known) (exit : Option Known)
-    → AreWordly (return_work pc calls frame exit_node a exit).items
-back_words pc calls frame (Exit from (Irq vector (Some sp) level)) a (Some exit) = either_work (is_in 65536 a.sp sp) _ _ (tt, tt) tt
-back_words pc calls frame (Exit from (Irq vector (Some sp) level)) a None = tt
-back_words pc calls frame (Exit from (Irq vector None level)) a exit = tt
-back_words pc calls frame (Exit from Base) a exit = tt
-back_words pc calls frame (At from others frame_so) a exit = tt
-
-work_words : (setting : Setting) (unit : WorkUnit) (a : Known) (exit : Option Known) → AreWordly (work_of setting unit a exit).items
-work_words setting (One (At pc calls frame)) a exit = location_words setting pc calls frame a (fetched setting.device.image pc)
-work_words setting (One (Exit pc frame)) a exit = tt
-work_words setting (Back (At pc calls frame) other) a exit = back_words pc calls frame other a exit
-work_words setting (Back (Exit pc frame) other) a exit = tt
+shows_words : (setting : Setting) → ShowsStacks IsWordSet (msp430_flow setting)
+shows_words setting = record {
+  stack = λ a. tt;
+  entry = λ pc coming. (tt, (tt, (tt, tt)));
+  accesses = λ frame a pc instr. worked_words setting.device (is_interrupt frame) a pc instr;
+}
 
 pub no_byte_stack : (setting : Setting) (unit : WorkUnit) (a : Known) (exit : Option Known) (pc : ℕ) (values : Form)
     → Contains ((msp430_analysis setting).work unit a exit).items (items.Stack pc (B values)) → ⊥
 unfolding msp430_analysis
-no_byte_stack setting unit a exit pc values there =
-    let shown = (work_of setting unit a exit).items in
-    All-contains IsWordly shown (items.Stack pc (B values)) (All-from_recursion IsWordly shown (work_words setting unit a exit)) there
+no_byte_stack setting unit a exit pc values there = stacks_shown IsWordSet known_joined (msp430_flow setting) (shows_words setting) unit a exit pc (B values) there

@@ -1,9 +1,6 @@
--- The call strings behind instructions (M. Sharir and A. Pnueli, "Two Approaches to Interprocedural Data Flow Analysis", 1981).
-use Rattle.std.specs.Prelude.{ℕ, ◌+◌, ◌-◌, ◌%◌, ◌==◌, if◌then◌else◌, Option, None, Some, Result, Ok, Err, List, length, slice_index}
-use Rattle.call_context.specs.declared.node.Frame.{Frame}
-use Rattle.call_context.specs.Calls.{popped, pushed}
-use Rattle.msp430_flow.specs.declared.labels.CallEffect.{CallEffect}
-use Rattle.msp430_flow.specs.declared.labels.CallEffect.TheVariants.{Pushes, Pops, Keeps}
+-- What instructions do to the call string.
+use Rattle.chip_flow.specs.declared.calls.CallEffect.{CallEffect}
+use Rattle.chip_flow.specs.declared.calls.CallEffect.TheVariants.{Pushes, Pops, Keeps}
 use Rattle.msp430_decode.specs.declared.instr.Destination.{Destination}
 use Rattle.msp430_decode.specs.declared.instr.Destination.TheVariants as destination
 use Rattle.msp430_decode.specs.declared.instr.Instr.{Instr}
@@ -16,8 +13,6 @@ use Rattle.msp430_decode.specs.declared.instr.Source.{Source}
 use Rattle.msp430_decode.specs.declared.instr.Source.TheVariants as source
 use Rattle.msp430_decode.specs.declared.instr.Width.{Width}
 use Rattle.msp430_decode.specs.declared.instr.Width.TheVariants.{Word}
-use Rattle.msp430_decode.specs.declared.refusal.NoInstr.{NoInstr}
-use Rattle.msp430_decode.specs.Decoding.{decoded}
 
 -- RET is MOV @SP+,PC
 abbrev pub double_effect : Operation → Width → Source → Destination → CallEffect
@@ -30,30 +25,3 @@ effect_of (OneOperand Call width operand) = Pushes
 effect_of (OneOperand operation width operand) = Keeps
 effect_of (Jump condition offset) = Keeps
 effect_of ReturnFromInterrupt = Keeps
-
-abbrev pub end_by : ℕ → Result (Instr × ℕ) NoInstr → Option ℕ
-end_by site (Ok found) = Some ((site + found.1) % 65536)
-end_by site (Err refusal) = None
-
--- the address behind the instruction of the last site, where one stands there; sites are even
-abbrev pub last_end : List (Option ℕ) → List ℕ → Option ℕ
-last_end image calls = let last = slice_index calls (length calls - 1) in
-    if length calls == 0 then None else if last % 2 == 0 then end_by last (decoded image last) else None
-
--- the call string at a target of an instruction, of at most so many sites: a return to behind the last call drops it
-abbrev pub calls_by : (limit : ℕ) → CallEffect → List (Option ℕ) → (pc : ℕ) → (calls : List ℕ) → (to : ℕ) → List ℕ
-calls_by limit Pushes image pc calls to = pushed calls pc limit
-calls_by limit Pops image pc calls to = popped calls (last_end image calls) to
-calls_by limit Keeps image pc calls to = calls
-
--- where an instruction stands, what it does to the call string, and how many sites this keeps
-pub record Site : Type 0 where
-  pub limit : ℕ
-  pub image : List (Option ℕ)
-  pub pc : ℕ
-  pub calls : List ℕ
-  pub frame : Frame
-  pub effect : CallEffect
-
-abbrev pub calls_at : Site → (to : ℕ) → List ℕ
-calls_at site to = calls_by site.limit site.effect site.image site.pc site.calls to

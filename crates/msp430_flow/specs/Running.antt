@@ -26,7 +26,10 @@ use Rattle.msp430_decode.specs.declared.instr.Register.TheVariants.{Sr}
 use Rattle.msp430_status.specs.Status.{single_status_worked, status_worked}
 use Rattle.msp430_return.specs.Return.{goes_back, return_worked}
 use Rattle.call_context.specs.declared.node.Frame.{Frame}
-use Rattle.unit_ways.specs.Ways.{Way, followed_ways, ways_of, ways_to}
+use Rattle.unit_ways.specs.Ways.{Way}
+use Rattle.chip_flow.specs.Going.{limited, ways_in}
+use Rattle.chip_flow.specs.declared.going.Onward.{Onward}
+use Rattle.chip_flow.specs.declared.going.Onward.TheVariants as onward
 use Rattle.msp430_branch.specs.Cuts.{known_cut}
 use Rattle.msp430_branch.specs.Facts.{fact_behind}
 use Rattle.msp430_alu.specs.Formats.{Worked, double_worked, single_worked, push_worked}
@@ -90,21 +93,17 @@ known_behind device framed a pc instr = let after = (worked device framed a pc i
 -- WHERE IT GOES ON
 
 -- a jump goes two ways, and all else to each address that PC may have then
-abbrev pub ways_behind : ℕ → Instr → (next : Form) → (behind : Known) → List (Way Known)
-ways_behind pc (Jump condition offset) next a =
-    ways_of known_joined ((pc + 2) % 65536) (target_of pc offset) (known_cut condition false a) (known_cut condition true a)
-ways_behind pc other next a = ways_to next a
+abbrev pub ways_onward : ℕ → Instr → (next : Form) → (behind : Known) → Onward Known
+ways_onward pc (Jump condition offset) next a =
+    onward.Jumps ((pc + 2) % 65536) (target_of pc offset) (known_cut condition false a) (known_cut condition true a)
+ways_onward pc other next a = onward.Lands next a
 
 abbrev pub all_ways : Device → (framed : Bool) → Known → ℕ → Instr → List (Way Known)
-all_ways device framed a pc instr = ways_behind pc instr (worked device framed a pc instr).next (known_behind device framed a pc instr)
+all_ways device framed a pc instr =
+    ways_in known_joined (ways_onward pc instr (worked device framed a pc instr).next (known_behind device framed a pc instr))
 
--- those that are followed, by what the instruction makes of what is known
-abbrev pub ways_by : (limit : ℕ) → Known → ℕ → Instr → Worked → List (Way Known)
-ways_by limit a pc instr made =
-    followed_ways limit made.next (ways_behind pc instr made.next (followed (gie_of a) (fact_of instr made.after) made.after))
-
-abbrev pub ways : (limit : ℕ) → Device → (framed : Bool) → Known → ℕ → Instr → List (Way Known)
-ways limit device framed a pc instr = ways_by limit a pc instr (worked device framed a pc instr)
+abbrev pub onward_by : (limit : ℕ) → (late : Tri) → ℕ → Instr → (next : Form) → (after : Known) → Onward Known
+onward_by limit late pc instr next after = limited limit next (ways_onward pc instr next (followed late (fact_of instr after) after))
 
 -- RETI that goes back to where the interrupt of its frame came
 abbrev pub leaves_frame : Device → Frame → Known → Instr → Bool

@@ -1,15 +1,11 @@
 -- The instructions of the MSP430 that stand in an image, and their texts.
-use Rattle.std.specs.Prelude.{ℕ, ◌%◌, ◌==◌, if◌then◌else◌, Option, None, Some, Result, Ok, Err, List, []}
+use Rattle.std.specs.Prelude.{ℕ, ◌%◌, ◌==◌, if◌then◌else◌, Option, None, Some, List, []}
+use Rattle.chip_flow.specs.Standing.{found_by}
 use Rattle.msp430_decode.specs.declared.instr.Instr.{Instr}
-use Rattle.msp430_decode.specs.declared.refusal.NoInstr.{NoInstr}
 use Rattle.msp430_decode.specs.Decoding.{decoded, instr_of_bytes}
 use Rattle.msp430_text.specs.Text.{text_of}
 
 -- WHAT STANDS AT AN ADDRESS
-
-abbrev pub found_by : Result (Instr × ℕ) NoInstr → Option Instr
-found_by (Err refusal) = None
-found_by (Ok found) = Some found.0
 
 -- instructions stand at even addresses
 unfoldable pub fetched : List (Option ℕ) → ℕ → Option Instr

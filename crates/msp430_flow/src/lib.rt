@@ -15,19 +15,18 @@
 #![tactic(auto)]
 
 mod chip;
-mod entries;
+mod following;
 mod kept;
 mod labels;
 mod laws;
-mod location;
 mod marks;
 mod meeting;
 mod running;
 mod setting;
 mod stacks;
 mod state_fields;
+mod storing;
 mod text;
-mod ways;
 
 pub use chip::Msp430Chip;
 pub use kept::Kept;

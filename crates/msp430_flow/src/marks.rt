@@ -1,8 +1,9 @@
 //! The numbers that widening stops at.
 
-ghost use Rattle.std.specs.Prelude.{◌≡◌, ◌++◌, ◌+◌, ◌<◌, ◌*◌, IfOk, OnOk};
+ghost use Rattle.std.specs.Prelude.{◌≡◌, ◌++◌, ◌+◌, ◌<◌, ◌*◌, IfOk, OnOk, option_map};
 ghost use Rattle.msp430_decode.specs.Decoding.{decoded};
-ghost use Rattle.msp430_flow.specs.Marks.{mark, marks_by, constant_of as the_constant, in_width, is_comparison, marks_with, marks_in, marks_found, marks_from, marks_of as the_marks, mirror_marks, range_marks};
+ghost use Rattle.chip_flow.specs.Marks.{mark, marks_along, marks_by};
+ghost use Rattle.msp430_flow.specs.Marks.{constant_of as the_constant, in_width, is_comparison, marks_at, marks_in, marks_found, marks_of as the_marks, mirror_marks, range_marks};
 
 use image::Image;
 use msp430_chip::Device;
@@ -14,7 +15,7 @@ const WORDS: u16 = 32768;
 
 /// Adds a number, where it is below 65536.
 fn push_mark(marks: &mut Vec<u16>, value: u32) -> Result<(), AllocError>
-    ensures { OnOk result (marks.new.items ≡ marks.old.items ++ mark value) }
+    ensures { OnOk result (marks.new.items ≡ marks.old.items ++ mark 65536 value) }
 {
     if value < 65536 {
         marks.push(value as u16)?;
@@ -56,7 +57,7 @@ fn push_constant(
     width: Width,
     constant: Option<u16>,
 ) -> Result<(), AllocError>
-    ensures { OnOk result (marks.new.items ≡ marks.old.items ++ marks_with width constant) }
+    ensures { OnOk result (marks.new.items ≡ marks.old.items ++ marks_by 65536 (option_map (in_width width) constant)) }
 {
     if let Some(value) = constant {
         let value = of_width(width, value) as u32;
@@ -99,7 +100,7 @@ fn push_found(marks: &mut Vec<u16>, image: &Image, word: u16) -> Result<(), Allo
 
 /// Adds the marks of an image.
 fn push_image(marks: &mut Vec<u16>, image: &Image) -> Result<(), AllocError>
-    ensures { OnOk result (marks.new.items ≡ marks.old.items ++ marks_from image.now 0 32768) }
+    ensures { OnOk result (marks.new.items ≡ marks.old.items ++ marks_along (marks_at image.now) 0 32768) }
 {
     for word in 0..WORDS {
         push_found(marks, image, word)?;

@@ -6,7 +6,7 @@ ghost use Rattle.msp430_chip.specs.Memory.{HasRam};
 ghost use Rattle.msp430_flow.specs.Running as running;
 ghost use Rattle.msp430_results.specs.Results.{HasWidth};
 
-use crate::kept::RamCells;
+use abs_pages::CellPages;
 use call_context::{Frame, Sequence};
 use msp430_alu::{Here, Worked, double, push, single};
 use msp430_branch::fact_behind;
@@ -35,7 +35,7 @@ pub fn stored_width(instr: &Instr) -> Width
 }
 
 /// A jump changes PC alone, and shows no access; its ways are told apart.
-fn unchanged(alloc: Global, at: &State<RamCells>, next: u16) -> Result<Worked<RamCells>, Memory>
+fn unchanged(alloc: Global, at: &State<CellPages>, next: u16) -> Result<Worked<CellPages>, Memory>
     ensures { IfOk result (λ worked. worked ≡ running.unchanged at.now next) }
 {
     Ok(Worked {
@@ -49,11 +49,11 @@ fn unchanged(alloc: Global, at: &State<RamCells>, next: u16) -> Result<Worked<Ra
 /// An instruction with one operand, which pushes nothing.
 fn plain_operand(
     alloc: Global,
-    here: &Here<RamCells>,
+    here: &Here<CellPages>,
     operation: SingleOperation,
     width: Width,
     operand: Source,
-) -> Result<Worked<RamCells>, Memory>
+) -> Result<Worked<CellPages>, Memory>
     requires ram { HasRam here.now.device.now }
     requires width { HasWidth operation width }
     ensures { IfOk result (λ worked. worked ≡ running.single_or_status here.now.device.now here.now.framed here.now.state.now here.now.pc here.now.len
@@ -68,11 +68,11 @@ fn plain_operand(
 /// An instruction with one operand.
 fn one_operand(
     alloc: Global,
-    here: &Here<RamCells>,
+    here: &Here<CellPages>,
     operation: SingleOperation,
     width: Width,
     operand: Source,
-) -> Result<Worked<RamCells>, Memory>
+) -> Result<Worked<CellPages>, Memory>
     requires ram { HasRam here.now.device.now }
     requires row { IsInstr (Instr.Single operation width operand) }
     ensures { IfOk result (λ worked. worked ≡ running.one_operand here.now.device.now here.now.framed here.now.state.now here.now.pc here.now.len
@@ -89,12 +89,12 @@ fn one_operand(
 /// An instruction with two operands.
 fn two_operands(
     alloc: Global,
-    here: &Here<RamCells>,
+    here: &Here<CellPages>,
     operation: Operation,
     width: Width,
     source: Source,
     destination: Destination,
-) -> Result<Worked<RamCells>, Memory>
+) -> Result<Worked<CellPages>, Memory>
     requires ram { HasRam here.now.device.now }
     requires long { 2 ≤ here.now.len }
     ensures { IfOk result (λ worked. worked ≡ running.double_or_status here.now.device.now here.now.framed here.now.state.now here.now.pc here.now.len
@@ -111,10 +111,10 @@ pub fn run(
     alloc: Global,
     device: &Device,
     framed: bool,
-    at: &State<RamCells>,
+    at: &State<CellPages>,
     pc: u16,
     instr: &Instr,
-) -> Result<Worked<RamCells>, Memory>
+) -> Result<Worked<CellPages>, Memory>
     requires ram { HasRam device.now }
     requires row { IsInstr instr.now }
     ensures { IfOk result (λ worked. worked ≡ running.worked device.now framed at.now pc instr.now) }
@@ -144,7 +144,7 @@ pub fn run(
 }
 
 /// Whether RETI goes back to where the interrupt of its frame came.
-pub fn leaves_frame(device: &Device, frame: &Frame, at: &State<RamCells>, instr: &Instr) -> bool
+pub fn leaves_frame(device: &Device, frame: &Frame, at: &State<CellPages>, instr: &Instr) -> bool
     requires { HasRam device.now }
     ensures { result ≡ running.leaves_frame device.now frame.now at.now instr.now }
 {
@@ -155,7 +155,7 @@ pub fn leaves_frame(device: &Device, frame: &Frame, at: &State<RamCells>, instr:
 }
 
 /// What the flags say of a register behind an instruction: CMP and SUB with a constant leave a fact.
-pub fn fact_of(instr: &Instr, after: &State<RamCells>) -> Option<FlagFact>
+pub fn fact_of(instr: &Instr, after: &State<CellPages>) -> Option<FlagFact>
     ensures { result ≡ running.fact_of instr.now after.now }
 {
     match *instr {

@@ -11,76 +11,43 @@ use Rattle.value_set.specs.Form.{Has}
 use Rattle.unit_ways.specs.Between.{IsWayOf, StandsAt}
 use Rattle.unit_ways.specs.Between.IsWayOf.{goes_on, joins, jumps}
 use Rattle.unit_ways.specs.Targets.{targets_of}
-use Rattle.unit_ways.specs.Ways.{Way, each_way, edges_of, in_order, posts_of, ways_of, ways_to}
-use Rattle.unit_ways.specs.Members.{in_cons, in_first, in_none, in_rest}
+use Rattle.unit_ways.specs.Ways.{Way, edge_of, edges_of, in_order, post_of, posts_of, ways_of, ways_to}
+use Rattle.plain_lemmas.specs.Members.{from_map, in_cons, in_first, in_map, in_none, in_one, in_rest}
 use Rattle.unit_ways.proofs.Turning.{target_from, target_has}
 
 -- EDGES AND POSTS
 
 pub edge_in : {A : Type 0} (pc : ℕ) (all : List (Way A)) (way : Way A) → Contains all way → Contains (edges_of pc all) (Edge pc way.0)
-edge_in pc [] way h = absurd (in_none way h)
-edge_in {A} pc (one ∷ all) way h = elim (in_cons one all way h) [
-  | inl same ↦ subst (λ (w : Way A). Contains (Edge pc one.0 ∷ edges_of pc all) (Edge pc w.0)) same (in_first (Edge pc one.0) (edges_of pc all))
-  | inr rest ↦ in_rest (Edge pc one.0) (edges_of pc all) (Edge pc way.0) (edge_in pc all way rest)
-]
+edge_in pc all way h = in_map (edge_of pc) all way h
 
 pub post_in : {A : Type 0} (calls_at : ℕ → List ℕ) (frame : Frame) (all : List (Way A)) (way : Way A) → Contains all way
     → Contains (posts_of calls_at frame all) (At way.0 (calls_at way.0) frame, way.1)
-post_in calls_at frame [] way h = absurd (in_none way h)
-post_in {A} calls_at frame (one ∷ all) way h =
-    let post = λ (w : Way A). (let it : Node × A = (At w.0 (calls_at w.0) frame, w.1) in it) in
-    elim (in_cons one all way h) [
-      | inl same ↦ subst (λ (w : Way A). Contains (post one ∷ posts_of calls_at frame all) (post w)) same (in_first (post one) (posts_of calls_at frame all))
-      | inr rest ↦ in_rest (post one) (posts_of calls_at frame all) (post way) (post_in calls_at frame all way rest)
-    ]
+post_in calls_at frame all way h = in_map (post_of calls_at frame) all way h
 
 -- the way of a post
 pub way_of_post : {A : Type 0} (calls_at : ℕ → List ℕ) (frame : Frame) (all : List (Way A)) (to : Node) (state : A) → Contains (posts_of calls_at frame all) (to, state)
     → (way : Way A) × Contains all way × (to ≡ At way.0 (calls_at way.0) frame) × (state ≡ way.1)
-way_of_post calls_at frame [] to state h = absurd (in_none (to, state) h)
-way_of_post {A} calls_at frame (one ∷ all) to state h =
-    let post : Node × A = (At one.0 (calls_at one.0) frame, one.1) in
-    elim (in_cons post (posts_of calls_at frame all) (to, state) h) [
-      | inl same ↦ (one, in_first one all, sym (ap (λ (p : Node × A). p.0) same), sym (ap (λ (p : Node × A). p.1) same))
-      | inr rest ↦ let (way, there, is, known) = way_of_post calls_at frame all to state rest in (way, in_rest one all way there, is, known)
-    ]
+way_of_post {A} calls_at frame all to state h =
+    let (way, there, same) = from_map (post_of calls_at frame) all (to, state) h in
+    (way, there, sym (ap (λ (p : Node × A). p.0) same), sym (ap (λ (p : Node × A). p.1) same))
 
 -- WAYS TO TARGETS
 
-each_in : {A : Type 0} (tos : List ℕ) (a : A) (to : ℕ) → Contains tos to → Contains (each_way tos a) (to, a)
-each_in [] a to h = absurd (in_none to h)
-each_in {A} (one ∷ tos) a to h =
-    let first_one : Way A = (one, a) in
-    elim (in_cons one tos to h) [
-      | inl same ↦ subst (λ n. Contains (each_way (one ∷ tos) a) (n, a)) same (in_first first_one (each_way tos a))
-      | inr rest ↦ in_rest first_one (each_way tos a) (to, a) (each_in tos a to rest)
-    ]
-
-each_from : {A : Type 0} (tos : List ℕ) (a : A) (way : Way A) → Contains (each_way tos a) way → Contains tos way.0 × (way.1 ≡ a)
-each_from [] a way h = absurd (in_none way h)
-each_from {A} (to ∷ tos) a way h =
-    let first_one : Way A = (to, a) in
-    elim (in_cons first_one (each_way tos a) way h) [
-      | inl same ↦ subst (λ (w : Way A). Contains (to ∷ tos) w.0 × (w.1 ≡ a)) same (in_first to tos, refl)
-      | inr rest ↦ let (there, is) = each_from tos a way rest in (in_rest to tos way.0 there, is)
-    ]
-
 pub way_to : {A : Type 0} (set : Form) (a : A) (to : ℕ) → Has 65536 set to → Contains (ways_to set a) (to, a)
-way_to set a to h = each_in (targets_of set) a to (target_has set to h)
+way_to {A} set a to has = in_map (λ n. let way : Way A = (n, a) in way) (targets_of set) to (target_has set to has)
 
 pub from_way_to : {A : Type 0} (set : Form) (a : A) (way : Way A) → Contains (ways_to set a) way → Has 65536 set way.0 × (way.1 ≡ a)
-from_way_to set a way h = let (there, is) = each_from (targets_of set) a way h in (target_from set way.0 there, is)
+from_way_to {A} set a way h =
+    let (to, there, same) = from_map (λ n. let one : Way A = (n, a) in one) (targets_of set) way h in
+    (subst (Has 65536 set) (ap (λ (w : Way A). w.0) same) (target_from set to there), sym (ap (λ (w : Way A). w.1) same))
 
 -- THE TWO WAYS OF A JUMP
-
-only : {A : Type 0} (one way : Way A) → Contains (one ∷ []) way → one ≡ way
-only one way h = elim (in_cons one [] way h) [ inl same ↦ same | inr none ↦ absurd (in_none way none) ]
 
 one_of_two : {A : Type 0} (one other way : Way A) → Contains (in_order one other) way → (one ≡ way) ⊎ (other ≡ way)
 one_of_two {A} one other way h =
     cond_both (nat_lt other.0 one.0) (other ∷ one ∷ []) (one ∷ other ∷ []) (λ (all : List (Way A)). Contains all way → (one ≡ way) ⊎ (other ≡ way))
-    (λ _ there. elim (in_cons other (one ∷ []) way there) [ inl same ↦ inr same | inr rest ↦ inl (only one way rest) ])
-    (λ _ there. elim (in_cons one (other ∷ []) way there) [ inl same ↦ inl same | inr rest ↦ inr (only other way rest) ]) h
+    (λ _ there. elim (in_cons other (one ∷ []) way there) [ inl same ↦ inr same | inr rest ↦ inl (in_one one way rest) ])
+    (λ _ there. elim (in_cons one (other ∷ []) way there) [ inl same ↦ inl same | inr rest ↦ inr (in_one other way rest) ]) h
 
 first_of_two : {A : Type 0} (one other : Way A) → Contains (in_order one other) one
 first_of_two {A} one other =
@@ -98,15 +65,15 @@ same_number n m e = grind (arith, nat_tests)
 pub is_way_of : {A : Type 0} (joined : A → A → A) (behind target : ℕ) (on jumped : Option A) (way : Way A) → Contains (ways_of joined behind target on jumped) way
     → IsWayOf joined behind target on jumped way
 is_way_of joined behind target None None way h = absurd (in_none way h)
-is_way_of {A} joined behind target (Some a) None way h = subst (IsWayOf joined behind target (Some a) None) (only (behind, a) way h) (goes_on refl refl)
-is_way_of {A} joined behind target None (Some b) way h = subst (IsWayOf joined behind target None (Some b)) (only (target, b) way h) (jumps refl refl)
+is_way_of {A} joined behind target (Some a) None way h = subst (IsWayOf joined behind target (Some a) None) (in_one (behind, a) way h) (goes_on refl refl)
+is_way_of {A} joined behind target None (Some b) way h = subst (IsWayOf joined behind target None (Some b)) (in_one (target, b) way h) (jumps refl refl)
 is_way_of {A} joined behind target (Some a) (Some b) way h =
     let both : Way A = (behind, joined a b) in
     let one : Way A = (behind, a) in
     let other : Way A = (target, b) in
     let Is = IsWayOf joined behind target (Some a) (Some b) in
     cond_both (behind == target) (both ∷ []) (in_order one other) (λ (all : List (Way A)). Contains all way → Is way)
-    (λ same there. subst Is (only both way there) (joins a b refl refl (same_number behind target same) refl refl))
+    (λ same there. subst Is (in_one both way there) (joins a b refl refl (same_number behind target same) refl refl))
     (λ _ there. elim (one_of_two one other way there) [ inl is ↦ subst Is is (goes_on refl refl) | inr is ↦ subst Is is (jumps refl refl) ]) h
 
 pub way_on : {A : Type 0} (joined : A → A → A) (behind target : ℕ) (a : A) (jumped : Option A)

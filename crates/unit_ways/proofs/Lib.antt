@@ -1,5 +1,4 @@
 mod Turning
 mod Ascending
 mod Between
-mod Following
 mod WayLists

@@ -1,16 +1,13 @@
 -- What holds of ways.
-use Rattle.std.specs.Prelude.{◌≡◌, ℕ, ◌<◌, Option, Some, List, [], Contains}
+use Rattle.std.specs.Prelude.{◌≡◌, ℕ, ◌<◌, Option, Some, List, Contains}
 use Rattle.call_context.specs.declared.node.Frame.{Frame}
 use Rattle.call_context.specs.declared.node.Node.{Node}
 use Rattle.call_context.specs.declared.node.Node.TheVariants.{At}
-use Rattle.call_context.specs.declared.shown.Cause.{Cause}
-use Rattle.call_context.specs.declared.shown.Cause.TheVariants.{Targets}
 use Rattle.call_context.specs.declared.shown.Item.TheVariants.{Edge}
 use Rattle.value_set.specs.declared.form.Form.{Form}
 use Rattle.value_set.specs.Form.{Has, IsNormal}
-use Rattle.value_set.specs.Summing.{count_of}
 use Rattle.unit_ways.specs.Between.{AreAscending, IsWayOf, StandsAt}
-use Rattle.unit_ways.specs.Ways.{Way, edges_of, followed_ways, posts_of, target_opens, ways_of, ways_to}
+use Rattle.unit_ways.specs.Ways.{Way, edges_of, posts_of, ways_of, ways_to}
 
 pub record WayLaws (A : Type 0) : Type 0 where
   -- each way is an edge and a post, and a post is that of a way
@@ -30,8 +27,3 @@ pub record WayLaws (A : Type 0) : Type 0 where
   -- they ascend
   pub set_ascends : (set : Form) (a : A) → IsNormal 65536 set → AreAscending (ways_to set a)
   pub jump_ascends : (joined : A → A → A) (behind target : ℕ) (on jumped : Option A) → behind < 65536 → target < 65536 → AreAscending (ways_of joined behind target on jumped)
-  -- a site that isn't left open has few targets, and all of its ways are followed; one that is has more
-  pub few : (limit pc : ℕ) (targets : Form) (all : List (Way A)) → target_opens limit pc targets ≡ [] → followed_ways limit targets all ≡ all
-  pub followed : (limit : ℕ) (targets : Form) (all : List (Way A)) (way : Way A) → Contains (followed_ways limit targets all) way → Contains all way
-  pub many : (limit pc : ℕ) (targets : Form) (open_site : ℕ × Cause) → Contains (target_opens limit pc targets) open_site
-      → (open_site ≡ (pc, Targets targets)) × (limit < count_of 65536 targets)

@@ -2,5 +2,3 @@ pub mod Targets
 pub mod Ways
 pub mod Between
 pub mod Laws
-pub mod Members
-pub mod SetTests

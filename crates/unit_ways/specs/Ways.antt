@@ -1,14 +1,13 @@
 -- Where a unit goes on: ways to addresses, and the edges and posts that are made of them.
-use Rattle.std.specs.Prelude.{ℕ, ◌==◌, nat_lt, if◌then◌else◌, Option, None, Some, List, [], ◌∷◌}
+use Rattle.std.specs.Prelude.{ℕ, ◌==◌, nat_lt, if◌then◌else◌, Option, None, Some, List, [], ◌∷◌, map}
 use Rattle.call_context.specs.declared.node.Frame.{Frame}
 use Rattle.call_context.specs.declared.node.Node.{Node}
 use Rattle.call_context.specs.declared.node.Node.TheVariants.{At, Exit}
 use Rattle.call_context.specs.declared.shown.Cause.{Cause}
-use Rattle.call_context.specs.declared.shown.Cause.TheVariants.{Targets}
 use Rattle.call_context.specs.declared.shown.Item.{Item}
 use Rattle.call_context.specs.declared.shown.Item.TheVariants.{Edge}
 use Rattle.value_set.specs.declared.form.Form.{Form}
-use Rattle.unit_ways.specs.Targets.{are_too_many, targets_of}
+use Rattle.unit_ways.specs.Targets.{targets_of}
 
 -- WAYS
 
@@ -18,8 +17,7 @@ Way A = ℕ × A
 
 -- the same is known at each of some addresses
 abbrev pub each_way : {A : Type 0} → List ℕ → A → List (Way A)
-each_way [] a = []
-each_way (to ∷ others) a = (to, a) ∷ each_way others a
+each_way tos a = map (λ to. (to, a)) tos
 
 abbrev pub ways_to : {A : Type 0} → Form → A → List (Way A)
 ways_to targets a = each_way (targets_of targets) a
@@ -35,16 +33,6 @@ ways_of joined behind target (Some a) None = (behind, a) ∷ []
 ways_of joined behind target None (Some b) = (target, b) ∷ []
 ways_of joined behind target (Some a) (Some b) = if behind == target then (behind, joined a b) ∷ [] else in_order (behind, a) (target, b)
 
--- WHICH ARE FOLLOWED
-
--- where there are too many targets, none is followed
-abbrev pub followed_ways : {A : Type 0} → (limit : ℕ) → Form → List (Way A) → List (Way A)
-followed_ways limit targets all = if are_too_many limit targets then [] else all
-
--- and the site is left open
-abbrev pub target_opens : (limit pc : ℕ) → Form → List (ℕ × Cause)
-target_opens limit pc targets = if are_too_many limit targets then (pc, Targets targets) ∷ [] else []
-
 -- EDGES AND POSTS
 
 -- edges, posts, and what is left open
@@ -54,21 +42,18 @@ pub record Going (A : Type 0) : Type 0 where
   pub opens : List (ℕ × Cause)
 
 -- each way is an edge, and a post in the same frame
+abbrev pub edge_of : {A : Type 0} → (pc : ℕ) → Way A → Item
+edge_of pc way = Edge pc way.0
+
+abbrev pub post_of : {A : Type 0} → (calls_at : ℕ → List ℕ) → Frame → Way A → Node × A
+post_of calls_at frame way = (At way.0 (calls_at way.0) frame, way.1)
+
 abbrev pub edges_of : {A : Type 0} → (pc : ℕ) → List (Way A) → List Item
-edges_of pc [] = []
-edges_of pc (way ∷ ways) = Edge pc way.0 ∷ edges_of pc ways
+edges_of pc ways = map (edge_of pc) ways
 
 abbrev pub posts_of : {A : Type 0} → (calls_at : ℕ → List ℕ) → Frame → List (Way A) → List (Node × A)
-posts_of calls_at frame [] = []
-posts_of calls_at frame (way ∷ ways) = (At way.0 (calls_at way.0) frame, way.1) ∷ posts_of calls_at frame ways
+posts_of calls_at frame ways = map (post_of calls_at frame) ways
 
 -- a return from the frame's interrupt leaves what is known at the exit
 abbrev pub back_at : {A : Type 0} → (pc : ℕ) → Frame → A → Going A
 back_at pc frame a = record { edges = []; posts = (Exit pc frame, a) ∷ []; opens = [] }
-
--- WAITS
-
--- what a frame leaves at a known stack pointer is waited for
-abbrev pub wait_at : {X : Type 0} → Frame → (known_sp : Option X) → List Frame
-wait_at frame None = []
-wait_at frame (Some sp) = frame ∷ []

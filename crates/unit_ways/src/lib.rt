@@ -3,8 +3,8 @@
 //!
 //! - [`add_each`] adds a way to each address of a set, from the least one to the greatest, [`add_either`] the two ways of a
 //!   jump, the lesser address first. Both are exact by `specs/Ways.antt`.
-//! - [`leave`] adds what a return from an interrupt leaves at the exit of its frame, [`add_wait`] a frame whose exits are
-//!   waited for.
+//! - [`leave`] adds what a return from an interrupt leaves at the exit of its frame, [`leave_open`] the open of a site with more
+//!   targets than are followed.
 //!
 //! The law is a function that does nothing: [`ways_hold`] says which ways there are, and that they ascend.
 #![tactic(auto)]
@@ -17,4 +17,4 @@ mod ways;
 pub use laws::ways_hold;
 pub use site::Site;
 pub use targets::are_too_many;
-pub use ways::{Ways, add_each, add_either, add_wait, leave, leave_open};
+pub use ways::{Ways, add_each, add_either, leave, leave_open};

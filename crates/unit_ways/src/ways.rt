@@ -133,17 +133,3 @@ pub fn leave<A: Drop>(ways: &mut Ways<A>, pc: u16, frame: Frame, known: A) -> Re
     ways.posts.push((Node::Exit(pc, frame), known))?;
     Ok(())
 }
-
-/// Adds a frame whose exits are waited for: one that was entered at a known stack pointer.
-pub fn add_wait<T>(
-    waits: &mut Sequence<Frame>,
-    frame: Frame,
-    known_sp: &Option<T>,
-) -> Result<(), Memory>
-    ensures { OnOk result (waits.new ≡ waits.old ++ the_ways.wait_at frame known_sp.now) }
-{
-    if known_sp.is_some() {
-        waits.push(frame)?;
-    }
-    Ok(())
-}

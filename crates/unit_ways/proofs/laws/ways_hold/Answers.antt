@@ -1,6 +1,5 @@
 use Rattle.unit_ways.proofs.Ascending.{ways_of_ascend, ways_to_ascend}
 use Rattle.unit_ways.proofs.Between.{edge_in, from_way_to, is_way_of, post_in, way_jumped, way_of_post, way_on, way_to}
-use Rattle.unit_ways.proofs.Following.{few_followed, has_many, is_followed}
 use Rattle.unit_ways.proofs.laws.ways_hold.Goals as goal
 
 pub returns : goal.returns
@@ -15,7 +14,4 @@ returns g c = record {
   either = is_way_of;
   set_ascends = ways_to_ascend;
   jump_ascends = ways_of_ascend;
-  few = few_followed;
-  followed = is_followed;
-  many = has_many;
 }

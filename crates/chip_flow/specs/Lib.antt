@@ -1,0 +1,14 @@
+pub mod Calls
+pub mod Flow
+pub mod Going
+pub mod Works
+pub mod Along
+pub mod Landing
+pub mod Marks
+pub mod MarkFacts
+pub mod Opens
+pub mod Posts
+pub mod Returns
+pub mod Sites
+pub mod Stacks
+pub mod Standing
