@@ -43,7 +43,8 @@ fn done_of<C: Chip>(
     Ok(done)
 }
 
-/// Exchanges the work of a ticket for units. It answers the last of their tickets, and why there are no more.
+/// Exchanges the work of a ticket for units. It answers the last of their tickets, why there are no more, and whether units may
+/// be left.
 fn exchange_one<R: Wait, C: Chip>(
     rt: &R,
     alloc: Global,
@@ -53,7 +54,7 @@ fn exchange_one<R: Wait, C: Chip>(
     ticket: Option<Ticket<C>>,
     want: u32,
     share: u32,
-) -> Result<(Option<Ticket<C>>, Last), Memory>
+) -> Result<(Option<Ticket<C>>, Last, bool), Memory>
     requires table { seat.old.table ≡ table_of table.now }
     requires idle { seat.old.holds ≡ false }
     requires chip { Some (C.base chip.now) ≡ seat.old.base }
@@ -69,8 +70,9 @@ fn exchange_one<R: Wait, C: Chip>(
         unposted: _,
         mut tickets,
         last,
+        left,
     } = exchanged;
-    Ok((tickets.pop(), last))
+    Ok((tickets.pop(), last, left))
 }
 
 /// The root goes out, and then one of two units, of which one is left to share. The other is the last that can be claimed.
@@ -81,14 +83,14 @@ fn each_reason_is_met(rt: HostRuntime) -> Result<(), Fail> {
     let book = Book::open(alloc, &chip)?;
     let (table, mut seat) = FactTable::new(alloc, book, 1)?;
     let none = no_ticket(&chip, &seat);
-    let (root, full) = exchange_one(&rt, alloc, &chip, &table, &mut seat, none, 1, 1)?;
-    assert_eq!(rt; full, Last::Full);
-    let (first, shared) = exchange_one(&rt, alloc, &chip, &table, &mut seat, root, 4, 2)?;
-    assert_eq!(rt; shared, Last::Shared);
-    let (second, idle) = exchange_one(&rt, alloc, &chip, &table, &mut seat, first, 4, 1)?;
-    assert_eq!(rt; idle, Last::Idle);
-    let (left, finished) = exchange_one(&rt, alloc, &chip, &table, &mut seat, second, 1, 1)?;
-    assert_eq!(rt; finished, Last::Finished);
+    let (root, full, more) = exchange_one(&rt, alloc, &chip, &table, &mut seat, none, 1, 1)?;
+    assert_eq!(rt; (full, more), (Last::Full, false));
+    let (first, shared, more) = exchange_one(&rt, alloc, &chip, &table, &mut seat, root, 4, 2)?;
+    assert_eq!(rt; (shared, more), (Last::Shared, true));
+    let (second, idle, more) = exchange_one(&rt, alloc, &chip, &table, &mut seat, first, 4, 1)?;
+    assert_eq!(rt; (idle, more), (Last::Idle, false));
+    let (left, finished, more) = exchange_one(&rt, alloc, &chip, &table, &mut seat, second, 1, 1)?;
+    assert_eq!(rt; (finished, more), (Last::Finished, false));
     assert!(rt; left.is_none());
     assert_eq!(rt; table.close(seat).journal().len(), 6);
     Ok(())

@@ -1,5 +1,5 @@
 -- Turns of a seat at the book.
-use Rattle.std.proofs.Common.{◌≡◌, ◌≢◌, ℕ, ◌==◌, Bool, true, false, cond, List, [], ◌∷◌, ◌++◌, length, Some, Result, Ok, Err, IfOk, OnOk, OnErr, sym, refl, ap, ◌∙◌, subst, append-nil, append_assoc, arith, length-append, eq-eqb, true≢false, inr}
+use Rattle.std.proofs.Common.{◌≡◌, ◌≢◌, ℕ, ◌==◌, Bool, true, false, cond, List, [], ◌∷◌, ◌++◌, length, Some, Result, Ok, Err, IfOk, OnOk, OnErr, sym, refl, ap, ◌∙◌, subst, append-nil, append_assoc, arith, length-append, eq-eqb, true≢false, inr, IsTrue, not}
 use Rattle.std.proofs.Math.Path.{ap₂}
 use Rattle.std.specs.List.{AllByRecursion}
 use Rattle.std.proofs.Math.Seq.{drop-append_seam}
@@ -15,6 +15,7 @@ use Rattle.fact_table.specs.declared.exchange.Last.{Last}
 use Rattle.fact_table.specs.declared.exchange.Last.TheVariants.{Memory}
 use Rattle.fact_table.proofs.ExchangeLemmas.{Beside, all_append, all_both, all_map, others_out}
 use Rattle.round_core.specs.Answers.{AnswersClaim}
+use Rattle.round_core.specs.Claimable.{HasAtLeast}
 use Rattle.round_core.specs.Counts.{seat_of, NoneOfSeat, unit_of}
 use Rattle.round_core.specs.Kept.{Kept, with_event, IsOutOf}
 use Rattle.round_core.specs.Machine.{Out, out_at, replay, IsLegalJournal}
@@ -227,8 +228,9 @@ module _ {B : Type 0} where
     pub exchange_turn : {C : Type 0} (old begun new : ShownSeat Event B) (k k' : Kept B) (done : List (Done C B A)) (want share : ℕ) (r : Exchanged C B A)
         → IsTurn old begun new k k' → AreOutOf (replay (analysis k.base) k.journal) (tickets_of done)
         → AllByRecursion (λ t. t.seat ≡ old.number) (tickets_of done)
-        → ExchangesOn (analysis k.base) old.number k done want share r.unposted.items r.tickets.items r.last k' → Exchanges analysis old done want share r new
-    exchange_turn old begun new k k' done want share r t out seats x =
+        → ExchangesOn (analysis k.base) old.number k done want share r.unposted.items r.tickets.items r.last k'
+        → (IsTrue (not r.left) → HasAtLeast (replay (analysis k'.base) k'.journal) 1 → ⊥) → Exchanges analysis old done want share r new
+    exchange_turn old begun new k k' done want share r t out seats x none =
         let m = analysis k.base in
         let number : old.number ≡ new.number = sym (ap (λ s. s.number) t.new_is ∙ ap (λ s. s.number) t.begun_is) in
         let base : Some k.base ≡ new.base = t.base ∙ sym (ap (λ s. s.base) t.new_is ∙ ap (λ s. s.base) t.begun_is) in
@@ -254,12 +256,14 @@ module _ {B : Type 0} where
                 (all_append (λ s. s.seat ≡ old.number) (tickets_of r.unposted.items) r.tickets.items left (seats_claimed m old.number share _ r.tickets.items x.claims));
           };
           last_is = subst (λ l. TellsLast (replay m l) want share r.unposted.items r.tickets.items r.last) seen x.last_is;
+          none_left = subst (λ l. IsTrue (not r.left) → HasAtLeast (replay m l) 1 → ⊥) seen
+              (subst (λ b. IsTrue (not r.left) → HasAtLeast (replay (analysis b) k'.journal) 1 → ⊥) (ap (λ b. b.base) x.book) none);
         }
 
     -- an exchange for which there is no memory before its turn
     pub exchange_none : {C : Type 0} (s : ShownSeat Event B) (done : List (Done C B A)) (want share : ℕ) (r : Exchanged C B A) → AreOutTo analysis s (tickets_of done)
-        → r.unposted.items ≡ done → r.tickets.items ≡ [] → r.last ≡ Memory → Exchanges analysis s done want share r s
-    exchange_none s done want share r out left none last =
+        → r.unposted.items ≡ done → r.tickets.items ≡ [] → r.last ≡ Memory → r.left ≡ true → Exchanges analysis s done want share r s
+    exchange_none s done want share r out left none last more =
         let m = analysis out.base in
         record {
           base = out.base;
@@ -275,6 +279,7 @@ module _ {B : Type 0} where
           still_out = subst (λ ts. AreOutTo analysis s (tickets_of r.unposted.items ++ ts)) (sym none)
               (subst (λ ts. AreOutTo analysis s ts) (sym (append-nil (tickets_of r.unposted.items))) (subst (λ ds. AreOutTo analysis s (tickets_of ds)) (sym left) out));
           last_is = subst (λ l. TellsLast (replay m s.seen) want share r.unposted.items r.tickets.items l) (sym last) (inr none);
+          none_left = λ no some. let bad : false ≡ true = subst (λ b. IsTrue (not b)) more no in absurd (cc);
         }
 
     pub out_at_turn : (old begun : ShownSeat Event B) (k : Kept B) (ticket : Out A) → ((base : B) → Stays (analysis base)) → Some k.base ≡ old.base

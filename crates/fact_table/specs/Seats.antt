@@ -1,10 +1,11 @@
 -- What each call makes of a seat at the book.
-use Rattle.std.specs.Prelude.{◌≡◌, ℕ, Some, List, [], ◌∷◌, ◌++◌}
+use Rattle.std.specs.Prelude.{◌≡◌, ℕ, Some, List, [], ◌∷◌, ◌++◌, IsTrue, not}
 use Rattle.std.specs.List.{AllByRecursion}
 use Rattle.chip_law.specs.Analysis.{Analysis}
 use Rattle.fact_table.specs.Exchange.{AreClaimed, AreOutOf, TellsLast, claim_events, post_events, tickets_of}
 use Rattle.fact_table.specs.declared.exchange.Exchanged.{Exchanged}
 use Rattle.round_core.specs.Answers.{AnswersClaim}
+use Rattle.round_core.specs.Claimable.{HasAtLeast}
 use Rattle.round_core.specs.Kept.{IsOutOf}
 use Rattle.round_core.specs.Machine.{Out, replay}
 use Rattle.round_core.specs.declared.event.Event.{Event}
@@ -87,3 +88,5 @@ module _ {B : Type 0} where
         pub seat : new ≡ recorded_all old log (post_events (tickets_of posted) ++ claim_events old.number r.tickets.items)
         pub still_out : AreOutTo new (tickets_of r.unposted.items ++ r.tickets.items)
         pub last_is : TellsLast (replay (analysis base) new.seen) want share r.unposted.items r.tickets.items r.last
+        -- where none may be left, no unit can be claimed behind the turn
+        pub none_left : IsTrue (not r.left) → HasAtLeast (replay (analysis base) new.seen) 1 → ⊥

@@ -94,6 +94,7 @@ pub fn exchange_at<R: Wait, C: Chip>(
             unposted: done,
             tickets: Vec::new(alloc),
             last: Last::Memory,
+            left: true,
         };
     };
     // Others wait no longer while states are compared and joined.

@@ -36,6 +36,8 @@ pub struct Exchanged<C: Chip> {
     pub unposted: Vec<Done<C>>,
     pub tickets: Vec<Ticket<C>>,
     pub last: Last,
+    /// Whether further units may be left to claim. False says that there are none.
+    pub left: bool,
 }
 
 /// Puts an item before all others, for which there is room.
@@ -206,6 +208,14 @@ fn claim_some<C: Chip>(
     (tickets, Last::Full)
 }
 
+/// Whether units may be left to claim, without a look at any of them.
+fn may_be_left<C: Chip>(book: &Book<C>) -> bool
+    ensures { IsTrue (not result)
+        → HasAtLeast (replay (C.analysis book.now.base) book.now.journal) 1 → ⊥ }
+{
+    0 < book.candidates()
+}
+
 /// Posts works, and claims units where all of them are posted.
 pub(crate) fn exchange_on<C: Chip>(
     book: &mut Book<C>,
@@ -224,8 +234,10 @@ pub(crate) fn exchange_on<C: Chip>(
     requires ahead { AreAhead (C.analysis book.old.base) done.items ahead.items }
     requires empty { tickets.items ≡ [] }
     requires room { want ≤ vec_capacity tickets }
-    ensures { ExchangesOn (C.analysis book.old.base) seat book.old done.items want share
+    ensures exchanges { ExchangesOn (C.analysis book.old.base) seat book.old done.items want share
         result.unposted.items result.tickets.items result.last book.new }
+    ensures left { IsTrue (not result.left)
+        → HasAtLeast (replay (C.analysis book.new.base) book.new.journal) 1 → ⊥ }
 {
     let unposted = post_all(book, chip, done, ahead);
     if !unposted.is_empty() {
@@ -233,6 +245,7 @@ pub(crate) fn exchange_on<C: Chip>(
             unposted,
             tickets,
             last: Last::Memory,
+            left: true,
         };
     }
     let (tickets, last) = claim_some(book, chip, seat, tickets, want, share);
@@ -240,5 +253,6 @@ pub(crate) fn exchange_on<C: Chip>(
         unposted,
         tickets,
         last,
+        left: may_be_left(book),
     }
 }

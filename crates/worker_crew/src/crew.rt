@@ -8,7 +8,7 @@ ghost use Rattle.turn_table.specs.Events.{AllBelow, events_of};
 ghost use Rattle.turn_table.specs.Named.{name_of};
 ghost use Rattle.worker_crew.specs.Turns.{AreAnswered, IsReady, StaysAnswered, TakesIn, Works};
 
-use crate::worker::{share_for, work};
+use crate::worker::work;
 use chip_law::Chip;
 use crossbeam_utils::sync::EventCount;
 use fact_table::{FactTable, Seat, Turns};
@@ -41,7 +41,6 @@ fn work_through<R: Wait, C: Chip, G: Gate>(
     chip: &C,
     gate: &G,
     answers: &EventCount,
-    share: u32,
     seat: Seat<C>,
     more: u32,
 ) -> Seat<C>
@@ -50,10 +49,10 @@ fn work_through<R: Wait, C: Chip, G: Gate>(
     ensures takes_in { TakesIn seat result }
     ensures answered { StaysAnswered seat result }
 {
-    let mut seat = work(rt, alloc, turns, chip, gate, answers, share, seat);
+    let mut seat = work(rt, alloc, turns, chip, gate, answers, seat);
     for _ in 0..more {
         let other = turns.split(&mut seat);
-        let other = work(rt, alloc, turns, chip, gate, answers, share, other);
+        let other = work(rt, alloc, turns, chip, gate, answers, other);
         turns.join(&mut seat, other);
     }
     seat
@@ -69,7 +68,6 @@ fn work_beside<R: Threads + Wait + Sync, C: Chip<Base: Send> + Send + Sync, G: G
     chip: &C,
     gate: &G,
     answers: &EventCount,
-    share: u32,
     mut seat: Seat<C>,
     helpers: u32,
     more: u32,
@@ -82,13 +80,13 @@ fn work_beside<R: Threads + Wait + Sync, C: Chip<Base: Send> + Send + Sync, G: G
     ensures answered { StaysAnswered seat result }
 {
     if helpers == 0 {
-        return work_through(rt, alloc, turns, chip, gate, answers, share, seat, more);
+        return work_through(rt, alloc, turns, chip, gate, answers, seat, more);
     }
     let helper = turns.split(&mut seat);
     let help = move || -> Seat<C>
         requires { IsReady (name_of turns.now) (C.base chip.now) helper }
         ensures { Works helper result }
-    { work(rt, alloc, turns, chip, gate, answers, share, helper) };
+    { work(rt, alloc, turns, chip, gate, answers, helper) };
     let go_on = move || -> Seat<C>
         requires threads { IsSync R.row × IsSend C.row × IsSync C.row × IsSync G.row
             × IsSend C.Base.row × IsSend C.Abs.row }
@@ -104,7 +102,6 @@ fn work_beside<R: Threads + Wait + Sync, C: Chip<Base: Send> + Send + Sync, G: G
             chip,
             gate,
             answers,
-            share,
             seat,
             helpers - 1,
             more,
@@ -143,7 +140,6 @@ pub fn fixpoint<R: Threads + Wait + Sync, C: Chip<Base: Send> + Send + Sync, G: 
         chip,
         gate,
         &answers,
-        share_for(workers),
         seat,
         threads - 1,
         workers - threads,

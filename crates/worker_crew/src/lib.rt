@@ -2,15 +2,15 @@
 //!
 //! [`fixpoint`] opens a book, lays it under the lock of `fact_table`, and gives each worker a seat at it. A worker claims units,
 //! works on them outside the lock, where it also works out what their posts make of nodes that don't rise before, and in one turn
-//! posts the works and claims the next units. It asks for four at a time, and gets a second one only where as many can be claimed
-//! as there are workers. A worker that is out of memory gives its units back and ends; the others go on. There are at most as many
-//! threads as processors, and at least two. The caller does the rest, and the work of threads that couldn't be started.
+//! posts the works and claims the next units, one at a time. A worker that is out of memory gives its units back and ends; the
+//! others go on. There are at most as many threads as processors, and at least two. The caller does the rest, and the work of
+//! threads that couldn't be started.
 //!
 //! An idle worker sleeps: where no unit can be claimed and some unit is out, nothing changes before that unit is posted
 //! or given back. It announces that it waits at an `EventCount`, claims, and sleeps at the system until another worker
-//! wakes it. Who gets as many units as it asked for, or leaves some to share, wakes one that sleeps: that one claims, and wakes
-//! the next, as long as there are units. Who runs out of memory wakes one too, and who finds the book finished wakes all. Where
-//! no one waits this is no call of the system.
+//! wakes it. Who leaves units behind its turn wakes one that sleeps: that one claims, and wakes the next, as long as there are
+//! units. Who runs out of memory wakes one too, and who finds the book finished wakes all. Where no one waits this is no call
+//! of the system.
 //!
 //! Proved:
 //!

@@ -16,10 +16,10 @@ use std::alloc::Global;
 use std::sync::Wait;
 use worker_rounds::Gate;
 
-/// For how many units a worker asks in one turn: at most four.
-const WANT: u32 = 4;
+/// For how many units a worker asks in one turn. Who holds more of them works on inputs that rise meanwhile.
+const WANT: u32 = 1;
 
-/// How many units for each worker have to be claimable for it to get a second one in a turn.
+/// How many units have to be claimable for a worker to get a second one in a turn.
 const SHARE: u32 = 1;
 
 /// For how many units a worker asks in one turn. Proofs know no more of it, so that the number is free.
@@ -28,11 +28,6 @@ fn wanted() -> u32
     ensures few { result ≤ 4 }
 {
     WANT
-}
-
-/// How many units have to be claimable, among so many workers, for one to get a second one in a turn.
-pub(crate) fn share_for(workers: u32) -> u32 {
-    workers.saturating_mul(SHARE)
 }
 
 /// Puts a ticket before all others, for which there is room.
@@ -197,7 +192,6 @@ fn go_on<R: Wait, C: Chip, G: Gate>(
     chip: &C,
     gate: &G,
     answers: &EventCount,
-    share: u32,
     seat: &mut Seat<C>,
     tickets: Vec<Ticket<C>>,
 ) -> Result<(Vec<Ticket<C>>, Last), Memory>
@@ -211,18 +205,19 @@ fn go_on<R: Wait, C: Chip, G: Gate>(
 {
     let done = work_all(rt, alloc, turns, chip, gate, seat, tickets)?;
     let works = done.len();
-    let exchanged = exchange_at(rt, alloc, turns, chip, seat, done, wanted(), share);
+    let exchanged = exchange_at(rt, alloc, turns, chip, seat, done, wanted(), SHARE);
     let Exchanged {
         unposted,
         tickets,
         last,
+        left,
     } = exchanged;
     tell_posts(gate, seat.number(), works.saturating_sub(unposted.len()));
     if ran_out(last) {
         give_back_all(rt, turns, seat, unposted, tickets);
         return Err(Memory);
     }
-    if matches!(last, Last::Full | Last::Shared) {
+    if left {
         answers.notify_one();
     }
     Ok((tickets, last))
@@ -237,7 +232,6 @@ fn turn<R: Wait, C: Chip, G: Gate>(
     chip: &C,
     gate: &G,
     answers: &EventCount,
-    share: u32,
     seat: &mut Seat<C>,
     tickets: Vec<Ticket<C>>,
 ) -> Result<(Vec<Ticket<C>>, bool), Memory>
@@ -251,7 +245,7 @@ fn turn<R: Wait, C: Chip, G: Gate>(
 {
     // Announced before the claim, so that a unit that comes behind it ends the wait.
     let wait = tickets.is_empty().then(|| answers.prepare_wait());
-    let (next, last) = go_on(rt, alloc, turns, chip, gate, answers, share, seat, tickets)?;
+    let (next, last) = go_on(rt, alloc, turns, chip, gate, answers, seat, tickets)?;
     if let Some(key) = wait {
         if next.is_empty() && matches!(last, Last::Idle) {
             key.wait(rt);
@@ -269,7 +263,6 @@ pub(crate) fn work<R: Wait, C: Chip, G: Gate>(
     chip: &C,
     gate: &G,
     answers: &EventCount,
-    share: u32,
     mut seat: Seat<C>,
 ) -> Seat<C>
     requires ready { IsReady (name_of turns.now) (C.base chip.now) seat }
@@ -277,9 +270,7 @@ pub(crate) fn work<R: Wait, C: Chip, G: Gate>(
 {
     let mut tickets = Vec::new(alloc);
     for _ in rt.forever() {
-        match turn(
-            rt, alloc, turns, chip, gate, answers, share, &mut seat, tickets,
-        ) {
+        match turn(rt, alloc, turns, chip, gate, answers, &mut seat, tickets) {
             Ok((next, false)) => tickets = next,
             Ok((_, true)) => {
                 answers.notify_all();

@@ -1,4 +1,4 @@
-use Rattle.std.proofs.Common.{◌≡◌, List, ◌++◌, refl, ap, sym, ◌∙◌, subst}
+use Rattle.std.proofs.Common.{◌≡◌, true, List, ◌++◌, refl, ap, sym, ◌∙◌, subst}
 use Rattle.std.specs.List.{AllByRecursion}
 use Rattle.std.proofs.lemmas.Option.{same_Some}
 use Rattle.fact_table.specs.Exchange.{AreAhead, ExchangesOn, IsWorked, tickets_of}
@@ -40,7 +40,7 @@ pass-requires-clause-adds g c =
     (pass_adds old begun k k' c.turn-turn.ensures.seat
     (grows_exchange m begun.number k k' c.args.done.items c.args.want c.args.share r.unposted.items r.tickets.items r.last
     (subst (λ n. AllByRecursion (λ t. t.seat ≡ n) (tickets_of c.args.done.items)) (sym number) c.requires.tickets.seat)
-    (subst (λ n. ExchangesOn m n k c.args.done.items c.args.want c.args.share r.unposted.items r.tickets.items r.last k') c.number-number.ensures.number c.exchange_on-exchanged.ensures)))
+    (subst (λ n. ExchangesOn m n k c.args.done.items c.args.want c.args.share r.unposted.items r.tickets.items r.last k') c.number-number.ensures.number c.exchange_on-exchanged.ensures.exchanges)))
 
 pub returns : goal.returns
 returns g c =
@@ -62,9 +62,10 @@ returns g c =
     turn.begins c.number.ensures.own c.turn-turn.ensures.own c.journal.ensures.legal c.requires.tickets in
     exchange_turn g.C.Chip.analysis old begun new k k' c.args.done.items c.args.want c.args.share r turn out c.requires.tickets.seat
     (subst (λ n. ExchangesOn m n k c.args.done.items c.args.want c.args.share r.unposted.items r.tickets.items r.last k')
-    (c.number-number.ensures.number ∙ ap (λ s. s.number) c.turn-turn.ensures.seat) c.exchange_on-exchanged.ensures)
+    (c.number-number.ensures.number ∙ ap (λ s. s.number) c.turn-turn.ensures.seat) c.exchange_on-exchanged.ensures.exchanges)
+    c.exchange_on-exchanged.ensures.left
 
 pub returns-in_default : goal.returns-in_default
 returns-in_default g c =
-    exchange_none g.C.Chip.analysis c.args.seat.now c.args.done.items c.args.want c.args.share (record { unposted = c.args.done; tickets = c.new.result; last = Memory })
-    c.requires.tickets refl c.new.ensures.items refl
+    exchange_none g.C.Chip.analysis c.args.seat.now c.args.done.items c.args.want c.args.share (record { unposted = c.args.done; tickets = c.new.result; last = Memory; left = true })
+    c.requires.tickets refl c.new.ensures.items refl refl

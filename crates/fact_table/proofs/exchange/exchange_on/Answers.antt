@@ -4,8 +4,8 @@ use Rattle.fact_table.specs.Exchange.{ClaimsSome}
 use Rattle.fact_table.proofs.ExchangeLemmas.{exchanged, none_from_test}
 use Rattle.fact_table.proofs.exchange.exchange_on.Goals as goal
 
-pub returns : goal.returns
-returns g c =
+pub returns-clause-exchanges : goal.returns-clause-exchanges
+returns-clause-exchanges g c =
     let old = c.args.book.now in
     let m = g.C.Chip.analysis old.base in
     let mid = c.post_all-unposted.new.book in
