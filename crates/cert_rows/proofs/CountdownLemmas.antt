@@ -19,19 +19,10 @@ use Rattle.text_fields.specs.Numbers.{hex_number_is_exact, number_avoids}
 use Rattle.node_fields.specs.Nodes.{IsNodeText}
 use Rattle.state_text.specs.Texts.{AreTexts}
 use Rattle.cert_rows.specs.Countdown.{countdown, idle, is_frame, is_handler, is_mine, next_of, nothing_covered, opens_of, outside, texts}
+use Rattle.plain_lemmas.specs.Members.{in_none, in_one}
 
 abbrev HasForm : Node → ℕ → Type 0
 HasForm node state = (is_mine node ≡ true) × (state < 65536)
-
-none_in : {X : Type 0} (y : X) → Contains [] y → ⊥
-none_in y c = absurd (omega (arith, c.1))
-
-one_at : {X : Type 0} (x y : X) (k : ℕ) → k < length (x ∷ []) → get_or (x ∷ []) k y ≡ y → x ≡ y
-one_at x y zero h e = e
-one_at x y (suc k) h e = absurd (omega (arith, h))
-
-one_in : {X : Type 0} (x y : X) → Contains (x ∷ []) y → x ≡ y
-one_in x y c = one_at x y c.0 c.1 c.2
 
 -- two causes at one address
 abbrev Open : Type 0
@@ -54,21 +45,21 @@ location_form pc state small = (rw (lt-ltb (pc % 65536) 65536 (omega arith)) ref
 
 next_posts : (pc at : ℕ) (to : Node) (state : ℕ) → at < 65536 → Contains (next_of pc at).posts (to, state) → HasForm to state
 next_posts pc at to state small c = elim (cases_Bool (at == 0)) [
-  | inl none ↦ absurd (none_in (to, state) (rw none at c))
+  | inl none ↦ absurd (in_none (to, state) (rw none at c))
   | inr some ↦
-      let is = one_in (At ((pc + 1) % 65536) [] Base, at - 1) (to, state) (rw some at c) in
+      let is = in_one (At ((pc + 1) % 65536) [] Base, at - 1) (to, state) (rw some at c) in
       subst (λ (p : Node × ℕ). HasForm p.0 p.1) is (location_form (pc + 1) (at - 1) (omega arith))
 ]
 
 open_at : (pc at at_pc : ℕ) (cause : Cause) → Contains (opens_of pc at) (at_pc, cause) → pc ≡ at_pc
 open_at pc at at_pc cause c = elim (cases_Bool (at == 7)) [
   | inl seven ↦ two_at pc at_pc cause (Targets (make 65536 0 1 65536)) Fetch (rw seven at c)
-  | inr other ↦ absurd (none_in (at_pc, cause) (rw other at c))
+  | inr other ↦ absurd (in_none (at_pc, cause) (rw other at c))
 ]
 
 next_opens : (pc at at_pc : ℕ) (cause : Cause) → Contains (next_of pc at).opens (at_pc, cause) → pc ≡ at_pc
 next_opens pc at at_pc cause c = elim (cases_Bool (at == 0)) [
-  | inl none ↦ absurd (none_in (at_pc, cause) (rw none at c))
+  | inl none ↦ absurd (in_none (at_pc, cause) (rw none at c))
   | inr some ↦ open_at pc at at_pc cause (rw some at c)
 ]
 
@@ -76,21 +67,21 @@ posts_formed : (unit : WorkUnit) (at : ℕ) (exit : Option ℕ) (to : Node) (sta
     → Contains (countdown.work unit at exit).posts (to, state) → HasForm to state
 posts_formed (One (At pc calls frame)) at None to state form c = next_posts pc at to state form.1 c
 posts_formed (One (At pc calls frame)) at (Some exit) to state form c = absurd form
-posts_formed (One (Exit pc frame)) at exit to state form c = absurd (none_in (to, state) c)
+posts_formed (One (Exit pc frame)) at exit to state form c = absurd (in_none (to, state) c)
 posts_formed (Back (At pc calls frame) (Exit from left)) at (Some exit) to state form c =
-    let is = one_in (At ((pc + 2) % 65536) [] Base, exit) (to, state) c in
+    let is = in_one (At ((pc + 2) % 65536) [] Base, exit) (to, state) c in
     subst (λ (p : Node × ℕ). HasForm p.0 p.1) is (location_form (pc + 2) exit form.1.1)
 posts_formed (Back (At pc calls frame) (At from others frame')) at (Some exit) to state form c = absurd form
-posts_formed (Back (At pc calls frame) from) at None to state form c = absurd (none_in (to, state) c)
-posts_formed (Back (Exit pc frame) from) at exit to state form c = absurd (none_in (to, state) c)
+posts_formed (Back (At pc calls frame) from) at None to state form c = absurd (in_none (to, state) c)
+posts_formed (Back (Exit pc frame) from) at exit to state form c = absurd (in_none (to, state) c)
 
 opens_at : (unit : WorkUnit) (at : ℕ) (exit : Option ℕ) (pc : ℕ) (cause : Cause) → Contains (countdown.work unit at exit).opens (pc, cause)
     → pc_of (location_of unit) ≡ pc
 opens_at (One (At pc calls frame)) at exit at_pc cause c = next_opens pc at at_pc cause c
-opens_at (One (Exit pc frame)) at exit at_pc cause c = absurd (none_in (at_pc, cause) c)
-opens_at (Back (At pc calls frame) from) at (Some left) at_pc cause c = absurd (none_in (at_pc, cause) c)
-opens_at (Back (At pc calls frame) from) at None at_pc cause c = absurd (none_in (at_pc, cause) c)
-opens_at (Back (Exit pc frame) from) at exit at_pc cause c = absurd (none_in (at_pc, cause) c)
+opens_at (One (Exit pc frame)) at exit at_pc cause c = absurd (in_none (at_pc, cause) c)
+opens_at (Back (At pc calls frame) from) at (Some left) at_pc cause c = absurd (in_none (at_pc, cause) c)
+opens_at (Back (At pc calls frame) from) at None at_pc cause c = absurd (in_none (at_pc, cause) c)
+opens_at (Back (Exit pc frame) from) at exit at_pc cause c = absurd (in_none (at_pc, cause) c)
 
 has_entry : (frame : Frame) → is_handler frame ≡ true → HasEntry frame
 has_entry Base is = absurd (false≢true is)

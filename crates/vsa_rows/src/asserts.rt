@@ -1,6 +1,7 @@
 //! Assertions over closed reports, whole calls over streams in memory.
 
-use crate::answers::{EIGHT_BYTES, answers, begins};
+use crate::answers::EIGHT_BYTES;
+use crate::calls::{answers, begins};
 use std::process::Abort;
 use std::sync::Wait;
 use std::test::Fail;

@@ -1,23 +1,20 @@
 -- What is answered to assertions, put together from the book, and from the text behind the image text.
 use Rattle.std.proofs.Common.{◌≡◌, ◌++◌, ◌<◌, ◌≤◌, ℕ, Bool, true, false, Option, None, Some, List, [], ◌∷◌, refl, sym, ap, subst, ◌∙◌, inl, inr, arith, length, length-append}
-use Rattle.std.specs.Prelude.{◌⊎◌, Contains, IfSome, flat_map}
+use Rattle.std.specs.Prelude.{IfSome, flat_map}
 use Rattle.std.specs.Map.{values_of}
-use Rattle.std.proofs.lemmas.Bool.{and_parts, cases_Bool}
+use Rattle.std.proofs.lemmas.Bool.{cases_Bool}
 use Rattle.std.proofs.lemmas.List.{append-nil}
-use Rattle.std.proofs.lemmas.List.Elements.{Contains-append_cases, Contains-push_cases}
 use Rattle.assert_check.specs.Assertions.{broken_of}
 use Rattle.assert_check.specs.Lines.{Tells}
 use Rattle.assert_check.specs.declared.assertion.Assertion.{Assertion}
 use Rattle.assert_check.specs.declared.lines.AssertError.{AssertError}
 use Rattle.assert_check.specs.declared.lines.AssertError.TheVariants as assert_error
 use Rattle.call_context.specs.declared.node.Unit.{Unit as WorkUnit}
-use Rattle.call_context.specs.declared.shown.Cause.{Cause}
 use Rattle.chip_law.specs.Analysis.{Analysis}
 use Rattle.chip_law.specs.Line.{item_line_of}
 use Rattle.chip_law.specs.declared.chip.Work.{Work}
 use Rattle.chip_numbers.specs.declared.space.Space.{Space}
-use Rattle.closing_law.specs.Covered.{NoneIsOpen}
-use Rattle.report_text.specs.Report.{IsReportOf, are_closed, is_empty, last_works, report_of}
+use Rattle.report_text.specs.Report.{IsReportOf, are_closed, last_works, report_of}
 use Rattle.round_core.specs.Kept.{live_pairs}
 use Rattle.round_core.specs.Machine.{replay, IsClosed}
 use Rattle.round_core.specs.declared.event.Event.{Event}
@@ -36,28 +33,6 @@ use Rattle.vsa_top.specs.declared.second.SecondError.TheVariants as second_error
 use Rattle.analysis_limits.specs.declared.limits.Limits.{Limits}
 
 -- BOOKS
-
-in_none : {X : Type 0} (x : X) → Contains [] x → ⊥
-in_none x h = absurd (omega (arith, h.1))
-
-in_cons : {X : Type 0} (first : X) (xs : List X) (x : X) → Contains (first ∷ xs) x → (first ≡ x) ⊎ Contains xs x
-in_cons first xs x h = elim (Contains-append_cases (first ∷ []) xs x h) [
-  | inl one ↦ elim (Contains-push_cases [] first x one) [ inl none ↦ absurd (in_none x none) | inr same ↦ inl same ]
-  | inr rest ↦ inr rest
-]
-
-none_of : (opens : List (ℕ × Cause)) → is_empty opens ≡ true → opens ≡ []
-none_of [] h = refl
-none_of (o ∷ os) h = absurd (cc)
-
--- works that are closed leave no site open
-pub none_open : {A : Type 0} (works : List (Work A)) → are_closed works ≡ true → NoneIsOpen works
-none_open [] h work k = absurd (in_none work k)
-none_open (first ∷ works) h work k = let b = and_parts (is_empty first.opens) (are_closed works) h in
-    elim (in_cons first works work k) [
-      | inl same ↦ subst (λ (w : Work _). w.opens ≡ []) same (none_of first.opens b.0)
-      | inr rest ↦ none_open works b.1 work rest
-    ]
 
 -- what a closed book of these works breaks is what its journal's book breaks
 pub decided_by : {A : Type 0} (text_of : ℕ → List ℕ → List ℕ) (m : Analysis A) (workers : ℕ) (list : List (ℕ × Assertion)) (journal told : List Event)

@@ -43,33 +43,29 @@ use Rattle.vsa_top.proofs.HeadlineLemmas.{HaveOneImage, HaveRules, IsGiven, clos
 
 -- WHAT AN ANALYSIS WRITES
 
+-- a report with its own certificate behind it was written
+abbrev HasOwn : Target → Limits → List (Option ℕ) → (written : List ℕ) → Type 0
+HasOwn target limits image written =
+    (report : List ℕ) × (certificate : List ℕ) × (written ≡ report ++ certificate) × IsOwn target limits image report certificate
+
+has_own : (target : Target) (limits : Limits) (workers : ℕ) (image : List (Option ℕ)) (written : List ℕ) (journal : List Event) (report certificate : List ℕ)
+    → written ≡ report ++ certificate → IsReportedOn target limits workers false image Done report journal
+    → IsReportedOn target limits workers true image Done (report ++ certificate) journal → HasOwn target limits image written
+has_own target limits workers image written journal report certificate joined reported certified =
+    (report, certificate, joined, record { workers = workers; journal = journal; reported = reported; certified = certified })
+
 own_of : (target : Target) (limits : Limits) (workers : ℕ) (image : List (Option ℕ)) (written : List ℕ) (journal : List Event)
-    → IsReportedOn target limits workers true image Done written journal
-    → (report : List ℕ) × (certificate : List ℕ) × (written ≡ report ++ certificate) × IsOwn target limits image report certificate
+    → IsReportedOn target limits workers true image Done written journal → HasOwn target limits image written
 own_of (Msp430 ram) limits workers image written journal is =
-    let (certificate, cert, joined) = is.followed in (
-      is.report,
-      certificate,
-      joined,
-      record {
-        workers = workers;
-        journal = journal;
-        reported = record { report = is.report; analysed = is.analysed; followed = refl };
-        certified = record { report = is.report; analysed = is.analysed; followed = (certificate, cert, refl) };
-      },
-    )
+    let (certificate, cert, joined) = is.followed in
+    has_own (Msp430 ram) limits workers image written journal is.report certificate joined
+    (record { report = is.report; analysed = is.analysed; followed = refl })
+    (record { report = is.report; analysed = is.analysed; followed = (certificate, cert, refl) })
 own_of Mcs51 limits workers image written journal is =
-    let (certificate, cert, joined) = is.followed in (
-      is.report,
-      certificate,
-      joined,
-      record {
-        workers = workers;
-        journal = journal;
-        reported = record { report = is.report; analysed = is.analysed; followed = refl };
-        certified = record { report = is.report; analysed = is.analysed; followed = (certificate, cert, refl) };
-      },
-    )
+    let (certificate, cert, joined) = is.followed in
+    has_own Mcs51 limits workers image written journal is.report certificate joined
+    (record { report = is.report; analysed = is.analysed; followed = refl })
+    (record { report = is.report; analysed = is.analysed; followed = (certificate, cert, refl) })
 
 written_reply : HaveOneImage → (task : Task) (input : Option (List ℕ)) (written : List ℕ) (journal : List Event) → task.cert ≡ true
     → IsReply (Analyse task) input Done written journal → (text : List ℕ) (image : List (Option ℕ)) → input ≡ Some text

@@ -18,6 +18,7 @@ mod second;
 mod summary;
 mod top;
 
+pub use msp430::Msp430Code;
 pub use outcome::{Outcome, Status};
 pub use round_core::Event;
 pub use top::vsa;
