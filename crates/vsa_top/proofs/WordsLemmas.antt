@@ -1,9 +1,11 @@
 -- What holds of the reading that was found, and so of each that the words are.
 use Rattle.std.proofs.Common.{◌≡◌, List, Option, None, Some, subst, sym}
 use Rattle.std.specs.Prelude.{ℕ, IfNone, IfSome}
+use Rattle.std.specs.declared.string.String.{String}
+use Rattle.std.specs.declared.alloc.Global.{Global}
 use Rattle.image.specs.Kept.{IsRamRange}
 use Rattle.round_core.specs.declared.event.Event.{Event}
-use Rattle.vsa_words.specs.Words.{EndsInMemory, IsBounded, rules_of}
+use Rattle.vsa_words.specs.Words.{EndsInMemory, IsBounded, Reads, rules_of}
 use Rattle.vsa_words.specs.declared.reading.Reading.{Reading}
 use Rattle.vsa_top.specs.Answer.{Answers}
 use Rattle.vsa_top.specs.declared.outcome.Status.{Status}
@@ -21,12 +23,12 @@ pub record IsRead (status : Status) (input before after : Option (List ℕ)) (jo
   pub bounded : IsBounded reading
   pub answer : Answers reading status input before after journal
 
-pub read_as : {Reads : Reading → Type 0} {status : Status} {input before after : Option (List ℕ)} {journal : List Event} {found : Option Reading}
-    {reading : Reading} → found ≡ Some reading → IfSome found (λ r. (other : Reading) → Reads other → other ≡ r)
+pub read_as : {words : List (String Global)} {status : Status} {input before after : Option (List ℕ)} {journal : List Event} {found : Option Reading}
+    {reading : Reading} → found ≡ Some reading → IfSome found (λ r. (other : Reading) → Reads words other → other ≡ r)
     → IfSome found (λ r. IsRamRange (rules_of r)) → IfSome found (λ r. EndsInMemory (rules_of r)) → IfSome found IsBounded
-    → Answers reading status input before after journal → (other : Reading) → Reads other → IsRead status input before after journal other
-read_as {Reads} {status} {input} {before} {after} {journal} {found} {reading} is alone range end bounded answer other reads =
-    let same = some_of found reading (λ r. (o : Reading) → Reads o → o ≡ r) is alone other reads in
+    → Answers reading status input before after journal → (other : Reading) → Reads words other → IsRead status input before after journal other
+read_as {words} {status} {input} {before} {after} {journal} {found} {reading} is alone range end bounded answer other reads =
+    let same = some_of found reading (λ r. (o : Reading) → Reads words o → o ≡ r) is alone other reads in
     subst (IsRead status input before after journal) (sym same) record {
       range = some_of found reading (λ r. IsRamRange (rules_of r)) is range;
       end = some_of found reading (λ r. EndsInMemory (rules_of r)) is end;
