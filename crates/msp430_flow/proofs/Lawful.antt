@@ -181,8 +181,8 @@ module _ (laws : Laws) (setting : Setting) (so : IsSetting setting) where
       let is_device = device_of device so.program in
       record {
         entry = λ coming_so listed. (
-            (laws.entries.handler device coming_so.vector is_device, omega arith, All-nil IsEvenWord, (laws.entries.frame device framed a coming_so form.1 listed).0),
-            laws.entries.form device framed a pc coming_so is_device form.1 node.0 listed,
+          (laws.entries.handler device coming_so.vector is_device, omega arith, All-nil IsEvenWord, (laws.entries.frame device framed a coming_so form.1 listed).0),
+          laws.entries.form device framed a pc coming_so is_device form.1 node.0 listed,
         );
         way = λ instr_so is way listed.
             let site = site_of (msp430_flow setting) pc calls frame instr_so in

@@ -233,9 +233,11 @@ told laws setting calls frame a s first wild under (refused refusal found is) =
 
 standing_of : Laws → (device : Device) → IsProgram device → (pc : ℕ) (instr_so : Instr) (found : Option Instr) → found ≡ Some instr_so → Fetching (decoded device.image pc) found
     → (len : ℕ) × Stands device.image pc instr_so len
-standing_of laws device program pc instr_so found e (stands other len is same) =
-    (len, subst (Decodes device.image pc) (is ∙ ap (λ (i : Instr). let answer : Result (Instr × ℕ) NoInstr = Ok (i, len) in answer) (same_Some (sym same ∙ e)))
-    (laws.decoding.answer device.image pc program.read.size program.read.bytes))
+standing_of laws device program pc instr_so found e (stands other len is same) = (
+  len,
+  subst (Decodes device.image pc) (is ∙ ap (λ (i : Instr). let answer : Result (Instr × ℕ) NoInstr = Ok (i, len) in answer) (same_Some (sym same ∙ e)))
+      (laws.decoding.answer device.image pc program.read.size program.read.bytes),
+)
 standing_of laws device program pc instr_so found e (none_stands refusal is same) = absurd (let both = sym same ∙ e in cc)
 
 -- a store that is left open can hit the program

@@ -236,4 +236,3 @@ put_all_ascending low m held (x ∷ xs) below rises a =
 
 pub ascending_same : (m : ℕ) (xs : List ℕ) → Ascends 0 m xs → ascending xs ≡ xs
 ascending_same m xs a = put_all_ascending 0 m [] xs (λ v i. absurd i) tt a
-

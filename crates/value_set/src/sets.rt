@@ -11,14 +11,13 @@ ghost use Rattle.value_set.specs.Cutting as cuts;
 ghost use Rattle.value_set.specs.Summing as sums;
 ghost use Rattle.value_set.specs.Summing.{single};
 
+use crate::combining::Operation;
 pub use crate::combining::alone;
+use crate::form::Form;
 pub use crate::gathering::make;
 pub use crate::member::nth;
-pub use crate::summing::single;
-
-use crate::combining::Operation;
-use crate::form::Form;
 use crate::number::Number;
+pub use crate::summing::single;
 use crate::{collecting, combining, cutting, joining, member, summing, widening};
 
 /// The set of all numbers below the modulus.
