@@ -4,7 +4,6 @@ ghost use Rattle.image.specs.Kept.{IsRamRange};
 use ihex_read::{HexError, HexFault, MOST_BYTES, Reader, Tail};
 use image::{Image, Rules};
 use std::alloc::Global;
-use std::process::Abort;
 use std::test::Fail;
 
 const MSP430: Rules = Rules::Msp430 {
@@ -39,23 +38,6 @@ fn by_bytes(alloc: Global, text: &[u8], rules: Rules) -> Result<Image, HexError>
         reader.feed(&[*byte])?;
     }
     reader.end()
-}
-
-/// Both answer so, of which none is that there is an image.
-fn answers<R: Abort + AllocGlobal>(
-    rt: &R,
-    text: &str,
-    rules: Rules,
-    answer: Option<HexError>,
-) -> Result<(), Fail>
-    requires { IsRamRange rules }
-{
-    assert!(rt; text.len() <= MOST_BYTES);
-    let one = in_one(rt.alloc(), text.as_bytes(), rules).err();
-    assert_eq!(rt; one, answer, "{text:?}");
-    let many = by_bytes(rt.alloc(), text.as_bytes(), rules).err();
-    assert_eq!(rt; many, answer, "{text:?} byte by byte");
-    Ok(())
 }
 
 const fn bad(line: u32, fault: HexFault) -> Option<HexError> {
@@ -149,7 +131,11 @@ fn rows(rt: HostRuntime) -> Result<(), Fail> {
             bad(1, HexFault::BadDigit),
         ),
     ] {
-        answers(&rt, text, MSP430, answer)?;
+        assert!(rt; text.len() <= MOST_BYTES);
+        let one = in_one(rt.alloc(), text.as_bytes(), MSP430).err();
+        assert_eq!(rt; one, answer, "{text:?}");
+        let many = by_bytes(rt.alloc(), text.as_bytes(), MSP430).err();
+        assert_eq!(rt; many, answer, "{text:?} byte by byte");
     }
     Ok(())
 }
@@ -169,7 +155,11 @@ fn mirror(rt: HostRuntime) -> Result<(), Fail> {
         (":0139000000C6", None),
     ] {
         let text = format!(in rt.alloc(); "{row}\n:02FFFE0000F011\n:00000001FF\n")?;
-        answers(&rt, text.as_str(), MIRRORED, answer)?;
+        assert!(rt; text.len() <= MOST_BYTES);
+        let one = in_one(rt.alloc(), text.as_bytes(), MIRRORED).err();
+        assert_eq!(rt; one, answer, "{row}");
+        let many = by_bytes(rt.alloc(), text.as_bytes(), MIRRORED).err();
+        assert_eq!(rt; many, answer, "{row} byte by byte");
     }
     Ok(())
 }

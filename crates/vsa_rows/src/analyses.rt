@@ -1,20 +1,32 @@
 //! Whole analyses of the MSP430, each record by record against the manual.
 
-use crate::calls::{begins, records_answer};
+use crate::answers::{answers, begins};
 use std::process::Abort;
 use std::sync::Wait;
 use std::test::Fail;
 use std::thread::Threads;
 use vsa_top::Status;
 
-/// A program of some records with the reset vector F000h gets this report by the usual words.
+/// A program of some records with the reset vector F000h gets this report by these words.
+fn is_analysed_by<R: Abort + Threads + Wait + AllocGlobal + Sync>(
+    rt: &R,
+    words: &str,
+    records: &str,
+    status: Status,
+    report: &str,
+) -> Result<(), Fail> {
+    let input = format!(in rt.alloc(); "{records}\n:02FFFE0000F011\n:00000001FF\n")?;
+    answers(rt, words, input.as_str(), status, report)
+}
+
+/// The same by the usual words.
 fn is_analysed<R: Abort + Threads + Wait + AllocGlobal + Sync>(
     rt: &R,
     records: &str,
     status: Status,
     report: &str,
 ) -> Result<(), Fail> {
-    records_answer(rt, "analyse msp430", records, "", status, report)
+    is_analysed_by(rt, "analyse msp430", records, status, report)
 }
 
 /// A jump through a table, by a number below 4.
@@ -124,7 +136,7 @@ fn rows_within_limits(rt: HostRuntime) -> Result<(), Fail> {
         ),
     ];
     for (words, records, status, report) in rows {
-        records_answer(&rt, words, records, "", status, report)?;
+        is_analysed_by(&rt, words, records, status, report)?;
     }
     Ok(())
 }

@@ -1,14 +1,76 @@
-//! Rows of answers to the words, and to image texts.
+//! Whole calls, over streams in memory.
 
-use crate::calls::{answers, called};
+use crate::code::EvenCode;
 use disassembly::disassembly_of;
 use image::Image;
+use std::alloc::{AllocError, Global};
 use std::process::Abort;
 use std::sync::Wait;
 use std::test::Fail;
 use std::thread::Threads;
 use vsa_io::{CleanSink, CleanSource, MemSource};
-use vsa_top::{Msp430Code, NoGate, Status};
+use vsa_top::{NoGate, Status, vsa};
+
+/// The words of a command line.
+pub(crate) fn words_of(alloc: Global, line: &str) -> Result<Vec<String>, AllocError> {
+    let mut words = Vec::new(alloc);
+    for word in line.split_whitespace() {
+        words.push(String::from_str(alloc, word)?)?;
+    }
+    Ok(words)
+}
+
+/// A call answers this status and this text, in pieces of one byte too.
+pub(crate) fn answers<R: Abort + Threads + Wait + AllocGlobal + Sync>(
+    rt: &R,
+    line: &str,
+    input: &str,
+    status: Status,
+    text: &str,
+) -> Result<(), Fail> {
+    for piece in [1, 4096] {
+        let words = words_of(rt.alloc(), line)?;
+        let bytes = Vec::from_slice(rt.alloc(), input.as_bytes())?;
+        let mut source = CleanSource::new(bytes, piece);
+        let mut sink = CleanSink::with_room(rt.alloc(), piece, 16384)?;
+        let outcome = vsa(
+            rt,
+            rt.alloc(),
+            words.as_slice(),
+            &mut source,
+            &mut sink,
+            &NoGate,
+        );
+        assert_eq!(rt; outcome.status, status, "{line}");
+        assert_eq!(rt; sink.bytes(), text.as_bytes(), "{line}");
+    }
+    Ok(())
+}
+
+/// A call answers this status and a text that begins so.
+pub(crate) fn begins<R: Abort + Threads + Wait + AllocGlobal + Sync>(
+    rt: &R,
+    line: &str,
+    input: &str,
+    status: Status,
+    front: &str,
+) -> Result<(), Fail> {
+    let words = words_of(rt.alloc(), line)?;
+    let bytes = Vec::from_slice(rt.alloc(), input.as_bytes())?;
+    let mut source = CleanSource::new(bytes, 4096);
+    let mut sink = CleanSink::with_room(rt.alloc(), 4096, 4096)?;
+    let outcome = vsa(
+        rt,
+        rt.alloc(),
+        words.as_slice(),
+        &mut source,
+        &mut sink,
+        &NoGate,
+    );
+    assert_eq!(rt; outcome.status, status, "{line}");
+    assert!(rt; sink.bytes().starts_with(front.as_bytes()), "{line}");
+    Ok(())
+}
 
 pub(crate) const EIGHT_BYTES: &str = ":06F0000031408002FF3FD9\n:02FFFE0000F011\n:00000001FF\n";
 
@@ -77,7 +139,7 @@ fn rows_of_the_last_word(rt: HostRuntime) -> Result<(), Fail> {
     bytes.resize(65534, None)?;
     bytes.push(Some(0x31))?;
     bytes.push(Some(0x40))?;
-    let lines = disassembly_of::<Msp430Code>(rt.alloc(), &Image::new(bytes))?;
+    let lines = disassembly_of::<EvenCode>(rt.alloc(), &Image::new(bytes))?;
     let text = "0000 3412 PUSH @R4+\nFFFE 31403412 MOV #1234h,SP\n";
     assert_eq!(rt; lines.as_slice(), text.as_bytes());
     Ok(())
@@ -93,10 +155,18 @@ fn rows_of_a_disassembly_that_fails(rt: HostRuntime) -> Result<(), Fail> {
         "BAD 1 NoReset\n",
     )?;
     // A sink that is full behind ten bytes.
+    let words = words_of(rt.alloc(), "disasm msp430")?;
     let bytes = Vec::from_slice(rt.alloc(), EIGHT_BYTES.as_bytes())?;
     let mut source = CleanSource::new(bytes, 4096);
     let mut sink = CleanSink::with_room(rt.alloc(), 4096, 10)?;
-    let outcome = called(&rt, "disasm msp430", &mut source, &mut sink, &NoGate)?;
+    let outcome = vsa(
+        &rt,
+        rt.alloc(),
+        words.as_slice(),
+        &mut source,
+        &mut sink,
+        &NoGate,
+    );
     assert_eq!(rt; outcome.status, Status::WriteFault);
     assert_eq!(rt; sink.bytes(), b"F000 31408".as_slice());
     assert_eq!(rt; outcome.journal.len(), 0);
@@ -374,11 +444,19 @@ fn answers_feeds<R: Abort + Threads + Wait + AllocGlobal + Sync>(
     status: Status,
     text: &str,
 ) -> Result<(), Fail> {
+    let words = words_of(rt.alloc(), "analyse msp430")?;
     let mut bytes = Vec::from_slice(rt.alloc(), first.as_bytes())?;
     bytes.resize(count, b'\n')?;
     let mut source = CleanSource::new(bytes, 4096);
     let mut sink = CleanSink::with_room(rt.alloc(), 4096, 4096)?;
-    let outcome = called(rt, "analyse msp430", &mut source, &mut sink, &NoGate)?;
+    let outcome = vsa(
+        rt,
+        rt.alloc(),
+        words.as_slice(),
+        &mut source,
+        &mut sink,
+        &NoGate,
+    );
     assert_eq!(rt; outcome.status, status);
     assert_eq!(rt; sink.bytes(), text.as_bytes());
     Ok(())
@@ -404,11 +482,19 @@ fn rows_of_faults(rt: HostRuntime) -> Result<(), Fail> {
         (2, Status::ReadFault, ""),
         (4, Status::Done, REPORT),
     ] {
+        let words = words_of(rt.alloc(), "analyse msp430")?;
         let bytes = Vec::from_slice(rt.alloc(), EIGHT_BYTES.as_bytes())?;
         let calls = vec![in rt.alloc(); failing]?;
         let mut source = MemSource::new(bytes, 40, calls);
         let mut sink = CleanSink::with_room(rt.alloc(), 4096, 4096)?;
-        let outcome = called(&rt, "analyse msp430", &mut source, &mut sink, &NoGate)?;
+        let outcome = vsa(
+            &rt,
+            rt.alloc(),
+            words.as_slice(),
+            &mut source,
+            &mut sink,
+            &NoGate,
+        );
         assert_eq!(rt; outcome.status, status, "call {failing}");
         assert_eq!(rt; sink.bytes(), text.as_bytes(), "call {failing}");
     }

@@ -1,7 +1,6 @@
 //! Assertions over closed reports, whole calls over streams in memory.
 
-use crate::answers::EIGHT_BYTES;
-use crate::calls::{answers, begins};
+use crate::answers::{EIGHT_BYTES, answers, begins};
 use std::process::Abort;
 use std::sync::Wait;
 use std::test::Fail;

@@ -1,7 +1,6 @@
 //! Certificates behind image texts, whole calls over streams in memory.
 
-use crate::answers::{EIGHT_BYTES, REPORT};
-use crate::calls::answers;
+use crate::answers::{EIGHT_BYTES, REPORT, answers};
 use std::alloc::{AllocError, Global};
 use std::process::Abort;
 use std::sync::Wait;

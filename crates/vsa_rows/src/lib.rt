@@ -8,9 +8,9 @@ mod answers;
 #[cfg(test)]
 mod asserts;
 #[cfg(test)]
-mod calls;
-#[cfg(test)]
 mod checks;
+#[cfg(test)]
+mod code;
 #[cfg(test)]
 mod mcs51;
 #[cfg(test)]

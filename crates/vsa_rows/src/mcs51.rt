@@ -1,6 +1,6 @@
 //! The MCS-51's analyses, disassemblies and runs, whole calls over streams in memory.
 
-use crate::calls::answers;
+use crate::answers::answers;
 use std::process::Abort;
 use std::sync::Wait;
 use std::test::Fail;

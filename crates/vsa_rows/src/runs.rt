@@ -1,9 +1,24 @@
 //! Runs along scripts, whole calls over streams in memory.
 
-use crate::answers::EIGHT_BYTES;
-use crate::calls::{answers, records_answer};
+use crate::answers::{EIGHT_BYTES, answers};
+use std::process::Abort;
+use std::sync::Wait;
 use std::test::Fail;
+use std::thread::Threads;
 use vsa_top::Status;
+
+/// A program's run along a script: its records stand in front of the reset vector F000h.
+fn runs<R: Abort + Threads + Wait + AllocGlobal + Sync>(
+    rt: &R,
+    line: &str,
+    records: &str,
+    script: &str,
+    status: Status,
+    text: &str,
+) -> Result<(), Fail> {
+    let input = format!(in rt.alloc(); "{records}\n:02FFFE0000F011\n:00000001FF\n{script}")?;
+    answers(rt, line, input.as_str(), status, text)
+}
 
 const TWO_STEPS: &str =
     "S F000 0000\nI F000 31408002 MOV #0280h,SP\nE F000 F004\nS F004 0280\nI F004 FF3F JMP F004h\nE F004 F004\nEND 2\n";
@@ -55,7 +70,7 @@ fn row_a_line_refused(rt: HostRuntime) -> Result<(), Fail> {
         ("xyz\n", "NO 1 Syntax\n"),
         ("1\n\n12345\nxyz\n", "NO 3 Syntax\n"),
     ] {
-        records_answer(&rt, "run msp430", eight, script, Status::BadCert, answer)?;
+        runs(&rt, "run msp430", eight, script, Status::BadCert, answer)?;
     }
     Ok(())
 }
@@ -69,7 +84,7 @@ const JUMP_TABLE_RUN: &str =
 #[test]
 fn jump_table_run(rt: HostRuntime) -> Result<(), Fail> {
     for script in ["", "2", "2\n", "\n\r\n"] {
-        records_answer(
+        runs(
             &rt,
             "run msp430",
             JUMP_TABLE,
@@ -79,7 +94,7 @@ fn jump_table_run(rt: HostRuntime) -> Result<(), Fail> {
         )?;
     }
     for script in ["2\n0\n", "2\n0", "2\r\n\r\n0\r\n7\n", "0102\nff00\n"] {
-        records_answer(
+        runs(
             &rt,
             "run msp430 --steps 5",
             JUMP_TABLE,
@@ -102,7 +117,7 @@ fn rows_out_of_the_model(rt: HostRuntime) -> Result<(), Fail> {
             "S F000 0000\nI F000 073C JMP F010h\nE F000 F010\nWILD 2 F010\n",
         ),
     ] {
-        records_answer(&rt, "run msp430 --steps 3", record, "", Status::Wild, text)?;
+        runs(&rt, "run msp430 --steps 3", record, "", Status::Wild, text)?;
     }
     Ok(())
 }
@@ -115,7 +130,7 @@ fn waking_handler_run(rt: HostRuntime) -> Result<(), Fail> {
     let records = ":10F000003140800232D2FF3FB1C0F0000000001357\n:02FFF20008F015";
     // the bits of SR that nothing holds, the interrupt, and these bits again as they are pushed
     let text = format!(in rt.alloc(); "{WAKING_HANDLER_RUN}END 5\n")?;
-    records_answer(
+    runs(
         &rt,
         "run msp430 --steps 5",
         records,
@@ -124,7 +139,7 @@ fn waking_handler_run(rt: HostRuntime) -> Result<(), Fail> {
         text.as_str(),
     )?;
     let text = format!(in rt.alloc(); "{WAKING_HANDLER_RUN}NEED 6\n")?;
-    records_answer(
+    runs(
         &rt,
         "run msp430",
         records,

@@ -1,13 +1,13 @@
 //! Analyses by several workers: their reports, streams that fail, and that two of them work at once.
 
-use crate::calls::{answer_to, called};
+use crate::answers::words_of;
 use std::alloc::{AllocError, Global};
 use std::sync::atomic::AtomicU64;
 use std::sync::atomic::Ordering::SeqCst;
 use std::test::Fail;
 use std::thread;
 use vsa_io::{CleanSink, CleanSource, MemSink, MemSource};
-use vsa_top::{Event, Gate, NoGate, Status};
+use vsa_top::{Event, Gate, NoGate, Status, vsa};
 
 /// A lamp and a timer, as in the rows of one worker.
 const LAMP: &str =
@@ -21,8 +21,6 @@ const FIRST_LINES: &str =
 const LAST_LINES: &str =
     "\nS F000 0000/2/8000\nS F004 0280\nS F00A 0280\nS F00E 0280\nS F014 0280\nS F016 0280\nS F01A 0280\nS F01C 0280\nS F01E 0280\nS F020 027C\nS F022 027A\nS F024 027A\nS F028 027A\nS F02A 027C\nT 027A 1\n";
 
-const FOUR_WORKERS: &str = "analyse msp430 --workers 4";
-
 /// The bytes of the lamp's image text.
 fn lamp(alloc: Global) -> Result<Vec<u8>, AllocError> {
     Vec::from_slice(alloc, LAMP.as_bytes())
@@ -31,8 +29,18 @@ fn lamp(alloc: Global) -> Result<Vec<u8>, AllocError> {
 /// The order of joins is free with several workers: edges, instructions and stack pointers are those of one.
 #[test]
 fn row_of_four_workers(rt: HostRuntime) -> Result<(), Fail> {
+    let words = words_of(rt.alloc(), "analyse msp430 --workers 4")?;
     for _ in 0..10 {
-        let (outcome, sink) = answer_to(&rt, FOUR_WORKERS, LAMP, 4096)?;
+        let mut source = CleanSource::new(lamp(rt.alloc())?, 4096);
+        let mut sink = CleanSink::with_room(rt.alloc(), 4096, 4096)?;
+        let outcome = vsa(
+            &rt,
+            rt.alloc(),
+            words.as_slice(),
+            &mut source,
+            &mut sink,
+            &NoGate,
+        );
         assert_eq!(rt; outcome.status, Status::Done);
         assert!(rt; sink.bytes().starts_with(FIRST_LINES.as_bytes()));
         assert!(rt; sink.bytes().ends_with(LAST_LINES.as_bytes()));
@@ -42,10 +50,18 @@ fn row_of_four_workers(rt: HostRuntime) -> Result<(), Fail> {
 
 #[test]
 fn row_of_a_source_that_fails(rt: HostRuntime) -> Result<(), Fail> {
+    let words = words_of(rt.alloc(), "analyse msp430 --workers 4")?;
     let failing = vec![in rt.alloc(); 2]?;
     let mut source = MemSource::new(lamp(rt.alloc())?, 16, failing);
     let mut sink = CleanSink::with_room(rt.alloc(), 4096, 4096)?;
-    let outcome = called(&rt, FOUR_WORKERS, &mut source, &mut sink, &NoGate)?;
+    let outcome = vsa(
+        &rt,
+        rt.alloc(),
+        words.as_slice(),
+        &mut source,
+        &mut sink,
+        &NoGate,
+    );
     assert_eq!(rt; outcome.status, Status::ReadFault);
     assert_eq!(rt; sink.bytes().len(), 0);
     assert_eq!(rt; outcome.journal.len(), 0);
@@ -54,10 +70,18 @@ fn row_of_a_source_that_fails(rt: HostRuntime) -> Result<(), Fail> {
 
 #[test]
 fn row_of_a_sink_that_fails(rt: HostRuntime) -> Result<(), Fail> {
+    let words = words_of(rt.alloc(), "analyse msp430 --workers 4")?;
     let failing = vec![in rt.alloc(); 1]?;
     let mut source = CleanSource::new(lamp(rt.alloc())?, 16);
     let mut sink = MemSink::with_room(rt.alloc(), 4096, 4096, failing)?;
-    let outcome = called(&rt, FOUR_WORKERS, &mut source, &mut sink, &NoGate)?;
+    let outcome = vsa(
+        &rt,
+        rt.alloc(),
+        words.as_slice(),
+        &mut source,
+        &mut sink,
+        &NoGate,
+    );
     assert_eq!(rt; outcome.status, Status::WriteFault);
     assert_eq!(rt; sink.bytes().len(), 0);
     Ok(())
@@ -151,15 +175,17 @@ fn row_of_two_workers_at_once(rt: HostRuntime) -> Result<(), Fail> {
         other: told_nothing(),
         late: AtomicU64::new(0),
     };
+    let words = words_of(rt.alloc(), "analyse msp430 --workers 2")?;
     let mut source = CleanSource::new(lamp(rt.alloc())?, 4096);
     let mut sink = CleanSink::with_room(rt.alloc(), 4096, 4096)?;
-    let outcome = called(
+    let outcome = vsa(
         &rt,
-        "analyse msp430 --workers 2",
+        rt.alloc(),
+        words.as_slice(),
         &mut source,
         &mut sink,
         &gate,
-    )?;
+    );
     assert_eq!(rt; outcome.status, Status::Done);
     assert_eq!(rt; gate.late.load(SeqCst), 0);
     for seat in 0..2 {
