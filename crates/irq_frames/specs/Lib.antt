@@ -7,3 +7,4 @@ pub mod Unrelated
 pub mod Laws
 pub mod TouchFacts
 pub mod KnownLaws
+pub mod Touched

@@ -9,6 +9,8 @@
 //! that no handler touched is what it was, and the exit's cells go on as a chip says ([`Resumes`]); by [`resume_cells`] they go
 //! on as words do.
 //!
+//! `specs/Touched.antt` says which ranges a state has in the frame of an interrupt and elsewhere, and how they are ordered.
+//!
 //! The laws are functions that do nothing: [`known_laws`] gives these, and all laws of sets, bits, words, bytes and cells, as one
 //! record (`specs/KnownLaws.antt`, `specs/Laws.antt`).
 #![tactic(auto)]

@@ -2,7 +2,7 @@
 use Rattle.std.specs.Prelude.{◌≡◌, if◌then◌else◌, Bool, true, false, Option, None, Some}
 use Rattle.std.proofs.Common.{refl, sym, subst}
 use Rattle.std.proofs.lemmas.Bool.{cond_both}
-use Rattle.known_parts.specs.Orders.{IsAny, IsOrdered}
+use Rattle.plain_lemmas.specs.Orders.{IsAny, IsOrdered}
 
 -- a fact that both have
 abbrev pub common_fact : {F : Type 0} → (F → F → Bool) → Option F → Option F → Option F

@@ -3,18 +3,18 @@ use Rattle.std.proofs.Common.{◌≡◌, ℕ, ◌%◌, true, None, List, [], ref
 use Rattle.entry_value.specs.declared.cells.Cell.{Cell}
 use Rattle.entry_value.specs.CellLists.{Each}
 use Rattle.entry_value.specs.Cells.{AreCells, are_within, join_cells, widen_cells}
+use Rattle.entry_value.specs.Laws.{CellLaws, ValueLaws}
 use Rattle.entry_value.specs.Words.{common_entry, is_entry_within}
-use Rattle.irq_frames.specs.KnownLaws.{KnownLaws}
 use Rattle.value_bits.specs.declared.tri.Tri.TheVariants.{Either}
 use Rattle.value_set.specs.declared.form.Form.{Form}
 use Rattle.value_set.specs.Form.{IsNormal, make}
 use Rattle.value_set.specs.Joining.{is_within, join}
-use Rattle.value_set.specs.Laws.{AreMarks}
+use Rattle.value_set.specs.Laws.{AreMarks, SetLaws}
 use Rattle.value_set.specs.Remainders.{HasRemainder}
 use Rattle.value_set.specs.Widening.{widen}
 use Rattle.known_parts.specs.Bits.{bit_along, bit_common, bit_itself, bit_top, common_bit, is_bit_within}
 use Rattle.known_parts.specs.CellForms.{StaysSo, joined_stay, widened_stay}
-use Rattle.known_parts.specs.Orders.{IsAny, IsOrdered}
+use Rattle.plain_lemmas.specs.Orders.{IsAny, IsOrdered}
 
 pub bit_ordered : IsOrdered IsAny is_bit_within common_bit Either
 bit_ordered = record {
@@ -26,25 +26,25 @@ bit_ordered = record {
   whole = λ bit any. bit_top bit;
 }
 
-module _ (laws : KnownLaws) where
-  -- SETS
+-- SETS
 
+module _ (laws : SetLaws) where
   set_itself : (m : ℕ) (a : Form) → is_within m a a ≡ true
-  set_itself m a = (laws.sets.tested m a a).1 (λ v has. has)
+  set_itself m a = (laws.tested m a a).1 (λ v has. has)
 
   set_along : (m : ℕ) (a b c : Form) → is_within m a b ≡ true → is_within m b c ≡ true → is_within m a c ≡ true
-  set_along m a b c h k = (laws.sets.tested m a c).1 (λ v has. (laws.sets.tested m b c).0 k v ((laws.sets.tested m a b).0 h v has))
+  set_along m a b c h k = (laws.tested m a c).1 (λ v has. (laws.tested m b c).0 k v ((laws.tested m a b).0 h v has))
 
   set_whole : (m : ℕ) (a : Form) → IsNormal m a → is_within m a (make m 0 1 m) ≡ true
-  set_whole m a form = (laws.sets.tested m a (make m 0 1 m)).1 (λ v has. laws.sets.whole m v (laws.sets.below m v a form has))
+  set_whole m a form = (laws.tested m a (make m 0 1 m)).1 (λ v has. laws.whole m v (laws.below m v a form has))
 
   set_joined : (m : ℕ) → IsOrdered (IsNormal m) (is_within m) (join m) (make m 0 1 m)
   set_joined m = record {
     itself = λ a form. set_itself m a;
     along = set_along m;
-    form = laws.sets.join_normal m;
-    held = λ a b f g. (laws.sets.tested m a (join m a b)).1 (laws.sets.join_first m a b f g);
-    new = λ a b f g. (laws.sets.tested m b (join m a b)).1 (laws.sets.join_second m a b f g);
+    form = laws.join_normal m;
+    held = λ a b f g. (laws.tested m a (join m a b)).1 (laws.join_first m a b f g);
+    new = λ a b f g. (laws.tested m b (join m a b)).1 (laws.join_second m a b f g);
     whole = set_whole m;
   }
 
@@ -52,43 +52,44 @@ module _ (laws : KnownLaws) where
   set_widened m marks below = record {
     itself = λ a form. set_itself m a;
     along = set_along m;
-    form = λ a b f g. laws.sets.widen_normal m a b marks f g below;
-    held = λ a b f g. (laws.sets.tested m a (widen m a b marks)).1 (laws.sets.widen_held m a b marks f g below);
-    new = λ a b f g. (laws.sets.tested m b (widen m a b marks)).1 (laws.sets.widen_new m a b marks f g below);
+    form = λ a b f g. laws.widen_normal m a b marks f g below;
+    held = λ a b f g. (laws.tested m a (widen m a b marks)).1 (laws.widen_held m a b marks f g below);
+    new = λ a b f g. (laws.tested m b (widen m a b marks)).1 (laws.widen_new m a b marks f g below);
     whole = set_whole m;
   }
 
-  -- RELATIONS
+-- RELATIONS
 
-  pub relation_ordered : IsOrdered IsAny is_entry_within common_entry None
-  relation_ordered = record {
-    itself = λ a any. laws.values.entries.itself a;
-    along = laws.values.entries.along;
-    form = λ a b f g. tt;
-    held = λ a b f g. laws.values.entries.join_first a b;
-    new = λ a b f g. laws.values.entries.join_second a b;
-    whole = λ a any. laws.values.entries.whole a;
-  }
+pub relation_ordered : ValueLaws → IsOrdered IsAny is_entry_within common_entry None
+relation_ordered laws = record {
+  itself = λ a any. laws.entries.itself a;
+  along = laws.entries.along;
+  form = λ a b f g. tt;
+  held = λ a b f g. laws.entries.join_first a b;
+  new = λ a b f g. laws.entries.join_second a b;
+  whole = λ a any. laws.entries.whole a;
+}
 
-  -- CELLS
+-- CELLS
 
+module _ (laws : CellLaws) where
   cells_joined : (lo hi : ℕ) → IsOrdered (AreCells lo hi lo) are_within join_cells []
   cells_joined lo hi = record {
-    itself = laws.cells.itself lo hi lo;
-    along = laws.cells.along;
-    form = laws.cells.join_form lo hi lo lo hi lo;
-    held = laws.cells.join_held lo hi lo lo hi lo;
-    new = laws.cells.join_new lo hi lo lo hi lo;
+    itself = laws.itself lo hi lo;
+    along = laws.along;
+    form = laws.join_form lo hi lo lo hi lo;
+    held = laws.join_held lo hi lo lo hi lo;
+    new = laws.join_new lo hi lo lo hi lo;
     whole = λ cells form. refl;
   }
 
   cells_widened : (lo hi : ℕ) (marks : List ℕ) → AreMarks 65536 marks → IsOrdered (AreCells lo hi lo) are_within (λ held new. widen_cells held new marks) []
   cells_widened lo hi marks below = record {
-    itself = laws.cells.itself lo hi lo;
-    along = laws.cells.along;
-    form = λ a b f g. laws.cells.widen_form lo hi lo lo hi lo a b marks f g below;
-    held = λ a b f g. laws.cells.widen_held lo hi lo lo hi lo a b marks f g below;
-    new = λ a b f g. laws.cells.widen_new lo hi lo lo hi lo a b marks f g below;
+    itself = laws.itself lo hi lo;
+    along = laws.along;
+    form = λ a b f g. laws.widen_form lo hi lo lo hi lo a b marks f g below;
+    held = λ a b f g. laws.widen_held lo hi lo lo hi lo a b marks f g below;
+    new = λ a b f g. laws.widen_new lo hi lo lo hi lo a b marks f g below;
     whole = λ cells form. refl;
   }
 
@@ -101,19 +102,19 @@ pub record AreUnions (m lo hi : ℕ) (of_sets : Form → Form → Form) (of_cell
   pub cells : IsOrdered (AreCells lo hi lo) are_within of_cells []
   pub each_cell : (P : Cell → Type 0) → StaysSo P → (held new : List Cell) → Each P held → Each P (of_cells held new)
 
-pub join_unions : KnownLaws → (m lo hi : ℕ) → AreUnions m lo hi (join m) join_cells
-join_unions laws m lo hi = record {
-  sets = set_joined laws m;
-  rest = λ n r held new. laws.sets.join_rest m n r held new;
-  cells = cells_joined laws lo hi;
+pub join_unions : SetLaws → CellLaws → (m lo hi : ℕ) → AreUnions m lo hi (join m) join_cells
+join_unions sets cells m lo hi = record {
+  sets = set_joined sets m;
+  rest = λ n r held new. sets.join_rest m n r held new;
+  cells = cells_joined cells lo hi;
   each_cell = joined_stay;
 }
 
-pub widen_unions : KnownLaws → (m lo hi : ℕ) (marks : List ℕ) → AreMarks m marks → AreMarks 65536 marks
+pub widen_unions : SetLaws → CellLaws → (m lo hi : ℕ) (marks : List ℕ) → AreMarks m marks → AreMarks 65536 marks
     → AreUnions m lo hi (λ held new. widen m held new marks) (λ held new. widen_cells held new marks)
-widen_unions laws m lo hi marks below words = record {
-  sets = set_widened laws m marks below;
-  rest = λ n r held new. laws.sets.widen_rest m n r held new marks;
-  cells = cells_widened laws lo hi marks words;
+widen_unions sets cells m lo hi marks below words = record {
+  sets = set_widened sets m marks below;
+  rest = λ n r held new. sets.widen_rest m n r held new marks;
+  cells = cells_widened cells lo hi marks words;
   each_cell = λ P stays held new. widened_stay P stays marks held new;
 }

@@ -5,7 +5,7 @@ use Rattle.std.proofs.lemmas.Bool.{and_from, and_parts, and_left, and_right}
 use Rattle.std.proofs.lemmas.List.{append-nil, drop_all, take_all}
 use Rattle.std.proofs.lemmas.List.Elements.{All-nil, All-cons, All-head, All-tail}
 use Rattle.value_bits.specs.Pointwise.{each_with, each_passes}
-use Rattle.known_parts.specs.Orders.{IsOrdered}
+use Rattle.plain_lemmas.specs.Orders.{IsOrdered}
 
 -- so many items, each of a form
 pub record AreEach {A : Type 0} (n : ℕ) (Form : A → Type 0) (xs : List A) : Type 0 where

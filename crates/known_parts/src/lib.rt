@@ -2,10 +2,8 @@
 //!
 //! `specs/Bits.antt` says when a bit is known in both of two states, and when the first knows what the second knows, and
 //! `specs/Options.antt` the same of a fact that a state may have. What is known of a state has parts, and its order goes
-//! part by part: `specs/Orders.antt` has the few facts that a part owes, and how those of a whole come of them.
-//! `specs/Parts.antt` gives them for bits, sets, relations and cells, `specs/Pointwise.antt` for lists, and
-//! `specs/Touched.antt` for the bytes that a handler may have touched. `specs/CellForms.antt` says what stays true of each
-//! cell that is joined or widened.
+//! part by part (`plain_lemmas/specs/Orders.antt`): `specs/Parts.antt` has what bits, sets, relations and cells owe to it, and
+//! `specs/Pointwise.antt` what lists do. `specs/CellForms.antt` says what stays true of each cell that is joined or widened.
 #![tactic(auto)]
 
 mod bits;

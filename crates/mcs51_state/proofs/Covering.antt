@@ -14,8 +14,8 @@ use Rattle.entry_value.specs.Words.{byte_within, is_entry_within}
 use Rattle.irq_frames.specs.Ranges.{has_address, ranges_within}
 use Rattle.known_parts.specs.Bits.{agrees_more, is_bit_within}
 use Rattle.known_parts.specs.Options.{fact_more, is_fact_within}
-use Rattle.known_parts.specs.Orders.{seven_true}
-use Rattle.known_parts.specs.Touched.{untouched_more}
+use Rattle.plain_lemmas.specs.Orders.{seven_true}
+use Rattle.irq_frames.specs.Touched.{untouched_more}
 use Rattle.value_bits.specs.Pointwise.{each_passes}
 use Rattle.value_set.specs.Joining.{is_within}
 use Rattle.value_set.specs.Form.{Has, gather}

@@ -2,7 +2,7 @@
 use Rattle.std.proofs.Common.{◌≡◌, ◌||◌, Bool, true, false, refl}
 use Rattle.std.specs.Prelude.{not}
 use Rattle.std.proofs.lemmas.Bool.{and_parts}
-use Rattle.known_parts.specs.Orders.{IsAny, IsOrdered, Part, both_ordered, part_ordered}
+use Rattle.plain_lemmas.specs.Orders.{IsAny, IsOrdered, Part, both_ordered, part_ordered}
 use Rattle.plain_lemmas.specs.Cases.{implied}
 use Rattle.mcs51_state.specs.declared.levels.Levels.{Levels}
 use Rattle.mcs51_state.specs.Forms.{AreLevels}

@@ -4,10 +4,10 @@ use Rattle.entry_value.specs.declared.cells.Cell.{Cell}
 use Rattle.entry_value.specs.Cells.{join_cells, widen_cells}
 use Rattle.irq_frames.specs.KnownLaws.{KnownLaws}
 use Rattle.known_parts.specs.Options.{fact_ordered}
-use Rattle.known_parts.specs.Orders.{IsOrdered, both_ordered, part_ordered}
+use Rattle.plain_lemmas.specs.Orders.{IsOrdered, both_ordered, part_ordered}
 use Rattle.known_parts.specs.Parts.{AreUnions, bit_ordered, join_unions, relation_ordered, widen_unions}
 use Rattle.known_parts.specs.Pointwise.{each_ordered}
-use Rattle.known_parts.specs.Touched.{touched_ordered}
+use Rattle.irq_frames.specs.Touched.{touched_ordered}
 use Rattle.value_set.specs.declared.form.Form.{Form}
 use Rattle.value_set.specs.Joining.{join}
 use Rattle.value_set.specs.Laws.{AreMarks}
@@ -48,7 +48,7 @@ module _ (laws : KnownLaws) (framed : Bool) where
         both_ordered (both_ordered (both_ordered (both_ordered (both_ordered (both_ordered
         registers_ordered
         (both_ordered (part_ordered (bits_part framed) form (λ s t. refl) (each_ordered 6 bit_ordered))
-        (part_ordered (relation_part framed) form (λ s t. refl) (relation_ordered laws))))
+        (part_ordered (relation_part framed) form (λ s t. refl) (relation_ordered laws.values))))
         (part_ordered (levels_part framed) form (λ s t. refl) levels_ordered))
         (part_ordered (linear_part framed) form (λ s t. refl) (fact_ordered is_same_linear linear_equality)))
         (part_ordered (carry_part framed) form (λ s t. refl) (fact_ordered is_same_carry carry_equality)))
@@ -57,9 +57,9 @@ module _ (laws : KnownLaws) (framed : Bool) where
 
   pub joined_ordered : IsOrdered (IsKnown framed) known_within known_joined (top_known framed)
   unfolding known_joined
-  joined_ordered = united_ordered (join 256) join_cells (join_unions laws 256 0 255)
+  joined_ordered = united_ordered (join 256) join_cells (join_unions laws.sets laws.cells 256 0 255)
 
   pub widened_ordered : (marks : List ℕ) → AreMarks 256 marks → IsOrdered (IsKnown framed) known_within (known_widened marks) (top_known framed)
   unfolding known_widened
   widened_ordered marks below =
-      united_ordered (λ h n. widen 256 h n marks) (λ h n. widen_cells h n marks) (widen_unions laws 256 0 255 marks below (word_marks marks below))
+      united_ordered (λ h n. widen 256 h n marks) (λ h n. widen_cells h n marks) (widen_unions laws.sets laws.cells 256 0 255 marks below (word_marks marks below))

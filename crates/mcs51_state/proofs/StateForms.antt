@@ -11,10 +11,10 @@ use Rattle.entry_value.specs.Cells.{AreCells}
 use Rattle.irq_frames.specs.KnownLaws.{KnownLaws}
 use Rattle.known_parts.specs.CellForms.{StaysSo}
 use Rattle.known_parts.specs.Options.{common_fact_keeps}
-use Rattle.known_parts.specs.Orders.{IsAny, IsOrdered, Part, both_ordered, part_ordered}
+use Rattle.plain_lemmas.specs.Orders.{IsAny, IsOrdered, Part, both_ordered, part_ordered}
 use Rattle.known_parts.specs.Parts.{AreUnions, bit_ordered, relation_ordered}
 use Rattle.known_parts.specs.Pointwise.{AreEach, each_ordered}
-use Rattle.known_parts.specs.Touched.{AreTouched, all_are_touched, touched_ordered}
+use Rattle.irq_frames.specs.Touched.{AreTouched, all_are_touched, touched_ordered}
 use Rattle.value_bits.specs.declared.tri.Tri.{Tri}
 use Rattle.value_set.specs.declared.form.Form.{Form}
 use Rattle.value_set.specs.Form.{IsNormal, gather}
@@ -167,7 +167,7 @@ module _ (laws : KnownLaws) (sets : Form → Form → Form) (cells : List Cell �
       let set_part : Part IsNormalByte (IsNormal 256) = record { of = λ byte. byte.set; formed = λ byte normal. normal } in
       let entry_part : Part {A = Option Entry} IsNormalByte IsAny = record { of = λ byte. byte.entry; formed = λ byte normal. tt } in
       let form : (a b : Byte) → IsNormalByte a → IsNormalByte b → IsNormalByte (byte_united sets a b) = λ a b f g. unions.sets.form a.set b.set f g in
-      both_ordered (part_ordered set_part form (λ a b. refl) unions.sets) (part_ordered entry_part form (λ a b. refl) (relation_ordered laws))
+      both_ordered (part_ordered set_part form (λ a b. refl) unions.sets) (part_ordered entry_part form (λ a b. refl) (relation_ordered laws.values))
 
   module _ (framed : Bool) where
     byte_united_form : (held new : Byte) → IsByte framed held → IsByte framed new → IsByte framed (byte_united sets held new)

@@ -14,8 +14,8 @@ use Rattle.value_set.specs.Form.{gather, make}
 use Rattle.value_set.specs.Joining.{is_within, join}
 use Rattle.value_set.specs.Summing.{single}
 use Rattle.value_set.specs.Widening.{widen}
-use Rattle.known_parts.specs.Touched as ranges
-pub use Rattle.known_parts.specs.Touched.{is_interrupt}
+use Rattle.irq_frames.specs.Touched as ranges
+pub use Rattle.irq_frames.specs.Touched.{is_interrupt}
 use Rattle.mcs51_state.specs.declared.fact.LinearFact.{LinearFact}
 use Rattle.mcs51_state.specs.declared.fact.CarryFact.{CarryFact}
 use Rattle.mcs51_state.specs.declared.levels.Levels.{Levels}

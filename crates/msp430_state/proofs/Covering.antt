@@ -18,9 +18,9 @@ use Rattle.msp430_chip.specs.State.{register_of, reset_address, ram_size, IsRese
 use Rattle.irq_frames.specs.KnownLaws.{KnownLaws}
 use Rattle.known_parts.specs.Bits.{agrees_more, flag_more, is_bit_within}
 use Rattle.known_parts.specs.Options.{fact_more}
-use Rattle.known_parts.specs.Orders.{seven_true}
+use Rattle.plain_lemmas.specs.Orders.{seven_true}
 use Rattle.known_parts.specs.Pointwise.{passes_at}
-use Rattle.known_parts.specs.Touched.{untouched_more}
+use Rattle.irq_frames.specs.Touched.{untouched_more}
 use Rattle.value_bits.specs.Pointwise.{each_passes}
 use Rattle.value_set.specs.Joining.{is_within}
 use Rattle.entry_value.specs.Words.{is_entry_within}

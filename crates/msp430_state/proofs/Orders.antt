@@ -4,10 +4,10 @@ use Rattle.entry_value.specs.declared.cells.Cell.{Cell}
 use Rattle.entry_value.specs.Cells.{join_cells, widen_cells}
 use Rattle.irq_frames.specs.KnownLaws.{KnownLaws}
 use Rattle.known_parts.specs.Options.{fact_ordered}
-use Rattle.known_parts.specs.Orders.{IsOrdered, both_ordered, part_ordered}
+use Rattle.plain_lemmas.specs.Orders.{IsOrdered, both_ordered, part_ordered}
 use Rattle.known_parts.specs.Parts.{AreUnions, bit_ordered, join_unions, relation_ordered, widen_unions}
 use Rattle.known_parts.specs.Pointwise.{each_ordered}
-use Rattle.known_parts.specs.Touched.{touched_ordered}
+use Rattle.irq_frames.specs.Touched.{touched_ordered}
 use Rattle.value_set.specs.declared.form.Form.{Form}
 use Rattle.value_set.specs.Joining.{join}
 use Rattle.value_set.specs.Laws.{AreMarks}
@@ -28,7 +28,7 @@ module _ (laws : KnownLaws) (lo hi : ℕ) (framed : Bool) where
       both_ordered (both_ordered (both_ordered (both_ordered (both_ordered (both_ordered
       (part_ordered (sp_part lo hi framed) form (λ s t. refl) (sp_ordered laws lo hi sets cells unions))
       (both_ordered (part_ordered (bits_part lo hi framed) form (λ s t. refl) (each_ordered 9 bit_ordered))
-      (part_ordered (relation_part lo hi framed) form (λ s t. refl) (relation_ordered laws))))
+      (part_ordered (relation_part lo hi framed) form (λ s t. refl) (relation_ordered laws.values))))
       (part_ordered (late_part lo hi framed) form (λ s t. refl) bit_ordered))
       (part_ordered (words_part lo hi framed) form (λ s t. refl) (each_ordered 12 (word_ordered laws lo hi sets cells unions framed))))
       (part_ordered (fact_part lo hi framed) form (λ s t. refl) (fact_ordered is_same_fact fact_equality)))
@@ -37,9 +37,9 @@ module _ (laws : KnownLaws) (lo hi : ℕ) (framed : Bool) where
 
   pub joined_ordered : IsOrdered (IsKnown lo hi framed) known_within known_joined (top_known lo hi framed)
   unfolding known_joined
-  joined_ordered = united_ordered (join 65536) join_cells (join_unions laws 65536 lo hi)
+  joined_ordered = united_ordered (join 65536) join_cells (join_unions laws.sets laws.cells 65536 lo hi)
 
   pub widened_ordered : (marks : List ℕ) → AreMarks 65536 marks → IsOrdered (IsKnown lo hi framed) known_within (known_widened marks) (top_known lo hi framed)
   unfolding known_widened
   widened_ordered marks below =
-      united_ordered (λ h n. widen 65536 h n marks) (λ h n. widen_cells h n marks) (widen_unions laws 65536 lo hi marks below below)
+      united_ordered (λ h n. widen 65536 h n marks) (λ h n. widen_cells h n marks) (widen_unions laws.sets laws.cells 65536 lo hi marks below below)

@@ -11,10 +11,10 @@ use Rattle.entry_value.specs.Words.{word_within}
 use Rattle.irq_frames.specs.KnownLaws.{KnownLaws}
 use Rattle.known_parts.specs.CellForms.{StaysSo}
 use Rattle.known_parts.specs.Options.{common_fact_keeps}
-use Rattle.known_parts.specs.Orders.{IsAny, IsOrdered, Part, both_ordered, part_ordered}
+use Rattle.plain_lemmas.specs.Orders.{IsAny, IsOrdered, Part, both_ordered, part_ordered}
 use Rattle.known_parts.specs.Parts.{AreUnions, bit_ordered, relation_ordered}
 use Rattle.known_parts.specs.Pointwise.{AreEach, each_ordered}
-use Rattle.known_parts.specs.Touched.{AreTouched, all_are_touched, touched_ordered}
+use Rattle.irq_frames.specs.Touched.{AreTouched, all_are_touched, touched_ordered}
 use Rattle.plain_lemmas.specs.Members.{in_none}
 use Rattle.value_bits.specs.declared.tri.Tri.{Tri}
 use Rattle.value_set.specs.declared.form.Form.{Form}
@@ -112,7 +112,7 @@ module _ (laws : KnownLaws) (lo hi : ℕ) (sets : Form → Form → Form) (cells
     word_ordered =
         let set_part : Part (IsWord framed) (IsNormal 65536) = record { of = λ word. word.set; formed = λ word form. form.normal } in
         let entry_part : Part {A = Option Entry} (IsWord framed) IsAny = record { of = λ word. word.entry; formed = λ word form. tt } in
-        both_ordered (part_ordered set_part word_form (λ a b. refl) unions.sets) (part_ordered entry_part word_form (λ a b. refl) (relation_ordered laws))
+        both_ordered (part_ordered set_part word_form (λ a b. refl) unions.sets) (part_ordered entry_part word_form (λ a b. refl) (relation_ordered laws.values))
 
     pub united_form : (a b : Known) → IsKnown lo hi framed a → IsKnown lo hi framed b → IsKnown lo hi framed (known_united sets cells a b)
     united_form a b f g =

@@ -13,7 +13,7 @@ use Rattle.value_set.specs.declared.form.Form.{Form}
 use Rattle.value_set.specs.Form.{make}
 use Rattle.value_set.specs.Joining.{is_within, join}
 use Rattle.value_set.specs.Widening.{widen}
-pub use Rattle.known_parts.specs.Touched.{all_touched, is_interrupt}
+pub use Rattle.irq_frames.specs.Touched.{all_touched, is_interrupt}
 use Rattle.msp430_state.specs.declared.fact.FlagFact.{FlagFact}
 use Rattle.msp430_state.specs.declared.status.Status.{Status}
 use Rattle.msp430_state.specs.Facts.{common_fact, is_fact_within}

@@ -6,7 +6,7 @@ use Rattle.call_context.specs.declared.node.Frame.{Frame}
 use Rattle.call_context.specs.declared.node.Frame.TheVariants.{Base, Irq}
 use Rattle.irq_frames.specs.KnownLaws.{KnownLaws}
 use Rattle.irq_frames.specs.Ranges.{AreRanges, has_address, ranges_within, united}
-use Rattle.known_parts.specs.Orders.{IsOrdered}
+use Rattle.plain_lemmas.specs.Orders.{IsOrdered}
 
 abbrev pub is_interrupt : Frame → Bool
 is_interrupt Base = false
