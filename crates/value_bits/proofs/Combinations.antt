@@ -1,5 +1,5 @@
 -- What is known of a flag over all combinations of members.
-use Rattle.std.proofs.Common.{◌≡◌, ℕ, ◌+◌, ◌*◌, ◌%◌, ◌<◌, ◌≤◌, get_or, Bool, true, false, cond, List, [], ◌∷◌, length, refl, sym, ◌∙◌, ap, subst, inl, inr, arith}
+use Rattle.std.proofs.Common.{◌≡◌, ℕ, ◌+◌, ◌*◌, ◌%◌, ◌<◌, ◌≤◌, get_or, Bool, true, false, cond, List, [], ◌∷◌, length, refl, sym, ◌∙◌, subst, inl, inr, arith}
 use Rattle.std.specs.List.{All, list_all}
 use Rattle.std.proofs.lemmas.Nat.{mul-le}
 use Rattle.std.proofs.lemmas.List.Elements.{Contains-get_or}
@@ -12,10 +12,7 @@ use Rattle.value_set.specs.Form.{members, steps, Has, IsNormal}
 use Rattle.value_set.specs.Summing.{count_of}
 use Rattle.value_bits.specs.declared.tri.Tri.{Tri}
 use Rattle.value_bits.specs.declared.tri.Tri.TheVariants.{Zero, One, Either}
-use Rattle.value_bits.specs.Bits.{choices}
-use Rattle.value_bits.specs.Sets.{chosen}
 use Rattle.value_bits.specs.Flags.{IsFlag, has_value, each_has, agreed_of, agreed}
-use Rattle.value_set.specs.Laws.{SetLaws}
 use Rattle.value_set.specs.ListFacts.{IsIn, in_from_Contains, Contains_from_in, list_all_in, all_in}
 use Rattle.value_bits.proofs.Within.{member_below}
 
@@ -96,12 +93,17 @@ pub first_in : (xs : List ℕ) → 1 ≤ length xs → (v : ℕ) × IsIn v xs
 first_in [] h = absurd (omega arith)
 first_in (x ∷ xs) h = (x, inl refl)
 
-pub agreed_clear : SetLaws → (m : ℕ) (flag : ℕ → ℕ → ℕ → Bool) (a b c : Form) → IsNormal m a → IsNormal m b → IsNormal m c → count_of m a * (count_of m b * count_of m c) ≤ 256
+pub some_of : (m : ℕ) (set : Form) → IsNormal m set → 1 ≤ count_of m set
+unfolding steps
+some_of m (Values xs) n = n.0
+some_of m (Run p) n = let long = n.long in omega (arith, long, length-map-range_with_len (λ (i : ℕ). (p.base + i * p.stride) % m) 0 p.count)
+
+pub agreed_clear : (m : ℕ) (flag : ℕ → ℕ → ℕ → Bool) (a b c : Form) → IsNormal m a → IsNormal m b → IsNormal m c → count_of m a * (count_of m b * count_of m c) ≤ 256
     → ((x y z : ℕ) → Has m a x → Has m b y → Has m c z → flag x y z ≡ false) → agreed m flag a b c ≡ Zero
-agreed_clear laws m flag a b c k l n few each =
+agreed_clear m flag a b c k l n few each =
     let xs = members m a in let ys = members m b in let zs = members m c in
     let none = in_each_has false flag xs ys zs (λ x y z i j k. each x y z (Contains_from_in xs x i) (Contains_from_in ys y j) (Contains_from_in zs z k)) in
-    let x = first_in xs (laws.some m a k) in let y = first_in ys (laws.some m b l) in let z = first_in zs (laws.some m c n) in
+    let x = first_in xs (some_of m a k) in let y = first_in ys (some_of m b l) in let z = first_in zs (some_of m c n) in
     let here = each x.0 y.0 z.0 (Contains_from_in xs x.0 x.1) (Contains_from_in ys y.0 y.1) (Contains_from_in zs z.0 z.1) in
     let refused : each_has true flag xs ys zs ≡ false = elim (cases_Bool (each_has true flag xs ys zs)) [
       | inl all ↦ absurd (let there = each_has_in true flag xs ys zs x.0 y.0 z.0 all x.1 y.1 z.1 in cc (here, there))
@@ -124,16 +126,11 @@ few_each a b c h i j k =
     let swapped : c * b ≡ b * c = omega arith in
     (first, one_of_few b c rest k, one_of_few c b (omega (arith, swapped, rest)) j)
 
-pub some_of : (m : ℕ) (set : Form) → IsNormal m set → 1 ≤ count_of m set
-unfolding steps
-some_of m (Values xs) n = n.0
-some_of m (Run p) n = let long = n.long in omega (arith, long, length-map-range_with_len (λ (i : ℕ). (p.base + i * p.stride) % m) 0 p.count)
-
--- where there are few combinations with some carries, each of two sets has few members
-pub few_of_each : (m carries : ℕ) (first second : Form) → IsNormal m first → IsNormal m second → 1 ≤ carries
-    → count_of m first * (count_of m second * carries) ≤ 256 → (count_of m first ≤ 256) × (count_of m second ≤ 256)
-few_of_each m carries first second n k some few =
-    let each = few_each (count_of m first) (count_of m second) carries few (some_of m first n) (some_of m second k) some in
+-- where there are few combinations, each of two sets has few members
+pub few_of_each : (m : ℕ) (carries first second : Form) → IsNormal m first → IsNormal m second → IsNormal m carries
+    → count_of m first * (count_of m second * count_of m carries) ≤ 256 → (count_of m first ≤ 256) × (count_of m second ≤ 256)
+few_of_each m carries first second n k l few =
+    let each = few_each (count_of m first) (count_of m second) (count_of m carries) few (some_of m first n) (some_of m second k) (some_of m carries l) in
     (each.0, each.1)
 
 pub run_count : (m : ℕ) (set : Form) (p : Progression) → set ≡ Run p → count_of m set ≡ p.count
@@ -148,9 +145,10 @@ positive m (Run p) n = let low = n.below in omega (arith, low)
 pub members_below : (m : ℕ) (set : Form) → IsNormal m set → All (λ n. n < m) (members m set)
 members_below m set n = λ k d short. member_below m (get_or (members m set) k d) set (positive m set n) n (Contains-get_or (members m set) k d short)
 
-pub agreed_chosen : (m : ℕ) (flag : ℕ → ℕ → ℕ → Bool) (a b : Form) (carry bit : Tri) (zs : List ℕ) → count_of m a * (count_of m b * length (choices carry)) ≤ 256
-    → carry ≡ bit → zs ≡ choices bit → agreed_of flag (members m a) (members m b) zs ≡ agreed m flag a b (chosen carry)
-agreed_chosen m flag a b carry bit zs few is same = rw (same ∙ ap choices (sym is)) (sym (agreed-few m flag a b (chosen carry) few))
+-- known where all agree, of members that are listed
+pub agreed_listed : (m : ℕ) (flag : ℕ → ℕ → ℕ → Bool) (a b c carry : Form) (xs ys zs : List ℕ) → count_of m a * (count_of m b * count_of m c) ≤ 256
+    → xs ≡ members m a → ys ≡ members m b → zs ≡ members m c → c ≡ carry → agreed_of flag xs ys zs ≡ agreed m flag a b carry
+agreed_listed m flag a b c carry xs ys zs few p q r is = rw (p, q, r, ← is) (sym (agreed-few m flag a b c few))
 
 pub steps_none : (m base stride : ℕ) → [] ≡ steps m base stride 0
 unfolding steps

@@ -1,23 +1,23 @@
 -- The least and the greatest member of a set, and what they tell of an order over all combinations.
 use Rattle.std.proofs.Common.{◌≡◌, ℕ, ◌+◌, ◌-◌, ◌*◌, ◌/◌, ◌%◌, ◌<◌, ◌≤◌, Bool, true, false, nat_le, List, [], ◌∷◌, length, get_or, refl, sym, ◌∙◌, subst, inl, inr, arith}
 use Prim.Native.Nat.{zero, suc}
-use Rattle.std.proofs.lemmas.Bool.{cases_lt, cases_Bool, le-leb, lt-leb}
+use Rattle.std.proofs.lemmas.Bool.{cases_lt, le-leb, lt-leb}
 use Rattle.std.proofs.Math.Nat.{mod-eq_of_lt, mod-eq-sub-mod, div-mul-le_self, lt-div-mul-add, mul-le-mul_right, lt_of_mul-lt-mul_right}
 use Rattle.std.proofs.lemmas.List.Elements.{Contains-get_or}
 use Rattle.value_set.specs.declared.form.Progression.{Progression}
 use Rattle.value_set.specs.declared.form.Form.{Form}
 use Rattle.value_set.specs.declared.form.Form.TheVariants.{Values, Run}
-use Rattle.value_set.specs.Form.{Ascends, Has, IsNormal, members}
+use Rattle.value_set.specs.Form.{Ascends, Has, IsNormal}
 use Rattle.value_set.specs.Summing.{count_of, single}
-use Rattle.value_set.specs.ListFacts.{IsIn, in_from_Contains, Contains_from_in}
+use Rattle.value_set.specs.ListFacts.{IsIn, in_from_Contains}
 use Rattle.value_set.specs.StepFacts.{steps_from}
 use Rattle.value_bits.specs.declared.tri.Tri.{Tri}
 use Rattle.value_bits.specs.declared.tri.Tri.TheVariants.{Zero, One, Either}
-use Rattle.value_bits.specs.Flags.{IsFlag, each_has, agreed}
+use Rattle.value_bits.specs.Flags.{IsFlag, agreed}
 use Rattle.value_bits.specs.Order.{IsEnds}
 use Rattle.value_bits.proofs.Within.{steps_has}
 use Rattle.value_bits.proofs.Choosing.{single_has}
-use Rattle.value_bits.proofs.Combinations.{in_each_has, each_has_in, first_in, some_of, positive, agreed-few, agreed_is, agreed_set}
+use Rattle.value_bits.proofs.Combinations.{positive, agreed_clear, agreed_is, agreed_set}
 
 -- ---- the ends of a list
 
@@ -111,19 +111,6 @@ ends_turned m p n high =
 
 -- ---- an order over all combinations
 
-pub agreed_none : (m : ℕ) (flag : ℕ → ℕ → ℕ → Bool) (a b c : Form) → IsNormal m a → IsNormal m b → IsNormal m c → count_of m a * (count_of m b * count_of m c) ≤ 256
-    → ((x y z : ℕ) → Has m a x → Has m b y → Has m c z → flag x y z ≡ false) → agreed m flag a b c ≡ Zero
-agreed_none m flag a b c k l n few each =
-    let xs = members m a in let ys = members m b in let zs = members m c in
-    let none = in_each_has false flag xs ys zs (λ x y z i j k. each x y z (Contains_from_in xs x i) (Contains_from_in ys y j) (Contains_from_in zs z k)) in
-    let x = first_in xs (some_of m a k) in let y = first_in ys (some_of m b l) in let z = first_in zs (some_of m c n) in
-    let here = each x.0 y.0 z.0 (Contains_from_in xs x.0 x.1) (Contains_from_in ys y.0 y.1) (Contains_from_in zs z.0 z.1) in
-    let refused : each_has true flag xs ys zs ≡ false = elim (cases_Bool (each_has true flag xs ys zs)) [
-      | inl all ↦ absurd (let there = each_has_in true flag xs ys zs x.0 y.0 z.0 all x.1 y.1 z.1 in cc (here, there))
-      | inr other ↦ other
-    ] in
-    agreed-few m flag a b c few ∙ (rw (refused, none) refl)
-
 either_of : (t : Tri) (f g : Bool) → IsFlag t f → IsFlag t g → f ≡ true → g ≡ false → t ≡ Either
 either_of Zero f g h k is other = absurd (cc (h, is))
 either_of One f g h k is other = absurd (cc (k, other))
@@ -150,7 +137,7 @@ order_set m a b low high low' high' few ends ends' over = sym (agreed_set m is_a
 
 pub order_clear : (m : ℕ) (a b : Form) (low high low' high' : ℕ) → IsNormal m a → IsNormal m b → count_of m a * count_of m b ≤ 256 → IsEnds m a low high → IsEnds m b low' high'
     → high < low' → Zero ≡ agreed m is_at_least a b (single 0)
-order_clear m a b low high low' high' n n' few ends ends' under = sym (agreed_none m is_at_least a b (single 0) n n' (zero_normal m a n) (few_too (count_of m a) (count_of m b) few)
+order_clear m a b low high low' high' n n' few ends ends' under = sym (agreed_clear m is_at_least a b (single 0) n n' (zero_normal m a n) (few_too (count_of m a) (count_of m b) few)
     (λ x y z h k j. let to = ends.between x h in let from = ends'.between y k in lt-leb y x (omega (arith, to.1, from.0, under))))
 
 pub order_open : (m : ℕ) (a b : Form) (low high low' high' : ℕ) → IsEnds m a low high → IsEnds m b low' high'

@@ -62,8 +62,8 @@ bits_normal laws w bits long = elim (cases_lt 4 (unknown_count bits)) [
       (laws.run_normal (2 ^ w) (least bits) (2 ^ lowest_unknown bits) _ (laws.run_up_to (2 ^ w) (2 ^ lowest_unknown bits) (greatest bits - least bits) (end_below w bits long)))
 ]
 
-pub bits_have : SetLaws → (w : ℕ) (bits : List Tri) (v : ℕ) → length bits ≡ w → Agrees bits v → Has (2 ^ w) (from_bits w bits) v
-bits_have laws w bits v long agrees = elim (cases_lt 4 (unknown_count bits)) [
+pub bits_have : SetLaws → (w v : ℕ) (bits : List Tri) → length bits ≡ w → Agrees bits v → Has (2 ^ w) (from_bits w bits) v
+bits_have laws w v bits long agrees = elim (cases_lt 4 (unknown_count bits)) [
   | inr few ↦ subst (λ (s : Form). Has (2 ^ w) s v) (few_value w bits _ refl few)
       (laws.gather_holds (2 ^ w) v (numbers bits) (number_below w bits long) (numbers_have bits v agrees))
   | inl many ↦ subst (λ (s : Form). Has (2 ^ w) s v) (many_value w bits _ refl many)
@@ -113,12 +113,12 @@ logic_normal laws w logic a b n k =
     choose_normal laws (2 ^ w) (λ x y z. logic_of logic x y) a b (single 0) (from_bits w (logic_bits w logic a b)) n k (omega arith) (logic_kept w logic)
     (bits_normal laws w (logic_bits w logic a b) (logic_long w logic a b))
 
-pub logic_has : SetLaws → (w : ℕ) (logic : Logic) (a b : Form) (x y : ℕ) → IsNormal (2 ^ w) a → IsNormal (2 ^ w) b → Has (2 ^ w) a x → Has (2 ^ w) b y
+pub logic_has : SetLaws → (w x y : ℕ) (logic : Logic) (a b : Form) → IsNormal (2 ^ w) a → IsNormal (2 ^ w) b → Has (2 ^ w) a x → Has (2 ^ w) b y
     → Has (2 ^ w) (logic_set w logic a b) (logic_of logic x y)
 unfolding logic_set
-logic_has laws w logic a b x y n k h i =
+logic_has laws w x y logic a b n k h i =
     choose_has laws (2 ^ w) (λ x y z. logic_of logic x y) a b (single 0) (from_bits w (logic_bits w logic a b)) x y 0 n k (logic_kept w logic) h i (single_has (2 ^ w) 0)
-    (bits_have laws w (logic_bits w logic a b) (logic_of logic x y) (logic_long w logic a b)
+    (bits_have laws w (logic_of logic x y) (logic_bits w logic a b) (logic_long w logic a b)
     (logic_agrees w logic a b x y n k h i))
 
 -- ---- halves
@@ -154,11 +154,11 @@ low_normal laws set n = elim (cases_lt 256 (length (members 65536 set))) [
   | inl many ↦ subst (λ (s : Form). IsNormal 256 s) (low_many set _ refl many) (bits_normal laws 8 (take 8 (known_bits 16 set)) (low_long set))
 ]
 
-pub low_has : SetLaws → (set : Form) (x : ℕ) → IsNormal 65536 set → Has 65536 set x → Has 256 (low_set set) (low_byte x)
-low_has laws set x n h = elim (cases_lt 256 (length (members 65536 set))) [
+pub low_has : SetLaws → (x : ℕ) (set : Form) → IsNormal 65536 set → Has 65536 set x → Has 256 (low_set set) (low_byte x)
+low_has laws x set n h = elim (cases_lt 256 (length (members 65536 set))) [
   | inr few ↦ subst (λ (s : Form). Has 256 s (low_byte x)) (low_few set _ refl few) (byte_has laws low_byte set x low_below n h)
   | inl many ↦ subst (λ (s : Form). Has 256 s (low_byte x)) (low_many set _ refl many)
-      (bits_have laws 8 (take 8 (known_bits 16 set)) (low_byte x) (low_long set) (low_agrees (known_bits 16 set) x (known_long 16 set) (known_agrees 16 x set n h)))
+      (bits_have laws 8 (low_byte x) (take 8 (known_bits 16 set)) (low_long set) (low_agrees (known_bits 16 set) x (known_long 16 set) (known_agrees 16 x set n h)))
 ]
 
 pub high_normal : SetLaws → (set : Form) → IsNormal 65536 set → IsNormal 256 (high_set set)
@@ -167,11 +167,11 @@ high_normal laws set n = elim (cases_lt 256 (length (members 65536 set))) [
   | inl many ↦ subst (λ (s : Form). IsNormal 256 s) (high_many set _ refl many) (bits_normal laws 8 (drop 8 (known_bits 16 set)) (high_long set))
 ]
 
-pub high_has : SetLaws → (set : Form) (x : ℕ) → IsNormal 65536 set → Has 65536 set x → Has 256 (high_set set) (high_byte x)
-high_has laws set x n h = elim (cases_lt 256 (length (members 65536 set))) [
+pub high_has : SetLaws → (x : ℕ) (set : Form) → IsNormal 65536 set → Has 65536 set x → Has 256 (high_set set) (high_byte x)
+high_has laws x set n h = elim (cases_lt 256 (length (members 65536 set))) [
   | inr few ↦ subst (λ (s : Form). Has 256 s (high_byte x)) (high_few set _ refl few) (byte_has laws high_byte set x high_below n h)
   | inl many ↦ subst (λ (s : Form). Has 256 s (high_byte x)) (high_many set _ refl many)
-      (bits_have laws 8 (drop 8 (known_bits 16 set)) (high_byte x) (high_long set) (high_agrees (known_bits 16 set) x (known_long 16 set) (known_agrees 16 x set n h)))
+      (bits_have laws 8 (high_byte x) (drop 8 (known_bits 16 set)) (high_long set) (high_agrees (known_bits 16 set) x (known_long 16 set) (known_agrees 16 x set n h)))
 ]
 
 -- ---- words of two halves
@@ -197,16 +197,31 @@ pair_normal laws lows highs n k = elim (cases_lt 256 (length (members 256 lows) 
   | inl many ↦ subst (λ (s : Form). IsNormal 65536 s) (pair_many lows highs _ refl many) (bits_normal laws 16 (known_bits 8 lows ++ known_bits 8 highs) (pair_long lows highs))
 ]
 
-pub pair_has : SetLaws → (lows highs : Form) (x y : ℕ) → IsNormal 256 lows → IsNormal 256 highs → Has 256 lows x → Has 256 highs y → Has 65536 (pair_set lows highs) (word_of x y)
-pair_has laws lows highs x y n k h i = elim (cases_lt 256 (length (members 256 lows) * length (members 256 highs))) [
+pub pair_has : SetLaws → (x y : ℕ) (lows highs : Form) → IsNormal 256 lows → IsNormal 256 highs → Has 256 lows x → Has 256 highs y → Has 65536 (pair_set lows highs) (word_of x y)
+pair_has laws x y lows highs n k h i = elim (cases_lt 256 (length (members 256 lows) * length (members 256 highs))) [
   | inr few ↦ subst (λ (s : Form). Has 65536 s (word_of x y)) (pair_few lows highs _ refl few)
       (laws.gather_holds 65536 (word_of x y) (words (members 256 lows) (members 256 highs)) (word_below laws lows highs n k) (words_have (members 256 lows) (members 256 highs) x y h i))
   | inl many ↦ subst (λ (s : Form). Has 65536 s (word_of x y)) (pair_many lows highs _ refl many)
-      (bits_have laws 16 (known_bits 8 lows ++ known_bits 8 highs) (word_of x y) (pair_long lows highs)
+      (bits_have laws 16 (word_of x y) (known_bits 8 lows ++ known_bits 8 highs) (pair_long lows highs)
       (pair_agrees (known_bits 8 lows) (known_bits 8 highs) x y (known_long 8 lows) (known_agrees 8 x lows n h) (known_agrees 8 y highs k i)))
 ]
 
 -- ---- numbers whose bits move
+
+-- all results of one number with a carry, or the numbers with some bits
+moved_normal : SetLaws → (w : ℕ) (answer : ℕ → ℕ → ℕ → ℕ) (set carry : Form) (bits : List Tri) → length bits ≡ w → Stays (2 ^ w) answer
+    → 1 ≤ length (members (2 ^ w) carry) → IsNormal (2 ^ w) set → IsNormal (2 ^ w) (combine_or (2 ^ w) answer set (single 0) carry (from_bits w bits))
+moved_normal laws w answer set carry bits long stays some n =
+    choose_normal laws (2 ^ w) answer set (single 0) carry (from_bits w bits) n (zero_normal (2 ^ w) (pow_pos w)) some stays (bits_normal laws w bits long)
+
+moved_has : SetLaws → (w x z v : ℕ) (answer : ℕ → ℕ → ℕ → ℕ) (set carry : Form) (bits : List Tri) → length bits ≡ w → Stays (2 ^ w) answer
+    → IsNormal (2 ^ w) set → Has (2 ^ w) set x → Has (2 ^ w) carry z → answer x 0 z ≡ v → Agrees bits v
+    → Has (2 ^ w) (combine_or (2 ^ w) answer set (single 0) carry (from_bits w bits)) v
+moved_has laws w x z v answer set carry bits long stays n h i is agrees =
+    let m = 2 ^ w in
+    let known = subst (λ (u : ℕ). Has m (from_bits w bits) u) (sym is) (bits_have laws w v bits long agrees) in
+    subst (λ (u : ℕ). Has m (combine_or m answer set (single 0) carry (from_bits w bits)) u) is
+    (choose_has laws m answer set (single 0) carry (from_bits w bits) x 0 z n (zero_normal m (pow_pos w)) stays h (single_has m 0) i known)
 
 exchange_kept : (half : ℕ) → Stays (2 ^ (half + half)) (λ x y z. exchanged (2 ^ half) x)
 exchange_kept half x y z h k = let square : 2 ^ (half + half) ≡ 2 ^ half * 2 ^ half = pow-add 2 half half in
@@ -218,17 +233,14 @@ exchange_long half set = let bits = known_bits (half + half) set in let long = k
 
 pub exchange_normal : SetLaws → (half : ℕ) (set : Form) → IsNormal (2 ^ (half + half)) set → IsNormal (2 ^ (half + half)) (exchange_set half set)
 unfolding exchange_set
-exchange_normal laws half set n = let m = 2 ^ (half + half) in let pos = pow_pos (half + half) in let bits = known_bits (half + half) set in
-    choose_normal laws m (λ x y z. exchanged (2 ^ half) x) set (single 0) (single 0) (from_bits (half + half) (drop half bits ++ take half bits)) n (zero_normal m pos) (omega arith)
-    (exchange_kept half) (bits_normal laws (half + half) (drop half bits ++ take half bits) (exchange_long half set))
+exchange_normal laws half set n = moved_normal laws (half + half) (λ x y z. exchanged (2 ^ half) x) set (single 0) _
+    (exchange_long half set) (exchange_kept half) (omega arith) n
 
-pub exchange_has : SetLaws → (half : ℕ) (set : Form) (x : ℕ) → IsNormal (2 ^ (half + half)) set → Has (2 ^ (half + half)) set x → Has (2 ^ (half + half)) (exchange_set half set) (exchanged (2 ^ half) x)
+pub exchange_has : SetLaws → (half x : ℕ) (set : Form) → IsNormal (2 ^ (half + half)) set → Has (2 ^ (half + half)) set x → Has (2 ^ (half + half)) (exchange_set half set) (exchanged (2 ^ half) x)
 unfolding exchange_set
-exchange_has laws half set x n h = let m = 2 ^ (half + half) in let pos = pow_pos (half + half) in let bits = known_bits (half + half) set in
-    choose_has laws m (λ x y z. exchanged (2 ^ half) x) set (single 0) (single 0) (from_bits (half + half) (drop half bits ++ take half bits)) x 0 0 n (zero_normal m pos)
-    (exchange_kept half) h (single_has m 0) (single_has m 0)
-    (bits_have laws (half + half) (drop half bits ++ take half bits) (exchanged (2 ^ half) x) (exchange_long half set)
-    (exchange_agrees half bits x (known_long (half + half) set) (known_agrees (half + half) x set n h)))
+exchange_has laws half x set n h = moved_has laws (half + half) x 0 (exchanged (2 ^ half) x) (λ x y z. exchanged (2 ^ half) x) set (single 0) _
+    (exchange_long half set) (exchange_kept half) n h (single_has (2 ^ (half + half)) 0) refl
+    (exchange_agrees half (known_bits (half + half) set) x (known_long (half + half) set) (known_agrees (half + half) x set n h))
 
 sign_kept : Stays 65536 (λ x y z. sign_extended x)
 sign_kept x y z h k = sign_stays x y 0 h k (omega arith)
@@ -238,16 +250,12 @@ sign_long set = omega (arith, low_long set, length-append (take 8 (known_bits 16
 
 pub sign_normal : SetLaws → (set : Form) → IsNormal 65536 set → IsNormal 65536 (sign_extend_set set)
 unfolding sign_extend_set
-sign_normal laws set n = let bits = take 8 (known_bits 16 set) ++ replicate 8 (get_or (known_bits 16 set) 7 Either) in
-    choose_normal laws 65536 (λ x y z. sign_extended x) set (single 0) (single 0) (from_bits 16 bits) n (zero_normal 65536 (omega arith)) (omega arith) sign_kept
-    (bits_normal laws 16 bits (sign_long set))
+sign_normal laws set n = moved_normal laws 16 (λ x y z. sign_extended x) set (single 0) _ (sign_long set) sign_kept (omega arith) n
 
-pub sign_has : SetLaws → (set : Form) (x : ℕ) → IsNormal 65536 set → Has 65536 set x → Has 65536 (sign_extend_set set) (sign_extended x)
+pub sign_has : SetLaws → (x : ℕ) (set : Form) → IsNormal 65536 set → Has 65536 set x → Has 65536 (sign_extend_set set) (sign_extended x)
 unfolding sign_extend_set
-sign_has laws set x n h = let bits = take 8 (known_bits 16 set) ++ replicate 8 (get_or (known_bits 16 set) 7 Either) in
-    choose_has laws 65536 (λ x y z. sign_extended x) set (single 0) (single 0) (from_bits 16 bits) x 0 0 n (zero_normal 65536 (omega arith)) sign_kept
-    h (single_has 65536 0) (single_has 65536 0)
-    (bits_have laws 16 bits (sign_extended x) (sign_long set) (sign_agrees (known_bits 16 set) x (known_long 16 set) (known_agrees 16 x set n h)))
+sign_has laws x set n h = moved_has laws 16 x 0 (sign_extended x) (λ x y z. sign_extended x) set (single 0) _ (sign_long set) sign_kept
+    n h (single_has 65536 0) refl (sign_agrees (known_bits 16 set) x (known_long 16 set) (known_agrees 16 x set n h))
 
 chosen_some : (m : ℕ) (b : Tri) → 1 ≤ length (members m (chosen b))
 chosen_some m Zero = omega arith
@@ -268,20 +276,17 @@ shift_long place set top = let bits = known_bits (place + 1) set in
 
 pub shift_normal : SetLaws → (place : ℕ) (set : Form) (top : Top) → IsNormal (2 ^ (place + 1)) set → IsNormal (2 ^ (place + 1)) (shift_set place set top)
 unfolding shift_set
-shift_normal laws place set top n = let m = 2 ^ (place + 1) in let pos = pow_pos (place + 1) in let bits = shift_bits place top (known_bits (place + 1) set) in
-    choose_normal laws m (shift_answer place top) set (single 0) (top_carry top) (from_bits (place + 1) bits) n (zero_normal m pos) (top_some m top) (shift_kept place top)
-    (bits_normal laws (place + 1) bits (shift_long place set top))
+shift_normal laws place set top n = moved_normal laws (place + 1) (shift_answer place top) set (top_carry top) _
+    (shift_long place set top) (shift_kept place top) (top_some (2 ^ (place + 1)) top) n
 
-pub shift_has : SetLaws → (place : ℕ) (set : Form) (top : Top) (x bit : ℕ) → IsNormal (2 ^ (place + 1)) set → Has (2 ^ (place + 1)) set x → IsTop place top x bit
+pub shift_has : SetLaws → (place x bit : ℕ) (set : Form) (top : Top) → IsNormal (2 ^ (place + 1)) set → Has (2 ^ (place + 1)) set x → IsTop place top x bit
     → Has (2 ^ (place + 1)) (shift_set place set top) (shifted_right place x bit)
 unfolding shift_set
-shift_has laws place set top x bit n h is = let m = 2 ^ (place + 1) in let pos = pow_pos (place + 1) in let bits = shift_bits place top (known_bits (place + 1) set) in
-    let found = top_choice m place top x bit is in
-    let agrees = shift_agrees place top (known_bits (place + 1) set) x bit (known_long (place + 1) set) (known_agrees (place + 1) x set n h) is in
-    subst (λ (v : ℕ). Has m (combine_or m (shift_answer place top) set (single 0) (top_carry top) (from_bits (place + 1) bits)) v) found.2
-    (choose_has laws m (shift_answer place top) set (single 0) (top_carry top) (from_bits (place + 1) bits) x 0 found.0 n (zero_normal m pos) (shift_kept place top)
-    h (single_has m 0) found.1
-    (subst (λ (v : ℕ). Has m (from_bits (place + 1) bits) v) (sym found.2) (bits_have laws (place + 1) bits (shifted_right place x bit) (shift_long place set top) agrees)))
+shift_has laws place x bit set top n h is =
+    let found = top_choice (2 ^ (place + 1)) place top x bit is in
+    moved_has laws (place + 1) x found.0 (shifted_right place x bit) (shift_answer place top) set (top_carry top) _
+    (shift_long place set top) (shift_kept place top) n h found.1 found.2
+    (shift_agrees place top (known_bits (place + 1) set) x bit (known_long (place + 1) set) (known_agrees (place + 1) x set n h) is)
 
 lowest_some : (m : ℕ) (lowest : Lowest) → 1 ≤ length (members m (lowest_carry lowest))
 lowest_some m High = omega arith
@@ -296,20 +301,17 @@ left_long place set lowest = let bits = known_bits (place + 1) set in let long =
 
 pub left_normal : SetLaws → (place : ℕ) (set : Form) (lowest : Lowest) → IsNormal (2 ^ (place + 1)) set → IsNormal (2 ^ (place + 1)) (left_set place set lowest)
 unfolding left_set
-left_normal laws place set lowest n = let m = 2 ^ (place + 1) in let pos = pow_pos (place + 1) in let bits = left_bits place lowest (known_bits (place + 1) set) in
-    choose_normal laws m (left_answer place lowest) set (single 0) (lowest_carry lowest) (from_bits (place + 1) bits) n (zero_normal m pos) (lowest_some m lowest) (left_kept place lowest)
-    (bits_normal laws (place + 1) bits (left_long place set lowest))
+left_normal laws place set lowest n = moved_normal laws (place + 1) (left_answer place lowest) set (lowest_carry lowest) _
+    (left_long place set lowest) (left_kept place lowest) (lowest_some (2 ^ (place + 1)) lowest) n
 
-pub left_has : SetLaws → (place : ℕ) (set : Form) (lowest : Lowest) (x bit : ℕ) → IsNormal (2 ^ (place + 1)) set → Has (2 ^ (place + 1)) set x → IsLowest place lowest x bit
+pub left_has : SetLaws → (place x bit : ℕ) (set : Form) (lowest : Lowest) → IsNormal (2 ^ (place + 1)) set → Has (2 ^ (place + 1)) set x → IsLowest place lowest x bit
     → Has (2 ^ (place + 1)) (left_set place set lowest) (shifted_left place x bit)
 unfolding left_set
-left_has laws place set lowest x bit n h is = let m = 2 ^ (place + 1) in let pos = pow_pos (place + 1) in let bits = left_bits place lowest (known_bits (place + 1) set) in
-    let found = lowest_choice m place lowest x bit is in
-    let agrees = left_agrees place lowest (known_bits (place + 1) set) x bit (known_long (place + 1) set) (known_agrees (place + 1) x set n h) is in
-    subst (λ (v : ℕ). Has m (combine_or m (left_answer place lowest) set (single 0) (lowest_carry lowest) (from_bits (place + 1) bits)) v) found.2
-    (choose_has laws m (left_answer place lowest) set (single 0) (lowest_carry lowest) (from_bits (place + 1) bits) x 0 found.0 n (zero_normal m pos) (left_kept place lowest)
-    h (single_has m 0) found.1
-    (subst (λ (v : ℕ). Has m (from_bits (place + 1) bits) v) (sym found.2) (bits_have laws (place + 1) bits (shifted_left place x bit) (left_long place set lowest) agrees)))
+left_has laws place x bit set lowest n h is =
+    let found = lowest_choice (2 ^ (place + 1)) place lowest x bit is in
+    moved_has laws (place + 1) x found.0 (shifted_left place x bit) (left_answer place lowest) set (lowest_carry lowest) _
+    (left_long place set lowest) (left_kept place lowest) n h found.1 found.2
+    (left_agrees place lowest (known_bits (place + 1) set) x bit (known_long (place + 1) set) (known_agrees (place + 1) x set n h) is)
 
 -- ---- decimal operations
 
@@ -330,19 +332,19 @@ decimal_add_normal laws digits a b carry n k = let m = 16 ^ digits in let pos = 
     (λ _. choose_normal laws m (decimal_sum digits) a b (chosen carry) (any m) n k (chosen_some m carry) (decimal_kept digits) (laws.whole_normal m pos))
     (λ _. laws.whole_normal m pos)
 
-pub decimal_add_has : SetLaws → (digits : ℕ) (a b : Form) (carry : Tri) (x y bit : ℕ) → IsNormal (16 ^ digits) a → IsNormal (16 ^ digits) b
+pub decimal_add_has : SetLaws → (digits x y bit : ℕ) (a b : Form) (carry : Tri) → IsNormal (16 ^ digits) a → IsNormal (16 ^ digits) b
     → Has (16 ^ digits) a x → Has (16 ^ digits) b y → IsBit carry bit → Has (16 ^ digits) (decimal_add_set digits a b carry) (decimal_sum digits x y bit)
 unfolding decimal_add_set
-decimal_add_has laws digits a b carry x y bit n k h i is = let m = 16 ^ digits in let pos = sixteen_positive digits in
+decimal_add_has laws digits x y bit a b carry n k h i is = let m = 16 ^ digits in let pos = sixteen_positive digits in
     let all = laws.whole m (decimal_sum digits x y bit) (digits_below digits (decimal_total digits x y bit)) in
     either_way (λ s. Has m s (decimal_sum digits x y bit)) (are_decimal digits a && are_decimal digits b) (combine_or m (decimal_sum digits) a b (chosen carry) (any m)) (any m)
     (λ _. choose_has laws m (decimal_sum digits) a b (chosen carry) (any m) x y bit n k (decimal_kept digits) h i (chosen_has m bit carry is) all)
     (λ _. all)
 
-pub decimal_add_free : SetLaws → (digits : ℕ) (a b : Form) (carry : Tri) (x y v : ℕ) → Has (16 ^ digits) a x → Has (16 ^ digits) b y
+pub decimal_add_free : SetLaws → (digits x y v : ℕ) (a b : Form) (carry : Tri) → Has (16 ^ digits) a x → Has (16 ^ digits) b y
     → IsFalse (is_decimal digits x && is_decimal digits y) → v < 16 ^ digits → Has (16 ^ digits) (decimal_add_set digits a b carry) v
 unfolding decimal_add_set
-decimal_add_free laws digits a b carry x y v h i unclear below = let m = 16 ^ digits in
+decimal_add_free laws digits x y v a b carry h i unclear below = let m = 16 ^ digits in
     either_way (λ s. Has m s v) (are_decimal digits a && are_decimal digits b) (combine_or m (decimal_sum digits) a b (chosen carry) (any m)) (any m)
     (λ all. let each = and_parts (are_decimal digits a) (are_decimal digits b) all in
     let first : is_decimal digits x ≡ true = decimal_member digits x a each.0 h in
@@ -358,8 +360,8 @@ unfolding decimal_adjust_set
 adjust_normal laws set carry half n = choose_normal laws 256 decimal_adjusted set (chosen carry) (chosen half) (any 256) n (chosen_normal 256 carry (omega arith)) (chosen_some 256 half)
     adjust_kept (laws.whole_normal 256 (omega arith))
 
-pub adjust_has : SetLaws → (set : Form) (carry half : Tri) (x y z : ℕ) → IsNormal 256 set → Has 256 set x → IsBit carry y → IsBit half z
+pub adjust_has : SetLaws → (x y z : ℕ) (set : Form) (carry half : Tri) → IsNormal 256 set → Has 256 set x → IsBit carry y → IsBit half z
     → Has 256 (decimal_adjust_set set carry half) (decimal_adjusted x y z)
 unfolding decimal_adjust_set
-adjust_has laws set carry half x y z n h is too = choose_has laws 256 decimal_adjusted set (chosen carry) (chosen half) (any 256) x y z n (chosen_normal 256 carry (omega arith))
+adjust_has laws x y z set carry half n h is too = choose_has laws 256 decimal_adjusted set (chosen carry) (chosen half) (any 256) x y z n (chosen_normal 256 carry (omega arith))
     adjust_kept h (chosen_has 256 y carry is) (chosen_has 256 z half too) (laws.whole 256 (decimal_adjusted x y z) (adjusted_below x y z))

@@ -13,8 +13,8 @@ use Rattle.value_bits.specs.declared.tri.Tri.TheVariants.{Zero, One, Either}
 use Rattle.value_bits.specs.Flags.{agreed}
 use Rattle.value_bits.specs.Order.{Share}
 use Rattle.value_bits.proofs.Choosing.{single_has}
-use Rattle.value_bits.proofs.Combinations.{agreed_set}
-use Rattle.value_bits.proofs.EndsOfSets.{ascends_from, agreed_none, agreed_mixed, few_too, zero_normal}
+use Rattle.value_bits.proofs.Combinations.{agreed_clear, agreed_set}
+use Rattle.value_bits.proofs.EndsOfSets.{ascends_from, agreed_mixed, few_too, zero_normal}
 
 -- ---- the walk
 
@@ -96,7 +96,7 @@ same_of v x y (inr i) j = absurd i
 same_of v x y (inl i) (inr j) = absurd j
 
 pub equal_clear : (m : ℕ) (xs ys : List ℕ) → IsNormal m (Values xs) → IsNormal m (Values ys) → (Share xs ys → ⊥) → Zero ≡ agreed m is_equal (Values xs) (Values ys) (single 0)
-equal_clear m xs ys n k none = sym (agreed_none m is_equal (Values xs) (Values ys) (single 0) n k (zero_normal m (Values xs) n)
+equal_clear m xs ys n k none = sym (agreed_clear m is_equal (Values xs) (Values ys) (single 0) n k (zero_normal m (Values xs) n)
     (few_too (length xs) (length ys) (list_product m xs ys n k))
     (λ x y z h i j. ne_eqb x y (λ is. none (x, h, subst (λ (v : ℕ). Contains ys v) (sym is) i))))
 

@@ -1,20 +1,19 @@
 //! All flags that an operation sets, over all combinations of members, by one walk.
 
-ghost use Rattle.std.specs.Prelude.{◌≡◌, ℕ, ◌*◌, ◌<◌, ◌≤◌, ◌&&◌, IsTrue, Bool, false, All, length};
+ghost use Rattle.std.specs.Prelude.{◌≡◌, ℕ, ◌*◌, ◌<◌, ◌≤◌, ◌↔◌, ◌&&◌, IsTrue, Bool, false, All, length};
 ghost use Rattle.std.specs.List.{list_all};
-ghost use Rattle.value_set.specs.Form.{Has, IsNormal, members};
-ghost use Rattle.value_set.specs.Summing.{count_of};
+ghost use Rattle.value_set.specs.Form.{Has, IsNormal};
 ghost use Rattle.value_bits.specs.AllFlags.{Place, flag_at, known_at};
 ghost use Rattle.value_bits.specs.AllFlags.Place.{First, Second, Third, Fourth};
-ghost use Rattle.value_bits.specs.Bits.{IsBit, choices};
-ghost use Rattle.value_bits.specs.Sets.{chosen};
+ghost use Rattle.value_bits.specs.Bits.{IsBit};
+ghost use Rattle.value_bits.specs.Sets as sets;
 ghost use Rattle.value_bits.specs.Flags as flags;
 ghost use Rattle.value_bits.specs.Flags.{IsFlag};
 
-use crate::flags::{are_few, is_alone, known, listed};
+use crate::forming::{chosen, is_few};
+use crate::listing::listed;
 use crate::tri::Tri;
 use value_set::Form;
-use value_set::sets::count;
 
 /// Four flags of one combination.
 #[derive(Clone, Copy, Debug, PartialEq, Eq)]
@@ -65,36 +64,23 @@ pub fn all_agreed<F: AllFlags>(
     requires first_normal { IsNormal modulus first.now }
     requires second_normal { IsNormal modulus second.now }
     requires width { F.modulus operation.now ≡ modulus }
-    ensures value { (place : Place) → known_at place result ≡ flags.agreed modulus (F.value operation.now place) first.now second.now (chosen carry) }
+    ensures value { (place : Place) → known_at place result ≡ flags.agreed modulus (F.value operation.now place) first.now second.now (sets.chosen carry) }
     ensures holds { (place : Place) (x y bit : ℕ) → Has modulus first.now x → Has modulus second.now y → IsBit carry bit → IsFlag (known_at place result) (F.value operation.now place x y bit) }
 {
-    if !are_few(count(modulus, first), count(modulus, second), carry) {
+    let carries = chosen(carry);
+    if !is_few(modulus, first, second, &carries) {
         return none_known();
     }
-    all_agreed_few(modulus, operation, first, second, carry)
-}
-
-/// What is known of each flag over at most 256 combinations of members: known where all agree.
-fn all_agreed_few<F: AllFlags>(
-    modulus: u32,
-    operation: &F,
-    first: &Form,
-    second: &Form,
-    carry: Tri,
-) -> FourKnown
-    requires small { modulus ≤ 65536 }
-    requires wide { 2 ≤ modulus }
-    requires first_normal { IsNormal modulus first.now }
-    requires second_normal { IsNormal modulus second.now }
-    requires width { F.modulus operation.now ≡ modulus }
-    requires few { count_of modulus first.now * (count_of modulus second.now * length (choices carry)) ≤ 256 }
-    ensures { (place : Place) → known_at place result ≡ flags.agreed modulus (F.value operation.now place) first.now second.now (chosen carry) }
-{
-    match carry {
-        Tri::Zero => all_agreed_listed(modulus, operation, first, second, [0].as_slice()),
-        Tri::One => all_agreed_listed(modulus, operation, first, second, [1].as_slice()),
-        Tri::Either => all_agreed_listed(modulus, operation, first, second, [0, 1].as_slice()),
-    }
+    let xs = listed(modulus, first);
+    let ys = listed(modulus, second);
+    let zs = listed(modulus, &carries);
+    all_agreed_of(
+        modulus,
+        operation,
+        xs.as_slice(),
+        ys.as_slice(),
+        zs.as_slice(),
+    )
 }
 
 /// None of the flags is known.
@@ -109,29 +95,7 @@ fn none_known() -> FourKnown
     }
 }
 
-/// Lists the members once.
-fn all_agreed_listed<F: AllFlags>(
-    modulus: u32,
-    operation: &F,
-    first: &Form,
-    second: &Form,
-    carries: &[u16],
-) -> FourKnown
-    requires small { modulus ≤ 65536 }
-    requires first_normal { IsNormal modulus first.now }
-    requires second_normal { IsNormal modulus second.now }
-    requires width { F.modulus operation.now ≡ modulus }
-    requires carries_below { All (λ n. n < modulus) carries.now }
-    requires carries_some { 1 ≤ length carries.now }
-    requires few { count_of modulus first.now * (count_of modulus second.now * length carries.now) ≤ 256 }
-    ensures { (place : Place) → known_at place result ≡ flags.agreed_of (F.value operation.now place) (members modulus first.now) (members modulus second.now) carries.now }
-{
-    let xs = listed(modulus, first);
-    let ys = listed(modulus, second);
-    all_agreed_of(modulus, operation, xs.as_slice(), ys.as_slice(), carries)
-}
-
-/// Each is known where all agree.
+/// Each is known where all agree. One combination is looked at once.
 fn all_agreed_of<F: AllFlags>(
     modulus: u32,
     operation: &F,
@@ -185,6 +149,20 @@ fn told(wanted: FourFlags, all: FourFlags) -> FourKnown
         third: known_where(all.third, wanted.third),
         fourth: known_where(all.fourth, wanted.fourth),
     }
+}
+
+/// Whether there is one combination.
+fn is_alone(xs: &[u16], ys: &[u16], carries: &[u16]) -> bool
+    ensures { IsTrue result ↔ (length xs.now ≡ 1) × (length ys.now ≡ 1) × (length carries.now ≡ 1) }
+{
+    xs.len() == 1 && ys.len() == 1 && carries.len() == 1
+}
+
+/// A flag that is known.
+fn known(flag: bool) -> Tri
+    ensures { result ≡ flags.known flag }
+{
+    if flag { Tri::One } else { Tri::Zero }
 }
 
 fn known_where(is_known: bool, flag: bool) -> Tri

@@ -123,7 +123,7 @@ pub fn combined<O: Operation>(
 }
 
 /// Whether sets have at most 256 combinations.
-fn is_few(modulus: u32, first: &Form, second: &Form, carry: &Form) -> bool
+pub fn is_few(modulus: u32, first: &Form, second: &Form, carry: &Form) -> bool
     requires small { modulus ≤ 65536 }
     requires first_normal { IsNormal modulus first.now }
     requires second_normal { IsNormal modulus second.now }

@@ -104,9 +104,7 @@ pub fn flags_agree()
         → ((x y z : ℕ) → Has m a x → Has m b y → Has m c z → flag x y z ≡ true) → agreed m flag a b c ≡ One }
     ensures clear { (m : ℕ) (flag : ℕ → ℕ → ℕ → Bool) (a b c : AForm) → IsNormal m a → IsNormal m b → IsNormal m c → count_of m a * (count_of m b * count_of m c) ≤ 256
         → ((x y z : ℕ) → Has m a x → Has m b y → Has m c z → flag x y z ≡ false) → agreed m flag a b c ≡ Zero }
-{
-    set_laws();
-}
+{}
 
 /// All laws of bits, and of bitwise and decimal operations.
 pub fn bit_laws()

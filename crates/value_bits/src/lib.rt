@@ -26,6 +26,7 @@ mod formulas;
 mod halves;
 mod knowing;
 mod laws;
+mod listing;
 mod making;
 mod operations;
 mod order;

@@ -7,7 +7,7 @@ ghost use Rattle.value_bits.specs.Flags as flags;
 ghost use Rattle.value_bits.specs.Flags.{IsFlag};
 ghost use Rattle.value_bits.specs.Order.{IsEnds, Share};
 
-use crate::flags::{Flag, agreed_few, are_few};
+use crate::flags::{Flag, agreed};
 use crate::tri::Tri;
 use value_set::sets::count;
 use value_set::{Form, Progression};
@@ -27,7 +27,7 @@ pub fn at_least(modulus: u32, first: &Form, second: &Form) -> Tri
     ensures value { result ≡ flags.agreed modulus (λ x y z. nat_le y x) first.now second.now (single 0) }
     ensures holds { (x y : ℕ) → Has modulus first.now x → Has modulus second.now y → IsFlag result (nat_le y x) }
 {
-    if !are_few(count(modulus, first), count(modulus, second), Tri::Zero) {
+    if count(modulus, first) as u64 * count(modulus, second) as u64 > 256 {
         return Tri::Either;
     }
     at_least_few(modulus, first, second)
@@ -124,24 +124,9 @@ pub fn equal(modulus: u32, first: &Form, second: &Form) -> Tri
     ensures value { result ≡ flags.agreed modulus (λ x y z. x == y) first.now second.now (single 0) }
     ensures holds { (x y : ℕ) → Has modulus first.now x → Has modulus second.now y → IsFlag result (x == y) }
 {
-    if !are_few(count(modulus, first), count(modulus, second), Tri::Zero) {
-        return Tri::Either;
-    }
-    equal_few(modulus, first, second)
-}
-
-/// The same, of at most 256 combinations.
-fn equal_few(modulus: u32, first: &Form, second: &Form) -> Tri
-    requires small { modulus ≤ 65536 }
-    requires wide { 2 ≤ modulus }
-    requires first_normal { IsNormal modulus first.now }
-    requires second_normal { IsNormal modulus second.now }
-    requires few { count_of modulus first.now * count_of modulus second.now ≤ 256 }
-    ensures { result ≡ flags.agreed modulus (λ x y z. x == y) first.now second.now (single 0) }
-{
     match (first, second) {
         (Form::Values(xs), Form::Values(ys)) => equal_lists(modulus, xs.as_slice(), ys.as_slice()),
-        _ => agreed_few(modulus, &Equality { modulus }, first, second, Tri::Zero),
+        _ => agreed(modulus, &Equality { modulus }, first, second, Tri::Zero),
     }
 }
 

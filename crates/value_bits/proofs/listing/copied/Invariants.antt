@@ -1,5 +1,5 @@
 use Rattle.std.proofs.Common.{◌≡◌, take}
-use Rattle.value_bits.proofs.flags.copied.Given as goal
+use Rattle.value_bits.proofs.listing.copied.Given as goal
 
 abbrev pub invariant-loop-value : goal.invariant-loop-value
 invariant-loop-value l = l.all.items ≡ take l.value-index l.values

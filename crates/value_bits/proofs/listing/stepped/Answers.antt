@@ -1,7 +1,7 @@
 use Rattle.std.proofs.Common.{ℕ, ◌+◌, ◌*◌, ◌%◌, ◌++◌, ◌∙◌, List, [], ◌∷◌, length, length-append, sym, ap, arith}
 use Rattle.value_set.specs.StepFacts.{steps_more}
 use Rattle.value_bits.proofs.Combinations.{steps_none}
-use Rattle.value_bits.proofs.flags.stepped.Goals as goal
+use Rattle.value_bits.proofs.listing.stepped.Goals as goal
 
 pub loop-place-init : goal.loop-place-init
 loop-place-init c = record {

@@ -1,6 +1,6 @@
 use Rattle.std.proofs.Common.{◌≡◌, length}
 use Rattle.value_set.specs.Form.{steps}
-use Rattle.value_bits.proofs.flags.stepped.Given as goal
+use Rattle.value_bits.proofs.listing.stepped.Given as goal
 
 abbrev pub invariant-loop-place : goal.invariant-loop-place
 invariant-loop-place l = record {
