@@ -14,17 +14,10 @@ use Rattle.value_set.specs.Remainders.{HasRemainder}
 use Rattle.value_set.specs.Widening.{widen}
 use Rattle.known_parts.specs.Bits.{bit_along, bit_common, bit_itself, bit_top, common_bit, is_bit_within}
 use Rattle.known_parts.specs.CellForms.{StaysSo, joined_stay, widened_stay}
-use Rattle.known_parts.specs.Orders.{IsAny, IsOrdered}
+use Rattle.known_parts.specs.Orders.{IsAny, IsOrdered, any_ordered}
 
 pub bit_ordered : IsOrdered IsAny is_bit_within common_bit Either
-bit_ordered = record {
-  itself = λ bit any. bit_itself bit;
-  along = bit_along;
-  form = λ a b f g. tt;
-  held = λ a b f g. (bit_common a b).0;
-  new = λ a b f g. (bit_common a b).1;
-  whole = λ bit any. bit_top bit;
-}
+bit_ordered = any_ordered bit_itself bit_along bit_common bit_top
 
 module _ (laws : KnownLaws) where
   -- SETS
@@ -61,14 +54,9 @@ module _ (laws : KnownLaws) where
   -- RELATIONS
 
   pub relation_ordered : IsOrdered IsAny is_entry_within common_entry None
-  relation_ordered = record {
-    itself = λ a any. laws.values.entries.itself a;
-    along = laws.values.entries.along;
-    form = λ a b f g. tt;
-    held = λ a b f g. laws.values.entries.join_first a b;
-    new = λ a b f g. laws.values.entries.join_second a b;
-    whole = λ a any. laws.values.entries.whole a;
-  }
+  relation_ordered =
+      let laws = laws.values.entries in
+      any_ordered laws.itself laws.along (λ a b. (laws.join_first a b, laws.join_second a b)) laws.whole
 
   -- CELLS
 
