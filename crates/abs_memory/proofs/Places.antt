@@ -135,17 +135,26 @@ byte_of_owner from (cell ∷ cells) at (suc index) owner (le, some, rest) lt is 
     rw (owner_is_first from cells at index cell rest (omega arith) (λ d. subst (λ one. has_byte one at ≡ true) (is d) has))
     (byte_of_owner (cell.place + cell.size) cells at index owner rest (omega arith) is has)
 
-pub low_byte_of : (cells : List Cell) (at index : ℕ) (owner : Cell) → Ascend 0 cells → index < length cells
-    → ((d : Cell) → owner ≡ get_or cells index d) → has_byte owner at ≡ true → owner.place ≡ at → Some (low_set owner.word.set) ≡ byte_at cells at
-low_byte_of cells at index owner h lt is has here =
-    let test : (at == owner.place) ≡ true = grind (arith, nat_tests) in
-    sym (byte_of_owner 0 cells at index owner h lt is has ∙ rw test refl)
+-- an index at which stands the cell that has the byte of an address
+abbrev pub Owns : List Cell → (at index : ℕ) → Type 0
+Owns cells at index = (index < length cells) × ((d : Cell) → has_byte (get_or cells index d) at ≡ true)
 
-pub high_byte_of : (cells : List Cell) (at index : ℕ) (owner : Cell) → Ascend 0 cells → index < length cells
-    → ((d : Cell) → owner ≡ get_or cells index d) → has_byte owner at ≡ true → (owner.place ≡ at → ⊥) → Some (high_set owner.word.set) ≡ byte_at cells at
-high_byte_of cells at index owner h lt is has other =
+owner_byte : (cells : List Cell) (at index : ℕ) (owner : Cell) → Ascend 0 cells → Owns cells at index → ((d : Cell) → owner ≡ get_or cells index d)
+    → byte_at cells at ≡ Some (if at == owner.place then low_set owner.word.set else high_set owner.word.set)
+owner_byte cells at index owner h owns is =
+    byte_of_owner 0 cells at index owner h owns.0 is (subst (λ cell. has_byte cell at ≡ true) (sym (is owner)) (owns.1 owner))
+
+pub low_byte_of : (cells : List Cell) (at index : ℕ) (owner : Cell) → Ascend 0 cells → Owns cells at index → ((d : Cell) → owner ≡ get_or cells index d)
+    → owner.place ≡ at → Some (low_set owner.word.set) ≡ byte_at cells at
+low_byte_of cells at index owner h owns is here =
+    let test : (at == owner.place) ≡ true = grind (arith, nat_tests) in
+    sym (owner_byte cells at index owner h owns is ∙ rw test refl)
+
+pub high_byte_of : (cells : List Cell) (at index : ℕ) (owner : Cell) → Ascend 0 cells → Owns cells at index → ((d : Cell) → owner ≡ get_or cells index d)
+    → (owner.place ≡ at → ⊥) → Some (high_set owner.word.set) ≡ byte_at cells at
+high_byte_of cells at index owner h owns is other =
     let test : (at == owner.place) ≡ false = grind (arith, nat_tests) in
-    sym (byte_of_owner 0 cells at index owner h lt is has ∙ rw test refl)
+    sym (owner_byte cells at index owner h owns is ∙ rw test refl)
 
 pub ascend_filter : (from : ℕ) (keeps : Cell → Bool) (cells : List Cell) → Ascend from cells → Ascend from (filter keeps cells)
 ascend_filter from keeps [] h = tt

@@ -8,5 +8,5 @@ use Rattle.abs_memory.specs.Listed.{IsList}
 abbrev pub map_of : (lo hi : ℕ) → List Cell → CellMap
 map_of lo hi cells = record { lo = lo; hi = hi; cells = cells }
 
-pub seen : (lo hi : ℕ) (cells : List Cell) (now : CellMap) → IsList lo hi cells → map_of lo hi cells ≡ now → IsSeen (map_of lo hi cells) now
-seen lo hi cells now list is = record { is = is; high = list.high; are = list.are }
+pub seen : {lo hi : ℕ} {cells : List Cell} {now : CellMap} → IsList lo hi cells → map_of lo hi cells ≡ now → IsSeen (map_of lo hi cells) now
+seen list is = record { is = is; high = list.high; are = list.are }

@@ -1,5 +1,5 @@
 -- A write at one of the addresses of a set: where the set has one address alone, a write at that.
-use Rattle.std.proofs.Common.{◌≡◌, ℕ, ◌<◌, ◌≤◌, Option, List, [], ◌∷◌, length, refl, sym, subst, inl, inr, arith}
+use Rattle.std.proofs.Common.{◌≡◌, ℕ, ◌<◌, ◌≤◌, List, [], ◌∷◌, length, refl, sym, subst, inl, inr, arith}
 use Prim.Native.Nat.{zero, suc}
 use Rattle.std.specs.Prelude.{◌==◌, slice_index}
 use Rattle.std.specs.List.{Contains}
@@ -8,11 +8,10 @@ use Rattle.value_set.specs.declared.form.Form.{Form}
 use Rattle.value_set.specs.Form.{Has, IsNormal, members}
 use Rattle.value_set.specs.Summing.{count_of}
 use Rattle.entry_value.specs.declared.word.Word.{Word}
-use Rattle.entry_value.specs.Words.{Suspended, HoldsOfWord}
 use Rattle.entry_value.specs.Cells.{CellMap, StandsUnder, AreCells, written, write_one, write_several, write_any}
 use Rattle.entry_value.proofs.Bytes.{IsSize}
 use Rattle.value_set.specs.Laws.{SetLaws}
-use Rattle.entry_value.proofs.Scattering.{several_covers, several_form, several_lo, several_hi}
+use Rattle.entry_value.proofs.Scattering.{CoversWrites, several_covers, several_form, several_lo, several_hi}
 use Rattle.entry_value.proofs.Writing.{one_covers, one_form, one_lo, one_hi}
 
 pub only_member : (xs : List ℕ) (x : ℕ) → length xs ≡ 1 → Contains xs x → slice_index xs 0 ≡ x
@@ -30,11 +29,7 @@ pub at_several : (map : CellMap) (at : Form) (size : ℕ) (word : Word) → (cou
 unfolding write_any
 at_several map at size word several = rw (ne_eqb (count_of 65536 at) 1 several) refl
 
-pub any_covers : SetLaws → (first : Option Suspended) (ram : ℕ → ℕ) (from size address v : ℕ) (map : CellMap) (at : Form) (word : Word)
-    → map.hi < 65536 → AreCells map.lo map.hi from map.cells
-    → IsNormal 65536 at → IsSize size → IsNormal 65536 word.set → (size ≡ 1 → (n : ℕ) → Has 65536 word.set n → n < 256)
-    → StandsUnder first map.cells ram → Has 65536 at address → HoldsOfWord first word v
-    → StandsUnder first (write_any map at size word).cells (written ram address size v)
+pub any_covers : SetLaws → CoversWrites write_any
 unfolding write_any
 any_covers sets first ram from size address v map at word below are addresses is normal byte stands h holds = elim (cases_Bool (count_of 65536 at == 1)) [
   | inl one ↦ rw one (

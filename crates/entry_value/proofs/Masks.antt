@@ -15,7 +15,7 @@ use Rattle.value_bits.specs.Laws.{BitLaws}
 use Rattle.value_bits.specs.Sets.{logic_set}
 use Rattle.entry_value.specs.declared.word.Entry.{Entry}
 use Rattle.entry_value.specs.Words.{Suspended, IsFromEntry, entry_and, entry_or}
-use Rattle.entry_value.proofs.Values.{HoldsOf}
+use Rattle.entry_value.specs.Values.{HoldsOf, IsFormed, Value, value_and, value_or}
 
 bits_and_over_or : (a b c : ℕ) → min (max a b) c ≡ max (min a c) (min b c)
 bits_and_over_or a b c = omega arith
@@ -71,10 +71,10 @@ masked_has sets bits width m v logic set below n h =
     let mask = sets.single (2 ^ width) m below in
     bits.logic width v m logic set (single m) n mask.0 h mask.1
 
-pub and_holds : SetLaws → BitLaws → (width : ℕ) (first : Option Suspended) (m v : ℕ) (set : Form) (entry : Option Entry) → m < 2 ^ width → IsNormal (2 ^ width) set
-    → HoldsOf (2 ^ width) first set entry v → HoldsOf (2 ^ width) first (logic_set width And set (single m)) (option_map (entry_and m) entry) (bit_and v m)
-and_holds sets bits width first m v set entry below n h = (masked_has sets bits width m v And set below n h.0, from_entry_and first entry v m h.1)
+pub and_holds : SetLaws → BitLaws → (width : ℕ) (first : Option Suspended) (m v : ℕ) (value : Value) → m < 2 ^ width → IsFormed width value
+    → HoldsOf width first value v → HoldsOf width first (value_and width m value) (bit_and v m)
+and_holds sets bits width first m v value below n h = (masked_has sets bits width m v And value.set below n h.0, from_entry_and first value.entry v m h.1)
 
-pub or_holds : SetLaws → BitLaws → (width : ℕ) (first : Option Suspended) (m v : ℕ) (set : Form) (entry : Option Entry) → m < 2 ^ width → IsNormal (2 ^ width) set
-    → HoldsOf (2 ^ width) first set entry v → HoldsOf (2 ^ width) first (logic_set width Or set (single m)) (option_map (entry_or m) entry) (bit_or v m)
-or_holds sets bits width first m v set entry below n h = (masked_has sets bits width m v Or set below n h.0, from_entry_or first entry v m h.1)
+pub or_holds : SetLaws → BitLaws → (width : ℕ) (first : Option Suspended) (m v : ℕ) (value : Value) → m < 2 ^ width → IsFormed width value
+    → HoldsOf width first value v → HoldsOf width first (value_or width m value) (bit_or v m)
+or_holds sets bits width first m v value below n h = (masked_has sets bits width m v Or value.set below n h.0, from_entry_or first value.entry v m h.1)

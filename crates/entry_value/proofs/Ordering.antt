@@ -1,16 +1,15 @@
 -- The order of relations, of sets with relations, and of cells: within itself, along two steps, and within joins and widenings.
-use Rattle.std.proofs.Common.{◌≡◌, ℕ, ◌+◌, ◌<◌, ◌≤◌, true, false, Option, None, Some, List, [], ◌∷◌, All, refl, sym, subst, inl, inr, arith}
+use Rattle.std.proofs.Common.{◌≡◌, ℕ, ◌+◌, ◌^◌, ◌<◌, ◌≤◌, true, false, Option, None, Some, List, [], ◌∷◌, All, refl, sym, subst, inl, inr, arith}
 use Rattle.std.specs.Prelude.{◌==◌, ◌&&◌, ◌⊎◌}
 use Rattle.std.proofs.lemmas.Bool.{cases_Bool, and_from, and_parts, eq-eqb, ne_eqb}
-use Rattle.value_set.specs.declared.form.Form.{Form}
-use Rattle.value_set.specs.Form.{Has, Includes, IsNormal, make}
-use Rattle.value_set.specs.Joining.{is_within, join}
-use Rattle.value_set.specs.Widening.{widen}
+use Rattle.value_set.specs.Form.{Has, Includes, IsNormal}
+use Rattle.value_set.specs.Joining.{is_within}
 use Rattle.entry_value.specs.declared.word.Entry.{Entry}
 use Rattle.entry_value.specs.declared.word.Word.{Word}
 use Rattle.entry_value.specs.declared.cells.Cell.{Cell}
 use Rattle.entry_value.specs.Words.{is_same_entry, common_entry, is_entry_within, word_join, word_widen, word_within}
 use Rattle.entry_value.specs.Cells.{IsCell, AreCells, is_nothing, cell_at, both_of, with_both, kept, join_cells, byte_widened, cell_widened, widen_cells, is_found_within, are_within}
+use Rattle.entry_value.specs.Values.{IsFormed, Value, all_of_width, is_value_within, of_word, value_joined, value_widened}
 use Rattle.entry_value.specs.CellLists.{Each, OfSome, each_both, each_then, each_kept, each_cell, found_at, some_size}
 use Rattle.value_bits.specs.Laws.{BitLaws}
 use Rattle.value_set.specs.Laws.{AreMarks, SetLaws}
@@ -57,42 +56,40 @@ common_is (Some a) (Some b) = elim (cases_Bool (is_same_entry a b)) [ inl same �
 
 -- ---- sets with relations
 
-both_within : SetLaws → (m : ℕ) (a b : Form) (e f : Option Entry) → Includes m b a → is_entry_within e f ≡ true
-    → (is_within m a b && is_entry_within e f) ≡ true
-both_within sets m a b e f includes entries = and_from (is_within m a b) (is_entry_within e f) ((sets.tested m a b).1 includes) entries
+both_within : SetLaws → (width : ℕ) (a b : Value) → Includes (2 ^ width) b.set a.set → is_entry_within a.entry b.entry ≡ true → is_value_within width a b ≡ true
+both_within sets width a b includes entries =
+    and_from (is_within (2 ^ width) a.set b.set) (is_entry_within a.entry b.entry) ((sets.tested (2 ^ width) a.set b.set).1 includes) entries
 
-pub value_along : SetLaws → (m : ℕ) (a b c : Form) (e f g : Option Entry) → (is_within m a b && is_entry_within e f) ≡ true
-    → (is_within m b c && is_entry_within f g) ≡ true
-    → (is_within m a c && is_entry_within e g) ≡ true
-value_along sets m a b c e f g h k =
-    let one = and_parts (is_within m a b) (is_entry_within e f) h in
-    let other = and_parts (is_within m b c) (is_entry_within f g) k in
-    both_within sets m a c e g (λ v has. (sets.tested m b c).0 other.0 v ((sets.tested m a b).0 one.0 v has)) (entry_along e f g one.1 other.1)
+pub value_along : SetLaws → (width : ℕ) (a b c : Value) → is_value_within width a b ≡ true → is_value_within width b c ≡ true
+    → is_value_within width a c ≡ true
+value_along sets width a b c h k =
+    let m = 2 ^ width in
+    let one = and_parts (is_within m a.set b.set) (is_entry_within a.entry b.entry) h in
+    let other = and_parts (is_within m b.set c.set) (is_entry_within b.entry c.entry) k in
+    both_within sets width a c (λ v has. (sets.tested m b.set c.set).0 other.0 v ((sets.tested m a.set b.set).0 one.0 v has)) (entry_along a.entry b.entry c.entry one.1 other.1)
 
-pub value_itself : SetLaws → (m : ℕ) (a : Form) (e : Option Entry) → (is_within m a a && is_entry_within e e) ≡ true
-value_itself sets m a e = both_within sets m a a e e (λ v h. h) (entry_itself e)
+pub value_itself : SetLaws → (width : ℕ) (a : Value) → is_value_within width a a ≡ true
+value_itself sets width a = both_within sets width a a (λ v h. h) (entry_itself a.entry)
 
-pub join_first : SetLaws → (m : ℕ) (a b : Form) (e f : Option Entry) → IsNormal m a → IsNormal m b
-    → (is_within m a (join m a b) && is_entry_within e (common_entry e f)) ≡ true
-join_first sets m a b e f n k = both_within sets m a (join m a b) e (common_entry e f) (sets.join_first m a b n k) (common_of_first e f)
+pub join_first : SetLaws → (width : ℕ) (a b : Value) → IsFormed width a → IsFormed width b → is_value_within width a (value_joined width a b) ≡ true
+join_first sets width a b n k = both_within sets width a (value_joined width a b) (sets.join_first (2 ^ width) a.set b.set n k) (common_of_first a.entry b.entry)
 
-pub join_second : SetLaws → (m : ℕ) (a b : Form) (e f : Option Entry) → IsNormal m a → IsNormal m b
-    → (is_within m b (join m a b) && is_entry_within f (common_entry e f)) ≡ true
-join_second sets m a b e f n k = both_within sets m b (join m a b) f (common_entry e f) (sets.join_second m a b n k) (common_of_second e f)
+pub join_second : SetLaws → (width : ℕ) (a b : Value) → IsFormed width a → IsFormed width b → is_value_within width b (value_joined width a b) ≡ true
+join_second sets width a b n k = both_within sets width b (value_joined width a b) (sets.join_second (2 ^ width) a.set b.set n k) (common_of_second a.entry b.entry)
 
-pub widen_held : SetLaws → (m : ℕ) (a b : Form) (e f : Option Entry) (marks : List ℕ) → IsNormal m a → IsNormal m b → AreMarks m marks
-    → (is_within m a (widen m a b marks) && is_entry_within e (common_entry e f)) ≡ true
-widen_held sets m a b e f marks n k below =
-    both_within sets m a (widen m a b marks) e (common_entry e f) (sets.widen_held m a b marks n k below) (common_of_first e f)
+pub widen_held : SetLaws → (width : ℕ) (a b : Value) (marks : List ℕ) → IsFormed width a → IsFormed width b → AreMarks (2 ^ width) marks
+    → is_value_within width a (value_widened width a b marks) ≡ true
+widen_held sets width a b marks n k below =
+    both_within sets width a (value_widened width a b marks) (sets.widen_held (2 ^ width) a.set b.set marks n k below) (common_of_first a.entry b.entry)
 
-pub widen_new : SetLaws → (m : ℕ) (a b : Form) (e f : Option Entry) (marks : List ℕ) → IsNormal m a → IsNormal m b → AreMarks m marks
-    → (is_within m b (widen m a b marks) && is_entry_within f (common_entry e f)) ≡ true
-widen_new sets m a b e f marks n k below =
-    both_within sets m b (widen m a b marks) f (common_entry e f) (sets.widen_new m a b marks n k below) (common_of_second e f)
+pub widen_new : SetLaws → (width : ℕ) (a b : Value) (marks : List ℕ) → IsFormed width a → IsFormed width b → AreMarks (2 ^ width) marks
+    → is_value_within width b (value_widened width a b marks) ≡ true
+widen_new sets width a b marks n k below =
+    both_within sets width b (value_widened width a b marks) (sets.widen_new (2 ^ width) a.set b.set marks n k below) (common_of_second a.entry b.entry)
 
 -- within all numbers, without a relation
-pub value_whole : SetLaws → (m : ℕ) (a : Form) (e : Option Entry) → IsNormal m a → (is_within m a (make m 0 1 m) && is_entry_within e None) ≡ true
-value_whole sets m a e n = both_within sets m a (make m 0 1 m) e None (λ v h. sets.whole m v (sets.below m v a n h)) refl
+pub value_whole : SetLaws → (width : ℕ) (a : Value) → IsFormed width a → is_value_within width a (all_of_width width) ≡ true
+value_whole sets width a n = both_within sets width a (all_of_width width) (λ v h. sets.whole (2 ^ width) v (sets.below (2 ^ width) v a.set n h)) refl
 
 -- ---- cells that are found
 
@@ -146,13 +143,13 @@ found_within found word other e h = rw e h
 
 pub cells_itself : SetLaws → (lo hi from : ℕ) (cells : List Cell) → AreCells lo hi from cells → are_within cells cells ≡ true
 cells_itself sets lo hi from cells are = within_from cells cells
-    (each_then (IsFoundIn cells) (IsWithin cells) cells (λ cell found. found_within (cell_at cells cell.place cell.size) cell.word cell.word found (value_itself sets 65536 cell.word.set cell.word.entry)) (each_found lo hi from cells are))
+    (each_then (IsFoundIn cells) (IsWithin cells) cells (λ cell found. found_within (cell_at cells cell.place cell.size) cell.word cell.word found (value_itself sets 16 (of_word cell.word))) (each_found lo hi from cells are))
 
 some_along : SetLaws → (found : Option Word) (middle last : Word) → is_found_within found middle ≡ true → word_within middle last ≡ true
     → is_found_within found last ≡ true
 some_along sets None middle last h k = h
 some_along sets (Some word) middle last h k =
-    value_along sets 65536 word.set middle.set last.set word.entry middle.entry last.entry h k
+    value_along sets 16 (of_word word) (of_word middle) (of_word last) h k
 
 found_along : SetLaws → (first second : Option Word) (last : Word) → OfSome (λ word. is_found_within first word ≡ true) second
     → is_found_within second last ≡ true
@@ -179,36 +176,36 @@ record Above (size : ℕ) (f : Word → Word → Word) : Type 0 where
 
 join_above : SetLaws → (size : ℕ) → Above size word_join
 join_above sets size = record {
-  one = λ a b n k low. join_first sets 65536 a.set b.set a.entry b.entry n k;
-  other = λ a b n k low. join_second sets 65536 a.set b.set a.entry b.entry n k;
+  one = λ a b n k low. join_first sets 16 (of_word a) (of_word b) n k;
+  other = λ a b n k low. join_second sets 16 (of_word a) (of_word b) n k;
 }
 
 widen_above : SetLaws → (size : ℕ) (marks : List ℕ) → All (λ mark. mark < 65536) marks → Above size (λ held new. word_widen held new marks)
 widen_above sets size marks below = record {
-  one = λ a b n k low. widen_held sets 65536 a.set b.set a.entry b.entry marks n k below;
-  other = λ a b n k low. widen_new sets 65536 a.set b.set a.entry b.entry marks n k below;
+  one = λ a b n k low. widen_held sets 16 (of_word a) (of_word b) marks n k below;
+  other = λ a b n k low. widen_new sets 16 (of_word a) (of_word b) marks n k below;
 }
 
 byte_above : SetLaws → BitLaws → (size : ℕ) (marks : List ℕ) → size ≡ 1 → Above size (λ held new. byte_widened held new marks)
 byte_above sets bits size marks one = record {
-  one = λ a b n k low. both_within sets 65536 a.set (byte_widened a b marks).set a.entry (common_entry a.entry b.entry)
+  one = λ a b n k low. both_within sets 16 (of_word a) (of_word (byte_widened a b marks))
       (λ v h. byte_held sets bits a b marks v n k (low one v h) h) (common_of_first a.entry b.entry);
-  other = λ a b n k low. both_within sets 65536 b.set (byte_widened a b marks).set b.entry (common_entry a.entry b.entry)
+  other = λ a b n k low. both_within sets 16 (of_word b) (of_word (byte_widened a b marks))
       (λ v h. byte_new sets bits a b marks v n k (low one v h) h) (common_of_second a.entry b.entry);
 }
 
 -- what is known of a word that is found
-abbrev IsFormed : (size : ℕ) → Word → Type 0
-IsFormed size word = IsNormal 65536 word.set × (size ≡ 1 → IsLow word)
+abbrev IsSized : (size : ℕ) → Word → Type 0
+IsSized size word = IsNormal 65536 word.set × (size ≡ 1 → IsLow word)
 
-formed_found : (lo hi from : ℕ) (cells : List Cell) → AreCells lo hi from cells → (place size : ℕ) → OfSome (IsFormed size) (cell_at cells place size)
-formed_found lo hi from cells are place size = found_at (λ p s word. IsFormed s word) cells place size
-    (each_then (IsCell lo hi) (λ cell. IsFormed cell.size cell.word) cells (λ cell is. (is.normal, is.byte)) (each_cell lo hi from cells are))
+formed_found : (lo hi from : ℕ) (cells : List Cell) → AreCells lo hi from cells → (place size : ℕ) → OfSome (IsSized size) (cell_at cells place size)
+formed_found lo hi from cells are place size = found_at (λ p s word. IsSized s word) cells place size
+    (each_then (IsCell lo hi) (λ cell. IsSized cell.size cell.word) cells (λ cell is. (is.normal, is.byte)) (each_cell lo hi from cells are))
 
 held_within : (f : Word → Word → Word) (lo hi low high start : ℕ) (held new : List Cell) → AreCells low high start new → (cell : Cell) → Above cell.size f
     → IsCell lo hi cell × IsFoundIn held cell → OfSome (IsWithin held) (with_both f new cell)
 held_within f lo hi low high start held new are cell above h = of_both (IsWithin held) f cell (cell_at new cell.place cell.size)
-    (of_some_then (IsFormed cell.size) (λ word. let c : Cell = record { place = cell.place; size = cell.size; word = f cell.word word } in is_nothing cell.size (f cell.word word) ≡ false → IsWithin held c)
+    (of_some_then (IsSized cell.size) (λ word. let c : Cell = record { place = cell.place; size = cell.size; word = f cell.word word } in is_nothing cell.size (f cell.word word) ≡ false → IsWithin held c)
     (cell_at new cell.place cell.size)
     (λ word formed says. found_within (cell_at held cell.place cell.size) cell.word (f cell.word word) h.1 (above.one cell.word word h.0.normal formed.0 h.0.byte))
     (formed_found low high start new are cell.place cell.size))
@@ -222,7 +219,7 @@ new_is_within f new cell (Some word) e h = of_telling (IsWithin new) (record { p
 new_within : (f : Word → Word → Word) (lo hi low high start : ℕ) (new : List Cell) → AreCells low high start new → (cell : Cell) → Above cell.size f
     → IsCell lo hi cell → OfSome (IsWithin new) (with_both f new cell)
 new_within f lo hi low high start new are cell above is = new_is_within f new cell (cell_at new cell.place cell.size) refl
-    (of_some_then (IsFormed cell.size) (λ word. word_within word (f cell.word word) ≡ true) (cell_at new cell.place cell.size)
+    (of_some_then (IsSized cell.size) (λ word. word_within word (f cell.word word) ≡ true) (cell_at new cell.place cell.size)
     (λ word formed. above.other cell.word word is.normal formed.0 formed.1)
     (formed_found low high start new are cell.place cell.size))
 

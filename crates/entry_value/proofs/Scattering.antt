@@ -100,11 +100,15 @@ behind_stands sets first ram bytes lo hi size address v at word below low its sm
     (λ apart same says. subst (λ (s : ℕ). HoldsOfWord first (word_join cell.word word) (number_at (written ram address size v) cell.place s)) same
     (joined_stands sets first ram bytes lo hi size address v at word cell below old.1 low its small h normal holds old.0 apart same))
 
-pub several_covers : SetLaws → (first : Option Suspended) (ram : ℕ → ℕ) (from size address v : ℕ) (map : CellMap) (at : Form) (word : Word)
+-- a write at one of the addresses of a set leaves what stands in the RAM that is written at any of them
+abbrev pub CoversWrites : (CellMap → Form → (size : ℕ) → Word → CellMap) → Type 0
+CoversWrites write = (first : Option Suspended) (ram : ℕ → ℕ) (from size address v : ℕ) (map : CellMap) (at : Form) (word : Word)
     → map.hi < 65536 → AreCells map.lo map.hi from map.cells
     → IsNormal 65536 at → IsSize size → IsNormal 65536 word.set → (size ≡ 1 → (n : ℕ) → Has 65536 word.set n → n < 256)
     → StandsUnder first map.cells ram → Has 65536 at address → HoldsOfWord first word v
-    → StandsUnder first (write_several map at size word).cells (written ram address size v)
+    → StandsUnder first (write map at size word).cells (written ram address size v)
+
+pub several_covers : SetLaws → CoversWrites write_several
 unfolding write_several
 several_covers sets first ram from size address v map at word below are addresses is normal byte stands h holds =
     let low = sets.below 65536 address at addresses h in

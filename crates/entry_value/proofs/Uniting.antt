@@ -12,6 +12,7 @@ use Rattle.entry_value.specs.CellLists.{Each, IsAlike, OfSome, StandsAt, each_fr
 use Rattle.value_bits.specs.Laws.{BitLaws}
 use Rattle.value_set.specs.Laws.{SetLaws}
 use Rattle.entry_value.proofs.Reading.{Holds, each_holds}
+use Rattle.entry_value.specs.Values.{of_word}
 use Rattle.entry_value.proofs.Values.{Covers, Forms, join_covers, widen_covers, byte_covers, within_holds, join_forms, widen_forms, byte_forms}
 
 -- ---- cells that say something
@@ -165,7 +166,7 @@ widen_form sets bits lo hi from low high start held new marks are others below =
 found_within : SetLaws → (first : Option Suspended) (v : ℕ) (found : Option Word) (held : Word) → is_found_within found held ≡ true
     → OfSome (λ word. HoldsOfWord first word v) found → HoldsOfWord first held v
 found_within sets first v None held within h = absurd (cc)
-found_within sets first v (Some new) held within h = within_holds sets 65536 first v new.set held.set new.entry held.entry within h
+found_within sets first v (Some new) held within h = within_holds sets 16 first v (of_word new) (of_word held) within h
 
 each_within : SetLaws → (first : Option Suspended) (ram : ℕ → ℕ) (new held : List Cell) → are_within new held ≡ true → Each (StandsAt first ram) new
     → Each (StandsAt first ram) held

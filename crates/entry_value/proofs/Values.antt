@@ -1,12 +1,12 @@
 -- Joins, widenings and inclusion of values, and what holds of them.
-use Rattle.std.proofs.Common.{◌≡◌, ℕ, ◌+◌, ◌*◌, ◌<◌, true, Option, None, Some, List, [], ◌∷◌, All, sym, ◌∙◌, ap, subst, inl, inr, arith, nat_lt}
+use Rattle.std.proofs.Common.{◌≡◌, ℕ, ◌+◌, ◌*◌, ◌^◌, ◌<◌, true, Option, None, Some, List, [], ◌∷◌, All, sym, ◌∙◌, ap, subst, inl, inr, arith, nat_lt}
 use Rattle.std.specs.Prelude.{◌==◌, ◌&&◌}
 use Rattle.std.specs.List.{filter}
 use Rattle.std.proofs.lemmas.Bool.{cases_Bool, and_parts, eqb-true, ltb-true}
 use Rattle.std.proofs.lemmas.List.Elements.{All-nil, All-cons}
 use Rattle.value_set.specs.declared.form.Form.{Form}
 use Rattle.value_set.specs.Form.{Has, IsNormal}
-use Rattle.value_set.specs.Joining.{is_within, join}
+use Rattle.value_set.specs.Joining.{is_within}
 use Rattle.value_set.specs.Summing.{single}
 use Rattle.value_set.specs.Widening.{widen}
 use Rattle.value_bits.specs.Sets.{low_set, pair_set}
@@ -14,6 +14,7 @@ use Rattle.entry_value.specs.declared.word.Entry.{Entry}
 use Rattle.entry_value.specs.declared.word.Word.{Word}
 use Rattle.entry_value.specs.Words.{Suspended, IsFromEntry, HoldsOfWord, is_same_entry, common_entry, is_entry_within, word_join, word_widen}
 use Rattle.entry_value.specs.Cells.{byte_widened}
+use Rattle.entry_value.specs.Values.{HoldsOf, IsFormed, Value, is_value_within, of_word, value_joined, value_widened}
 use Rattle.value_bits.specs.Laws.{BitLaws}
 use Rattle.value_set.specs.Laws.{AreMarks, SetLaws}
 use Rattle.plain_lemmas.specs.Small.{byte_alone}
@@ -48,31 +49,29 @@ entry_within first (Some a) (Some b) v within h = subst (λ (entry : Entry). IsF
 
 -- ---- sets with relations, of words and of bytes alike
 
--- a set of numbers below m and a relation hold of a number
-abbrev pub HoldsOf : (m : ℕ) → Option Suspended → Form → Option Entry → ℕ → Type 0
-HoldsOf m first set entry v = Has m set v × IsFromEntry first entry v
+pub join_holds_first : SetLaws → (width : ℕ) (first : Option Suspended) (v : ℕ) (a b : Value) → IsFormed width a → IsFormed width b
+    → HoldsOf width first a v → HoldsOf width first (value_joined width a b) v
+join_holds_first sets width first v a b n k h = (sets.join_first (2 ^ width) a.set b.set n k v h.0, common_first first a.entry b.entry v h.1)
 
-pub join_holds_first : SetLaws → (m : ℕ) (first : Option Suspended) (v : ℕ) (a b : Form) (e f : Option Entry) → IsNormal m a → IsNormal m b
-    → HoldsOf m first a e v → HoldsOf m first (join m a b) (common_entry e f) v
-join_holds_first sets m first v a b e f n k h = (sets.join_first m a b n k v h.0, common_first first e f v h.1)
+pub join_holds_second : SetLaws → (width : ℕ) (first : Option Suspended) (v : ℕ) (a b : Value) → IsFormed width a → IsFormed width b
+    → HoldsOf width first b v → HoldsOf width first (value_joined width a b) v
+join_holds_second sets width first v a b n k h = (sets.join_second (2 ^ width) a.set b.set n k v h.0, common_second first a.entry b.entry v h.1)
 
-pub join_holds_second : SetLaws → (m : ℕ) (first : Option Suspended) (v : ℕ) (a b : Form) (e f : Option Entry) → IsNormal m a → IsNormal m b
-    → HoldsOf m first b f v → HoldsOf m first (join m a b) (common_entry e f) v
-join_holds_second sets m first v a b e f n k h = (sets.join_second m a b n k v h.0, common_second first e f v h.1)
+pub widen_holds_held : SetLaws → (width : ℕ) (first : Option Suspended) (v : ℕ) (a b : Value) (marks : List ℕ) → IsFormed width a → IsFormed width b
+    → AreMarks (2 ^ width) marks → HoldsOf width first a v → HoldsOf width first (value_widened width a b marks) v
+widen_holds_held sets width first v a b marks n k below h =
+    (sets.widen_held (2 ^ width) a.set b.set marks n k below v h.0, common_first first a.entry b.entry v h.1)
 
-pub widen_holds_held : SetLaws → (m : ℕ) (first : Option Suspended) (v : ℕ) (a b : Form) (e f : Option Entry) (marks : List ℕ) → IsNormal m a → IsNormal m b
-    → AreMarks m marks → HoldsOf m first a e v → HoldsOf m first (widen m a b marks) (common_entry e f) v
-widen_holds_held sets m first v a b e f marks n k below h = (sets.widen_held m a b marks n k below v h.0, common_first first e f v h.1)
+pub widen_holds_new : SetLaws → (width : ℕ) (first : Option Suspended) (v : ℕ) (a b : Value) (marks : List ℕ) → IsFormed width a → IsFormed width b
+    → AreMarks (2 ^ width) marks → HoldsOf width first b v → HoldsOf width first (value_widened width a b marks) v
+widen_holds_new sets width first v a b marks n k below h =
+    (sets.widen_new (2 ^ width) a.set b.set marks n k below v h.0, common_second first a.entry b.entry v h.1)
 
-pub widen_holds_new : SetLaws → (m : ℕ) (first : Option Suspended) (v : ℕ) (a b : Form) (e f : Option Entry) (marks : List ℕ) → IsNormal m a → IsNormal m b
-    → AreMarks m marks → HoldsOf m first b f v → HoldsOf m first (widen m a b marks) (common_entry e f) v
-widen_holds_new sets m first v a b e f marks n k below h = (sets.widen_new m a b marks n k below v h.0, common_second first e f v h.1)
-
-pub within_holds : SetLaws → (m : ℕ) (first : Option Suspended) (v : ℕ) (a b : Form) (e f : Option Entry) → (is_within m a b && is_entry_within e f) ≡ true
-    → HoldsOf m first a e v → HoldsOf m first b f v
-within_holds sets m first v a b e f within h =
-    let parts = and_parts (is_within m a b) (is_entry_within e f) within in
-    ((sets.tested m a b).0 parts.0 v h.0, entry_within first e f v parts.1 h.1)
+pub within_holds : SetLaws → (width : ℕ) (first : Option Suspended) (v : ℕ) (a b : Value) → is_value_within width a b ≡ true → HoldsOf width first a v
+    → HoldsOf width first b v
+within_holds sets width first v a b within h =
+    let parts = and_parts (is_within (2 ^ width) a.set b.set) (is_entry_within a.entry b.entry) within in
+    ((sets.tested (2 ^ width) a.set b.set).0 parts.0 v h.0, entry_within first a.entry b.entry v parts.1 h.1)
 
 -- ---- words of a size
 
@@ -83,15 +82,15 @@ pub record Covers (first : Option Suspended) (size : ℕ) (f : Word → Word →
 
 pub join_covers : SetLaws → (first : Option Suspended) (size : ℕ) → Covers first size word_join
 join_covers sets first size = record {
-  one = λ a b v n k small. join_holds_first sets 65536 first v a.set b.set a.entry b.entry n k;
-  other = λ a b v n k small. join_holds_second sets 65536 first v a.set b.set a.entry b.entry n k;
+  one = λ a b v n k small. join_holds_first sets 16 first v (of_word a) (of_word b) n k;
+  other = λ a b v n k small. join_holds_second sets 16 first v (of_word a) (of_word b) n k;
 }
 
 pub widen_covers : SetLaws → (first : Option Suspended) (size : ℕ) (marks : List ℕ) → All (λ mark. mark < 65536) marks
     → Covers first size (λ held new. word_widen held new marks)
 widen_covers sets first size marks below = record {
-  one = λ a b v n k small. widen_holds_held sets 65536 first v a.set b.set a.entry b.entry marks n k below;
-  other = λ a b v n k small. widen_holds_new sets 65536 first v a.set b.set a.entry b.entry marks n k below;
+  one = λ a b v n k small. widen_holds_held sets 16 first v (of_word a) (of_word b) marks n k below;
+  other = λ a b v n k small. widen_holds_new sets 16 first v (of_word a) (of_word b) marks n k below;
 }
 
 -- ---- words of one byte

@@ -1,7 +1,7 @@
 -- What words, bytes, relations and cells hold. A proof over them takes these laws from one record.
-use Rattle.std.specs.Prelude.{◌≡◌, ◌≢◌, ◌≤◌, ◌<◌, ℕ, ◌⊎◌, true, Contains, Option, None, Some, List, [], slice_index, option_map, bit_and, bit_or}
+use Rattle.std.specs.Prelude.{◌≡◌, ◌≢◌, ◌^◌, ◌≤◌, ◌<◌, ℕ, ◌⊎◌, true, Contains, Option, None, Some, List, [], slice_index, option_map, bit_and, bit_or}
 use Rattle.value_set.specs.declared.form.Form.{Form}
-use Rattle.value_set.specs.Form.{Has, IsNormal, make, members}
+use Rattle.value_set.specs.Form.{Has, IsNormal, members}
 use Rattle.value_set.specs.Laws.{AreMarks, IsBelow}
 use Rattle.value_set.specs.Summing.{count_of, single}
 use Rattle.value_bits.specs.Sets.{low_set, pair_set}
@@ -10,8 +10,9 @@ use Rattle.entry_value.specs.declared.cells.Cell.{Cell}
 use Rattle.entry_value.specs.declared.word.Entry.{Entry}
 use Rattle.entry_value.specs.declared.word.Word.{Word}
 use Rattle.entry_value.specs.Cells as cells
-use Rattle.entry_value.specs.Cells.{AreCells, CellMap, IsCell, StandsUnder, are_within, join_cells, kept, number_at, unknown, widen_cells, write_any, write_one, written}
-use Rattle.entry_value.specs.Words.{Suspended, IsFromEntry, HoldsOfWord, HoldsOfByte, common_entry, is_entry_within, entry_and, entry_or, word_join, word_widen, word_within, word_and, word_or, byte_join, byte_widen, byte_within, byte_and, byte_or}
+use Rattle.entry_value.specs.Cells.{AreCells, CellMap, IsCell, StandsUnder, are_within, join_cells, kept, number_at, widen_cells, write_any, write_one, written}
+use Rattle.entry_value.specs.Values.{HoldsOf, IsFormed, Value, all_of_width, is_value_within, of_byte, of_word, value_and, value_joined, value_or, value_widened}
+use Rattle.entry_value.specs.Words.{Suspended, IsFromEntry, HoldsOfWord, HoldsOfByte, common_entry, is_entry_within, entry_and, entry_or}
 
 -- Relations of numbers to places of the suspended state: what came from a place came from it, behind a mask, by the masked
 -- relation; a relation says what another one does that it is within, and what either says their common one says.
@@ -31,79 +32,49 @@ pub record EntryLaws : Type 0 where
   pub join_second : (a b : Option Entry) → is_entry_within b (common_entry a b) ≡ true
   pub whole : (a : Option Entry) → is_entry_within a None ≡ true
 
--- What holds of a number under a suspended state holds of it behind joins, widenings and greater sets, and of the number behind
--- a mask where it has passed that mask. Sets stay in normal form, and `within` is an order.
-pub record WordLaws : Type 0 where
-  pub holds : (first : Option Suspended) (v : ℕ) (a b : Word) → word_within a b ≡ true → HoldsOfWord first a v → HoldsOfWord first b v
-  pub join_normal : (a b : Word) → IsNormal 65536 a.set → IsNormal 65536 b.set → IsNormal 65536 (word_join a b).set
-  pub join_holds_first : (first : Option Suspended) (v : ℕ) (a b : Word) → IsNormal 65536 a.set → IsNormal 65536 b.set → HoldsOfWord first a v
-      → HoldsOfWord first (word_join a b) v
-  pub join_holds_second : (first : Option Suspended) (v : ℕ) (a b : Word) → IsNormal 65536 a.set → IsNormal 65536 b.set → HoldsOfWord first b v
-      → HoldsOfWord first (word_join a b) v
-  pub widen_normal : (held new : Word) (marks : List ℕ) → IsNormal 65536 held.set → IsNormal 65536 new.set → AreMarks 65536 marks
-      → IsNormal 65536 (word_widen held new marks).set
-  pub widen_holds_held : (first : Option Suspended) (v : ℕ) (held new : Word) (marks : List ℕ) → IsNormal 65536 held.set → IsNormal 65536 new.set
-      → AreMarks 65536 marks
-      → HoldsOfWord first held v → HoldsOfWord first (word_widen held new marks) v
-  pub widen_holds_new : (first : Option Suspended) (v : ℕ) (held new : Word) (marks : List ℕ) → IsNormal 65536 held.set → IsNormal 65536 new.set
-      → AreMarks 65536 marks
-      → HoldsOfWord first new v → HoldsOfWord first (word_widen held new marks) v
+-- Of values of a width: what holds of a number under a suspended state holds of it behind joins, widenings and greater sets, and
+-- of the number behind a mask where it has passed that mask. Sets stay in normal form, and `within` is an order.
+pub record SizedLaws {A : Type 0} (width : ℕ) (of : A → Value) : Type 0 where
+  pub holds : (first : Option Suspended) (v : ℕ) (a b : A) → is_value_within width (of a) (of b) ≡ true → HoldsOf width first (of a) v → HoldsOf width first (of b) v
+  pub join_normal : (a b : A) → IsFormed width (of a) → IsFormed width (of b) → IsFormed width (value_joined width (of a) (of b))
+  pub join_holds_first : (first : Option Suspended) (v : ℕ) (a b : A) → IsFormed width (of a) → IsFormed width (of b) → HoldsOf width first (of a) v
+      → HoldsOf width first (value_joined width (of a) (of b)) v
+  pub join_holds_second : (first : Option Suspended) (v : ℕ) (a b : A) → IsFormed width (of a) → IsFormed width (of b) → HoldsOf width first (of b) v
+      → HoldsOf width first (value_joined width (of a) (of b)) v
+  pub widen_normal : (held new : A) (marks : List ℕ) → IsFormed width (of held) → IsFormed width (of new) → AreMarks (2 ^ width) marks
+      → IsFormed width (value_widened width (of held) (of new) marks)
+  pub widen_holds_held : (first : Option Suspended) (v : ℕ) (held new : A) (marks : List ℕ) → IsFormed width (of held) → IsFormed width (of new)
+      → AreMarks (2 ^ width) marks → HoldsOf width first (of held) v → HoldsOf width first (value_widened width (of held) (of new) marks) v
+  pub widen_holds_new : (first : Option Suspended) (v : ℕ) (held new : A) (marks : List ℕ) → IsFormed width (of held) → IsFormed width (of new)
+      → AreMarks (2 ^ width) marks → HoldsOf width first (of new) v → HoldsOf width first (value_widened width (of held) (of new) marks) v
   -- masks
-  pub and_normal : (m : ℕ) (word : Word) → m < 65536 → IsNormal 65536 word.set → IsNormal 65536 (word_and m word).set
-  pub and : (first : Option Suspended) (m v : ℕ) (word : Word) → m < 65536 → IsNormal 65536 word.set → HoldsOfWord first word v
-      → HoldsOfWord first (word_and m word) (bit_and v m)
-  pub or_normal : (m : ℕ) (word : Word) → m < 65536 → IsNormal 65536 word.set → IsNormal 65536 (word_or m word).set
-  pub or : (first : Option Suspended) (m v : ℕ) (word : Word) → m < 65536 → IsNormal 65536 word.set → HoldsOfWord first word v
-      → HoldsOfWord first (word_or m word) (bit_or v m)
+  pub and_normal : (m : ℕ) (a : A) → m < 2 ^ width → IsFormed width (of a) → IsFormed width (value_and width m (of a))
+  pub and : (first : Option Suspended) (m v : ℕ) (a : A) → m < 2 ^ width → IsFormed width (of a) → HoldsOf width first (of a) v
+      → HoldsOf width first (value_and width m (of a)) (bit_and v m)
+  pub or_normal : (m : ℕ) (a : A) → m < 2 ^ width → IsFormed width (of a) → IsFormed width (value_or width m (of a))
+  pub or : (first : Option Suspended) (m v : ℕ) (a : A) → m < 2 ^ width → IsFormed width (of a) → HoldsOf width first (of a) v
+      → HoldsOf width first (value_or width m (of a)) (bit_or v m)
   -- their order
-  pub itself : (a : Word) → word_within a a ≡ true
-  pub along : (a b c : Word) → word_within a b ≡ true → word_within b c ≡ true → word_within a c ≡ true
-  pub join_first : (a b : Word) → IsNormal 65536 a.set → IsNormal 65536 b.set → word_within a (word_join a b) ≡ true
-  pub join_second : (a b : Word) → IsNormal 65536 a.set → IsNormal 65536 b.set → word_within b (word_join a b) ≡ true
-  pub widen_held : (held new : Word) (marks : List ℕ) → IsNormal 65536 held.set → IsNormal 65536 new.set → AreMarks 65536 marks
-      → word_within held (word_widen held new marks) ≡ true
-  pub widen_new : (held new : Word) (marks : List ℕ) → IsNormal 65536 held.set → IsNormal 65536 new.set → AreMarks 65536 marks
-      → word_within new (word_widen held new marks) ≡ true
-  pub whole : (a : Word) → IsNormal 65536 a.set → word_within a (unknown 2) ≡ true
+  pub itself : (a : A) → is_value_within width (of a) (of a) ≡ true
+  pub along : (a b c : A) → is_value_within width (of a) (of b) ≡ true → is_value_within width (of b) (of c) ≡ true → is_value_within width (of a) (of c) ≡ true
+  pub join_first : (a b : A) → IsFormed width (of a) → IsFormed width (of b) → is_value_within width (of a) (value_joined width (of a) (of b)) ≡ true
+  pub join_second : (a b : A) → IsFormed width (of a) → IsFormed width (of b) → is_value_within width (of b) (value_joined width (of a) (of b)) ≡ true
+  pub widen_held : (held new : A) (marks : List ℕ) → IsFormed width (of held) → IsFormed width (of new) → AreMarks (2 ^ width) marks
+      → is_value_within width (of held) (value_widened width (of held) (of new) marks) ≡ true
+  pub widen_new : (held new : A) (marks : List ℕ) → IsFormed width (of held) → IsFormed width (of new) → AreMarks (2 ^ width) marks
+      → is_value_within width (of new) (value_widened width (of held) (of new) marks) ≡ true
+  pub whole : (a : A) → IsFormed width (of a) → is_value_within width (of a) (all_of_width width) ≡ true
 
--- the same of bytes, which are words with the high byte 0
+abbrev pub WordLaws : Type 0
+WordLaws = SizedLaws 16 of_word
+
+-- bytes are words with the high byte 0 too
 pub record ByteLaws : Type 0 where
-  pub holds : (first : Option Suspended) (v : ℕ) (a b : Byte) → byte_within a b ≡ true → HoldsOfByte first a v → HoldsOfByte first b v
-  pub join_normal : (a b : Byte) → IsNormal 256 a.set → IsNormal 256 b.set → IsNormal 256 (byte_join a b).set
-  pub join_holds_first : (first : Option Suspended) (v : ℕ) (a b : Byte) → IsNormal 256 a.set → IsNormal 256 b.set → HoldsOfByte first a v
-      → HoldsOfByte first (byte_join a b) v
-  pub join_holds_second : (first : Option Suspended) (v : ℕ) (a b : Byte) → IsNormal 256 a.set → IsNormal 256 b.set → HoldsOfByte first b v
-      → HoldsOfByte first (byte_join a b) v
-  pub widen_normal : (held new : Byte) (marks : List ℕ) → IsNormal 256 held.set → IsNormal 256 new.set → AreMarks 256 marks
-      → IsNormal 256 (byte_widen held new marks).set
-  pub widen_holds_held : (first : Option Suspended) (v : ℕ) (held new : Byte) (marks : List ℕ) → IsNormal 256 held.set → IsNormal 256 new.set
-      → AreMarks 256 marks
-      → HoldsOfByte first held v → HoldsOfByte first (byte_widen held new marks) v
-  pub widen_holds_new : (first : Option Suspended) (v : ℕ) (held new : Byte) (marks : List ℕ) → IsNormal 256 held.set → IsNormal 256 new.set
-      → AreMarks 256 marks
-      → HoldsOfByte first new v → HoldsOfByte first (byte_widen held new marks) v
-  -- masks
-  pub and_normal : (m : ℕ) (byte : Byte) → m < 256 → IsNormal 256 byte.set → IsNormal 256 (byte_and m byte).set
-  pub and : (first : Option Suspended) (m v : ℕ) (byte : Byte) → m < 256 → IsNormal 256 byte.set → HoldsOfByte first byte v
-      → HoldsOfByte first (byte_and m byte) (bit_and v m)
-  pub or_normal : (m : ℕ) (byte : Byte) → m < 256 → IsNormal 256 byte.set → IsNormal 256 (byte_or m byte).set
-  pub or : (first : Option Suspended) (m v : ℕ) (byte : Byte) → m < 256 → IsNormal 256 byte.set → HoldsOfByte first byte v
-      → HoldsOfByte first (byte_or m byte) (bit_or v m)
-  -- as words
+  pub sized : SizedLaws 8 of_byte
   pub to_word : (first : Option Suspended) (v : ℕ) (byte : Byte) → IsNormal 256 byte.set → HoldsOfByte first byte v
       → HoldsOfWord first (record { set = pair_set byte.set (single 0); entry = byte.entry }) v
   pub to_byte : (first : Option Suspended) (v : ℕ) (word : Word) → IsNormal 65536 word.set → v < 256 → HoldsOfWord first word v
       → HoldsOfByte first (record { set = low_set word.set; entry = word.entry }) v
-  -- their order
-  pub itself : (a : Byte) → byte_within a a ≡ true
-  pub along : (a b c : Byte) → byte_within a b ≡ true → byte_within b c ≡ true → byte_within a c ≡ true
-  pub join_first : (a b : Byte) → IsNormal 256 a.set → IsNormal 256 b.set → byte_within a (byte_join a b) ≡ true
-  pub join_second : (a b : Byte) → IsNormal 256 a.set → IsNormal 256 b.set → byte_within b (byte_join a b) ≡ true
-  pub widen_held : (held new : Byte) (marks : List ℕ) → IsNormal 256 held.set → IsNormal 256 new.set → AreMarks 256 marks
-      → byte_within held (byte_widen held new marks) ≡ true
-  pub widen_new : (held new : Byte) (marks : List ℕ) → IsNormal 256 held.set → IsNormal 256 new.set → AreMarks 256 marks
-      → byte_within new (byte_widen held new marks) ≡ true
-  pub whole : (a : Byte) → IsNormal 256 a.set → byte_within a (record { set = make 256 0 1 256; entry = None }) ≡ true
 
 pub record ValueLaws : Type 0 where
   pub entries : EntryLaws

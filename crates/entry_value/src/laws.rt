@@ -1,30 +1,18 @@
 //! What words, bytes and cells hold, over their definitions. Proofs over the formulas, and of representations of cells, call
 //! these.
 
-ghost use Rattle.std.specs.Prelude.{◌≡◌, ◌<◌, ℕ, ◌⊎◌, Option, List};
+ghost use Rattle.std.specs.Prelude.{◌<◌, ℕ, List};
 ghost use Rattle.value_set.specs.declared.form.Form.{Form as AForm};
 ghost use Rattle.value_set.specs.Form.{Has, IsNormal};
 ghost use Rattle.value_set.specs.Joining.{join};
 ghost use Rattle.value_set.specs.Summing.{single};
 ghost use Rattle.value_bits.specs.Sets.{pair_set};
-ghost use Rattle.entry_value.specs.declared.cells.Cell.{Cell as ACell};
 ghost use Rattle.entry_value.specs.declared.word.Word.{Word as AWord};
-ghost use Rattle.entry_value.specs.Words.{Suspended, HoldsOfWord};
 ghost use Rattle.entry_value.specs.Laws.{CellLaws, ValueLaws};
 ghost use Rattle.entry_value.specs.Cells as the_cells;
-ghost use Rattle.entry_value.specs.Cells.{AreCells, StandsUnder, number_at};
 
 use value_bits::bit_laws;
 use value_set::set_laws;
-
-/// What is read at an address holds of what stands there.
-pub fn reads_hold()
-    ensures { (first : Option Suspended) (ram : ℕ → ℕ) (lo hi from at size : ℕ) (cells : List ACell) → AreCells lo hi from cells → at < 65536 → (size ≡ 1) ⊎ (size ≡ 2)
-        → StandsUnder first cells ram → HoldsOfWord first (the_cells.read cells at size) (number_at ram at size) }
-{
-    set_laws();
-    bit_laws();
-}
 
 /// Sets of words of which each is a byte, as a write of one byte takes them: that of one byte, that of all bytes, words of
 /// bytes with the high byte 0, their joins, and those widened as bytes.
@@ -56,6 +44,5 @@ pub fn cell_laws()
 {
     set_laws();
     bit_laws();
-    reads_hold();
     bytes_stay_bytes();
 }

@@ -7,8 +7,8 @@
 //! The laws are functions that do nothing, for proofs over the definitions alone: [`value_laws`] and [`cell_laws`] give them
 //! all, each as one record (`specs/Laws.antt`). They say of all words, bytes and relations what these say behind an operation,
 //! and how they are ordered. Of every list of cells they say that what is read holds of what stands there, that writes, joins
-//! and widenings cover each RAM behind them and keep the cells' form, and that `within` is an order. [`reads_hold`] and
-//! [`bytes_stay_bytes`] give the part that readers and writers of cells need.
+//! and widenings cover each RAM behind them and keep the cells' form, and that `within` is an order. [`bytes_stay_bytes`] gives
+//! the part that writers of cells need.
 #![tactic(auto)]
 
 mod byte;
@@ -19,6 +19,6 @@ mod word;
 
 pub use byte::Byte;
 pub use cells::{Cell, Cells};
-pub use laws::{bytes_stay_bytes, cell_laws, reads_hold, value_laws};
+pub use laws::{bytes_stay_bytes, cell_laws, value_laws};
 pub use parts::{is_nothing, unknown, word_of_byte, word_of_bytes};
 pub use word::{Entry, Word, common};

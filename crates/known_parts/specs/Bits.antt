@@ -13,21 +13,14 @@ use Rattle.value_bits.specs.Pointwise.{each_passes}
 abbrev pub common_bit : Tri → Tri → Tri
 common_bit Zero Zero = Zero
 common_bit One One = One
-common_bit Zero One = Either
-common_bit One Zero = Either
-common_bit Either b = Either
-common_bit Zero Either = Either
-common_bit One Either = Either
+common_bit _ _ = Either
 
 -- what the second knows of the bit the first knows too
 abbrev pub is_bit_within : Tri → Tri → Bool
 is_bit_within a Either = true
 is_bit_within Zero Zero = true
 is_bit_within One One = true
-is_bit_within Zero One = false
-is_bit_within One Zero = false
-is_bit_within Either Zero = false
-is_bit_within Either One = false
+is_bit_within _ _ = false
 
 -- LAWS
 

@@ -14,17 +14,10 @@ use Rattle.value_set.specs.Remainders.{HasRemainder}
 use Rattle.value_set.specs.Widening.{widen}
 use Rattle.known_parts.specs.Bits.{bit_along, bit_common, bit_itself, bit_top, common_bit, is_bit_within}
 use Rattle.known_parts.specs.CellForms.{StaysSo, joined_stay, widened_stay}
-use Rattle.plain_lemmas.specs.Orders.{IsAny, IsOrdered}
+use Rattle.plain_lemmas.specs.Orders.{IsAny, IsOrdered, any_ordered}
 
 pub bit_ordered : IsOrdered IsAny is_bit_within common_bit Either
-bit_ordered = record {
-  itself = λ bit any. bit_itself bit;
-  along = bit_along;
-  form = λ a b f g. tt;
-  held = λ a b f g. (bit_common a b).0;
-  new = λ a b f g. (bit_common a b).1;
-  whole = λ bit any. bit_top bit;
-}
+bit_ordered = any_ordered bit_itself bit_along bit_common bit_top
 
 -- SETS
 
@@ -61,14 +54,9 @@ module _ (laws : SetLaws) where
 -- RELATIONS
 
 pub relation_ordered : ValueLaws → IsOrdered IsAny is_entry_within common_entry None
-relation_ordered laws = record {
-  itself = λ a any. laws.entries.itself a;
-  along = laws.entries.along;
-  form = λ a b f g. tt;
-  held = λ a b f g. laws.entries.join_first a b;
-  new = λ a b f g. laws.entries.join_second a b;
-  whole = λ a any. laws.entries.whole a;
-}
+relation_ordered laws =
+    let laws = laws.entries in
+    any_ordered laws.itself laws.along (λ a b. (laws.join_first a b, laws.join_second a b)) laws.whole
 
 -- CELLS
 

@@ -30,7 +30,7 @@ behind_masks P entry held and_small or_small whole some = elim (cases_Bool (is_u
 pub masked_holds : (laws : KnownLaws) (first : Option Suspended) (entry : Entry) (held : Byte) (word : ℕ) → entry.and < 256 → entry.or < 256 → IsNormal 256 held.set
     → HoldsOfByte first held word → HoldsOfByte first (masked_by entry held) (bit_or (bit_and word entry.and) entry.or)
 masked_holds laws first entry held word and_small or_small normal holds =
-    let bytes = laws.values.bytes in
+    let bytes = laws.values.bytes.sized in
     let word_small = laws.sets.below 256 word held.set normal holds.0 in
     behind_masks (λ byte. HoldsOfByte first byte (bit_or (bit_and word entry.and) entry.or)) entry held and_small or_small
     (λ whole. subst (λ (v : ℕ). HoldsOfByte first held v) (sym (unmasked_is 8 entry word whole ∙ byte_alone word word_small)) holds)
@@ -70,7 +70,7 @@ byte_holds laws places f first exit v tells holds = by_holds laws places f first
 masked_normal : (laws : KnownLaws) (entry : Entry) (held : Byte) → entry.and < 256 → entry.or < 256 → IsNormal 256 held.set
     → IsNormal 256 (byte_or entry.or (byte_and entry.and held)).set
 masked_normal laws entry held and_small or_small normal =
-    laws.values.bytes.or_normal entry.or (byte_and entry.and held) or_small (laws.values.bytes.and_normal entry.and held and_small normal)
+    laws.values.bytes.sized.or_normal entry.or (byte_and entry.and held) or_small (laws.values.bytes.sized.and_normal entry.and held and_small normal)
 
 pub masked_form : (laws : KnownLaws) (framed : Bool) (entry : Entry) (held : Byte) → entry.and < 256 → entry.or < 256 → IsByte framed held → IsByte framed (masked_by entry held)
 masked_form laws framed entry held and_small or_small form = behind_masks (IsByte framed) entry held and_small or_small (λ whole. form) record {

@@ -28,6 +28,7 @@ use Rattle.mcs51_state.specs.Holding.{HoldsOfLinear, HoldsOfCarry, IsSuspendedSt
 use Rattle.mcs51_state.specs.Known.{Known, all_touched, first_known, known_within, registers_within, top_known}
 use Rattle.mcs51_state.specs.Levels.{all_levels, levels_within, may_serve}
 use Rattle.mcs51_state.specs.Places.{suspended_of}
+use Rattle.mcs51_state.specs.Status.{status_within}
 use Rattle.mcs51_state.proofs.FactLemmas.{linear_equality, carry_equality}
 use Rattle.mcs51_state.proofs.LevelLemmas.{serve_more}
 use Rattle.mcs51_state.proofs.StateForms.{ie_bytes, ip_bytes}
@@ -53,25 +54,13 @@ record IsPartwise (new held : Known) : Type 0 where
 partwise : (new held : Known) → known_within new held ≡ true → IsPartwise new held
 unfolding known_within registers_within
 partwise new held within =
-    let parts = seven_true (registers_within new held) _ _ _ _ _ _ within in
-    let registers = seven_true _ _ _ _ _ _ _ parts.0 in
-    let psw = and_parts _ _ parts.1 in
-    record {
-      sp = registers.0;
-      a = registers.1;
-      b = registers.2;
-      dpl = registers.3;
-      dph = registers.4;
-      ie = registers.5;
-      ip = registers.6;
-      bits = psw.0;
-      relation = psw.1;
-      levels = parts.2;
-      linear_fact = parts.3;
-      carry_fact = parts.4;
-      cells = parts.5;
-      touched = parts.6;
-    }
+    let parts = seven_true (registers_within new held) (status_within new.psw held.psw) (levels_within new.levels held.levels)
+    (is_fact_within is_same_linear new.linear_fact held.linear_fact) (is_fact_within is_same_carry new.carry_fact held.carry_fact)
+    (are_within new.cells.cells held.cells.cells) (ranges_within new.touched held.touched) within in
+    let registers = seven_true (is_within 256 new.sp held.sp) (byte_within new.a held.a) (byte_within new.b held.b) (byte_within new.dpl held.dpl)
+    (byte_within new.dph held.dph) (byte_within new.ie held.ie) (byte_within new.ip held.ip) parts.0 in
+    let psw = and_parts (each_passes is_bit_within new.psw.bits held.psw.bits) (is_entry_within new.psw.entry held.psw.entry) parts.1 in
+    assumption (parts, registers, psw)
 
 keeps_more : KnownLaws → (a b : List (ℕ × ℕ)) (s : ChipState) (first : Option ChipState) → ranges_within a b ≡ true → KeepsUntouched a s first → KeepsUntouched b s first
 keeps_more laws a b s None within keeps = tt
@@ -83,12 +72,12 @@ parts_more laws new held s first within holds =
     let under = option_map suspended_of first in
     record {
       sp = (laws.sets.tested 256 new.sp held.sp).0 parts.sp s.sp holds.sp;
-      a = laws.values.bytes.holds under s.a new.a held.a parts.a holds.a;
-      b = laws.values.bytes.holds under s.b new.b held.b parts.b holds.b;
-      dpl = laws.values.bytes.holds under s.dpl new.dpl held.dpl parts.dpl holds.dpl;
-      dph = laws.values.bytes.holds under s.dph new.dph held.dph parts.dph holds.dph;
-      ie = λ x may. laws.values.bytes.holds under x new.ie held.ie parts.ie (holds.ie x may);
-      ip = λ x may. laws.values.bytes.holds under x new.ip held.ip parts.ip (holds.ip x may);
+      a = laws.values.bytes.sized.holds under s.a new.a held.a parts.a holds.a;
+      b = laws.values.bytes.sized.holds under s.b new.b held.b parts.b holds.b;
+      dpl = laws.values.bytes.sized.holds under s.dpl new.dpl held.dpl parts.dpl holds.dpl;
+      dph = laws.values.bytes.sized.holds under s.dph new.dph held.dph parts.dph holds.dph;
+      ie = λ x may. laws.values.bytes.sized.holds under x new.ie held.ie parts.ie (holds.ie x may);
+      ip = λ x may. laws.values.bytes.sized.holds under x new.ip held.ip parts.ip (holds.ip x may);
       psw = record {
         bits = agrees_more new.psw.bits held.psw.bits _ parts.bits holds.psw.bits;
         entry = laws.values.entries.holds under s.psw new.psw.entry held.psw.entry parts.relation holds.psw.entry;

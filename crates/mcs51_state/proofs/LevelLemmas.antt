@@ -2,7 +2,7 @@
 use Rattle.std.proofs.Common.{◌≡◌, ◌||◌, Bool, true, false, refl}
 use Rattle.std.specs.Prelude.{not}
 use Rattle.std.proofs.lemmas.Bool.{and_parts}
-use Rattle.plain_lemmas.specs.Orders.{IsAny, IsOrdered, Part, both_ordered, part_ordered}
+use Rattle.plain_lemmas.specs.Orders.{IsAny, IsOrdered, Part, any_ordered, both_ordered, part_ordered}
 use Rattle.plain_lemmas.specs.Cases.{implied}
 use Rattle.mcs51_state.specs.declared.levels.Levels.{Levels}
 use Rattle.mcs51_state.specs.Forms.{AreLevels}
@@ -34,14 +34,7 @@ whole true = refl
 whole false = refl
 
 one_ordered : IsOrdered IsAny one_within (λ a b. a || b) true
-one_ordered = record {
-  itself = λ a any. itself a;
-  along = along;
-  form = λ a b f g. tt;
-  held = λ a b f g. (in_either a b).0;
-  new = λ a b f g. (in_either a b).1;
-  whole = λ a any. whole a;
-}
+one_ordered = any_ordered itself along in_either whole
 
 -- ALL FOUR
 

@@ -24,9 +24,10 @@ use Rattle.mcs51_state.specs.declared.fact.LinearFact.{LinearFact}
 use Rattle.mcs51_state.specs.declared.levels.Levels.{Levels}
 use Rattle.mcs51_state.specs.Facts.{is_same_linear, is_same_carry}
 use Rattle.mcs51_state.specs.FormFacts.{byte_form, no_own_relation, no_relation}
-use Rattle.mcs51_state.specs.Forms.{IsRelation, IsOwnRelation, IsByte, IsOwnByte, IsLinear, IsCarry, IsChipCell, IsKnown}
+use Rattle.mcs51_state.specs.Forms.{AreLevels, IsRelation, IsOwnRelation, IsByte, IsOwnByte, IsLinear, IsCarry, IsChipCell, IsKnown}
 use Rattle.mcs51_state.specs.Known.{Known, any_byte, byte_of, first_known, top_known, all_touched, byte_united, known_united}
 use Rattle.mcs51_state.specs.Places.{ie_place, ip_place, psw_place}
+use Rattle.mcs51_state.specs.Levels.{all_levels}
 use Rattle.mcs51_state.proofs.LevelLemmas.{join_levels}
 
 own_form : (framed : Bool) (place unheld : ℕ) (set : Form) → IsNormal 256 set → IsOwnByte framed place unheld (byte_of set)
@@ -84,29 +85,14 @@ first_form laws framed = record {
 
 pub top_form : KnownLaws → (framed : Bool) → IsKnown framed (top_known framed)
 top_form laws framed =
-    let normal : IsNormal 256 any_byte = laws.sets.whole_normal 256 (omega arith) in
+    let form : IsKnown framed first_known = first_form laws framed in
     let all : AreTouched 0 255 framed (all_touched framed) = all_are_touched 0 255 framed (omega arith) in
+    let normal : IsNormal 256 any_byte = laws.sets.whole_normal 256 (omega arith) in
     let byte : IsByte framed (byte_of any_byte) = byte_form framed any_byte normal in
-    record {
-      sp = normal;
-      a = byte;
-      b = byte;
-      dpl = byte;
-      dph = byte;
-      ie = own_form framed ie_place 64 any_byte normal;
-      ip = own_form framed ip_place 192 any_byte normal;
-      bits = refl;
-      psw = no_own_relation framed psw_place 3;
-      levels = (false, false, refl);
-      linear_fact = tt;
-      carry_fact = tt;
-      from = refl;
-      up_to = refl;
-      cells = tt;
-      each_cell = All-nil (IsChipCell framed);
-      touched = all.are;
-      none_touched = all.none;
-    }
+    let ie : IsOwnByte framed ie_place 64 (byte_of any_byte) = own_form framed ie_place 64 any_byte normal in
+    let ip : IsOwnByte framed ip_place 192 (byte_of any_byte) = own_form framed ip_place 192 any_byte normal in
+    let levels : AreLevels all_levels = (false, false, refl) in
+    assumption (form, all.are, all.none, normal, byte, ie, ip, levels)
 
 -- THE PARTS
 

@@ -29,13 +29,6 @@ pub struct CarryFact {
     pub bound: u8,
 }
 
-/// Whether both say the same of the same byte.
-fn is_same_linear(a: &LinearFact, b: &LinearFact) -> bool
-    ensures { result ≡ the_facts.is_same_linear a.now b.now }
-{
-    a.place == b.place && a.factor == b.factor && a.added == b.added
-}
-
 /// Whether both are the same byte.
 fn is_same_compared(a: Compared, b: Compared) -> bool
     ensures { result ≡ the_facts.is_same_compared a b }
@@ -59,7 +52,7 @@ pub(crate) fn common_linear(a: &Option<LinearFact>, b: &Option<LinearFact>) -> O
     ensures { result ≡ the_facts.common_fact the_facts.is_same_linear a.now b.now }
 {
     match (a, b) {
-        (Some(one), Some(other)) if is_same_linear(one, other) => *a,
+        (Some(one), Some(other)) if one == other => *a,
         _ => None,
     }
 }
@@ -78,11 +71,7 @@ pub(crate) fn common_carry(a: &Option<CarryFact>, b: &Option<CarryFact>) -> Opti
 pub fn is_linear_within(new: &Option<LinearFact>, held: &Option<LinearFact>) -> bool
     ensures { result ≡ the_facts.is_fact_within the_facts.is_same_linear new.now held.now }
 {
-    match (new, held) {
-        (_, None) => true,
-        (Some(one), Some(other)) => is_same_linear(one, other),
-        (None, Some(_)) => false,
-    }
+    held.is_none() || new == held
 }
 
 /// Whether the second has no fact of CY that the first one lacks.

@@ -30,7 +30,7 @@ use Rattle.msp430_state.specs.Forms.{IsKnown}
 use Rattle.msp430_state.specs.Holding.{suspended_of, ram_byte, HoldsOfStatus, HoldsOfFact, KeepsUntouched, HoldsOfParts, HoldsOf, Covers}
 use Rattle.msp430_state.specs.Known.{Known, word_of, first_known, known_within}
 use Rattle.irq_frames.specs.Ranges.{ranges_within}
-use Rattle.msp430_state.specs.Status.{status_of}
+use Rattle.msp430_state.specs.Status.{status_of, status_within}
 use Rattle.msp430_state.proofs.EvenWords.{even_words_have}
 use Rattle.msp430_state.proofs.FactLemmas.{fact_equality}
 
@@ -49,18 +49,11 @@ record IsPartwise (new held : Known) : Type 0 where
 partwise : (new held : Known) → known_within new held ≡ true → IsPartwise new held
 unfolding known_within
 partwise new held within =
-    let parts = seven_true _ _ _ _ _ _ _ within in
-    let status = and_parts _ _ parts.1 in
-    record {
-      sp = parts.0;
-      bits = status.0;
-      relation = status.1;
-      late = parts.2;
-      words = parts.3;
-      fact = parts.4;
-      cells = parts.5;
-      touched = parts.6;
-    }
+    let parts = seven_true (is_within 65536 new.sp held.sp) (status_within new.status held.status) (is_bit_within new.late held.late)
+    (each_passes word_within new.registers held.registers) (is_fact_within new.fact held.fact) (are_within new.cells.cells held.cells.cells)
+    (ranges_within new.touched held.touched) within in
+    let status = and_parts (each_passes is_bit_within new.status.bits held.status.bits) (is_entry_within new.status.entry held.status.entry) parts.1 in
+    assumption (parts, status)
 
 keeps_more : KnownLaws → (device : Device) (a b : List (ℕ × ℕ)) (ram : List ℕ) (first : Option ChipState) → ranges_within a b ≡ true → KeepsUntouched device a ram first → KeepsUntouched device b ram first
 keeps_more laws device a b ram None within keeps = tt

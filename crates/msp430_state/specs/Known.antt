@@ -46,29 +46,25 @@ even_words = make 65536 0 2 32768
 abbrev pub no_cells : (lo hi : ℕ) → CellMap
 no_cells lo hi = record { lo = lo; hi = hi; cells = [] }
 
--- behind a reset SR and `late` are 0, and all else is any
-abbrev pub first_known : (lo hi : ℕ) → Known
-first_known lo hi = record {
+-- SP is even, each bit is one value of Tri, and all else is any
+abbrev pub known_of : Tri → (lo hi : ℕ) → (touched : List (ℕ × ℕ)) → Known
+known_of bit lo hi touched = record {
   sp = even_words;
-  status = status_of Zero;
-  late = Zero;
+  status = status_of bit;
+  late = bit;
   registers = replicate 12 (unknown 2);
   fact = None;
   cells = no_cells lo hi;
-  touched = [];
+  touched = touched;
 }
+
+-- behind a reset SR and `late` are 0
+abbrev pub first_known : (lo hi : ℕ) → Known
+first_known lo hi = known_of Zero lo hi []
 
 -- Nothing is known but that SP is even; in an interrupt's frame all RAM may be touched.
 abbrev pub top_known : (lo hi : ℕ) → (framed : Bool) → Known
-top_known lo hi framed = record {
-  sp = even_words;
-  status = status_of Either;
-  late = Either;
-  registers = replicate 12 (unknown 2);
-  fact = None;
-  cells = no_cells lo hi;
-  touched = all_touched framed lo hi;
-}
+top_known lo hi framed = known_of Either lo hi (all_touched framed lo hi)
 
 -- JOINING AND WIDENING
 

@@ -77,20 +77,34 @@ fn all_touched(alloc: Global, frame: &Frame, lo: u16, hi: u16) -> Result<Ranges,
 }
 
 impl<M: Cells> State<M> {
+    /// What is known where each bit is one value, SP is even, and all else is any.
+    fn of_bit(
+        alloc: Global,
+        bit: Tri,
+        lo: u16,
+        hi: u16,
+        touched: Ranges,
+    ) -> Result<State<M>, Memory>
+        requires { lo ≤ hi }
+        ensures { IfOk result (λ state. state ≡ known.known_of bit lo hi touched) }
+    {
+        Ok(State {
+            sp: even_words(),
+            status: Status::of(bit),
+            late: bit,
+            registers: [unknown(); 12],
+            fact: None,
+            cells: M::empty(alloc, lo, hi)?,
+            touched,
+        })
+    }
+
     /// What is known behind a reset, of a device with RAM from one address to another.
     pub fn first(alloc: Global, lo: u16, hi: u16) -> Result<State<M>, Memory>
         requires { lo ≤ hi }
         ensures { IfOk result (λ first. first ≡ known.first_known lo hi) }
     {
-        Ok(State {
-            sp: even_words(),
-            status: Status::of(Tri::Zero),
-            late: Tri::Zero,
-            registers: [unknown(); 12],
-            fact: None,
-            cells: M::empty(alloc, lo, hi)?,
-            touched: Ranges::new(alloc),
-        })
+        State::of_bit(alloc, Tri::Zero, lo, hi, Ranges::new(alloc))
     }
 
     /// What is known of every state in a frame.
@@ -98,15 +112,13 @@ impl<M: Cells> State<M> {
         requires { lo ≤ hi }
         ensures { IfOk result (λ top. top ≡ known.top_known lo hi (known.is_interrupt frame.now)) }
     {
-        Ok(State {
-            sp: even_words(),
-            status: Status::of(Tri::Either),
-            late: Tri::Either,
-            registers: [unknown(); 12],
-            fact: None,
-            cells: M::empty(alloc, lo, hi)?,
-            touched: all_touched(alloc, frame, lo, hi)?,
-        })
+        State::of_bit(
+            alloc,
+            Tri::Either,
+            lo,
+            hi,
+            all_touched(alloc, frame, lo, hi)?,
+        )
     }
 
     /// An equal state.

@@ -17,6 +17,19 @@ pub record IsOrdered {A : Type 0} (Form : A → Type 0) (within : A → A → Bo
 abbrev pub IsAny : {A : Type 0} → A → Type 0
 IsAny a = Unit {0}
 
+-- the order of such parts
+pub any_ordered : {A : Type 0} {within : A → A → Bool} {made : A → A → A} {greatest : A} → ((a : A) → within a a ≡ true)
+    → ((a b c : A) → within a b ≡ true → within b c ≡ true → within a c ≡ true)
+    → ((a b : A) → (within a (made a b) ≡ true) × (within b (made a b) ≡ true)) → ((a : A) → within a greatest ≡ true) → IsOrdered IsAny within made greatest
+any_ordered itself along both whole = record {
+  itself = λ a any. itself a;
+  along = along;
+  form = λ a b f g. tt;
+  held = λ a b f g. (both a b).0;
+  new = λ a b f g. (both a b).1;
+  whole = λ a any. whole a;
+}
+
 -- two tests of one whole
 pub both_ordered : {A : Type 0} {Form : A → Type 0} {p q : A → A → Bool} {made : A → A → A} {greatest : A} → IsOrdered Form p made greatest
     → IsOrdered Form q made greatest → IsOrdered Form (λ a b. p a b && q a b) made greatest

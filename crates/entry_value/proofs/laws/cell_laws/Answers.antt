@@ -4,6 +4,7 @@ use Rattle.entry_value.proofs.Anywhere.{any_covers, any_form, any_hi, any_lo, at
 use Rattle.entry_value.proofs.Inside.{agreeing_stands, nothing_stands}
 use Rattle.entry_value.proofs.Ordering.{cells_along, cells_itself, cells_joined_held, cells_joined_new, cells_widened_held, cells_widened_new}
 use Rattle.entry_value.proofs.ReadForms.{read_low, read_normal}
+use Rattle.entry_value.proofs.Reading.{read_holds}
 use Rattle.entry_value.proofs.Uniting.{join_covers_held, join_covers_new, join_form, widen_covers_held, widen_covers_new, widen_form, within_covers}
 use Rattle.entry_value.proofs.Writing.{one_covers, one_form, one_hi, one_lo}
 use Rattle.entry_value.proofs.laws.cell_laws.Goals as goal
@@ -17,7 +18,7 @@ returns c =
       each = cell_of;
       kept_from = kept_from;
       write_from = write_from;
-      reads = c.reads_hold.ensures;
+      reads = λ first ram lo hi from at size cells are below is stands. read_holds sets bits first ram lo hi from cells at size below is are stands;
       read_normal = read_normal sets bits;
       read_byte = read_low sets bits;
       byte_single = low.single;

@@ -2,7 +2,7 @@ use Rattle.std.proofs.Common.{◌≡◌, arith}
 use Rattle.entry_value.specs.Cells.{read}
 use Rattle.entry_value.specs.Representing.{is_read}
 use Rattle.abs_memory.proofs.Lists.{list_ascends}
-use Rattle.abs_memory.proofs.Seen.{map_of, seen}
+use Rattle.abs_memory.proofs.Seen.{seen}
 use Rattle.abs_memory.proofs.list.CellListCells.read.Goals as goal
 
 pub read-requires : goal.read-requires
@@ -10,8 +10,6 @@ read-requires c = rw c.deref.ensures.value (list_ascends c.self.inside.lo c.self
 
 pub returns : goal.returns
 returns c =
-    let held = c.self.inside in
-    let value : c.read.result ≡ read held.cells.items c.args.at c.args.size = rw c.deref.ensures.value at c.read.ensures in
-    let all = is_read c.cell_laws.ensures (map_of held.lo held.hi held.cells.items) c.args.self.now c.args.at c.args.size c.read.result
-    (seen held.lo held.hi held.cells.items c.args.self.now c.self.invariant c.self.view_is) (omega arith) c.requires value in
+    let value : c.read.result ≡ read c.self.inside.cells.items c.args.at c.args.size = rw c.deref.ensures.value at c.read.ensures in
+    let all = is_read c.cell_laws.ensures _ c.args.self.now c.args.at c.args.size c.read.result (seen c.self.invariant c.self.view_is) (omega arith) c.requires value in
     record { value = all.value; byte = all.byte; holds = all.holds }
