@@ -30,13 +30,12 @@ pub returns-in_err-first : goal.returns-in_err-first
 returns-in_err-first c =
     let p = err_from_is_err_and c.from_residual-in_err-first.result c.from_residual-in_err-first.ensures.1 in
     let word = c.in_ok-word.word in
-    let refusal = c.in_err-first.field-0.0 in
     let allowed = sym c.is_no_instruction.ensures ∙ c.if-is_no_instruction.false in
     let long : 2 < c.length-length.result = grind (arith, nat_tests, c.in_err-first.ensures.needed) in
     let e : c.length-length.result ≡ length_of (instr_of word 0 0) = c.length-length.ensures ∙ ap length_of c.instr_from.ensures in
     rw (p.1, p.2) (
-      lacks_first c.args.image.now c.args.pc word refusal c.in_ok-word.ensures.word (omega arith) allowed (rw e at long) c.in_err-first.ensures.gap,
-      decoded_first c.args.image.now c.args.pc word refusal (sym c.in_ok-word.ensures.exact) allowed (rw e at (sym c.in_err-first.ensures.exact)),
+      lacks_first c.args.image.now c.args.pc word c.in_err-first.field-0.0 c.in_ok-word.ensures.word (omega arith) allowed (rw e at long) c.in_err-first.ensures.gap,
+      decoded_first c.args.image.now c.args.pc word c.in_err-first.field-0.0 (sym c.in_ok-word.ensures.exact) allowed (rw e at (sym c.in_err-first.ensures.exact)),
     )
 
 pub returns-in_err-second : goal.returns-in_err-second
@@ -44,14 +43,13 @@ returns-in_err-second c =
     let p = err_from_is_err_and c.from_residual-in_err-second.result c.from_residual-in_err-second.ensures.1 in
     let word = c.in_ok-word.word in
     let first = c.in_ok-first.first in
-    let refusal = c.in_err-second.field-0.0 in
     let allowed = sym c.is_no_instruction.ensures ∙ c.if-is_no_instruction.false in
     let long : 4 < c.length-length.result = grind (arith, nat_tests, c.in_err-second.ensures.needed) in
     let e : c.length-length.result ≡ length_of (instr_of word 0 0) = c.length-length.ensures ∙ ap length_of c.instr_from.ensures in
     rw (p.1, p.2) (
-      lacks_second c.args.image.now c.args.pc word first refusal c.in_ok-word.ensures.word
+      lacks_second c.args.image.now c.args.pc word first c.in_err-second.field-0.0 c.in_ok-word.ensures.word
           (c.in_ok-first.ensures.word (is_longer 2 c.length-length.result (omega arith))) (omega arith) (omega arith) allowed (rw e at long) c.in_err-second.ensures.gap,
-      decoded_second c.args.image.now c.args.pc word first refusal (sym c.in_ok-word.ensures.exact) allowed
+      decoded_second c.args.image.now c.args.pc word first c.in_err-second.field-0.0 (sym c.in_ok-word.ensures.exact) allowed
           (rw e at (sym c.in_ok-first.ensures.exact)) (rw e at (sym c.in_err-second.ensures.exact)),
     )
 
