@@ -52,7 +52,8 @@ use Rattle.mcs51_chip.specs.Step.{Effect, Outcome, implied, reading, writing, up
 use Rattle.choosing.specs.Asking.{answer, and_then}
 use Rattle.choosing.specs.Outcome.Outcome.{Next, Wild}
 use Rattle.choosing.specs.Gives.{Gives, answer_gives, ask_gives, ask_if_gives, if_gives, then_gives}
-use Rattle.mcs51_chip.specs.NumberFacts.{masked_below, flag_below, parity_below, carry_after_below, carry_with_below, bit_after_below, with_bit_below, target_below, absolute_below, carry_below, pointer_below, register_below}
+use Rattle.mcs51_chip.specs.NumberFacts.{masked_below, flag_below, parity_below, carry_after_below, carry_with_below, bit_after_below, with_bit_below, target_below, absolute_below, carry_below}
+use Rattle.mcs51_decode.specs.NumberFacts.{pointer_below, register_below}
 
 -- ---- registers
 
@@ -390,21 +391,15 @@ step_keeps image s t choices items bytes rows is e = (then_gives (λ (option : �
 -- ---- reset
 
 first_is_state : IsChipState first_state
-first_is_state = record {
-  pc = omega arith;
-  a = omega arith;
-  b = omega arith;
-  sp = omega arith;
-  dpl = omega arith;
-  dph = omega arith;
-  psw = omega arith;
-  psw_held = refl;
-  ie = omega arith;
-  ie_held = refl;
-  ip = omega arith;
-  ram = grind (arith, common_steps);
-  bytes = All-replicate (λ b. b < 256) 256 0 (omega arith);
-}
+first_is_state =
+    let wide : 0 < 65536 = omega arith in
+    let zero : 0 < 256 = omega arith in
+    let seven : 7 < 256 = omega arith in
+    let few : 0 < 64 = omega arith in
+    let held : ◌≡◌ {A = ℕ} 0 0 = refl in
+    let ram : length (first_state.ram) ≡ 256 = grind (arith, common_steps) in
+    let bytes : All (λ b. b < 256) first_state.ram = All-replicate (λ b. b < 256) 256 0 zero in
+    assumption (wide, zero, seven, few, held, ram, bytes)
 
 pub first_is_reset : IsReset first_state
 first_is_reset = record { state = first_is_state; registers = refl }

@@ -12,11 +12,6 @@ use Rattle.mcs51_decode.specs.declared.instr.CarryByBit.{CarryByBit}
 use Rattle.mcs51_decode.specs.declared.instr.CarryByBit.TheVariants as by_bit
 use Rattle.mcs51_decode.specs.declared.instr.BitOperation.{BitOperation}
 use Rattle.mcs51_decode.specs.declared.instr.BitOperation.TheVariants as bit
-use Rattle.mcs51_decode.specs.declared.instr.Pointer.{Pointer}
-use Rattle.mcs51_decode.specs.declared.instr.Pointer.TheVariants as pointer
-use Rattle.mcs51_decode.specs.declared.instr.Register.{Register}
-use Rattle.mcs51_decode.specs.declared.instr.Register.TheVariants as register
-use Rattle.mcs51_decode.specs.Encoding.{pointer_number, register_number}
 use Rattle.mcs51_decode.specs.Targets.{relative_target, absolute_target}
 use Rattle.mcs51_chip.specs.declared.state.ChipState.{ChipState}
 use Rattle.mcs51_chip.specs.Arithmetic.{masked, carry_after, carry_with, bit_after}
@@ -105,21 +100,7 @@ quotient_below a b h some = grind (arith, h, some)
 pub remainder_below : (a b : ℕ) → a < 256 → a % b < 256
 remainder_below a b h = grind (arith, h)
 
--- REGISTERS AND TARGETS
-
-pub pointer_below : (i : Pointer) → pointer_number i < 8
-pointer_below pointer.R0 = omega arith
-pointer_below pointer.R1 = omega arith
-
-pub register_below : (n : Register) → register_number n < 8
-register_below register.R0 = omega arith
-register_below register.R1 = omega arith
-register_below register.R2 = omega arith
-register_below register.R3 = omega arith
-register_below register.R4 = omega arith
-register_below register.R5 = omega arith
-register_below register.R6 = omega arith
-register_below register.R7 = omega arith
+-- TARGETS
 
 pub target_below : (next rel : ℕ) → relative_target next rel < 65536
 target_below next rel =

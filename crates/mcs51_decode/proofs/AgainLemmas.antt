@@ -1,7 +1,7 @@
 -- The bytes of an instruction are a row, which is that instruction.
 use Rattle.std.proofs.Common.{◌≡◌, ℕ, zero, suc, ◌+◌, ◌*◌, ◌/◌, ◌%◌, ◌<◌, ◌≤◌, refl, arith, All, List, [], ◌∷◌, true, false, ◌==◌, inl, inr}
 use Rattle.std.proofs.lemmas.Bool.Decides.{nat_tests}
-use Rattle.mcs51_decode.specs.declared.instr.Register.{Register}
+use Rattle.std.proofs.lemmas.List.Elements.{All-cons}
 use Rattle.mcs51_decode.specs.declared.instr.Register.TheVariants as register
 use Rattle.mcs51_decode.specs.declared.instr.Pointer.TheVariants as pointer
 use Rattle.mcs51_decode.specs.declared.instr.Working.{Working}
@@ -25,37 +25,17 @@ use Rattle.mcs51_decode.specs.declared.instr.External.TheVariants as external
 use Rattle.mcs51_decode.specs.declared.instr.Instr.{Instr}
 use Rattle.mcs51_decode.specs.declared.instr.Instr.TheVariants.{Nop, AbsoluteJump, AbsoluteCall, LongJump, LongCall, Return, ReturnFromInterrupt, JumpIndirect, JumpOn, JumpOnBit, CompareJump, DecrementJump, ChangeAccumulator, Increment, Decrement, IncrementDataPointer, Accumulate, DirectLogic, Multiply, Divide, ChangeCarry, CarryBit, ChangeBit, MoveImmediate, MoveToDirect, MoveFromDirect, LoadDataPointer, Load, Store, MoveCode, ReadExternal, WriteExternal, Push, Pop, Exchange, ExchangeDigit}
 use Rattle.mcs51_decode.specs.Table.{column_0, column_1, column_2, column_3, column_4, column_5, working_columns, row_in, row_at, is_excluded, operand, Row}
-use Rattle.mcs51_decode.specs.Encoding.{register_number, working_column, opcode_of, operand_bytes, bytes_of, length_of}
+use Rattle.mcs51_decode.specs.Encoding.{working_column, opcode_of, operand_bytes, bytes_of, length_of}
 use Rattle.mcs51_decode.specs.Fitting.{IsInstr}
+use Rattle.mcs51_decode.specs.NumberFacts.{register_below}
 use Rattle.plain_lemmas.specs.Cases.{told}
+use Rattle.mcs51_decode.proofs.ByteLists.{none, one, two}
 
 record IsPlaced (i : Instr) : Type 0 where
   pub code : opcode_of i < 256
   pub allowed : is_excluded (opcode_of i) ≡ false
   pub bytes : All (λ byte. byte < 256) (operand_bytes i)
   pub row : row_at (opcode_of i) (operand (operand_bytes i) 0) (operand (operand_bytes i) 1) ≡ (length_of i, i)
-
-none : All (λ byte. byte < 256) []
-none k d lt = absurd (omega arith)
-
-one : (a : ℕ) → a < 256 → All (λ byte. byte < 256) (a ∷ [])
-one a h zero d lt = h
-one a h (suc k) d lt = absurd (omega arith)
-
-two : (a b : ℕ) → a < 256 → b < 256 → All (λ byte. byte < 256) (a ∷ b ∷ [])
-two a b h hb zero d lt = h
-two a b h hb (suc zero) d lt = hb
-two a b h hb (suc (suc k)) d lt = absurd (omega arith)
-
-register_below : (n : Register) → register_number n < 8
-register_below register.R0 = omega arith
-register_below register.R1 = omega arith
-register_below register.R2 = omega arith
-register_below register.R3 = omega arith
-register_below register.R4 = omega arith
-register_below register.R5 = omega arith
-register_below register.R6 = omega arith
-register_below register.R7 = omega arith
 
 working_below : (w : Working) → (6 ≤ working_column w) × (working_column w < 16)
 working_below (working.Indirect pointer.R0) = (omega arith, omega arith)
@@ -242,11 +222,7 @@ placed (Exchange (memory.Working w)) h = record { code = code_working 12 w (omeg
 placed (ExchangeDigit pointer.R0) h = record { code = omega arith; allowed = refl; bytes = none; row = refl }
 placed (ExchangeDigit pointer.R1) h = record { code = omega arith; allowed = refl; bytes = none; row = refl }
 
-all_after : (a : ℕ) (bytes : List ℕ) → a < 256 → All (λ byte. byte < 256) bytes → All (λ byte. byte < 256) (a ∷ bytes)
-all_after a bytes h rest zero d lt = h
-all_after a bytes h rest (suc k) d lt = rest k d (omega arith)
-
 pub row_again : (i : Instr) → IsInstr i → Row (bytes_of i) i
 row_again i h =
     let p = placed i h in
-    record { are_bytes = all_after (opcode_of i) (operand_bytes i) p.code p.bytes; allowed = p.allowed; row = p.row }
+    record { are_bytes = All-cons (λ byte. byte < 256) (opcode_of i) (operand_bytes i) p.code p.bytes; allowed = p.allowed; row = p.row }

@@ -1,15 +1,16 @@
 -- What the bytes of an image say of the answer at an address.
 use Rattle.std.proofs.Common.{◌≡◌, ℕ, zero, suc, ◌+◌, ◌%◌, ◌<◌, refl, ap, subst, ◌∙◌, arith, All, Option, None, Some, Result, Ok, Err, List, [], ◌∷◌, length, Bool, true, false, nat_lt, inl, inr, ◌⊎◌}
 use Rattle.std.proofs.lemmas.Bool.Decides.{nat_tests}
-use Rattle.std.proofs.lemmas.List.Elements.{All-get_or}
+use Rattle.std.proofs.lemmas.List.Elements.{All-cons, All-get_or}
 use Rattle.image.specs.Image.{IsByte}
 use Rattle.mcs51_decode.specs.declared.instr.Instr.{Instr}
 use Rattle.mcs51_decode.specs.declared.refusal.NoInstr.{NoInstr}
 use Rattle.mcs51_decode.specs.declared.refusal.NoInstr.TheVariants.{OffImage, Excluded}
 use Rattle.mcs51_decode.specs.Table.{row_at, length_at, is_excluded}
 use Rattle.mcs51_decode.specs.Standing.{upward, Stands, Lacks, Decodes}
-use Rattle.mcs51_decode.specs.Decoding.{byte_or_gap, byte_upward, operand_upward, decoded}
+use Rattle.mcs51_decode.specs.Decoding.{byte_or_gap, byte_upward, operand_upward, decoded, IsAnswer}
 use Rattle.plain_lemmas.specs.Cases.{told}
+use Rattle.mcs51_decode.proofs.ByteLists.{one, two}
 use Rattle.mcs51_decode.proofs.RowLemmas.{row_made}
 
 byte_is : (at : ℕ) (found : Option ℕ) (byte : ℕ) → byte_or_gap at found ≡ Ok byte → found ≡ Some byte
@@ -38,22 +39,18 @@ needed_gap : (image : List (Option ℕ)) (pc i : ℕ) (needed : Bool) (refusal :
 needed_gap image pc i true refusal e = let g = gap_is ((pc + i) % 65536) (upward image pc i) refusal e in (refl, g.0, g.1)
 needed_gap image pc i false refusal e = absurd (cc)
 
--- an answer and what it says of the decoder's answer
-abbrev pub Answers : List (Option ℕ) → ℕ → Result (Instr × ℕ) NoInstr → Type 0
-Answers image pc answer = Decodes image pc answer × (decoded image pc ≡ answer)
-
 lacking : (image : List (Option ℕ)) (pc at : ℕ) (refusal : NoInstr) → refusal ≡ OffImage at → Lacks image pc at → Decodes image pc (Err refusal)
 lacking image pc at refusal e h = rw e h
 
 -- the opcode is missing
-pub no_opcode : (image : List (Option ℕ)) (pc : ℕ) (refusal : NoInstr) → byte_upward image pc 0 ≡ Err refusal → Answers image pc (Err refusal)
+pub no_opcode : (image : List (Option ℕ)) (pc : ℕ) (refusal : NoInstr) → byte_upward image pc 0 ≡ Err refusal → IsAnswer image pc (Err refusal)
 unfolding decoded
 no_opcode image pc refusal e =
     let g = gap_is ((pc + 0) % 65536) (upward image pc 0) refusal e in
     (lacking image pc ((pc + 0) % 65536) refusal g.1 ([], tt, tt, g.0, refl), rw e refl)
 
 pub excluded : (image : List (Option ℕ)) (pc opcode : ℕ) → byte_upward image pc 0 ≡ Ok opcode → is_excluded opcode ≡ true →
-    Answers image pc (Err Excluded)
+    IsAnswer image pc (Err Excluded)
 unfolding decoded
 excluded image pc opcode e x =
     let is : opcode ≡ 0xA5 = grind (arith, nat_tests) in
@@ -61,7 +58,7 @@ excluded image pc opcode e x =
 
 -- the first operand is missing
 pub no_first : (image : List (Option ℕ)) (pc opcode : ℕ) (refusal : NoInstr) → byte_upward image pc 0 ≡ Ok opcode →
-    is_excluded opcode ≡ false → operand_upward image pc 1 (nat_lt 1 (length_at opcode)) ≡ Err refusal → Answers image pc (Err refusal)
+    is_excluded opcode ≡ false → operand_upward image pc 1 (nat_lt 1 (length_at opcode)) ≡ Err refusal → IsAnswer image pc (Err refusal)
 unfolding decoded
 no_first image pc opcode refusal e allowed f =
     let g = needed_gap image pc 1 (nat_lt 1 (length_at opcode)) refusal f in
@@ -71,7 +68,7 @@ no_first image pc opcode refusal e allowed f =
 -- the second operand is missing
 pub no_second : (image : List (Option ℕ)) (pc opcode x : ℕ) (refusal : NoInstr) → byte_upward image pc 0 ≡ Ok opcode →
     is_excluded opcode ≡ false → operand_upward image pc 1 (nat_lt 1 (length_at opcode)) ≡ Ok x →
-    operand_upward image pc 2 (nat_lt 2 (length_at opcode)) ≡ Err refusal → Answers image pc (Err refusal)
+    operand_upward image pc 2 (nat_lt 2 (length_at opcode)) ≡ Err refusal → IsAnswer image pc (Err refusal)
 unfolding decoded
 no_second image pc opcode x refusal e allowed f s =
     let g = needed_gap image pc 2 (nat_lt 2 (length_at opcode)) refusal s in
@@ -82,21 +79,6 @@ no_second image pc opcode x refusal e allowed f s =
           (opcode ∷ x ∷ [], (there image pc 0 opcode e, (first, tt)), (allowed, long), g.1, refl),
       rw e (rw (allowed, f, s) refl),
     )
-
-all_one : (a : ℕ) → a < 256 → All (λ byte. byte < 256) (a ∷ [])
-all_one a h zero d lt = h
-all_one a h (suc k) d lt = absurd (omega arith)
-
-all_two : (a b : ℕ) → a < 256 → b < 256 → All (λ byte. byte < 256) (a ∷ b ∷ [])
-all_two a b h hb zero d lt = h
-all_two a b h hb (suc zero) d lt = hb
-all_two a b h hb (suc (suc k)) d lt = absurd (omega arith)
-
-all_three : (a b c : ℕ) → a < 256 → b < 256 → c < 256 → All (λ byte. byte < 256) (a ∷ b ∷ c ∷ [])
-all_three a b c h hb hc zero d lt = h
-all_three a b c h hb hc (suc zero) d lt = hb
-all_three a b c h hb hc (suc (suc zero)) d lt = hc
-all_three a b c h hb hc (suc (suc (suc k))) d lt = absurd (omega arith)
 
 same_pair : (n : ℕ) (row : ℕ × Instr) → row.0 ≡ n → row ≡ (n, row.1)
 same_pair n (len, i) e = ap (λ k. (k, i)) e
@@ -114,21 +96,21 @@ standing image pc opcode x y (suc zero) h hx hy allowed len o f s =
     let ey : y ≡ 0 = unneeded image pc 2 false y s refl in
     let row = same_pair 1 (row_at opcode x y) (m.same ∙ len) in
     let zeros : row_at opcode 0 0 ≡ row_at opcode x y = rw (ex, ey) refl in
-    (opcode ∷ [], record { are_bytes = all_one opcode h; allowed = allowed; row = zeros ∙ row }, refl, (o, tt))
+    (opcode ∷ [], record { are_bytes = one opcode h; allowed = allowed; row = zeros ∙ row }, refl, (o, tt))
 standing image pc opcode x y (suc (suc zero)) h hx hy allowed len o f s =
     let m = row_made opcode x y h allowed hx hy in
     let ey : y ≡ 0 = unneeded image pc 2 false y s refl in
     let row = same_pair 2 (row_at opcode x y) (m.same ∙ len) in
     let zeros : row_at opcode x 0 ≡ row_at opcode x y = rw ey refl in
     let first = needed_there image pc 1 true x f refl in
-    (opcode ∷ x ∷ [], record { are_bytes = all_two opcode x h hx; allowed = allowed; row = zeros ∙ row }, refl, (o, (first, tt)))
+    (opcode ∷ x ∷ [], record { are_bytes = two opcode x h hx; allowed = allowed; row = zeros ∙ row }, refl, (o, (first, tt)))
 standing image pc opcode x y (suc (suc (suc zero))) h hx hy allowed len o f s =
     let m = row_made opcode x y h allowed hx hy in
     let row = same_pair 3 (row_at opcode x y) (m.same ∙ len) in
     let first = needed_there image pc 1 true x f refl in
     let second = needed_there image pc 2 true y s refl in (
       opcode ∷ x ∷ y ∷ [],
-      record { are_bytes = all_three opcode x y h hx hy; allowed = allowed; row = row },
+      record { are_bytes = All-cons (λ byte. byte < 256) opcode (x ∷ y ∷ []) h (two x y hx hy); allowed = allowed; row = row },
       refl,
       (o, (first, (second, tt))),
     )
@@ -137,7 +119,7 @@ standing image pc opcode x y (suc (suc (suc (suc n)))) h hx hy allowed len o f s
 
 pub whole : (image : List (Option ℕ)) (pc opcode x y : ℕ) → opcode < 256 → x < 256 → y < 256 → byte_upward image pc 0 ≡ Ok opcode →
     is_excluded opcode ≡ false → operand_upward image pc 1 (nat_lt 1 (length_at opcode)) ≡ Ok x →
-    operand_upward image pc 2 (nat_lt 2 (length_at opcode)) ≡ Ok y → Answers image pc (Ok ((row_at opcode x y).1, length_at opcode))
+    operand_upward image pc 2 (nat_lt 2 (length_at opcode)) ≡ Ok y → IsAnswer image pc (Ok ((row_at opcode x y).1, length_at opcode))
 unfolding decoded
 whole image pc opcode x y h hx hy e allowed f s = (
   standing image pc opcode x y (length_at opcode) h hx hy allowed refl (there image pc 0 opcode e) f s,
@@ -160,7 +142,7 @@ read_operand : (image : List (Option ℕ)) (pc i : ℕ) (needed : Bool) → leng
 read_operand image pc i true size bytes = read image pc i size bytes
 read_operand image pc i false size bytes = inl (0, omega arith, refl)
 
-answered : (image : List (Option ℕ)) (pc : ℕ) (answer : Result (Instr × ℕ) NoInstr) → Answers image pc answer → Decodes image pc (decoded image pc)
+answered : (image : List (Option ℕ)) (pc : ℕ) (answer : Result (Instr × ℕ) NoInstr) → IsAnswer image pc answer → Decodes image pc (decoded image pc)
 answered image pc answer h = rw h.1 h.0
 
 answer_allowed : (image : List (Option ℕ)) (pc opcode : ℕ) → length image ≡ 65536 → All IsByte image → opcode < 256 →

@@ -1,7 +1,6 @@
 -- The bytes of a row are those of its instruction, and some bytes are the row of one instruction.
-use Rattle.std.proofs.Common.{◌≡◌, ℕ, suc, ◌<◌, ◌≤◌, refl, sym, ap, subst, ◌∙◌, length-append, arith, All, Option, None, Some, List, [], ◌∷◌, ◌++◌, length, take, get_or, IfSome, true, false, ◌==◌, inl, inr}
+use Rattle.std.proofs.Common.{◌≡◌, ℕ, suc, ◌<◌, ◌≤◌, refl, sym, ap, subst, ◌∙◌, length-append, arith, All, Option, None, Some, List, [], ◌∷◌, ◌++◌, length, take, IfSome, true, false, ◌==◌, inl, inr}
 use Rattle.std.proofs.lemmas.Bool.Decides.{nat_tests}
-use Rattle.std.proofs.lemmas.List.{get_or_default}
 use Rattle.mcs51_decode.specs.declared.instr.Instr.{Instr}
 use Rattle.mcs51_decode.specs.Table.{row_at, is_excluded, operand, IsRow, Row}
 use Rattle.mcs51_decode.specs.Encoding.{bytes_of, length_of}
@@ -92,9 +91,6 @@ row_found (a ∷ []) i r = in_row 1 a 0 0 i r.allowed r.row
 row_found (a ∷ x ∷ []) i r = in_row 2 a x 0 i r.allowed r.row
 row_found (a ∷ x ∷ y ∷ []) i r = in_row 3 a x y i r.allowed r.row
 row_found (a ∷ x ∷ y ∷ z ∷ operands) i r = absurd (omega (arith, (made_of a (x ∷ y ∷ z ∷ operands) i r).most))
-
-pub bytes_below : (bytes : List ℕ) → ((k : ℕ) → get_or bytes k 0 < 256) → All (λ byte. byte < 256) bytes
-bytes_below bytes below = λ k d lt. subst (λ byte. byte < 256) (get_or_default bytes k 0 d lt) (below k)
 
 pub found_rows : (bytes : List ℕ) (found : Option Instr) → All (λ byte. byte < 256) bytes → found ≡ instr_of_bytes bytes →
     IfSome found (λ instr. Row bytes instr)

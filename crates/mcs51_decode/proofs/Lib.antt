@@ -3,3 +3,4 @@ pub mod BytesLemmas
 pub mod AnswerLemmas
 pub mod UniqueLemmas
 pub mod AgainLemmas
+mod ByteLists

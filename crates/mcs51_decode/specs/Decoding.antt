@@ -1,10 +1,10 @@
 -- The decoder's answer at an address as a function: the opcode, and the bytes behind it that its row needs.
-use Rattle.std.specs.Prelude.{ℕ, ◌+◌, ◌%◌, ◌==◌, nat_lt, if◌then◌else◌, Bool, true, false, Option, None, Some, Result, Ok, Err, List, [], ◌∷◌}
+use Rattle.std.specs.Prelude.{ℕ, ◌≡◌, ◌+◌, ◌%◌, ◌==◌, nat_lt, if◌then◌else◌, Bool, true, false, Option, None, Some, Result, Ok, Err, List, [], ◌∷◌}
 use Rattle.mcs51_decode.specs.declared.instr.Instr.{Instr}
 use Rattle.mcs51_decode.specs.declared.refusal.NoInstr.{NoInstr}
 use Rattle.mcs51_decode.specs.declared.refusal.NoInstr.TheVariants.{OffImage, Excluded}
 use Rattle.mcs51_decode.specs.Table.{row_at, length_at, is_excluded}
-use Rattle.mcs51_decode.specs.Standing.{upward}
+use Rattle.mcs51_decode.specs.Standing.{upward, Decodes}
 
 -- a byte, or the address at which it is missing
 abbrev pub byte_or_gap : ℕ → Option ℕ → Result ℕ NoInstr
@@ -40,6 +40,10 @@ decoded_opcode image pc opcode =
 -- the answer at an address
 unfoldable pub decoded : List (Option ℕ) → ℕ → Result (Instr × ℕ) NoInstr
 decoded image pc = with_byte (byte_upward image pc 0) (decoded_opcode image pc)
+
+-- an answer of the table, which is the decoder's
+abbrev pub IsAnswer : List (Option ℕ) → ℕ → Result (Instr × ℕ) NoInstr → Type 0
+IsAnswer image pc answer = Decodes image pc answer × (decoded image pc ≡ answer)
 
 -- the instruction of a row, where it has this length
 abbrev pub instr_of_row : ℕ → ℕ × Instr → Option Instr

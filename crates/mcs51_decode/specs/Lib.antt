@@ -4,3 +4,4 @@ pub mod Standing
 pub mod Decoding
 pub mod Targets
 pub mod Fitting
+pub mod NumberFacts

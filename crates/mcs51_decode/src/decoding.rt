@@ -5,7 +5,7 @@ ghost use Rattle.mcs51_decode.specs.declared.instr.Instr.{Instr};
 ghost use Rattle.mcs51_decode.specs.declared.refusal.NoInstr.{NoInstr};
 ghost use Rattle.mcs51_decode.specs.Table.{Row, is_excluded, length_at, row_at};
 ghost use Rattle.mcs51_decode.specs.Standing.{Decodes};
-ghost use Rattle.mcs51_decode.specs.Decoding.{byte_upward, operand_upward, decoded, instr_of_opcode, instr_of_bytes};
+ghost use Rattle.mcs51_decode.specs.Decoding.{byte_upward, operand_upward, decoded, IsAnswer, instr_of_opcode, instr_of_bytes};
 
 use crate::instr::Instr;
 use crate::refusal::NoInstr;
@@ -59,6 +59,20 @@ fn operand_at(image: &Image, pc: u16, offset: u16, is_needed: bool) -> Result<u8
     }
 }
 
+/// The one answer at an address.
+fn answer_at(image: &Image, pc: u16) -> Result<(Instr, u8), NoInstr>
+    ensures { IsAnswer image.now pc result }
+{
+    let opcode = byte_at(image, pc, 0)?;
+    if is_no_instruction(opcode) {
+        return Err(NoInstr::Excluded);
+    }
+    let length = length_of_opcode(opcode);
+    let first = operand_at(image, pc, 1, length > 1)?;
+    let second = operand_at(image, pc, 2, length > 2)?;
+    Ok((instr_from(opcode, first, second), length))
+}
+
 /// The instruction at an address, and the number of its bytes.
 ///
 /// # Errors
@@ -71,14 +85,7 @@ pub fn decode(image: &Image, pc: u16) -> Result<(Instr, u8), NoInstr>
     ensures one { Decodes image.now pc result }
     ensures only { (other : Result (Instr × ℕ) NoInstr) → Decodes image.now pc other → other ≡ result }
 {
-    let opcode = byte_at(image, pc, 0)?;
-    if is_no_instruction(opcode) {
-        return Err(NoInstr::Excluded);
-    }
-    let length = length_of_opcode(opcode);
-    let first = operand_at(image, pc, 1, length > 1)?;
-    let second = operand_at(image, pc, 2, length > 2)?;
-    Ok((instr_from(opcode, first, second), length))
+    answer_at(image, pc)
 }
 
 /// The instruction of an opcode and the two bytes behind it, where it has this length.

@@ -16,7 +16,7 @@ use Rattle.mcs51_chip.specs.declared.place.Address.{Address}
 use Rattle.mcs51_chip.specs.declared.place.Address.TheVariants.{InRam as AtRam, InSfr as AtSfr}
 use Rattle.mcs51_chip.specs.declared.state.ChipState.{ChipState}
 use Rattle.mcs51_chip.specs.Memory.{address_of, bit_address, direct_address, pointer_address, working_address}
-use Rattle.mcs51_chip.specs.NumberFacts.{pointer_below, register_below}
+use Rattle.mcs51_decode.specs.NumberFacts.{pointer_below, register_below}
 use Rattle.mcs51_chip.specs.Registers.{register_address}
 use Rattle.mcs51_state.specs.Forms.{IsKnown}
 use Rattle.mcs51_state.specs.Known.{Known}

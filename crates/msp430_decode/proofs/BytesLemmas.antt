@@ -1,7 +1,6 @@
 -- The instruction of some bytes is the one whose row they are.
-use Rattle.std.proofs.Common.{◌≡◌, ℕ, ◌+◌, ◌*◌, ◌/◌, ◌%◌, ◌<◌, ◌≤◌, refl, sym, subst, length-append, arith, All, Option, None, Some, List, [], ◌∷◌, ◌++◌, length, take, get_or, slice_index, IfSome, true, false, ◌==◌, inl, inr}
+use Rattle.std.proofs.Common.{◌≡◌, ℕ, ◌+◌, ◌*◌, ◌/◌, ◌%◌, ◌<◌, ◌≤◌, refl, sym, subst, length-append, arith, All, Option, None, Some, List, [], ◌∷◌, ◌++◌, length, take, slice_index, IfSome, true, false, ◌==◌, inl, inr}
 use Rattle.std.proofs.lemmas.Bool.Decides.{nat_tests}
-use Rattle.std.proofs.lemmas.List.{get_or_default}
 use Rattle.std.specs.List.{flat_map}
 use Rattle.plain_lemmas.specs.Cases.{told}
 use Rattle.msp430_decode.specs.declared.instr.Source.{Source}
@@ -133,9 +132,6 @@ found_row (a ∷ b ∷ c ∷ d ∷ f ∷ g ∷ []) i h e =
     let row = row_of_words 6 (a + 256 * b) (c + 256 * d) (f + 256 * g) 2 i (omega arith) (omega arith) (omega arith) e refl in
     rw (low_of a b ha, high_of a b ha, low_of c d hc, high_of c d hc, low_of f g hf, high_of f g hf) at row
 found_row bytes i h e = absurd (cc)
-
-pub bytes_below : (bytes : List ℕ) → ((k : ℕ) → get_or bytes k 0 < 256) → All (λ byte. byte < 256) bytes
-bytes_below bytes below = λ k d lt. subst (λ byte. byte < 256) (get_or_default bytes k 0 d lt) (below k)
 
 pub found_rows : (bytes : List ℕ) (found : Option Instr) → All (λ byte. byte < 256) bytes → found ≡ instr_of_bytes bytes →
     IfSome found (λ instr. Row bytes instr)

@@ -14,7 +14,7 @@ use Rattle.msp430_decode.specs.Fields.{instr_of}
 use Rattle.msp430_decode.specs.Standing.{upward, AreThere, Stands, Decodes}
 use Rattle.msp430_decode.specs.Reading.{HasWord, Misses}
 use Rattle.msp430_decode.proofs.MadeLemmas.{instr_made}
-use Rattle.msp430_decode.specs.Decoding.{decoded}
+use Rattle.msp430_decode.specs.Decoding.{decoded, IsAnswer}
 use Rattle.msp430_decode.proofs.UniqueLemmas.{length_row}
 use Rattle.msp430_decode.proofs.DecodedLemmas.{word_there, word_missing, needed_word, unneeded_word, decoded_missing, decoded_excluded, decoded_first, decoded_second, decoded_whole}
 use Rattle.msp430_decode.proofs.StandLemmas.{made_row, lacks_word, lacks_first, lacks_second, no_row, excluded_word, stands_instr}
@@ -42,11 +42,7 @@ read image pc i size bytes =
     let high : IsByte (upward image pc (suc i)) = All-get_or IsByte image ((pc + suc i) % 65536) None (omega arith) bytes in
     read_low image pc i (upward image pc i) (upward image pc (suc i)) refl low refl high
 
--- an answer and what it says of the decoder's answer
-abbrev Answers : List (Option ℕ) → ℕ → Result (Instr × ℕ) NoInstr → Type 0
-Answers image pc answer = Decodes image pc answer × (decoded image pc ≡ answer)
-
-pub answered : (image : List (Option ℕ)) (pc : ℕ) (answer : Result (Instr × ℕ) NoInstr) → Answers image pc answer → Decodes image pc (decoded image pc)
+answered : (image : List (Option ℕ)) (pc : ℕ) (answer : Result (Instr × ℕ) NoInstr) → IsAnswer image pc answer → Decodes image pc (decoded image pc)
 answered image pc answer h = rw h.1 h.0
 
 answer_long : (image : List (Option ℕ)) (pc w x : ℕ) → length image ≡ 65536 → All IsByte image → w < 65536 → HasWord image pc 0 w →

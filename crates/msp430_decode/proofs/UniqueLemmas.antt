@@ -1,5 +1,5 @@
 -- Bytes have one instruction, and an address has one answer.
-use Rattle.std.proofs.Common.{◌≡◌, ℕ, suc, ◌+◌, ◌*◌, ◌/◌, ◌%◌, ◌<◌, ◌≤◌, refl, sym, ap, subst, ◌∙◌, append_assoc, length-append, zero-add, arith, Option, None, Result, Ok, Err, List, [], ◌∷◌, ◌++◌, length, inl, inr}
+use Rattle.std.proofs.Common.{◌≡◌, ℕ, suc, ◌+◌, ◌*◌, ◌/◌, ◌%◌, ◌<◌, ◌≤◌, refl, sym, ap, subst, ◌∙◌, append_assoc, length-append, zero-add, arith, Option, None, Result, Ok, Err, IfOk, List, [], ◌∷◌, ◌++◌, length, inl, inr}
 use Rattle.std.specs.List.{flat_map}
 use Rattle.msp430_decode.specs.declared.refusal.NoInstr.{NoInstr}
 use Rattle.msp430_decode.specs.declared.refusal.NoInstr.TheVariants.{OffImage, Excluded}
@@ -168,3 +168,9 @@ one_answer image pc (Err (OffImage at)) (Err Excluded) h k = absurd (lacks_allow
 one_answer image pc (Err Excluded) (Ok (j, n)) h k = absurd (stands_allowed image pc n j k h)
 one_answer image pc (Err Excluded) (Err (OffImage at)) h k = absurd (lacks_allowed image pc at k h)
 one_answer image pc (Err Excluded) (Err Excluded) h k = refl
+
+-- what is decoded is in the table
+pub answer_in_table : (image : List (Option ℕ)) (pc : ℕ) (answer : Result (Instr × ℕ) NoInstr) → Decodes image pc answer →
+    IfOk answer (λ found. IsInstr found.0)
+answer_in_table image pc (Ok (i, m)) h = h.1.0
+answer_in_table image pc (Err refusal) h = tt

@@ -1,13 +1,13 @@
 -- The decoder's answer at an address as a function: the first word, whether an instruction begins with it, and the
 -- extension words that it takes.
-use Rattle.std.specs.Prelude.{ℕ, ◌+◌, ◌*◌, ◌%◌, ◌==◌, suc, nat_lt, if◌then◌else◌, Bool, true, false, Option, None, Some, Result, Ok, Err, List, [], ◌∷◌}
+use Rattle.std.specs.Prelude.{ℕ, ◌≡◌, ◌+◌, ◌*◌, ◌%◌, ◌==◌, suc, nat_lt, if◌then◌else◌, Bool, true, false, Option, None, Some, Result, Ok, Err, List, [], ◌∷◌}
 use Rattle.msp430_decode.specs.declared.instr.Instr.{Instr}
 use Rattle.msp430_decode.specs.declared.refusal.NoInstr.{NoInstr}
 use Rattle.msp430_decode.specs.declared.refusal.NoInstr.TheVariants.{OffImage, Excluded}
 use Rattle.msp430_decode.specs.Table.{length_of}
 use Rattle.msp430_decode.specs.Excluded.{is_excluded}
 use Rattle.msp430_decode.specs.Fields.{instr_of}
-use Rattle.msp430_decode.specs.Standing.{upward}
+use Rattle.msp430_decode.specs.Standing.{upward, Decodes}
 
 -- the word of two bytes, or the address of the first of them that is missing
 abbrev pub word_of_places : ℕ → ℕ → Option ℕ → Option ℕ → Result ℕ NoInstr
@@ -45,6 +45,10 @@ decoded_word image pc word =
 -- the answer at an address
 unfoldable pub decoded : List (Option ℕ) → ℕ → Result (Instr × ℕ) NoInstr
 decoded image pc = with_word (word_upward image pc 0) (decoded_word image pc)
+
+-- an answer of the table, which is the decoder's
+abbrev pub IsAnswer : List (Option ℕ) → ℕ → Result (Instr × ℕ) NoInstr → Type 0
+IsAnswer image pc answer = Decodes image pc answer × (decoded image pc ≡ answer)
 
 -- the instruction of a first word and two further ones, where it has this length
 abbrev pub instr_of_words : ℕ → ℕ → ℕ → ℕ → Option Instr

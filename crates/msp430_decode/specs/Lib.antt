@@ -6,3 +6,4 @@ pub mod Excluded
 pub mod Fields
 pub mod Reading
 pub mod Decoding
+pub mod Laws

@@ -6,7 +6,7 @@ ghost use Rattle.msp430_decode.specs.declared.refusal.NoInstr.{NoInstr};
 ghost use Rattle.msp430_decode.specs.Table.{IsInstr, Row};
 ghost use Rattle.msp430_decode.specs.Standing.{Decodes};
 ghost use Rattle.msp430_decode.specs.Reading.{HasWord, Misses};
-ghost use Rattle.msp430_decode.specs.Decoding.{word_upward, extension_upward, decoded, instr_of_words, instr_of_bytes};
+ghost use Rattle.msp430_decode.specs.Decoding.{word_upward, extension_upward, decoded, IsAnswer, instr_of_words, instr_of_bytes};
 
 use crate::fields::{instr_from, is_no_instruction};
 use crate::instr::Instr;
@@ -46,6 +46,21 @@ fn extension_at(image: &Image, pc: u16, offset: u16, is_needed: bool) -> Result<
     }
 }
 
+/// The one answer at an address.
+fn answer_at(image: &Image, pc: u16) -> Result<(Instr, u8), NoInstr>
+    requires { pc % 2 ≡ 0 }
+    ensures { IsAnswer image.now pc result }
+{
+    let word = word_at(image, pc, 0)?;
+    if is_no_instruction(word) {
+        return Err(NoInstr::Excluded);
+    }
+    let length = instr_from(word, 0, 0).length();
+    let first = extension_at(image, pc, 2, length > 2)?;
+    let second = extension_at(image, pc, 4, length > 4)?;
+    Ok((instr_from(word, first, second), length))
+}
+
 /// The instruction at an even address, and the number of its bytes.
 ///
 /// # Errors
@@ -60,14 +75,7 @@ pub fn decode(image: &Image, pc: u16) -> Result<(Instr, u8), NoInstr>
     ensures only { (other : Result (Instr × ℕ) NoInstr) → Decodes image.now pc other → other ≡ result }
     ensures in_table { IfOk result (λ found. IsInstr found.0) }
 {
-    let word = word_at(image, pc, 0)?;
-    if is_no_instruction(word) {
-        return Err(NoInstr::Excluded);
-    }
-    let length = instr_from(word, 0, 0).length();
-    let first = extension_at(image, pc, 2, length > 2)?;
-    let second = extension_at(image, pc, 4, length > 4)?;
-    Ok((instr_from(word, first, second), length))
+    answer_at(image, pc)
 }
 
 /// The instruction of a first word and two further ones, where it has this length.

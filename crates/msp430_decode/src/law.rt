@@ -1,20 +1,19 @@
 //! What holds of all bytes, words and images.
 
-ghost use Rattle.std.specs.Prelude.{◌≡◌, ◌<◌, ◌+◌, ◌*◌, ◌++◌, ◌∷◌, ℕ, All, List, Option, Result, Ok, Some, None, length, true, false};
+ghost use Rattle.std.specs.Prelude.{◌≡◌, ◌<◌, ◌+◌, ◌*◌, ◌∷◌, ℕ, All, List, Option, Result, Ok, length, true, false};
 ghost use Rattle.image.specs.Image.{IsByte};
 ghost use Rattle.msp430_decode.specs.declared.instr.Instr.{Instr};
 ghost use Rattle.msp430_decode.specs.declared.refusal.NoInstr.{NoInstr};
 ghost use Rattle.msp430_decode.specs.Table.{Row, IsInstr, bytes_of, length_of};
 ghost use Rattle.msp430_decode.specs.Excluded.{is_excluded};
-ghost use Rattle.msp430_decode.specs.Decoding.{decoded, instr_of_bytes};
+ghost use Rattle.msp430_decode.specs.Decoding.{decoded};
+ghost use Rattle.msp430_decode.specs.Laws.{OneInstruction, BytesOfOneInstruction};
 ghost use Rattle.msp430_decode.specs.Standing.{Stands, Lacks, Decodes, AreThere, upward};
 
 /// Bytes are at most one instruction, the bytes of an instruction are as many as its length says, and none goes on
 /// behind the bytes of another.
 pub fn one_instruction()
-    ensures same { (bytes : List ℕ) (instr other : Instr) → Row bytes instr → Row bytes other → instr ≡ other }
-    ensures length { (bytes : List ℕ) (instr : Instr) → Row bytes instr → length bytes ≡ length_of instr }
-    ensures whole { (bytes more : List ℕ) (instr other : Instr) → Row bytes instr → Row (bytes ++ more) other → length more ≡ 0 }
+    ensures { OneInstruction }
 {}
 
 /// Each address of an image has exactly one answer: an instruction stands there, or a byte of it is lacking, or the
@@ -49,8 +48,5 @@ pub fn decoded_is_the_answer()
 /// The instruction of some bytes as a function is the one whose row they are, and there is none where they are no row. An
 /// instruction's bytes are that instruction.
 pub fn bytes_of_one_instruction()
-    ensures row { (bytes : List ℕ) (instr : Instr) → All (λ byte. byte < 256) bytes →
-        instr_of_bytes bytes ≡ Some instr → Row bytes instr }
-    ensures every { (bytes : List ℕ) (instr : Instr) → Row bytes instr → instr_of_bytes bytes ≡ Some instr }
-    ensures again { (instr : Instr) → IsInstr instr → instr_of_bytes (bytes_of instr) ≡ Some instr }
+    ensures { BytesOfOneInstruction }
 {}
