@@ -29,18 +29,18 @@ use Rattle.mcs51_results.specs.Holding.{AreOperands, HoldsOfMade, IsMade, IsOper
 use Rattle.mcs51_results.specs.Results.{accumulated_made, twice_made}
 use Rattle.mcs51_alu.specs.Accumulator.{MayBe, accumulated_known, gathered_made, is_add, is_itself, made_of, operand_of, sets_carry}
 use Rattle.mcs51_alu.specs.LinearFacts.{added_fact, fact_behind, linear_values, once_more, only_address, raised_by, with_byte}
-use Rattle.mcs51_alu.specs.Premises.{Premises}
+use Rattle.mcs51_results.specs.InstructionLaws.{InstructionLaws}
 use Rattle.mcs51_alu.proofs.Gathers.{values_have, values_normal}
 use Rattle.mcs51_alu.proofs.OnlyBytes.{only_read}
 use Rattle.mcs51_alu.proofs.Written.{Writes, before_form, before_stands, made_before, made_form, made_state, made_under}
 
 -- OPERANDS
 
-operand_form : (laws : Premises) (framed : Bool) (a : Known) (origin : Source) → IsKnown framed a → IsSource origin → AreOperands (operand_of framed a origin)
+operand_form : (laws : InstructionLaws) (framed : Bool) (a : Known) (origin : Source) → IsKnown framed a → IsSource origin → AreOperands (operand_of framed a origin)
 operand_form laws framed a (source.Immediate value) form is = is
 operand_form laws framed a (source.Memory m) form is = (laws.operands.reads.form framed a form (addresses_of a m) (laws.operands.stands.operand_form framed a form m is)).normal
 
-operand_so : (laws : Premises) (framed : Bool) (a : Known) (s : ChipState) (first : Option ChipState) (origin : Source) (x : ℕ) → IsUnder framed a s first
+operand_so : (laws : InstructionLaws) (framed : Bool) (a : Known) (s : ChipState) (first : Option ChipState) (origin : Source) (x : ℕ) → IsUnder framed a s first
     → IsSource origin → MayBe s origin x → IsOperand (operand_of framed a origin) x
 operand_so laws framed a s first (source.Immediate value) x under is may = (is, may)
 operand_so laws framed a s first (source.Memory m) x under is may =
@@ -65,7 +65,7 @@ add_so Subb is = absurd (cc)
 
 -- RESULTS
 
-made_is : (laws : Premises) (framed : Bool) (a : Known) (done : Operation) (origin : Source) → IsKnown framed a → IsSource origin → IsMade framed (made_of framed done origin a)
+made_is : (laws : InstructionLaws) (framed : Bool) (a : Known) (done : Operation) (origin : Source) → IsKnown framed a → IsSource origin → IsMade framed (made_of framed done origin a)
 made_is laws framed a done origin form is =
     let two = accumulated_made done a.a (operand_of framed a origin) a.psw in
     let twice = twice_made a.a a.psw in
@@ -73,7 +73,7 @@ made_is laws framed a done origin form is =
     cond_both (is_itself origin) (if is_add done then twice else two) two (IsMade framed)
     (λ e. cond_both (is_add done) twice two (IsMade framed) (λ add. laws.results.accumulations.twice_form framed (made_before a) (before_form framed a form)) (λ add. two_is)) (λ e. two_is)
 
-made_holds : (laws : Premises) (framed : Bool) (a : Known) (s : ChipState) (first : Option ChipState) (done : Operation) (origin : Source) (x : ℕ)
+made_holds : (laws : InstructionLaws) (framed : Bool) (a : Known) (s : ChipState) (first : Option ChipState) (done : Operation) (origin : Source) (x : ℕ)
     → IsUnder framed a s first → IsSource origin → MayBe s origin x
     → HoldsOfMade (option_map suspended_of first) (made_of framed done origin a) (accumulated done x s)
 made_holds laws framed a s first done origin x under is may =
@@ -132,7 +132,7 @@ with_fact fact (Some at) x p s reads is =
     cond_both (at == fact.place) (Some (once_more fact)) None (λ (f : Option LinearFact). IsFact f (made_state ((s.a + x + 0) % 256) p s))
     (λ e. more_fact fact x p s (reads at refl ∙ ap (slice_index s.ram) (eqb-true at fact.place e)) is) (λ e. (tt, tt))
 
-behind_fact : (laws : Premises) (framed : Bool) (a : Known) (s : ChipState) (first : Option ChipState) (held : Option LinearFact) (origin : Source) (x p : ℕ)
+behind_fact : (laws : InstructionLaws) (framed : Bool) (a : Known) (s : ChipState) (first : Option ChipState) (held : Option LinearFact) (origin : Source) (x p : ℕ)
     → IsUnder framed a s first → IsSource origin → MayBe s origin x
     → IsFact held s → IsFact (fact_behind a origin held) (made_state ((s.a + x + 0) % 256) p s)
 behind_fact laws framed a s first None origin x p under is may fact = (tt, tt)
@@ -153,12 +153,12 @@ behind_is a (source.Memory m) (Some fact) is = with_is (only_address (addresses_
 
 -- GATHERED
 
-gathered_is : (laws : Premises) (framed : Bool) (a : Known) (fact : Option LinearFact) (made : Made) → IsKnown framed a → IsLinear fact → IsMade framed made
+gathered_is : (laws : InstructionLaws) (framed : Bool) (a : Known) (fact : Option LinearFact) (made : Made) → IsKnown framed a → IsLinear fact → IsMade framed made
     → IsMade framed (gathered_made a fact made)
 gathered_is laws framed a None made form linear is = is
 gathered_is laws framed a (Some fact) made form linear is = record { a = plain_byte framed (linear_values a fact) (values_normal laws framed a fact linear form); psw = is.psw }
 
-gathered_holds : (laws : Premises) (framed : Bool) (a : Known) (s : ChipState) (first : Option ChipState) (fact : Option LinearFact) (made : Made) (x p : ℕ)
+gathered_holds : (laws : InstructionLaws) (framed : Bool) (a : Known) (s : ChipState) (first : Option ChipState) (fact : Option LinearFact) (made : Made) (x p : ℕ)
     → IsUnder framed a s first → IsFact fact (made_state x p s)
     → HoldsOfMade (option_map suspended_of first) made (made_state x p s) → HoldsOfMade (option_map suspended_of first) (gathered_made a fact made) (made_state x p s)
 gathered_holds laws framed a s first None made x p under fact holds = holds
@@ -169,7 +169,7 @@ gathered_holds laws framed a s first (Some fact) made x p under is holds = recor
 
 -- BEHIND THE OPERATION
 
-added_is : (laws : Premises) (framed : Bool) (a : Known) (done : Operation) (origin : Source) → IsKnown framed a → IsLinear (added_fact done a origin)
+added_is : (laws : InstructionLaws) (framed : Bool) (a : Known) (done : Operation) (origin : Source) → IsKnown framed a → IsLinear (added_fact done a origin)
 added_is laws framed a Add origin form = behind_is a origin a.linear_fact form.linear_fact
 added_is laws framed a Addc origin form = tt
 added_is laws framed a Orl origin form = tt
@@ -177,7 +177,7 @@ added_is laws framed a Anl origin form = tt
 added_is laws framed a Xrl origin form = tt
 added_is laws framed a Subb origin form = tt
 
-added_holds : (laws : Premises) (framed : Bool) (a : Known) (s : ChipState) (first : Option ChipState) (done : Operation) (origin : Source) (x p : ℕ)
+added_holds : (laws : InstructionLaws) (framed : Bool) (a : Known) (s : ChipState) (first : Option ChipState) (done : Operation) (origin : Source) (x p : ℕ)
     → IsUnder framed a s first → IsSource origin → MayBe s origin x → IsFact (added_fact done a origin) (made_state (accumulated done x s).a p s)
 added_holds laws framed a s first Add origin x p under is may =
     behind_fact laws framed a s first a.linear_fact origin x p under is may (under.form.linear_fact, under.holds.parts.linear_fact)
@@ -187,7 +187,7 @@ added_holds laws framed a s first Anl origin x p under is may = (tt, tt)
 added_holds laws framed a s first Xrl origin x p under is may = (tt, tt)
 added_holds laws framed a s first Subb origin x p under is may = (tt, tt)
 
-pub accumulate_form : (laws : Premises) (framed : Bool) (a : Known) (done : Operation) (origin : Source) → IsKnown framed a → IsSource origin
+pub accumulate_form : (laws : InstructionLaws) (framed : Bool) (a : Known) (done : Operation) (origin : Source) → IsKnown framed a → IsSource origin
     → IsKnown framed (accumulated_known framed done origin a)
 unfolding accumulated_known
 accumulate_form laws framed a done origin form is =
@@ -205,14 +205,14 @@ accumulated_writes Anl x s = record { state = refl; psw = λ e. refl }
 accumulated_writes Xrl x s = record { state = refl; psw = λ e. refl }
 accumulated_writes Subb x s = record { state = refl; psw = λ e. absurd (cc) }
 
-number_below : (laws : Premises) (framed : Bool) (a : Known) (s : ChipState) (first : Option ChipState) (origin : Source) (x : ℕ)
+number_below : (laws : InstructionLaws) (framed : Bool) (a : Known) (s : ChipState) (first : Option ChipState) (origin : Source) (x : ℕ)
     → IsUnder framed a s first → IsSource origin → MayBe s origin x → x < 256
 number_below laws framed a s first (source.Immediate value) x under is may = subst (λ n. n < 256) (sym may) is
 number_below laws framed a s first (source.Memory m) x under is may =
     let set = operand_so laws framed a s first (source.Memory m) x under is may in
     laws.known.sets.below 256 x (read_byte framed a (addresses_of a m)).set set.normal set.has
 
-pub accumulate_so : (laws : Premises) (framed : Bool) (a : Known) (s : ChipState) (first : Option ChipState) (done : Operation) (origin : Source) (x : ℕ)
+pub accumulate_so : (laws : InstructionLaws) (framed : Bool) (a : Known) (s : ChipState) (first : Option ChipState) (done : Operation) (origin : Source) (x : ℕ)
     → IsUnder framed a s first → IsSource origin → MayBe s origin x → IsUnder framed (accumulated_known framed done origin a) (accumulated done x s) first
 unfolding accumulated_known
 accumulate_so laws framed a s first done origin x under is may =

@@ -22,7 +22,7 @@ use Rattle.mcs51_results.specs.declared.made.Made.{Made}
 use Rattle.mcs51_results.specs.Holding.{HoldsOfMade, IsMade, StandsMade}
 use Rattle.mcs51_stores.specs.Writing.{is_accumulator}
 use Rattle.mcs51_alu.specs.Accumulator.{carry_left, with_byte, with_made}
-use Rattle.mcs51_alu.specs.Premises.{Premises}
+use Rattle.mcs51_results.specs.InstructionLaws.{InstructionLaws}
 
 abbrev pub made_state : (x p : ℕ) → ChipState → ChipState
 made_state x p s = record s { a = x; psw = p }
@@ -95,7 +95,7 @@ pub byte_form : (framed : Bool) (byte : Byte) (linear : Option LinearFact) (a : 
 byte_form framed byte linear a is linear_is form =
     made_form framed (record { a = byte; psw = a.psw }) false linear a (record { a = is; psw = record { bits = form.bits; entry = form.psw } }) linear_is form
 
-pub byte_under : (laws : Premises) (framed : Bool) (byte : Byte) (linear : Option LinearFact) (a : Known) (s : ChipState) (first : Option ChipState) (x : ℕ)
+pub byte_under : (laws : InstructionLaws) (framed : Bool) (byte : Byte) (linear : Option LinearFact) (a : Known) (s : ChipState) (first : Option ChipState) (x : ℕ)
     → IsByte framed byte → HoldsOfByte (option_map suspended_of first) byte x → IsLinear linear → HoldsOfLinear linear (with_accumulator x s)
     → IsUnder framed a s first → IsUnder framed (with_byte byte linear a) (with_accumulator x s) first
 byte_under laws framed byte linear a s first x is holds linear_is linear_holds under =

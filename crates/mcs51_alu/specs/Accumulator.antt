@@ -5,11 +5,11 @@ use Rattle.call_context.specs.declared.shown.Item.{Item}
 use Rattle.entry_value.specs.declared.byte.Byte.{Byte}
 use Rattle.value_set.specs.Summing.{single}
 use Rattle.mcs51_decode.specs.declared.instr.AccumulatorOperation.{AccumulatorOperation}
-use Rattle.mcs51_decode.specs.declared.instr.AccumulatorOperation.TheVariants.{Rr, Rrc, Rl, Rlc, Swap, Da, Clr, Cpl}
+use Rattle.mcs51_decode.specs.declared.instr.AccumulatorOperation.TheVariants.{Da, Rlc, Rrc}
 use Rattle.mcs51_decode.specs.declared.instr.Memory.{Memory}
 use Rattle.mcs51_decode.specs.declared.instr.Memory.TheVariants.{Direct, Working}
 use Rattle.mcs51_decode.specs.declared.instr.Operation.{Operation}
-use Rattle.mcs51_decode.specs.declared.instr.Operation.TheVariants.{Add, Addc, Orl, Anl, Xrl, Subb}
+use Rattle.mcs51_decode.specs.declared.instr.Operation.TheVariants.{Add, Addc, Subb}
 use Rattle.mcs51_decode.specs.declared.instr.Source.{Source}
 use Rattle.mcs51_decode.specs.declared.instr.Source.TheVariants as source
 use Rattle.mcs51_chip.specs.declared.state.ChipState.{ChipState}
@@ -69,17 +69,11 @@ abbrev pub sets_carry : Operation → Bool
 sets_carry Add = true
 sets_carry Addc = true
 sets_carry Subb = true
-sets_carry Orl = false
-sets_carry Anl = false
-sets_carry Xrl = false
+sets_carry other = false
 
 abbrev pub is_add : Operation → Bool
 is_add Add = true
-is_add Addc = false
-is_add Subb = false
-is_add Orl = false
-is_add Anl = false
-is_add Xrl = false
+is_add other = false
 
 -- ADD of the accumulator to itself doubles it
 abbrev pub made_of : (framed : Bool) → Operation → Source → Known → Made
@@ -100,11 +94,7 @@ abbrev pub changes_carry : AccumulatorOperation → Bool
 changes_carry Rrc = true
 changes_carry Rlc = true
 changes_carry Da = true
-changes_carry Rr = false
-changes_carry Rl = false
-changes_carry Swap = false
-changes_carry Clr = false
-changes_carry Cpl = false
+changes_carry other = false
 
 unfoldable pub changed_known : AccumulatorOperation → Known → Known
 changed_known done a = with_made (changed_made done a.a a.psw) (changes_carry done) None a

@@ -1,4 +1,3 @@
 pub mod Accumulator
 pub mod Laws
 pub mod LinearFacts
-pub mod Premises

@@ -1,27 +1,15 @@
 //! What holds of instructions that write the accumulator.
 
-ghost use Rattle.mcs51_alu.specs.Premises.{Premises};
 ghost use Rattle.mcs51_alu.specs.Laws.{AccumulatorsDo, AccumulatorsHold};
 
-use irq_frames::known_laws;
-use mcs51_operands::operand_laws;
-use mcs51_results::result_laws;
-
-/// The laws of sets, operands, reads, results and formats that those below rest on.
-fn premises_hold()
-    ensures { Premises }
-{
-    known_laws();
-    operand_laws();
-    result_laws();
-}
+use mcs51_results::instruction_laws;
 
 /// The state that the chip comes to by an instruction that writes the accumulator stands under what is said, whatever number the
 /// chip reads. What is said is in form.
 pub fn accumulators_hold()
     ensures { AccumulatorsHold }
 {
-    premises_hold();
+    instruction_laws();
 }
 
 /// An instruction that writes the accumulator does what is said of it: it shows its accesses, goes on behind itself, and the state
@@ -29,5 +17,5 @@ pub fn accumulators_hold()
 pub fn accumulators_do()
     ensures { AccumulatorsDo }
 {
-    premises_hold();
+    instruction_laws();
 }

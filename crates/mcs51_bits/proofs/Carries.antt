@@ -29,7 +29,7 @@ use Rattle.mcs51_stores.specs.Writing.{status_written}
 use Rattle.mcs51_operands.specs.Doing.{DoesSo, LeadsSo}
 use Rattle.mcs51_operands.specs.Accesses.{read_at}
 use Rattle.mcs51_bits.specs.Bits.{bit_read, carry_changed, carry_joined}
-use Rattle.mcs51_bits.specs.Premises.{Premises}
+use Rattle.mcs51_results.specs.InstructionLaws.{InstructionLaws}
 
 -- CY IS WRITTEN
 
@@ -43,13 +43,13 @@ carry_under framed a s first psw c small under form holds =
 
 -- CPL, CLR AND SETB
 
-pub carry_form : (laws : Premises) (framed : Bool) (a : Known) (operation : CarryOperation) → IsKnown framed a → IsKnown framed (carry_changed operation a)
+pub carry_form : (laws : InstructionLaws) (framed : Bool) (a : Known) (operation : CarryOperation) → IsKnown framed a → IsKnown framed (carry_changed operation a)
 unfolding carry_changed
 carry_form laws framed a operation form =
     let is = laws.results.bits.carry_form framed operation a.psw in
     laws.stores.forms.status framed (carry_made operation a.psw) is.bits is.entry a form
 
-pub carry_does : (laws : Premises) (framed : Bool) (a : Known) (s : ChipState) (first : Option ChipState) (image : List (Option ℕ)) (pc : ℕ) (operation : CarryOperation) → IsUnder framed a s first
+pub carry_does : (laws : InstructionLaws) (framed : Bool) (a : Known) (s : ChipState) (first : Option ChipState) (image : List (Option ℕ)) (pc : ℕ) (operation : CarryOperation) → IsUnder framed a s first
     → Gives (DoesSo framed first [] pc (carry_changed operation a) s) (effect_of image s (ChangeCarry operation))
 unfolding carry_changed effect_of
 carry_does laws framed a s first image pc operation under =
@@ -63,13 +63,13 @@ carry_does laws framed a s first image pc operation under =
 
 -- ORL, ANL AND MOV
 
-pub carry_bit_form : (laws : Premises) (framed : Bool) (a : Known) (operation : CarryByBit) (bit : ℕ) → IsKnown framed a → IsKnown framed (carry_joined operation bit a)
+pub carry_bit_form : (laws : InstructionLaws) (framed : Bool) (a : Known) (operation : CarryByBit) (bit : ℕ) → IsKnown framed a → IsKnown framed (carry_joined operation bit a)
 unfolding carry_joined
 carry_bit_form laws framed a operation bit form =
     let is = laws.results.bits.carry_bit_form framed operation a.psw (bit_read a bit) in
     laws.stores.forms.status framed (carry_bit_made operation (bit_read a bit) a.psw) is.bits is.entry a form
 
-joined_leads : (laws : Premises) (framed : Bool) (a : Known) (s : ChipState) (first : Option ChipState) (operation : CarryByBit) (bit x : ℕ)
+joined_leads : (laws : InstructionLaws) (framed : Bool) (a : Known) (s : ChipState) (first : Option ChipState) (operation : CarryByBit) (bit x : ℕ)
     → IsUnder framed a s first → bit < 256 → MayRead s (bit_address bit) x
     → LeadsSo framed first (carry_joined operation bit a) s (with_carry (carry_with operation (carry_of s) (bit_at x (bit % 8))) s)
 unfolding carry_joined
@@ -85,7 +85,7 @@ joined_leads laws framed a s first operation bit x under inside may =
           (laws.results.bits.carry_bit_form framed operation a.psw (bit_read a bit)) holds;
     }
 
-pub carry_bit_does : (laws : Premises) (framed : Bool) (a : Known) (s : ChipState) (first : Option ChipState) (image : List (Option ℕ)) (pc : ℕ) (operation : CarryByBit) (bit : ℕ) → IsUnder framed a s first → bit < 256
+pub carry_bit_does : (laws : InstructionLaws) (framed : Bool) (a : Known) (s : ChipState) (first : Option ChipState) (image : List (Option ℕ)) (pc : ℕ) (operation : CarryByBit) (bit : ℕ) → IsUnder framed a s first → bit < 256
     → Gives (DoesSo framed first (read_at pc (bit_addresses bit)) pc (carry_joined operation bit a) s) (effect_of image s (CarryBit operation bit))
 unfolding effect_of
 carry_bit_does laws framed a s first image pc operation bit under inside =

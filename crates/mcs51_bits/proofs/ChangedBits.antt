@@ -27,7 +27,7 @@ use Rattle.mcs51_stores.specs.Writing.{byte_written, status_written}
 use Rattle.mcs51_operands.specs.Doing.{DoesSo, LeadsSo}
 use Rattle.mcs51_operands.specs.Accesses.{update_at}
 use Rattle.mcs51_bits.specs.Bits.{bit_changed, byte_changed, is_of_status}
-use Rattle.mcs51_bits.specs.Premises.{Premises}
+use Rattle.mcs51_results.specs.InstructionLaws.{InstructionLaws}
 
 -- what the chip writes in place of a byte
 abbrev pub after : BitOperation → (bit : ℕ) → ChipState → ℕ → ℕ
@@ -35,7 +35,7 @@ after operation bit s x = with_bit x (bit % 8) (bit_after operation (carry_of s)
 
 -- THE BYTE
 
-value_is : (laws : Premises) (framed : Bool) (a : Known) (s : ChipState) (first : Option ChipState) (operation : BitOperation) (bit x : ℕ)
+value_is : (laws : InstructionLaws) (framed : Bool) (a : Known) (s : ChipState) (first : Option ChipState) (operation : BitOperation) (bit x : ℕ)
     → IsUnder framed a s first → bit < 256 → MayRead s (bit_address bit) x
     → IsValue framed first (byte_changed framed operation bit a) (after operation bit s x)
 value_is laws framed a s first operation bit x under inside may =
@@ -48,7 +48,7 @@ value_is laws framed a s first operation bit x under inside may =
       holds = laws.results.bits.byte framed (option_map suspended_of first) operation bit (carry a) byte x (carry_of s) form holds (laws.operands.reads.carry framed a s first under);
     }
 
-after_small : (laws : Premises) (framed : Bool) (a : Known) (s : ChipState) (first : Option ChipState) (operation : BitOperation) (bit x : ℕ)
+after_small : (laws : InstructionLaws) (framed : Bool) (a : Known) (s : ChipState) (first : Option ChipState) (operation : BitOperation) (bit x : ℕ)
     → IsUnder framed a s first → bit < 256 → MayRead s (bit_address bit) x
     → after operation bit s x < 256
 after_small laws framed a s first operation bit x under inside may =
@@ -60,7 +60,7 @@ after_small laws framed a s first operation bit x under inside may =
 psw_address : (bit : ℕ) → bit / 8 * 8 ≡ 208 → bit_address bit ≡ InSfr 208
 psw_address bit at = grind (arith, at)
 
-psw_under : (laws : Premises) (framed : Bool) (a : Known) (s : ChipState) (first : Option ChipState) (operation : BitOperation) (bit x : ℕ)
+psw_under : (laws : InstructionLaws) (framed : Bool) (a : Known) (s : ChipState) (first : Option ChipState) (operation : BitOperation) (bit x : ℕ)
     → after operation bit s x < 256 → IsUnder framed a s first → MayRead s (InSfr 208) x
     → IsUnder framed (status_written (status_with_bit operation bit a.psw) a) (write (InSfr 208) (after operation bit s x) s) first
 unfolding write
@@ -79,7 +79,7 @@ of_status framed operation bit a is =
     let written = status_written (status_with_bit operation bit a.psw) a in
     cond_both (is_of_status bit) written (byte_written framed (bit_addresses bit) (byte_changed framed operation bit a) a) (λ (behind : Known). written ≡ behind) (λ e. refl) (λ e. absurd cc)
 
-pub bit_form : (laws : Premises) (framed : Bool) (a : Known) (operation : BitOperation) (bit : ℕ) → IsKnown framed a → bit < 256
+pub bit_form : (laws : InstructionLaws) (framed : Bool) (a : Known) (operation : BitOperation) (bit : ℕ) → IsKnown framed a → bit < 256
     → IsKnown framed (bit_changed framed operation bit a)
 unfolding bit_changed
 bit_form laws framed a operation bit form inside =
@@ -90,7 +90,7 @@ bit_form laws framed a operation bit form inside =
     (λ e. laws.stores.forms.status framed (status_with_bit operation bit a.psw) is.bits is.entry a form)
     (λ e. laws.stores.forms.byte framed (bit_addresses bit) (byte_changed framed operation bit a) at.1 byte a form)
 
-under_either : (laws : Premises) (framed : Bool) (a : Known) (s : ChipState) (first : Option ChipState) (operation : BitOperation) (bit x : ℕ) (of_status : Bool) → is_of_status bit ≡ of_status → IsUnder framed a s first
+under_either : (laws : InstructionLaws) (framed : Bool) (a : Known) (s : ChipState) (first : Option ChipState) (operation : BitOperation) (bit x : ℕ) (of_status : Bool) → is_of_status bit ≡ of_status → IsUnder framed a s first
     → bit < 256 → MayRead s (bit_address bit) x
     → IsUnder framed (cond of_status (status_written (status_with_bit operation bit a.psw) a) (byte_written framed (bit_addresses bit) (byte_changed framed operation bit a) a)) (write (bit_address bit) (after operation bit s x) s) first
 under_either laws framed a s first operation bit x true is under inside may =
@@ -101,7 +101,7 @@ under_either laws framed a s first operation bit x false is under inside may =
     let at = laws.operands.stands.bit bit inside in
     laws.stores.writes.byte framed first (bit_addresses bit) (bit_address bit) (byte_changed framed operation bit a) (after operation bit s x) (value_is laws framed a s first operation bit x under inside may) at.1 at.0 a s under
 
-pub changed_leads : (laws : Premises) (framed : Bool) (a : Known) (s : ChipState) (first : Option ChipState) (operation : BitOperation) (bit x : ℕ)
+pub changed_leads : (laws : InstructionLaws) (framed : Bool) (a : Known) (s : ChipState) (first : Option ChipState) (operation : BitOperation) (bit x : ℕ)
     → IsUnder framed a s first → bit < 256 → MayRead s (bit_address bit) x
     → LeadsSo framed first (bit_changed framed operation bit a) s (write (bit_address bit) (after operation bit s x) s)
 unfolding bit_changed
@@ -110,7 +110,7 @@ changed_leads laws framed a s first operation bit x under inside may = record {
   under = under_either laws framed a s first operation bit x (is_of_status bit) refl under inside may;
 }
 
-pub bit_does : (laws : Premises) (framed : Bool) (a : Known) (s : ChipState) (first : Option ChipState) (image : List (Option ℕ)) (pc : ℕ) (operation : BitOperation) (bit : ℕ) → IsUnder framed a s first → bit < 256
+pub bit_does : (laws : InstructionLaws) (framed : Bool) (a : Known) (s : ChipState) (first : Option ChipState) (image : List (Option ℕ)) (pc : ℕ) (operation : BitOperation) (bit : ℕ) → IsUnder framed a s first → bit < 256
     → Gives (DoesSo framed first (update_at pc (bit_addresses bit)) pc (bit_changed framed operation bit a) s) (effect_of image s (ChangeBit operation bit))
 unfolding effect_of
 bit_does laws framed a s first image pc operation bit under inside =

@@ -1,8 +1,12 @@
 //! What holds of the operations on sets.
 
+ghost use Rattle.mcs51_results.specs.InstructionLaws.{InstructionLaws};
 ghost use Rattle.mcs51_results.specs.Laws.{AccumulationsHold, BitChangesHold, ChangesHold, ProductsHold, ResultLaws, StatusesHold};
 
 use irq_frames::known_laws;
+use mcs51_chip::formats_lead;
+use mcs51_operands::operand_laws;
+use mcs51_stores::store_laws;
 
 /// The operations on the accumulator and PSW: where what is known holds of a state, what is known behind the operation holds
 /// of the state that the chip comes to. The form is kept.
@@ -50,4 +54,16 @@ pub fn result_laws()
     changes_hold();
     statuses_hold();
     bit_changes_hold();
+}
+
+/// All laws that a proof of what an instruction makes of a state takes: of what is known, of the chip's formats, of operands, of
+/// writes and of results.
+pub fn instruction_laws()
+    ensures { InstructionLaws }
+{
+    known_laws();
+    formats_lead();
+    operand_laws();
+    store_laws();
+    result_laws();
 }

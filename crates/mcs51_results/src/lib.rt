@@ -15,7 +15,8 @@
 //!
 //! The laws are functions that do nothing. They say of the formulas that the form is kept, and that what is known behind an
 //! operation holds of the state of the chip behind it, where what was known held of the state before:
-//! [`accumulations_hold`], [`products_hold`], [`changes_hold`], [`statuses_hold`] and [`bit_changes_hold`].
+//! [`accumulations_hold`], [`products_hold`], [`changes_hold`], [`statuses_hold`] and [`bit_changes_hold`]. [`instruction_laws`]
+//! gives them with those of what is known, operands and writes.
 #![tactic(auto)]
 
 mod bits;
@@ -28,7 +29,8 @@ mod status;
 
 pub use bits::{bit_of_byte, bit_of_status, byte_with_bit, status_with_bit};
 pub use laws::{
-    accumulations_hold, bit_changes_hold, changes_hold, products_hold, result_laws, statuses_hold,
+    accumulations_hold, bit_changes_hold, changes_hold, instruction_laws, products_hold,
+    result_laws, statuses_hold,
 };
 pub use made::{Made, MadePair, Operand};
 pub use results::{

@@ -26,5 +26,6 @@ mod writing;
 
 pub use flags::{set_carry, set_flags, set_status};
 pub use laws::{flags_follow, stack_follows, store_laws, stores_keep_form, writes_follow};
-pub use stack::{pop_byte, push_address, push_byte, push_pair, stack_top};
+pub use ram::word_of;
+pub use stack::{one_byte, pop_byte, push_address, push_byte, push_pair, stack_top};
 pub use writing::{set_accumulator, set_data_pointer, write_byte};

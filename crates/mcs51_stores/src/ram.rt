@@ -51,7 +51,7 @@ fn carry_beside(at: &Vs8, fact: Option<CarryFact>) -> Option<CarryFact>
 }
 
 /// A byte as a cell holds it.
-fn word_of(byte: &Byte) -> Word
+pub fn word_of(byte: &Byte) -> Word
     ensures value { result ≡ writing.word_of_byte byte.now }
     ensures small { (n : ℕ) → Has 65536 result.set n → n < 256 }
 {

@@ -42,7 +42,7 @@ pub fn push_pair<M: Cells>(
 }
 
 /// A byte that is one number.
-fn one(number: u8) -> Byte
+pub fn one_byte(number: u8) -> Byte
     ensures { result ≡ byte_of (single number) }
 {
     Byte {
@@ -59,8 +59,8 @@ pub fn push_address<M: Cells>(
 ) -> Result<(), Memory>
     ensures { OnOk result (state.new ≡ stack.address_pushed framed address state.old) }
 {
-    let low = one((address % 256) as u8);
-    let high = one((address / 256) as u8);
+    let low = one_byte((address % 256) as u8);
+    let high = one_byte((address / 256) as u8);
     push_pair(framed, state, &low, &high)
 }
 

@@ -3,7 +3,7 @@ use Rattle.mcs51_alu.proofs.laws.accumulators_do.Goals as goal
 
 pub returns : goal.returns
 returns c =
-    let laws = c.premises_hold.ensures in
+    let laws = c.instruction_laws.ensures in
     record {
       load = load_does laws;
       immediate = immediate_does laws;

@@ -5,7 +5,7 @@ use Rattle.mcs51_alu.proofs.laws.accumulators_hold.Goals as goal
 
 pub returns : goal.returns
 returns c =
-    let laws = c.premises_hold.ensures in
+    let laws = c.instruction_laws.ensures in
     record {
       load = load_so laws;
       load_form = load_form laws;

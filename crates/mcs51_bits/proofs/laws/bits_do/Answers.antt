@@ -4,7 +4,7 @@ use Rattle.mcs51_bits.proofs.laws.bits_do.Goals as goal
 
 pub returns : goal.returns
 returns c =
-    let laws = c.premises_hold.ensures in
+    let laws = c.instruction_laws.ensures in
     record {
       change_carry = carry_does laws;
       carry_bit = carry_bit_does laws;

@@ -4,5 +4,5 @@ use Rattle.mcs51_bits.proofs.laws.bits_keep_form.Goals as goal
 
 pub returns : goal.returns
 returns c =
-    let laws = c.premises_hold.ensures in
+    let laws = c.instruction_laws.ensures in
     record { change_carry = carry_form laws; carry_bit = carry_bit_form laws; change_bit = bit_form laws }

@@ -6,10 +6,4 @@ use Rattle.mcs51_operands.proofs.laws.reads_hold.Goals as goal
 pub returns : goal.returns
 returns c =
     let laws = c.known_laws.ensures in
-    record {
-      byte = byte_is laws;
-      form = byte_form laws;
-      bit = bit_is laws;
-      carry = carry_is;
-      status = status_held laws;
-    }
+    assumption (byte_is laws, byte_form laws, bit_is laws, carry_is, status_held laws)

@@ -4,11 +4,4 @@ use Rattle.mcs51_results.proofs.laws.statuses_hold.Goals as goal
 pub returns : goal.returns
 returns c =
     let laws = c.known_laws.ensures in
-    record {
-      read = read_holds laws;
-      read_form = read_form laws;
-      written = written_holds laws;
-      written_form = written_form;
-      masked = masked_psw_holds laws;
-      masked_form = masked_psw_form;
-    }
+    assumption (read_holds laws, read_form laws, written_holds laws, written_form, masked_psw_holds laws, masked_psw_form)

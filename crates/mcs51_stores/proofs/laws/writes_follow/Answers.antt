@@ -4,9 +4,4 @@ use Rattle.mcs51_stores.proofs.laws.writes_follow.Goals as goal
 pub returns : goal.returns
 returns c =
     let laws = c.known_laws.ensures in
-    record {
-      byte = byte_follows laws;
-      accumulator = accumulator_follows laws;
-      data_pointer = pointer_follows laws;
-      counter = counter_follows;
-    }
+    assumption (byte_follows laws, accumulator_follows laws, pointer_follows laws, counter_follows)

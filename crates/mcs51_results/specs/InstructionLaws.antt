@@ -1,11 +1,13 @@
--- What the laws of bits rest on: laws of sets, of operands and reads, of bits and writes, and of formats.
+-- The laws that a proof of what an instruction makes of a state takes.
 use Rattle.irq_frames.specs.KnownLaws.{KnownLaws}
+use Rattle.mcs51_chip.specs.Laws.{FormatsLead}
 use Rattle.mcs51_operands.specs.Laws.{OperandLaws}
-use Rattle.mcs51_stores.specs.Laws.{StoreLaws}
 use Rattle.mcs51_results.specs.Laws.{ResultLaws}
+use Rattle.mcs51_stores.specs.Laws.{StoreLaws}
 
-pub record Premises : Type 0 where
+pub record InstructionLaws : Type 0 where
   pub known : KnownLaws
+  pub chip : FormatsLead
   pub operands : OperandLaws
   pub stores : StoreLaws
   pub results : ResultLaws
