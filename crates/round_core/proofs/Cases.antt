@@ -1,8 +1,9 @@
 -- Cases of tests and of optional places.
-use Rattle.std.specs.Prelude.{◌≡◌, ℕ, zero, suc, ◌+◌, ◌<◌, ◌≤◌, ◌⊎◌, Bool, true, false, if◌then◌else◌, Option, None, Some, List, [], ◌∷◌, map, length, slice_get, slice_index_or, Result, Ok, Err, OnOk, IfOk, IsSome, MatchOption, is_some, option_and_then}
+use Rattle.std.specs.Prelude.{◌≡◌, ℕ, zero, suc, ◌+◌, ◌<◌, ◌≤◌, ◌⊎◌, Bool, true, false, if◌then◌else◌, Option, None, Some, List, [], ◌∷◌, map, length, drop, slice_get, slice_index_or, Result, Ok, Err, OnOk, IfOk, IsSome, MatchOption, is_some, option_and_then}
 use Rattle.std.specs.Option.{option_map}
-use Rattle.std.proofs.Common.{refl, inl, inr, ap, sym, subst, arith, ltb}
+use Rattle.std.proofs.Common.{refl, inl, inr, ap, sym, ◌∙◌, subst, arith, ltb}
 use Rattle.std.proofs.lemmas.Bool.Decides.{nat_tests}
+use Rattle.std.proofs.lemmas.List.{drop_more}
 
 pub truth : (b : Bool) → (b ≡ true) ⊎ (b ≡ false)
 truth true = inl refl
@@ -29,6 +30,10 @@ pub get-index : {X : Type 0} → (xs : List X) (i : ℕ) (x : X) → i < length 
 get-index [] i x h e = absurd (omega arith)
 get-index (y ∷ xs) zero x h e = ap (λ t. Some t) (sym e)
 get-index (y ∷ xs) (suc i) x h e = let below : i < length xs = omega arith in get-index xs i x below e
+
+-- the items from an index on
+pub drop_next : {X : Type 0} → (xs : List X) (i : ℕ) (x : X) → i < length xs → x ≡ slice_index_or xs i x → drop i xs ≡ x ∷ drop (i + 1) xs
+drop_next xs i x inside is = drop_more xs i x inside ∙ ap (λ y. y ∷ drop (i + 1) xs) (sym is)
 
 pub get-none : {X : Type 0} → (xs : List X) (i : ℕ) → slice_get xs i ≡ None → length xs ≤ i
 get-none [] i h = omega arith

@@ -1,5 +1,5 @@
 -- The events of claims and give-backs.
-use Rattle.std.specs.Prelude.{◌≡◌, ℕ, Option, None, Some, List, [], ◌∷◌, ◌++◌}
+use Rattle.std.specs.Prelude.{◌≡◌, ℕ, Option, None, Some, List, [], ◌∷◌, ◌++◌, MatchOption}
 use Rattle.std.proofs.Common.{sym, ◌∙◌, ap, subst}
 use Rattle.std.proofs.Math.Path.{ap₂}
 use Rattle.call_context.specs.declared.node.Unit.{Unit as WorkUnit}
@@ -10,12 +10,12 @@ use Rattle.round_core.specs.declared.event.Event.TheVariants.{Claim, GiveBack}
 use Rattle.round_core.specs.declared.parts.Parts.{Parts}
 use Rattle.round_core.specs.declared.place.Place.{Place}
 use Rattle.round_core.specs.declared.versions.Versions.{Versions}
-use Rattle.round_core.specs.Machine.{BookState, Held, Out, out_at, without, with_out, inputs_of, versions_of, replay, IsFirst, IsLegal, IsLegalJournal}
+use Rattle.round_core.specs.Machine.{BookState, Held, Out, out_at, without, with_out, inputs_of, versions_of, replay, IsClaimable, IsFirst, IsLegal, IsLegalJournal, NoneClaimable}
 use Rattle.round_core.specs.Claims.{placed}
 use Rattle.round_core.specs.Kept.{Kept, with_event}
 use Rattle.round_core.specs.Shown.{Shows, IsBook, StaysShown}
 use Rattle.round_core.specs.Tickets.{IsTicketOf}
-use Rattle.round_core.proofs.Cases.{if_true}
+use Rattle.round_core.proofs.Cases.{if_true, match_some}
 use Rattle.round_core.proofs.MachineLemmas.{replay-more, after-claim, after-give_back}
 use Rattle.round_core.proofs.OutLemmas.{out_at-last}
 use Rattle.round_core.proofs.ReplayLaws.{IsLegalJournal-push}
@@ -71,6 +71,26 @@ book-stays m p p' stays same book = record {
 pub legal-more : {A : Type 0} (m : Analysis A) (journal journal' : List Event) (event : Event) → journal' ≡ journal ++ event ∷ []
     → IsLegalJournal m journal → IsLegal (replay m journal) event → IsLegalJournal m journal'
 legal-more m journal journal' event more legal next = subst (IsLegalJournal m) (sym more) (IsLegalJournal-push m journal event legal next)
+
+-- the first unit that can be claimed is taken out: the book behind that, and what the claim tells
+pub first_out : {A : Type 0} (m : Analysis A) (p q p' : Parts A) (seat : ℕ) (found : Option (Place × WorkUnit)) (place : Place) (u : WorkUnit) (t : Out A)
+    → IsBook m p.turns.journal p → StaysShown p q → q.turns.journal ≡ p.turns.journal
+    → MatchOption found (NoneClaimable (replay m p.turns.journal)) (λ r. IsFirst (replay m p.turns.journal) r.1 × (placed (replay m p.turns.journal).nodes r.1 ≡ Some r.0))
+    → found ≡ Some (place, u) → IsTicketOf q.nodes.rows seat u t → p'.turns.journal ≡ q.turns.journal ++ Claim seat u ∷ []
+    → ((b : BookState A) (o : Out A) → Shows b q → IsClaimable b u → placed b.nodes u ≡ Some place → o.unit ≡ u → Shows (record b { out = b.out ++ o ∷ [] }) p')
+    → IsBook m p'.turns.journal p' × IsFirst (replay m p.turns.journal) u × (p'.turns.journal ≡ p.turns.journal ++ Claim seat u ∷ [])
+    × (out_at (replay m p'.turns.journal).out t.unit ≡ Some t)
+first_out m p q p' seat found place u t book stays same first is k more taken =
+    let b = replay m p.turns.journal in
+    let s = stays b book.shows in
+    let f = match_some (NoneClaimable b) (λ r. IsFirst b r.1 × (placed b.nodes r.1 ≡ Some r.0)) found (place, u) is first in
+    let journal = more ∙ ap (λ j. j ++ Claim seat u ∷ []) same in
+    let c = claimed m p.turns.journal q p' seat u place t s f.0 f.1 k journal (taken b t s f.0.claimable f.1 k.unit_is) in (
+      record { shows = c.0; legal = legal-more m p.turns.journal p'.turns.journal (Claim seat u) journal book.legal f.0 },
+      f.0,
+      journal,
+      c.1,
+    )
 
 module _ {A B : Type 0} (analysis : B → Analysis A) where
   abbrev kept : B → List Event → Kept B

@@ -13,7 +13,6 @@ pub mod HeldLaws
 pub mod ListLemmas
 pub mod LiveLaws
 pub mod MachineLemmas
-pub mod Members
 pub mod NodesLemmas
 pub mod OpenLemmas
 pub mod OutLemmas

@@ -6,7 +6,7 @@ use Rattle.std.proofs.lemmas.Option.{same_Some}
 use Rattle.call_context.specs.declared.node.Node.TheVariants.{At, Exit}
 use Rattle.call_context.specs.declared.node.Unit.{Unit as WorkUnit}
 use Rattle.call_context.specs.declared.node.Unit.TheVariants.{One, Back}
-use Rattle.round_core.proofs.Members.{in_none, in_cons, in_first, in_rest}
+use Rattle.plain_lemmas.specs.Members.{in_none, in_cons, in_first, in_rest}
 use Rattle.round_core.specs.Same.{same_unit}
 use Rattle.round_core.proofs.SameLaws.{same_unit-eq}
 use Rattle.chip_law.specs.Analysis.{Analysis, AreFormed, KeepsForm, TopIsGreatest}

@@ -19,9 +19,9 @@ use Rattle.round_core.specs.Same.{same_unit}
 use Rattle.round_core.proofs.Cases.{truth, if_true, if_false, map_some, then_some}
 use Rattle.round_core.proofs.EntryLaws.{inputs_of-later, out_at-all, all-map, all-push, all-with_done, all-without}
 use Rattle.round_core.proofs.HeldLaws.{AllStay-all_raised}
-use Rattle.round_core.proofs.Members.{in_none, in_cons}
+use Rattle.plain_lemmas.specs.Members.{in_none, in_cons}
 use Rattle.round_core.proofs.ReplayLaws.{taken, inputs_of-unit, replay_from-keeps, after-claim, after-post, after-give_back}
-use Rattle.round_core.proofs.SameLaws.{same_unit-eq, same_unit-refl}
+use Rattle.round_core.proofs.SameLaws.{same_unit-eq, same_unit-off, same_unit-refl}
 
 abbrev HasShape : WorkUnit → Type 0
 HasShape (One (At pc calls frame)) = Unit {0}
@@ -54,15 +54,6 @@ abbrev AreDoneOnce : {A : Type 0} → List (Done A) → Type 0
 AreDoneOnce [] = Unit {0}
 AreDoneOnce (d ∷ ds) = (done_at ds d.unit ≡ None) × AreDoneOnce ds
 
-other_way : (u v : WorkUnit) → same_unit u v ≡ false → same_unit v u ≡ false
-other_way u v off = elim (truth (same_unit v u)) [
-  | inl s ↦
-      let e : v ≡ u = same_unit-eq v u s in
-      let yes : same_unit u v ≡ true = subst (λ w. same_unit u w ≡ true) (sym e) (same_unit-refl u) in
-      let bad : true ≡ false = sym yes ∙ off in absurd (cc)
-  | inr s ↦ s
-]
-
 none_with_other : {A : Type 0} (ds : List (Done A)) (new : Done A) (u : WorkUnit) → same_unit u new.unit ≡ false → done_at ds u ≡ None
     → done_at (with_done ds new) u ≡ None
 none_with_other [] new u off none = if_false _ _ _ off
@@ -84,7 +75,7 @@ once_with_done (d ∷ ds) new once = elim (truth (same_unit new.unit d.unit)) [
       (subst (λ u. done_at ds u ≡ None) (sym (same_unit-eq new.unit d.unit s)) once.0, once.1)
   | inr s ↦
       subst AreDoneOnce (sym (if_false _ _ _ s))
-      (none_with_other ds new d.unit (other_way new.unit d.unit s) once.0, once_with_done ds new once.1)
+      (none_with_other ds new d.unit (same_unit-off new.unit d.unit s) once.0, once_with_done ds new once.1)
 ]
 
 found_done : {A : Type 0} (ds : List (Done A)) → AreDoneOnce ds → (d : Done A) → IsIn d ds → done_at ds d.unit ≡ Some d

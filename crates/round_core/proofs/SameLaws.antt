@@ -1,7 +1,7 @@
 -- The tests of frames, nodes and units tell which are one.
 use Rattle.std.specs.Prelude.{◌≡◌, ℕ, ◌==◌, ◌&&◌, Bool, true, false, Option, None, Some, List, [], ◌∷◌}
-use Rattle.std.proofs.Common.{refl}
-use Rattle.std.proofs.lemmas.Bool.{and_from, eqb-true, eq-eqb}
+use Rattle.std.proofs.Common.{refl, sym, ◌∙◌, subst, inl, inr}
+use Rattle.std.proofs.lemmas.Bool.{and_from, cases_Bool, eqb-true, eq-eqb}
 use Rattle.call_context.specs.declared.node.Frame.{Frame}
 use Rattle.call_context.specs.declared.node.Frame.TheVariants.{Base, Irq}
 use Rattle.call_context.specs.declared.node.Node.{Node}
@@ -86,3 +86,11 @@ same_unit-eq (Back n x) (Back m y) h =
     let f : x ≡ y = same_node-eq x y b.1 in cc
 same_unit-eq (One n) (Back m y) h = absurd (cc)
 same_unit-eq (Back n x) (One m) h = absurd (cc)
+
+pub same_unit-off : (u v : WorkUnit) → same_unit u v ≡ false → same_unit v u ≡ false
+same_unit-off u v off = elim (cases_Bool (same_unit v u)) [
+  | inl s ↦
+      let yes : same_unit u v ≡ true = subst (λ w. same_unit u w ≡ true) (sym (same_unit-eq v u s)) (same_unit-refl u) in
+      let bad : true ≡ false = sym yes ∙ off in absurd (cc)
+  | inr s ↦ s
+]

@@ -10,7 +10,7 @@ use Rattle.round_core.specs.declared.parts.Parts.{Parts}
 use Rattle.round_core.specs.Machine.{BookState, IsClaimable, IsFirst, NoneClaimable, HasClaimable}
 use Rattle.round_core.specs.Claims.{placed, claimable_at}
 use Rattle.round_core.specs.Agenda.{IsIn}
-use Rattle.round_core.specs.Turns.{Standing}
+use Rattle.round_core.specs.Turns.{AreGivenBack, Standing}
 use Rattle.round_core.specs.Shown.{IsExpected, Shows, found_at, place_cmp}
 use Rattle.round_core.proofs.ClaimLemmas.{claimable_at-is, claimable_at-finds, before-places}
 use Rattle.round_core.proofs.ListLemmas.{index_of}
@@ -28,19 +28,7 @@ module _ {A : Type 0} where
 
   pub candidates-shown : (b : BookState A) (p : Parts A) (set : BTreeSet Place) → Shows b p
       → ((u : WorkUnit) → IsClaimable b u → IsExpected b.nodes set.keys p.turns.returned u) → Shows b (with_candidates p set)
-  candidates-shown b p set s e = record {
-    nodes = s.nodes;
-    done = s.done;
-    distinct = s.distinct;
-    home = s.home;
-    out = s.out;
-    count = s.count;
-    apart = s.apart;
-    given_back = s.given_back;
-    expected = e;
-    waiting = s.waiting;
-    exits = s.exits;
-  }
+  candidates-shown b p set s e = assumption (e, s)
 
   book_found : (b : BookState A) (p : Parts A) → Shows b p → (place : Place) → found_at p place ≡ claimable_at b.nodes b.done p.turns.out place
   book_found b p s place = ap (λ hs. claimable_at hs p.works.rows p.turns.out place) s.nodes ∙ ap (λ ds. claimable_at b.nodes ds p.turns.out place) s.done
@@ -105,19 +93,10 @@ module _ {A : Type 0} where
   pub returned-shown : (b : BookState A) (p : Parts A) (set : BTreeSet Place) (turns : Standing) → turns ≡ record p.turns { returned = [] }
       → ((q : Place) → IsIn q p.agenda.candidates.keys → IsIn q set.keys) → ((q : Place) → IsIn q p.turns.returned → IsIn q set.keys) → Shows b p → Shows b (with_returned p set turns)
   returned-shown b p set turns e kept added s =
-      let cleared : Shows b (with_returned p set (record p.turns { returned = [] })) = record {
-        nodes = s.nodes;
-        done = s.done;
-        distinct = s.distinct;
-        home = s.home;
-        out = s.out;
-        count = s.count;
-        apart = s.apart;
-        given_back = record { once = tt; home = λ u q h i. i };
-        expected = λ u k. let x = s.expected u k in (x.0, x.1, inl (elim x.2 [ inl i ↦ kept x.0 i | inr i ↦ added x.0 i ]));
-        waiting = s.waiting;
-        exits = s.exits;
-      } in
+      let none : AreGivenBack (record p.turns { returned = [] }) = record { once = tt; home = λ u q h i. i } in
+      let expected : (u : WorkUnit) → IsClaimable b u → IsExpected b.nodes set.keys [] u = λ u k.
+      let x = s.expected u k in (x.0, x.1, inl (elim x.2 [ inl i ↦ kept x.0 i | inr i ↦ added x.0 i ])) in
+      let cleared : Shows b (with_returned p set (record p.turns { returned = [] })) = assumption (none, expected, s) in
       subst (λ t. Shows b (with_returned p set t)) (sym e) cleared
 
   pub kept-shown : (b : BookState A) (p : Parts A) (set : BTreeSet Place) → ((q : Place) → IsIn q p.agenda.candidates.keys → IsIn q set.keys) → Shows b p → Shows b (with_candidates p set)

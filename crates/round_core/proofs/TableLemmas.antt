@@ -9,7 +9,7 @@ use Rattle.std.proofs.Math.Path.{ap₂}
 use Rattle.std.proofs.lemmas.Bool.Decides.{nat_tests}
 use Rattle.indexmap.specs.IndexMap.{insert_entry, set_value_at}
 use Rattle.round_core.specs.Rows.{mark_part, value_part, rows_of, AreRowsOf, with_value, with_entry}
-use Rattle.round_core.proofs.Cases.{truth, if_true, if_false, next_place, no_place}
+use Rattle.round_core.proofs.Cases.{truth, get-index, if_true, if_false, next_place, no_place}
 
 abbrev some_zero : Option ℕ
 some_zero = Some 0
@@ -38,7 +38,7 @@ module _ {K V M : Type 0} where
   rows_of-parts [] = refl
   rows_of-parts (row ∷ rows) = ap (λ t. row ∷ t) (rows_of-parts rows)
 
-  pub rows_are : (marks : List (K × M)) (values : List (K × V)) (rows : List (K × (V × M))) → marks ≡ map mark_part rows
+  rows_are : (marks : List (K × M)) (values : List (K × V)) (rows : List (K × (V × M))) → marks ≡ map mark_part rows
       → values ≡ map value_part rows → (rows_of marks values ≡ rows) × AreRowsOf marks values
   rows_are marks values rows m v =
       let e : rows_of marks values ≡ rows = ap₂ (λ x y. rows_of x y) m v ∙ rows_of-parts rows in
@@ -51,6 +51,11 @@ module _ {K V M : Type 0} where
   row-of (row ∷ rows) zero k m g b q =
       let e : mark_part row ≡ (k, m) = cc in let f : value_part row ≡ b = cc in ap₂ (λ t v. Some (t.0, (v, t.1))) e (ap (λ t. t.1) f)
   row-of (row ∷ rows) (suc i) k m g b q = row-of rows i k m g b q
+
+  -- the value at a place of the second list
+  pub value-at : (rows : List (K × (V × M))) (values : List (K × V)) (i : ℕ) (b : K × V) → values ≡ map value_part rows → i < length values
+      → b ≡ slice_index_or values i b → slice_get (map value_part rows) i ≡ Some b
+  value-at rows values i b e inside is = subst (λ xs. slice_get xs i ≡ Some b) e (get-index values i b inside is)
 
   pub keys-marks : (rows : List (K × (V × M))) → keys_of (map mark_part rows) ≡ keys_of rows
   keys-marks [] = refl
@@ -119,7 +124,7 @@ module _ {K V M : Type 0} where
     at-none rows p = no-row rows (sym (position-place test rows) ∙ p)
 
   module _ (eq : K → K → Bool) (key : K) (value : V) (mark : M) where
-    pub marks-set : (rows : List (K × (V × M)))
+    marks-set : (rows : List (K × (V × M)))
         → insert_entry eq (map mark_part rows) key mark ≡ map mark_part (insert_entry eq rows key (value, mark))
     marks-set [] = refl
     marks-set (row ∷ rows) = elim (truth (eq key row.0)) [
@@ -159,9 +164,19 @@ module _ {K V M : Type 0} where
     value-set rows None e = value-new rows (sym e)
     value-set rows (Some i) e = value-there rows i (sym e)
 
-    pub values-set : (rows : List (K × (V × M))) (o : Option ℕ) → o ≡ position (eq key) (keys_of rows)
+    values-set : (rows : List (K × (V × M))) (o : Option ℕ) → o ≡ position (eq key) (keys_of rows)
         → with_entry (map value_part rows) o key value ≡ map value_part (insert_entry eq rows key (value, mark))
     values-set rows o e = value-set rows o (e ∙ position-place (eq key) rows)
+
+    -- both lists with a row in its place
+    pub set_rows : (place : Option ℕ) (marks marks' : List (K × M)) (values values' : List (K × V)) → AreRowsOf marks values → marks' ≡ insert_entry eq marks key mark
+        → values' ≡ with_entry values place key value → place ≡ position (eq key) (keys_of (rows_of marks values))
+        → (rows_of marks' values' ≡ insert_entry eq (rows_of marks values) key (value, mark)) × AreRowsOf marks' values'
+    set_rows place marks marks' values values' are m v p =
+        let rows = rows_of marks values in
+        rows_are marks' values' (insert_entry eq rows key (value, mark))
+        (m ∙ ap (λ es. insert_entry eq es key mark) are.marks_are ∙ marks-set rows)
+        (v ∙ ap (λ xs. with_entry xs place key value) are.values_are ∙ values-set rows place p)
 
 -- a value that is put at the place of its key
 insert-place : {K X : Type 0} → (eq : K → K → Bool) (key : K) (x : X) (es : List (K × X)) (i : ℕ) → place_by (eq key) es ≡ Some i → set_value_at es i x ≡ insert_entry eq es key x

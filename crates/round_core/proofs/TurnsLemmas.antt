@@ -8,7 +8,7 @@ use Rattle.round_core.specs.Same.{same_unit}
 use Rattle.round_core.specs.declared.place.Place.{Place}
 use Rattle.round_core.specs.Turns.{index_out, place_out, StandOnce}
 use Rattle.round_core.proofs.Cases.{truth, if_true, if_false, next_place, no_place, get-bound}
-use Rattle.round_core.proofs.SameLaws.{same_unit-eq, same_unit-refl}
+use Rattle.round_core.proofs.SameLaws.{same_unit-eq, same_unit-off}
 
 abbrev Entries : Type 0
 Entries = List (WorkUnit × Place)
@@ -73,15 +73,6 @@ index-some es u = cases (index_out es u) refl
 abbrev pub places_without : Entries → WorkUnit → WorkUnit → Option Place
 places_without es u v = if same_unit u v then None else place_out es v
 
-symmetric : (u v : WorkUnit) → same_unit u v ≡ false → same_unit v u ≡ false
-symmetric u v h = elim (truth (same_unit v u)) [
-  | inl t ↦
-      let e : v ≡ u = same_unit-eq v u t in
-      let s : same_unit u v ≡ true = subst (λ w. same_unit u w ≡ true) (sym e) (same_unit-refl u) in
-      let bad : true ≡ false = sym s ∙ h in absurd (cc)
-  | inr t ↦ t
-]
-
 pub removed-places : (es : Entries) (u : WorkUnit) (i : ℕ) → StandOnce es → index_out es u ≡ Some i → (v : WorkUnit) → place_out (remove es i) v ≡ places_without es u v
 removed-places [] u i d h v = absurd (cc)
 removed-places (x ∷ es) u i d h v = elim (truth (same_unit u x.0)) [
@@ -94,7 +85,7 @@ removed-places (x ∷ es) u i d h v = elim (truth (same_unit u x.0)) [
             let both : u ≡ v = same_unit-eq u v s in
             subst (λ w. place_out es w ≡ None) (sym one ∙ both) d.0 ∙ sym (if_true _ _ _ s)
         | inr s ↦
-            let n : same_unit v x.0 ≡ false = subst (λ w. same_unit v w ≡ false) one (symmetric u v s) in
+            let n : same_unit v x.0 ≡ false = subst (λ w. same_unit v w ≡ false) one (same_unit-off u v s) in
             sym (if_false _ _ _ s ∙ if_false _ _ _ n)
       ])
   | inr t ↦
@@ -129,7 +120,7 @@ pub once-more : (es : Entries) (u : WorkUnit) (place : Place) → StandOnce es �
 once-more [] u place d h = (refl, tt)
 once-more (x ∷ es) u place d h = elim (truth (same_unit u x.0)) [
   | inl t ↦ let bad : Some x.1 ≡ None = sym (if_true _ _ _ t) ∙ h in absurd (cc)
-  | inr t ↦ (still x.0 es d.0 (symmetric u x.0 t), once-more es u place d.1 (sym (if_false _ _ _ t) ∙ h))
+  | inr t ↦ (still x.0 es d.0 (same_unit-off u x.0 t), once-more es u place d.1 (sym (if_false _ _ _ t) ∙ h))
 ]
   where
     still : (v : WorkUnit) (es : Entries) → place_out es v ≡ None → same_unit v u ≡ false → place_out (es ++ (u, place) ∷ []) v ≡ None

@@ -6,7 +6,7 @@ use Rattle.std.proofs.Common.{refl, sym, ◌∙◌, ap, subst, inl, inr}
 use Rattle.call_context.specs.declared.node.Frame.{Frame}
 use Rattle.round_core.specs.Same.{same_frame}
 use Rattle.round_core.proofs.SameLaws.{same_frame-eq, same_frame-refl}
-use Rattle.round_core.proofs.Members.{in_none, in_cons, in_first, in_rest}
+use Rattle.plain_lemmas.specs.Members.{in_none, in_cons, in_first, in_rest}
 use Rattle.round_core.specs.Machine.{Done}
 use Rattle.round_core.specs.Agenda.{IsIn}
 use Rattle.round_core.proofs.Cases.{truth}

@@ -12,6 +12,7 @@ use call_context::Node;
 use chip_law::Chip;
 use no_memory::Memory;
 use std::alloc::Global;
+use std::collections::VecDeque;
 use std::marker::Model;
 
 /// What a post makes of a node that has risen so often: nothing, or a state with its rises.
@@ -24,7 +25,7 @@ pub struct Looked<A> {
 /// What the first posts of a work make of their nodes, as far as these don't rise before.
 #[derive(Drop)]
 pub struct Ahead<A> {
-    rows: Vec<Looked<A>>,
+    rows: VecDeque<Looked<A>>,
 }
 
 impl<A> Model for Ahead<A> {
@@ -42,7 +43,7 @@ impl<A: Drop> Ahead<A> {
         ensures { result ≡ [] }
     {
         Ahead {
-            rows: Vec::new(alloc),
+            rows: VecDeque::new(alloc),
         }
     }
 
@@ -50,11 +51,7 @@ impl<A: Drop> Ahead<A> {
     pub(crate) fn take_first(&mut self) -> Option<Looked<A>>
         ensures { MatchOption result ((self.old ≡ []) × (self.new ≡ [])) (λ first. self.old ≡ first ∷ self.new) }
     {
-        if self.rows.is_empty() {
-            None
-        } else {
-            Some(self.rows.remove(0))
-        }
+        self.rows.pop_front()
     }
 }
 
@@ -85,16 +82,16 @@ fn looked_over<C: Chip>(
     chip: &C,
     met: &Met<C::Abs>,
     posts: &[(Node, C::Abs)],
-) -> Result<Vec<Looked<C::Abs>>, Memory>
+) -> Result<VecDeque<Looked<C::Abs>>, Memory>
     ensures { IfOk result (λ rows. AreLooked (C.analysis (C.base chip.now)) met.now posts.now rows.items) }
 {
-    let mut rows = Vec::new(alloc);
+    let mut rows = VecDeque::new(alloc);
     for (node, posted) in posts {
         let Some(met) = met.get(rows.len()) else {
             return Ok(rows);
         };
         match looked_at(alloc, chip, met, node, posted)? {
-            Some(looked) => rows.push(looked)?,
+            Some(looked) => rows.push_back(looked)?,
             None => return Ok(rows),
         }
     }

@@ -13,6 +13,7 @@ use chip_law::{Chip, Work};
 use no_memory::Memory;
 use std::alloc::Global;
 use std::marker::Model;
+use std::mem;
 use std::snapshot::Snapshot;
 
 /// The nodes of an analysis with their states, the last works of its units, and what happened to them. Contracts see
@@ -110,7 +111,14 @@ impl<C: Chip> Book<C> {
         ensures { self.new ≡ self.old }
     {
         let alloc = self.parts.nodes.allocator();
-        self.spent.take(alloc)
+        self.exchange_spent(Spent::new(alloc))
+    }
+
+    /// The same, and what posts replace from now on goes into another one, which may have room.
+    pub fn exchange_spent(&mut self, next: Spent<C::Abs>) -> Spent<C::Abs>
+        ensures { self.new ≡ self.old }
+    {
+        mem::replace(&mut self.spent, next)
     }
 
     /// Whether a unit that was done is still one of the book: a return whose location no longer waits for the frame of

@@ -19,7 +19,6 @@ mod places;
 mod post;
 mod raise;
 mod raised;
-mod reserved;
 mod same;
 mod spent;
 mod table;

@@ -3,7 +3,6 @@
 use crate::met::MetNode;
 use chip_law::Work;
 use std::alloc::Global;
-use std::mem;
 
 /// The copies of states that a ticket had.
 #[derive(Drop)]
@@ -25,12 +24,32 @@ pub struct Spent<A> {
 /// How many are kept of each. Where no one takes them they are freed together.
 const MOST: usize = 64;
 
+/// For how many of each there is room where it is made ahead of a turn: as many as a post commonly replaces.
+const ROOM: usize = 4;
+
+/// Nothing, with room as far as memory lasts.
+fn with_room<T: Drop>(alloc: Global) -> Vec<T> {
+    match Vec::with_capacity(alloc, ROOM) {
+        Ok(items) => items,
+        Err(_) => Vec::new(alloc),
+    }
+}
+
 impl<A: Drop> Spent<A> {
     pub(crate) fn new(alloc: Global) -> Self {
         Spent {
             states: Vec::new(alloc),
             works: Vec::new(alloc),
             rests: Vec::new(alloc),
+        }
+    }
+
+    /// The same with room, so that posts take no memory for it while others wait.
+    pub fn with_room(alloc: Global) -> Self {
+        Spent {
+            states: with_room(alloc),
+            works: with_room(alloc),
+            rests: with_room(alloc),
         }
     }
 
@@ -60,10 +79,5 @@ impl<A: Drop> Spent<A> {
             self.rests.clear();
         }
         let _kept = self.rests.push(rest);
-    }
-
-    /// Hands out all, and keeps nothing.
-    pub(crate) fn take(&mut self, alloc: Global) -> Self {
-        mem::replace(self, Spent::new(alloc))
     }
 }

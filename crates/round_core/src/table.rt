@@ -8,7 +8,6 @@ ghost use Rattle.round_core.specs.Reserved.{HasPlace};
 ghost use Rattle.round_core.specs.Rows.{mark_part, value_part, with_entry};
 
 use crate::key::Key;
-use crate::reserved::push_reserved;
 use indexmap::IndexMap;
 use no_memory::Memory;
 use std::alloc::Global;
@@ -53,7 +52,7 @@ fn put_value<K: Drop, V: Drop>(
     match place {
         Some(place) => Some(mem::replace(&mut values[place].1, value)),
         None => {
-            push_reserved(values, (key, value));
+            values.push_reserved((key, value));
             None
         }
     }

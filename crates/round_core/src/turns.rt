@@ -7,7 +7,6 @@ ghost use Rattle.round_core.specs.declared.place.Place.{Place};
 use crate::event::Event;
 use crate::key::same_unit;
 use crate::place::Place;
-use crate::reserved::push_reserved;
 use call_context::Unit;
 use no_memory::Memory;
 use std::alloc::Global;
@@ -131,7 +130,8 @@ impl Turns {
         self.returned.reserve(ends)?;
         self.journal.reserve(ends + 1)?;
         self.out.push((*unit, place))?;
-        push_reserved(&mut self.journal, Event::Claim { seat, unit: *unit });
+        self.journal
+            .push_reserved(Event::Claim { seat, unit: *unit });
         Ok(())
     }
 
@@ -143,7 +143,8 @@ impl Turns {
         ensures returned { self.new.returned ≡ self.old.returned }
     {
         let place = take_home(&mut self.out, unit);
-        push_reserved(&mut self.journal, Event::Post { seat, unit: *unit });
+        self.journal
+            .push_reserved(Event::Post { seat, unit: *unit });
         place
     }
 
@@ -155,7 +156,8 @@ impl Turns {
         ensures returned { (place : Place) × (place_out self.old.out unit.now ≡ Some place) × (self.new.returned ≡ self.old.returned ++ place ∷ []) }
     {
         let place = take_home(&mut self.out, unit);
-        push_reserved(&mut self.returned, place);
-        push_reserved(&mut self.journal, Event::GiveBack { seat, unit: *unit });
+        self.returned.push_reserved(place);
+        self.journal
+            .push_reserved(Event::GiveBack { seat, unit: *unit });
     }
 }

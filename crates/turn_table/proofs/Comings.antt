@@ -1,5 +1,5 @@
 -- A table opens, seats come and go, and the table is closed.
-use Rattle.std.proofs.Common.{◌≡◌, ◌≢◌, ℕ, zero, suc, ◌-◌, ◌<◌, ◌⊎◌, List, [], ◌∷◌, ◌++◌, length, set, get_or, Option, Some, sym, refl, ap, ◌∙◌, subst, inl, inr, ⊎_elim, arith}
+use Rattle.std.proofs.Common.{◌≡◌, ◌≢◌, ℕ, zero, suc, ◌-◌, ◌<◌, ◌≤◌, ◌⊎◌, List, [], ◌∷◌, ◌++◌, length, set, get_or, Option, Some, sym, refl, ap, ◌∙◌, subst, inl, inr, ⊎_elim, arith}
 use mathlib.Core.Logic.{dite}
 use mathlib.Core.Option.{some, none, some-injective}
 use native.Mathlib.Decide.{ℕ_discrete}
@@ -107,21 +107,11 @@ module _ {B E C : Type 0} (history : B → List E) (seat_of : E → ℕ) (base_o
       let stands_v = sv.stands in
       let small : v.room < seats = omega (arith, s₃, r₃, stands_one, room_one, stands_v) in
       let left : F k.turns k.drawn k.log w = record {
-        suits = record {
-          seen = sv.seen;
-          told = sv.told;
-          own = sv.own;
-          own_seen = sv.own_seen;
-          below = sv.below;
-          base_is = sv.base_is;
-          seats_is = sv.seats_is;
-          stands = sv.stands;
-          unsaid = (λ e. absurd (omega (arith, e, says_it)));
-          first = (λ _. first);
-          to_give = (λ m p q. sv.to_give m p (omega (arith, q)));
-          ended = sv.ended;
-          clear = clear_less v.number v.room (v.room - 1) v.ended (omega arith) sv.clear;
-        };
+        suits = (let unsaid : w.says ≡ 0 → w.made ≡ 0 = λ e. absurd (omega (arith, e, says_it)) in
+            let still_first : 0 < w.room → (w.number ≡ 0) × (0 < w.says) = λ _. first in
+            let to_give : (m : ℕ) → 0 < m → m ≤ w.room → events_of seat_of m k.log ≡ [] = λ m p q. sv.to_give m p (omega (arith, q)) in
+            let clear = clear_less v.number v.room (v.room - 1) v.ended (omega arith) sv.clear in
+            assumption (unsaid, still_first, to_give, clear, sv));
         stage = fv.stage;
       } in
       let right : F k.turns k.drawn k.log n = record {
@@ -246,21 +236,13 @@ module _ {B E C : Type 0} (history : B → List E) (seat_of : E → ℕ) (base_o
       let ended_clear : (u : Known E C) → Apart w u → AreClear u.number u.room ((w.number, w.mine) ∷ w.ended) = λ u apart.
       (apart.numbers, apart.not_to_give, apart.clear) in
       let here : F k.turns k.drawn k.log b = record {
-        suits = record {
-          seen = sv.seen;
-          told = sw.seen;
-          own = sv.own;
-          own_seen = sv.own_seen;
-          below = sv.below;
-          base_is = sv.base_is;
-          seats_is = sv.seats_is;
-          stands = omega (arith, stands_v);
-          unsaid = (λ e. let p = sv.unsaid (omega (arith, e)) in let q = sw.unsaid (omega (arith, e)) in omega (arith, p, q));
-          first = (λ p. let q = sv.first p in let says_it = q.1 in (q.0, omega (arith, says_it)));
-          to_give = sv.to_give;
-          ended = have_append seat_of k.log v.ended ((w.number, w.mine) ∷ w.ended) sv.ended (sw.own, sw.ended);
-          clear = clear_append v.number v.room v.ended ((w.number, w.mine) ∷ w.ended) sv.clear (ended_clear v (k.apart other id w v ne atw at));
-        };
+        suits = (let told = sw.seen in
+            let stands : 0 < b.stands = omega (arith, stands_v) in
+            let unsaid : b.says ≡ 0 → b.made ≡ 0 = λ e. let p = sv.unsaid (omega (arith, e)) in let q = sw.unsaid (omega (arith, e)) in omega (arith, p, q) in
+            let first : 0 < b.room → (b.number ≡ 0) × (0 < b.says) = λ p. let q = sv.first p in let says_it = q.1 in (q.0, omega (arith, says_it)) in
+            let ended = have_append seat_of k.log v.ended ((w.number, w.mine) ∷ w.ended) sv.ended (sw.own, sw.ended) in
+            let clear = clear_append v.number v.room v.ended ((w.number, w.mine) ∷ w.ended) sv.clear (ended_clear v (k.apart other id w v ne atw at)) in
+            assumption (told, stands, unsaid, first, ended, clear, sv));
         stage = fv.stage;
       } in
       let beside : (j : ℕ) (u : Known E C) → j ≢ id → j ≢ other → At s.views j u → Apart b u × Apart u b = λ j u ne' ne'' bt.

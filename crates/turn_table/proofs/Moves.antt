@@ -183,21 +183,7 @@ module _ {B E C : Type 0} (history : B → List E) (seat_of : E → ℕ) (base_o
   drawn_more turns drawn log seen (serving u) f = let b = f.1 in (f.0, omega arith, f.2)
 
   suits_stage : (log : List E) (v : Known E C) (st : Stage) → Suits seat_of base seats log v → Suits seat_of base seats log (record v { stage = st })
-  suits_stage log v st f = record {
-    seen = f.seen;
-    told = f.told;
-    own = f.own;
-    own_seen = f.own_seen;
-    below = f.below;
-    base_is = f.base_is;
-    seats_is = f.seats_is;
-    stands = f.stands;
-    unsaid = f.unsaid;
-    first = f.first;
-    to_give = f.to_give;
-    ended = f.ended;
-    clear = f.clear;
-  }
+  suits_stage log v st f = assumption f
 
   -- fewer tickets are held than a word counts
   few_held : (s : State (Option B) (Standing E C)) (k : K s) → k.drawn < k.turns + M
@@ -288,21 +274,7 @@ module _ {B E C : Type 0} (history : B → List E) (seat_of : E → ℕ) (base_o
           words_are = ap (λ l. set l 1 (get_or l 1 0)) k.words;
           tickets = omega (arith, one_held);
           here = record {
-            suits = record {
-              seen = starts_same k.log (history x) (sym hx);
-              told = sv.told;
-              own = sv.own;
-              own_seen = ap (events_of seat_of v.number) hx ∙ sv.own;
-              below = sv.below;
-              base_is = sv.base_is;
-              seats_is = sv.seats_is;
-              stands = sv.stands;
-              unsaid = sv.unsaid;
-              first = sv.first;
-              to_give = sv.to_give;
-              ended = sv.ended;
-              clear = sv.clear;
-            };
+            suits = (let seen = starts_same k.log (history x) (sym hx) in let own_seen = ap (events_of seat_of v.number) hx ∙ sv.own in assumption (seen, own_seen, sv));
             stage = (tk ∙ sym now, omega (arith, tk, below_drawn), hx);
           };
           others = (λ u fu a b. fu);
@@ -344,21 +316,15 @@ module _ {B E C : Type 0} (history : B → List E) (seat_of : E → ℕ) (base_o
 
   suits_more : (log added : List E) (n : ℕ) (u : Known E C) → Suits seat_of base seats log u → AllOf seat_of n added → u.number ≢ n
       → ((m : ℕ) → 0 < m → m ≤ u.room → m ≢ n) → (room : ℕ) → AreClear n room u.ended → Suits seat_of base seats (log ++ added) u
-  suits_more log added n u f all ne to_give room clear = record {
-    seen = starts_more log u.seen added f.seen;
-    told = starts_more log u.told added f.told;
-    own = events_more seat_of u.number log added ∙ ap (λ l. events_of seat_of u.number log ++ l) (events_others seat_of u.number n added ne all) ∙ append-nil (events_of seat_of u.number log) ∙ f.own;
-    own_seen = f.own_seen;
-    below = f.below;
-    base_is = f.base_is;
-    seats_is = f.seats_is;
-    stands = f.stands;
-    unsaid = f.unsaid;
-    first = f.first;
-    to_give = (λ m p q. events_more seat_of m log added ∙ ap (λ l. events_of seat_of m log ++ l) (events_others seat_of m n added (to_give m p q) all) ∙ append-nil (events_of seat_of m log) ∙ f.to_give m p q);
-    ended = ended_more seat_of log added n room u.ended f.ended clear all;
-    clear = f.clear;
-  }
+  suits_more log added n u f all ne others room clear =
+      let none_more : (m : ℕ) → m ≢ n → events_of seat_of m (log ++ added) ≡ events_of seat_of m log = λ m ne.
+      events_more seat_of m log added ∙ ap (λ l. events_of seat_of m log ++ l) (events_others seat_of m n added ne all) ∙ append-nil (events_of seat_of m log) in
+      let seen = starts_more log u.seen added f.seen in
+      let told = starts_more log u.told added f.told in
+      let own = none_more u.number ne ∙ f.own in
+      let to_give : (m : ℕ) → 0 < m → m ≤ u.room → events_of seat_of m (log ++ added) ≡ [] = λ m p q. none_more m (others m p q) ∙ f.to_give m p q in
+      let ended = ended_more seat_of log added n room u.ended f.ended clear all in
+      assumption (seen, told, own, to_give, ended, f)
 
   -- one slot, whatever is in it
   one_home : (s : State (Option B) (Standing E C)) → K s → (h : mathlib.Core.Option.Option (Option B)) × (s.homes ≡ h ∷ [])
@@ -380,7 +346,7 @@ module _ {B E C : Type 0} (history : B → List E) (seat_of : E → ℕ) (base_o
       let home = one_home s k in
       let homes' = Rattle.atomic_table.specs.Table.put_back s.homes c in
       let homes_is : homes' ≡ some (Some y) ∷ [] = ap (Rattle.atomic_table.specs.Table.put_back s.homes) holds_it ∙ ap (λ h. set h 0 (some (Some y))) home.1 in
-      let own' : events_of seat_of v.number log' ≡ v.mine ++ drop (length v.seen) (history y) =
+      let own : events_of seat_of v.number log' ≡ v.mine ++ drop (length v.seen) (history y) =
       events_more seat_of v.number k.log added ∙ ap (λ l. l ++ events_of seat_of v.number added) sv.own
       ∙ ap (λ l. v.mine ++ l) (events_own seat_of v.number added all ∙ sym (ap (drop (length v.seen)) grown ∙ drop_front v.seen added)) in (
         seated w,
@@ -394,24 +360,15 @@ module _ {B E C : Type 0} (history : B → List E) (seat_of : E → ℕ) (base_o
           words_are = ap (λ l. set l 1 ((get_or l 1 0 + 1) % M)) k.words ∙ ap (λ n. (k.drawn % M) ∷ n ∷ []) (mod-add-mod k.turns M 1);
           tickets = omega (arith, one_held);
           here = record {
-            suits = record {
-              seen = starts_same log' (history y) (sym whole);
-              told = starts_more k.log v.told added sv.told;
-              own = own';
-              own_seen = ap (events_of seat_of v.number) whole ∙ own';
-              below = sv.below;
-              base_is = sv.base_is;
-              seats_is = sv.seats_is;
-              stands = sv.stands;
-              unsaid = sv.unsaid;
-              first = sv.first;
-              to_give = (λ m p q.
-                  let zero_number = (sv.first (omega (arith, p, q))).0 in
-                  events_more seat_of m k.log added ∙ ap (λ l. events_of seat_of m k.log ++ l) (events_others seat_of m v.number added (λ e. omega (arith, e, zero_number, p)) all)
-                  ∙ append-nil (events_of seat_of m k.log) ∙ sv.to_give m p q);
-              ended = ended_more seat_of k.log added v.number v.room v.ended sv.ended sv.clear all;
-              clear = sv.clear;
-            };
+            suits = (let seen = starts_same log' (history y) (sym whole) in
+                let told = starts_more k.log v.told added sv.told in
+                let own_seen = ap (events_of seat_of v.number) whole ∙ own in
+                let to_give : (m : ℕ) → 0 < m → m ≤ v.room → events_of seat_of m log' ≡ [] = λ m p q.
+                let zero_number = (sv.first (omega (arith, p, q))).0 in
+                events_more seat_of m k.log added ∙ ap (λ l. events_of seat_of m k.log ++ l) (events_others seat_of m v.number added (λ e. omega (arith, e, zero_number, p)) all)
+                ∙ append-nil (events_of seat_of m k.log) ∙ sv.to_give m p q in
+                let ended = ended_more seat_of k.log added v.number v.room v.ended sv.ended sv.clear all in
+                assumption (seen, told, own, own_seen, to_give, ended, sv));
             stage = tt;
           };
           others = (λ u fu a b. record {
@@ -459,21 +416,7 @@ module _ {B E C : Type 0} (history : B → List E) (seat_of : E → ℕ) (base_o
           words_are = ap (λ z. set z 1 (get_or z 1 0)) k.words;
           tickets = refl;
           here = record {
-            suits = record {
-              seen = l.whole;
-              told = (k.log, refl);
-              own = sv.own;
-              own_seen = own;
-              below = sv.below;
-              base_is = sv.base_is;
-              seats_is = sv.seats_is;
-              stands = sv.stands;
-              unsaid = sv.unsaid;
-              first = sv.first;
-              to_give = sv.to_give;
-              ended = sv.ended;
-              clear = sv.clear;
-            };
+            suits = (let seen = l.whole in let told : StartsWith k.log [] = (k.log, refl) in assumption (seen, told, own, sv));
             stage = stage_seen k.turns k.drawn k.log v.seen (longer v.seen v.told) v.stage fv.stage (λ e. longer_whole k.log v.seen v.told sv.seen sv.told (inl e));
           };
           others = (λ u fu a b. fu);

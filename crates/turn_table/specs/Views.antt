@@ -57,29 +57,28 @@ module _ {E C : Type 0} where
   on f spent = spent
   on f (seated v) = seated (f v)
 
+  -- a number of a seat, 0 where it is spent
+  abbrev pub count_of : (Known E C → ℕ) → Standing E C → ℕ
+  count_of f spent = 0
+  count_of f (seated v) = f v
+
   abbrev pub tickets_of : Standing E C → ℕ
-  tickets_of spent = 0
-  tickets_of (seated v) = tickets_in v.stage
+  tickets_of = count_of (λ v. tickets_in v.stage)
 
   abbrev pub stands_of : Standing E C → ℕ
-  stands_of spent = 0
-  stands_of (seated v) = v.stands
+  stands_of = count_of (λ v. v.stands)
 
   abbrev pub says_of : Standing E C → ℕ
-  says_of spent = 0
-  says_of (seated v) = v.says
+  says_of = count_of (λ v. v.says)
 
   abbrev pub made_of : Standing E C → ℕ
-  made_of spent = 0
-  made_of (seated v) = v.made
+  made_of = count_of (λ v. v.made)
 
   abbrev pub room_of : Standing E C → ℕ
-  room_of spent = 0
-  room_of (seated v) = v.room
+  room_of = count_of (λ v. v.room)
 
   abbrev pub ticket_of : Standing E C → ℕ
-  ticket_of spent = 0
-  ticket_of (seated v) = ticket_in v.stage
+  ticket_of = count_of (λ v. ticket_in v.stage)
 
   -- the seat that a table begins with
   abbrev pub opening_seat : C → ℕ → Known E C

@@ -13,12 +13,12 @@ loop-node-preserved g c =
     let x = c.loop-node-item.result in
     let rows = c.loop-node.rows.items in
     let looked = c.in-Some-2.looked in
-    let items = c.in_ok-push-in-Some-2.ensures.items in
+    let items = c.in_ok-push_back-in-Some-2.ensures.items in
     let inside : i < length posts = omega arith in
     let at : slice_get posts i ≡ Some x = get-index posts i x inside c.loop-node-item.is in
     let is = match_some (Unit {0}) (λ l. IsLooked m met x l) c.in_ok-looked.field-0 looked c.in-Some-2.is (c.in_ok-looked.ensures met c.in-Some.ensures) in
     let was = c.loop-node.invariant.len in
-    let more : length c.push.new.self.items ≡ length (rows ++ looked ∷ []) = ap length items in
+    let more : length c.push_back.new.self.items ≡ length (rows ++ looked ∷ []) = ap length items in
     let sum = length-append rows (looked ∷ []) in
     record {
       len = omega arith;

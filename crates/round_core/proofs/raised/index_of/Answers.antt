@@ -1,4 +1,4 @@
-use Rattle.std.proofs.Common.{◌≡◌, ◌∙◌, ◌≤◌, ◌+◌, suc, ap, sym, subst, arith, length, take, take_all, slice_get, slice_index_or, Some, None, true, false}
+use Rattle.std.proofs.Common.{◌≡◌, ◌∙◌, ◌≤◌, ◌+◌, suc, ap, sym, subst, arith, length, take, take_all, slice_index_or, None, true, false}
 use Rattle.round_core.specs.Machine.{place_of}
 use Rattle.round_core.specs.Raise.{held_rows}
 use Rattle.round_core.specs.Same.{same_node}
@@ -9,28 +9,20 @@ use Rattle.round_core.proofs.raised.index_of.Goals as goal
 
 pub returns-then-same_node-clause-index : goal.returns-then-same_node-clause-index
 returns-then-same_node-clause-index g c =
-    let rows = c.args.rows.now in
-    let node = c.args.node.now in
-    let i = c.loop-index.index in
     let r = c.index-rows-index.result in
-    let at : slice_get rows i ≡ Some r = get-index rows i r c.loop-index-test.true c.index-rows-index.is in
-    let there : c.same_node.result ≡ same_node node (slice_index_or rows i r).node = c.same_node.ensures in
-    let test : c.same_node.result ≡ same_node node r.node = there ∙ ap (λ (t : Risen _). same_node node t.node) (sym c.index-rows-index.is) in
-    let same : same_node node r.node ≡ true = sym test ∙ c.if-same_node.true in
-    sym (place-here rows node i r at c.loop-index.invariant same)
+    let same : same_node c.args.node.now (slice_index_or c.args.rows.now c.loop-index.index r).node ≡ true = sym c.same_node.ensures ∙ c.if-same_node.true in
+    sym (place-here c.args.rows.now c.args.node.now c.loop-index.index r (get-index _ _ r c.loop-index-test.true c.index-rows-index.is) c.loop-index.invariant
+    (ap (λ (t : Risen _). same_node c.args.node.now t.node) c.index-rows-index.is ∙ same))
 
 pub loop-index-preserved : goal.loop-index-preserved
 loop-index-preserved g c =
     let rows = c.args.rows.now in
-    let node = c.args.node.now in
-    let i = c.loop-index.index in
     let r = c.index-rows-index.result in
-    let at : slice_get rows i ≡ Some r = get-index rows i r c.loop-index-test.true c.index-rows-index.is in
-    let there : c.same_node.result ≡ same_node node (slice_index_or rows i r).node = c.same_node.ensures in
-    let test : c.same_node.result ≡ same_node node r.node = there ∙ ap (λ (t : Risen _). same_node node t.node) (sym c.index-rows-index.is) in
-    let other : same_node node r.node ≡ false = sym test ∙ c.if-same_node.false in
-    let up : suc i ≡ i + 1 = omega arith in
-    subst (λ k. place_of (held_rows (take k rows)) node ≡ None) up (no-place-yet rows node i r at c.loop-index.invariant other)
+    let other : same_node c.args.node.now (slice_index_or rows c.loop-index.index r).node ≡ false = sym c.same_node.ensures ∙ c.if-same_node.false in
+    let up : suc c.loop-index.index ≡ c.loop-index.index + 1 = omega arith in
+    subst (λ k. place_of (held_rows (take k rows)) c.args.node.now ≡ None) up
+    (no-place-yet rows c.args.node.now c.loop-index.index r (get-index _ _ r c.loop-index-test.true c.index-rows-index.is) c.loop-index.invariant
+    (ap (λ (t : Risen _). same_node c.args.node.now t.node) c.index-rows-index.is ∙ other))
 
 pub returns-clause-index : goal.returns-clause-index
 returns-clause-index g c =

@@ -1,4 +1,4 @@
-use Rattle.std.proofs.Common.{◌≡◌, ◌∙◌, ap, sym, subst, IsSome, None, Some, Option, slice_get, length, ◌+◌}
+use Rattle.std.proofs.Common.{◌≡◌, ◌∙◌, ap, sym, subst, IsSome, None, Some, Option, length, ◌+◌}
 use Rattle.std.proofs.lemmas.List.Edits.{length-remove}
 use Rattle.round_core.specs.declared.place.Place.{Place}
 use Rattle.round_core.specs.Turns.{index_out, place_out, StandOnce}
@@ -16,33 +16,21 @@ unreachable-requires c =
     let none : index_out out unit ≡ None = ap (λ l. index_out l unit) (sym c.as_slice.ensures.value) ∙ sym c.in-None.ensures.index in
     let some : IsSome none_place = subst (λ o. IsSome o) (index-none out unit none) c.requires.out in absurd (cc)
 
-pub returns-clause-place : goal.returns-clause-place
-returns-clause-place c =
+pub returns : goal.returns
+returns c =
     let out = c.args.out.now.items in
     let unit = c.args.unit.now in
     let i = c.in-Some.index in
     let at : index_out out unit ≡ Some i = ap (λ l. index_out l unit) (sym c.as_slice.ensures.value) ∙ sym c.in-Some.ensures.index in
+    let bound = index-bound out unit i at in
     let e = index-entry out unit i at in
-    let here : slice_get out i ≡ Some c.remove.result = get-index out i c.remove.result (index-bound out unit i at) c.remove.ensures.value in
-    let both : Some e.0 ≡ Some c.remove.result = sym e.1 ∙ here in
+    let both : Some e.0 ≡ Some c.remove.result = sym e.1 ∙ get-index out i c.remove.result bound c.remove.ensures.value in
     let same : e.0 ≡ c.remove.result = cc in
-    e.2 ∙ ap (λ t. Some t.1) same
-
-pub returns-clause-others : goal.returns-clause-others
-returns-clause-others c =
-    let out = c.args.out.now.items in
-    let unit = c.args.unit.now in
-    let i = c.in-Some.index in
-    let at : index_out out unit ≡ Some i = ap (λ l. index_out l unit) (sym c.as_slice.ensures.value) ∙ sym c.in-Some.ensures.index in
     record {
-      count = ap (λ l. length l + 1) c.remove.ensures.items ∙ length-remove out i (index-bound out unit i at);
-      places = λ other. ap (λ l. place_out l other) c.remove.ensures.items ∙ removed-places out unit i c.requires.once at other;
+      place = e.2 ∙ ap (λ t. Some t.1) same;
+      others = record {
+        count = ap (λ l. length l + 1) c.remove.ensures.items ∙ length-remove out i bound;
+        places = λ other. ap (λ l. place_out l other) c.remove.ensures.items ∙ removed-places out unit i c.requires.once at other;
+      };
+      once = subst (λ l. StandOnce l) (sym c.remove.ensures.items) (removed-once out unit i c.requires.once at);
     }
-
-pub returns-clause-once : goal.returns-clause-once
-returns-clause-once c =
-    let out = c.args.out.now.items in
-    let unit = c.args.unit.now in
-    let i = c.in-Some.index in
-    let at : index_out out unit ≡ Some i = ap (λ l. index_out l unit) (sym c.as_slice.ensures.value) ∙ sym c.in-Some.ensures.index in
-    subst (λ l. StandOnce l) (sym c.remove.ensures.items) (removed-once out unit i c.requires.once at)

@@ -1,9 +1,9 @@
-use Rattle.std.proofs.Common.{◌≡◌, ◌∙◌, ap, map, Some, sym, subst, slice_get, slice_index_or, length, ◌<◌}
+use Rattle.std.proofs.Common.{◌≡◌, ◌∙◌, ap, map, Some, sym, slice_get}
 use Rattle.std.specs.Map.{lookup}
-use Rattle.round_core.specs.Rows.{mark_part, value_part, rows_of}
+use Rattle.round_core.specs.Rows.{mark_part, rows_of}
 use Rattle.round_core.proofs.table.Table.at.Goals as goal
-use Rattle.round_core.proofs.Cases.{get-index, test_true}
-use Rattle.round_core.proofs.TableLemmas.{row-of}
+use Rattle.round_core.proofs.Cases.{test_true}
+use Rattle.round_core.proofs.TableLemmas.{row-of, value-at}
 
 pub returns-clause-row : goal.returns-clause-row
 returns-clause-row g c =
@@ -12,12 +12,8 @@ returns-clause-row g c =
     let mark : slice_get (map mark_part rows) i ≡ Some (c.in_ok-key.key.now, c.in_ok-key.mark.now) =
     ap (λ es. slice_get es i) (sym c.self.invariant.marks_are) ∙ sym c.in_ok-key.ensures.entry in
     let y = c.in_ok-value.ensures.lookup in
-    let b = c.in_ok-value.field-0.now in
-    let values = c.deref.ensures.value ∙ c.self.invariant.values_are in
-    let inside : i < length (map value_part rows) = subst (λ xs. i < length xs) values (test_true _ _ y.0) in
-    let value : slice_get (map value_part rows) i ≡ Some b =
-    get-index (map value_part rows) i b inside (subst (λ xs. b ≡ slice_index_or xs i b) values y.1) in
-    sym (ap (λ v. slice_get v.rows i) c.self.view_is) ∙ row-of rows i _ _ mark b value
+    sym (ap (λ v. slice_get v.rows i) c.self.view_is)
+    ∙ row-of rows i _ _ mark _ (value-at rows _ i _ (c.deref.ensures.value ∙ c.self.invariant.values_are) (test_true _ _ y.0) y.1)
 
 pub returns-clause-mark : goal.returns-clause-mark
 returns-clause-mark g c =
