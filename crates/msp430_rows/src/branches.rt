@@ -5,6 +5,7 @@ use msp430_branch::{cut, fact_behind, taken_by};
 use msp430_decode::{Condition, Constant, Destination, Operation, Register, Source, Width};
 use msp430_state::{FlagFact, State, Status};
 use std::alloc::Global;
+use std::process::Abort;
 use std::test::Fail;
 use value_bits::Tri;
 use value_set::Vs16;
@@ -26,44 +27,26 @@ fn state_with(alloc: Global, set: Option<Vs16>) -> Result<State<CellList>, Fail>
     Ok(state)
 }
 
-/// What is left of R5 behind a comparison of words, where it was `added` more.
-fn cut_word(
-    alloc: Global,
-    set: Option<Vs16>,
-    added: u16,
-    compared: u16,
-    condition: Condition,
-    taken: bool,
-) -> Result<Option<Vs16>, Fail> {
-    let mut state = state_with(alloc, set)?;
-    state.fact = Some(FlagFact {
+/// The fact that R5, which was `added` more, was compared.
+fn fact(added: u16, compared: u16, width: Width) -> Option<FlagFact> {
+    Some(FlagFact {
         register: 5,
         added,
         compared,
-        width: Width::Word,
-    });
-    if !cut(&mut state, condition, taken) {
-        return Ok(None);
-    }
-    Ok(Some(state.registers[1].set))
+        width,
+    })
 }
 
-/// The same of bytes.
-fn cut_byte(
+/// What is left of R5 behind a comparison that this fact tells of.
+fn cut_by(
     alloc: Global,
     set: Option<Vs16>,
-    added: u8,
-    compared: u8,
+    fact: Option<FlagFact>,
     condition: Condition,
     taken: bool,
 ) -> Result<Option<Vs16>, Fail> {
     let mut state = state_with(alloc, set)?;
-    state.fact = Some(FlagFact {
-        register: 5,
-        added: added as u16,
-        compared: compared as u16,
-        width: Width::Byte,
-    });
+    state.fact = fact;
     if !cut(&mut state, condition, taken) {
         return Ok(None);
     }
@@ -86,7 +69,8 @@ fn any_word_compared_with_four(rt: HostRuntime) -> Result<(), Fail> {
     ];
     for (condition, taken, base, count) in rows {
         let any = Vs16::run(0, 1, 0x10000);
-        let left = cut_word(rt.alloc(), any, 0, 4, condition, taken)?;
+        let known = fact(0, 4, Width::Word);
+        let left = cut_by(rt.alloc(), any, known, condition, taken)?;
         assert_eq!(rt; left, Vs16::run(base, 1, count));
     }
     Ok(())
@@ -104,51 +88,69 @@ fn any_word_from_which_four_was_subtracted(rt: HostRuntime) -> Result<(), Fail> 
     ];
     for (condition, base, count) in rows {
         let any = Vs16::run(0, 1, 0x10000);
-        let left = cut_word(rt.alloc(), any, 4, 4, condition, true)?;
+        let known = fact(4, 4, Width::Word);
+        let left = cut_by(rt.alloc(), any, known, condition, true)?;
         assert_eq!(rt; left, Vs16::run(base, 1, count));
+    }
+    Ok(())
+}
+
+/// Of R5 at four numbers from a base on, with what it is compared, the condition, and how many numbers are left from where on.
+fn leaves_of_four(
+    rt: &impl Abort,
+    alloc: Global,
+    base: u16,
+    width: Width,
+    rows: &[(u16, Condition, u16, u32)],
+) -> Result<(), Fail> {
+    for (compared, condition, first, count) in rows {
+        let (four, known) = (Vs16::run(base, 1, 4), fact(0, *compared, width));
+        let left = cut_by(alloc, four, known, *condition, true)?;
+        assert_eq!(rt; left, Vs16::run(*first, 1, *count));
     }
     Ok(())
 }
 
 #[test]
 fn words_at_the_signed_turn(rt: HostRuntime) -> Result<(), Fail> {
-    let rows = [
-        (0x7FFF, Condition::GreaterOrEqual, 0x7FFF, 1),
-        (0x8000, Condition::GreaterOrEqual, 0x7FFE, 4),
-        (0x0000, Condition::GreaterOrEqual, 0x7FFE, 2),
-        (0x8000, Condition::Less, 0, 0),
-        (0x8001, Condition::Less, 0x8000, 1),
-        (0x0000, Condition::Less, 0x8000, 2),
-        (0x8000, Condition::Carry, 0x8000, 2),
-        (0x8000, Condition::NoCarry, 0x7FFE, 2),
-    ];
-    for (compared, condition, base, count) in rows {
-        let four = Vs16::run(0x7FFE, 1, 4);
-        let left = cut_word(rt.alloc(), four, 0, compared, condition, true)?;
-        assert_eq!(rt; left, Vs16::run(base, 1, count));
-    }
-    Ok(())
+    leaves_of_four(
+        &rt,
+        rt.alloc(),
+        0x7FFE,
+        Width::Word,
+        &[
+            (0x7FFF, Condition::GreaterOrEqual, 0x7FFF, 1),
+            (0x8000, Condition::GreaterOrEqual, 0x7FFE, 4),
+            (0x0000, Condition::GreaterOrEqual, 0x7FFE, 2),
+            (0x8000, Condition::Less, 0, 0),
+            (0x8001, Condition::Less, 0x8000, 1),
+            (0x0000, Condition::Less, 0x8000, 2),
+            (0x8000, Condition::Carry, 0x8000, 2),
+            (0x8000, Condition::NoCarry, 0x7FFE, 2),
+        ],
+    )
 }
 
 #[test]
 fn bytes_at_the_signed_turn(rt: HostRuntime) -> Result<(), Fail> {
-    let rows = [
-        (0x7F, Condition::GreaterOrEqual, 0x7F, 1),
-        (0x80, Condition::GreaterOrEqual, 0x7E, 4),
-        (0x80, Condition::Less, 0, 0),
-        (0x81, Condition::Less, 0x80, 1),
-        (0x80, Condition::Carry, 0x80, 2),
-        (0x80, Condition::NoCarry, 0x7E, 2),
-        (0x80, Condition::Equal, 0x80, 1),
-        (0x7E, Condition::NotEqual, 0x7F, 3),
-    ];
-    for (compared, condition, base, count) in rows {
-        let four = Vs16::run(0x7E, 1, 4);
-        let left = cut_byte(rt.alloc(), four, 0, compared, condition, true)?;
-        assert_eq!(rt; left, Vs16::run(base, 1, count));
-    }
-    let ends = Vs16::run(0x00, 0xFF, 2);
-    let left = cut_byte(rt.alloc(), ends, 5, 4, Condition::Equal, true)?;
+    leaves_of_four(
+        &rt,
+        rt.alloc(),
+        0x7E,
+        Width::Byte,
+        &[
+            (0x7F, Condition::GreaterOrEqual, 0x7F, 1),
+            (0x80, Condition::GreaterOrEqual, 0x7E, 4),
+            (0x80, Condition::Less, 0, 0),
+            (0x81, Condition::Less, 0x80, 1),
+            (0x80, Condition::Carry, 0x80, 2),
+            (0x80, Condition::NoCarry, 0x7E, 2),
+            (0x80, Condition::Equal, 0x80, 1),
+            (0x7E, Condition::NotEqual, 0x7F, 3),
+        ],
+    )?;
+    let (ends, known) = (Vs16::run(0x00, 0xFF, 2), fact(5, 4, Width::Byte));
+    let left = cut_by(rt.alloc(), ends, known, Condition::Equal, true)?;
     assert_eq!(rt; left, Some(Vs16::one(0xFF)));
     Ok(())
 }
@@ -156,7 +158,8 @@ fn bytes_at_the_signed_turn(rt: HostRuntime) -> Result<(), Fail> {
 #[test]
 fn outcomes_that_no_state_has(rt: HostRuntime) -> Result<(), Fail> {
     let few = Vs16::run(1, 1, 2);
-    let left = cut_word(rt.alloc(), few, 0, 4, Condition::Equal, true)?;
+    let known = fact(0, 4, Width::Word);
+    let left = cut_by(rt.alloc(), few, known, Condition::Equal, true)?;
     assert_eq!(rt; left, None);
     let mut state = state_with(rt.alloc(), None)?;
     state.fact = None;
@@ -187,16 +190,6 @@ fn flags_that_become_known(rt: HostRuntime) -> Result<(), Fail> {
         assert_eq!(rt; state.status.bits[8], v);
     }
     Ok(())
-}
-
-/// The fact that R5, which was `added` more, was compared.
-fn fact(added: u16, compared: u16, width: Width) -> Option<FlagFact> {
-    Some(FlagFact {
-        register: 5,
-        added,
-        compared,
-        width,
-    })
 }
 
 #[test]

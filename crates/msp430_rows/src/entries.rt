@@ -3,10 +3,11 @@
 ghost use Rattle.std.specs.Prelude.{◌≡◌, IfOk};
 ghost use Rattle.msp430_chip.specs.Memory.{HasRam};
 
+use crate::given::{device_with, plain, two};
 use abs_memory::CellList;
 use call_context::{Frame, Item, Sequence, Set, Space};
 use entry_value::{Cells, Entry, Word};
-use image::{Image, RamRange};
+use image::Image;
 use msp430_chip::Device;
 use msp430_decode::Width;
 use msp430_entry::{Coming, add_entry_items, comings, entered, frame_of, handler_of};
@@ -28,26 +29,16 @@ fn device(alloc: Global) -> Result<Device, Fail>
     bytes[0xFFE3] = Some(0xFF);
     bytes[0xFFF2] = Some(0x01);
     bytes[0xFFF3] = Some(0xF1);
-    Ok(Device {
-        image: Image::new(bytes),
-        ram: RamRange {
-            lo: 0x0200,
-            hi: 0x02FF,
-            mirror: None,
-        },
-    })
+    Ok(device_with(Image::new(bytes)))
 }
 
 /// GIE and SCG0 are 1, the other bits of SR 0; SP is one of two; R5 is 3, and a word of RAM is one that R6 was.
 fn state(alloc: Global) -> Result<State<CellList>, Fail> {
     let mut state: State<CellList> = State::first(alloc, 0x0200, 0x02FF)?;
-    state.sp = Vs16::one(0x0280).join(&Vs16::one(0x0290));
+    state.sp = two(0x0280, 0x0290);
     state.status.bits[3] = Tri::One;
     state.status.bits[6] = Tri::One;
-    state.registers[1] = Word {
-        set: Vs16::one(3),
-        entry: None,
-    };
+    state.registers[1] = plain(Vs16::one(3));
     state.fact = Some(FlagFact {
         register: 5,
         added: 0,
@@ -130,13 +121,7 @@ fn what_the_handler_knows(rt: HostRuntime) -> Result<(), Fail> {
     assert!(rt; pushed.set.has(0x0048) && pushed.set.has(0xFE48) && !pushed.set.has(0x0040));
     assert_eq!(rt; pushed.entry.map(|entry| entry.place), Some(2));
     assert_eq!(rt; known.registers[1], related(3, 5));
-    assert_eq!(rt;
-        known.cells.read(0x0210, 2),
-        Word {
-            set: Vs16::one(7),
-            entry: None
-        }
-    );
+    assert_eq!(rt; known.cells.read(0x0210, 2), plain(Vs16::one(7)));
     for place in 0..9 {
         assert_eq!(rt; known.status.bits[place] == Tri::One, place == 6);
     }

@@ -6,6 +6,8 @@ mod branches;
 #[cfg(test)]
 mod entries;
 #[cfg(test)]
+mod given;
+#[cfg(test)]
 mod mirrored;
 #[cfg(test)]
 mod operands;

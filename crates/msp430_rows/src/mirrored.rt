@@ -3,11 +3,12 @@
 ghost use Rattle.std.specs.Prelude.{◌≡◌, ◌≤◌, IfOk};
 ghost use Rattle.msp430_chip.specs.Memory.{HasRam};
 
+use crate::given::{give_word, here, in_register, one, run, two};
 use abs_memory::CellList;
 use call_context::{Item, Sequence, Set, Space};
-use entry_value::{Cells, Word};
+use entry_value::Cells;
 use image::{Image, RamRange};
-use msp430_alu::{Here, Worked, double, located, push, register_word};
+use msp430_alu::{Worked, double, located, push};
 use msp430_chip::Device;
 use msp430_decode::{Destination, Operation, Register, SingleOperation, Source, Width};
 use msp430_entry::{Coming, add_entry_items, entered};
@@ -16,31 +17,12 @@ use std::alloc::Global;
 use std::test::Fail;
 use value_set::Vs16;
 
-fn one(value: u16) -> Vs16 {
-    Vs16::one(value)
-}
-
-fn two(low: u16, high: u16) -> Vs16 {
-    one(low).join(&one(high))
-}
-
-fn run(base: u16, stride: u16, count: u32) -> Vs16 {
-    match Vs16::run(base, stride, count) {
-        Some(set) => set,
-        None => Vs16::any(),
-    }
-}
-
 /// RAM from 1100h to 38FFh, of which 0200h to 09FFh show the first 2048 bytes again, and a program of two bytes.
 fn device(alloc: Global) -> Result<Device, Fail>
     ensures { IfOk result HasRam }
 {
-    let mut bytes = Vec::new(alloc);
-    bytes.resize(65536, None)?;
-    bytes[0xF000] = Some(0x31);
-    bytes[0xF001] = Some(0x40);
     Ok(Device {
-        image: Image::new(bytes),
+        image: Image::with_bytes(alloc, 0xF000, &[0x31, 0x40])?,
         ram: RamRange {
             lo: 0x1100,
             hi: 0x38FF,
@@ -49,22 +31,13 @@ fn device(alloc: Global) -> Result<Device, Fail>
     })
 }
 
-fn give_word(state: &mut State<CellList>, at: u16, value: u16) -> Result<(), Fail> {
-    let word = Word {
-        set: one(value),
-        entry: None,
-    };
-    state.cells.write_one(at, 2, word)?;
-    Ok(())
-}
-
 /// Known are the first word of RAM, the last one that the mirror shows, and the one behind that; SP is as told.
 fn state(alloc: Global, sp: u16) -> Result<State<CellList>, Fail> {
-    let mut state = State::first(alloc, 0x1100, 0x38FF)?;
+    let mut state: State<CellList> = State::first(alloc, 0x1100, 0x38FF)?;
     state.sp = one(sp);
-    give_word(&mut state, 0x1100, 0x1234)?;
-    give_word(&mut state, 0x18FE, 0x5678)?;
-    give_word(&mut state, 0x1900, 0x9ABC)?;
+    give_word(&mut state, 0x1100, one(0x1234))?;
+    give_word(&mut state, 0x18FE, one(0x5678))?;
+    give_word(&mut state, 0x1900, one(0x9ABC))?;
     Ok(state)
 }
 
@@ -76,22 +49,12 @@ fn moved(
 ) -> Result<Worked<CellList>, Fail> {
     let (device, state) = (device(alloc)?, state(alloc, 0x0200)?);
     let operation = Operation::Mov;
-    let here = Here {
-        device: &device,
-        framed: false,
-        state: &state,
-        pc: 0xF000,
-        len: 4,
-    };
+    let here = here(&device, false, &state, 4);
     Ok(double(alloc, &here, operation, width, source, destination)?)
 }
 
 fn read(worked: &Worked<CellList>, at: u16) -> Vs16 {
     worked.after.cells.read(at, 2).set
-}
-
-fn in_register(worked: &Worked<CellList>, register: Register) -> Vs16 {
-    register_word(&worked.after, &one(0), register).set
 }
 
 fn access(write: bool, size: u8, at: Vs16) -> Item {
@@ -188,13 +151,7 @@ fn pushes_to_the_mirror(rt: HostRuntime) -> Result<(), Fail> {
         (0x1102, 0x1100, 0x1100, one(0x2222)),
     ] {
         let state = state(rt.alloc(), sp)?;
-        let here = Here {
-            device: &device,
-            framed: false,
-            state: &state,
-            pc: 0xF000,
-            len: 4,
-        };
+        let here = here(&device, false, &state, 4);
         let operand = Source::Immediate(0x2222);
         let worked = push(
             rt.alloc(),

@@ -1,16 +1,12 @@
 //! Operands against rows worked by hand.
 
-ghost use Rattle.std.specs.Prelude.{IfOk};
-ghost use Rattle.msp430_chip.specs.Memory.{HasRam};
-
+use crate::given::{device, plain};
 use abs_memory::CellList;
-use entry_value::{Cells, Word};
-use image::{Image, RamRange};
+use entry_value::Cells;
 use msp430_alu::{
     Reach, counter_set, located, put_register, read_known, register_word, set_flag_bits,
     source_reach,
 };
-use msp430_chip::Device;
 use msp430_decode::{Destination, Register, Source, Width};
 use msp430_results::FlagBits;
 use msp430_state::{FlagFact, State};
@@ -19,36 +15,13 @@ use std::test::Fail;
 use value_bits::Tri;
 use value_set::Vs16;
 
-/// RAM from 0200h to 02FFh, and a program of three bytes.
-fn device(alloc: Global) -> Result<Device, Fail>
-    ensures { IfOk result HasRam }
-{
-    let mut bytes = Vec::new(alloc);
-    bytes.resize(65536, None)?;
-    bytes[0xF000] = Some(0x34);
-    bytes[0xF001] = Some(0x12);
-    bytes[0xF002] = Some(0x56);
-    Ok(Device {
-        image: Image::new(bytes),
-        ram: RamRange {
-            lo: 0x0200,
-            hi: 0x02FF,
-            mirror: None,
-        },
-    })
-}
-
-fn plain(set: Vs16) -> Word {
-    Word { set, entry: None }
-}
-
 fn state(alloc: Global) -> Result<State<CellList>, Fail> {
     Ok(State::first(alloc, 0x0200, 0x02FF)?)
 }
 
 #[test]
 fn words_stand_at_even_addresses(rt: HostRuntime) -> Result<(), Fail> {
-    let device = device(rt.alloc())?;
+    let device = device(rt.alloc(), &[])?;
     assert_eq!(rt;
         located(&device, Width::Word, &Vs16::one(0xFFFF)),
         Vs16::one(0xFFFE)
@@ -149,7 +122,7 @@ fn flags_drop_the_fact(rt: HostRuntime) -> Result<(), Fail> {
 #[test]
 fn words_of_ram_and_of_the_program(rt: HostRuntime) -> Result<(), Fail> {
     let mut state = state(rt.alloc())?;
-    let device = device(rt.alloc())?;
+    let device = device(rt.alloc(), &[0x34, 0x12, 0x56])?;
     state.cells.write_one(0x0200, 2, plain(Vs16::one(0x1234)))?;
     let read = read_known(&device, &state, Width::Word, &Vs16::one(0xF000));
     assert_eq!(rt; read, plain(Vs16::one(0x1234)));

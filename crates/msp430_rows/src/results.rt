@@ -2,6 +2,7 @@
 
 ghost use Rattle.msp430_results.specs.Results.{HasWidth};
 
+use crate::given::{self, plain, tri};
 use entry_value::{Entry, Word};
 use msp430_decode::{Operation, SingleOperation, Width};
 use msp430_results::{FlagBits, double_made, kept_word, single_made, twice_made};
@@ -10,28 +11,16 @@ use std::test::Fail;
 use value_bits::Tri;
 use value_set::Vs16;
 
-fn plain(set: Vs16) -> Word {
-    Word { set, entry: None }
-}
-
 fn one(value: u16) -> Word {
-    plain(Vs16::one(value))
+    plain(given::one(value))
 }
 
 fn two(low: u16, high: u16) -> Word {
-    plain(Vs16::one(low).join(&Vs16::one(high)))
+    plain(given::two(low, high))
 }
 
 fn run(base: u16, stride: u16, count: u32) -> Word {
-    plain(Vs16::run(base, stride, count).unwrap_or(Vs16::any()))
-}
-
-fn tri(bit: char) -> Tri {
-    match bit {
-        '0' => Tri::Zero,
-        '1' => Tri::One,
-        _ => Tri::Either,
-    }
+    plain(given::run(base, stride, count))
 }
 
 /// Flags as C, Z, N and V, where `?` is unknown and no text is no flags.

@@ -1,5 +1,6 @@
 //! Resumed states against rows worked by hand.
 
+use crate::given::plain;
 use abs_memory::CellList;
 use entry_value::{Entry, Word};
 use msp430_decode::Width;
@@ -13,10 +14,7 @@ use value_set::Vs16;
 
 /// A word that is one number.
 fn number(v: u16) -> Word {
-    Word {
-        set: Vs16::one(v),
-        entry: None,
-    }
+    plain(Vs16::one(v))
 }
 
 /// How a value came from a place.

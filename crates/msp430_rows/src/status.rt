@@ -1,14 +1,10 @@
 //! SR as a destination against rows worked by hand from SLAU049, chapter 3.
 
-ghost use Rattle.std.specs.Prelude.{IfOk};
-ghost use Rattle.msp430_chip.specs.Memory.{HasRam};
-
+use crate::given::{bits, device, give_word, here, in_register, plain, run, two};
 use abs_memory::CellList;
 use call_context::{Item, Set, Space};
-use entry_value::{Cells, Entry, Word};
-use image::{Image, RamRange};
-use msp430_alu::{Here, Worked, register_word};
-use msp430_chip::Device;
+use entry_value::Entry;
+use msp430_alu::Worked;
 use msp430_decode::{Constant, Operation, Register, SingleOperation, Source, Width};
 use msp430_state::{FlagFact, State, Status};
 use msp430_status::{single_status, status};
@@ -17,45 +13,6 @@ use std::process::Abort;
 use std::test::Fail;
 use value_bits::Tri;
 use value_set::Vs16;
-
-fn tri(bit: char) -> Tri {
-    match bit {
-        '0' => Tri::Zero,
-        '1' => Tri::One,
-        _ => Tri::Either,
-    }
-}
-
-/// The bits of SR from V down to C, where `?` is unknown.
-fn bits(text: &str) -> [Tri; 9] {
-    let mut bits = [Tri::Either; 9];
-    let mut all = text.chars();
-    for place in 0..9 {
-        if let Some(bit) = all.next() {
-            bits[8 - place] = tri(bit);
-        }
-    }
-    bits
-}
-
-fn word(set: Vs16) -> Word {
-    Word { set, entry: None }
-}
-
-fn device(alloc: Global) -> Result<Device, Fail>
-    ensures { IfOk result HasRam }
-{
-    let mut bytes = Vec::new(alloc);
-    bytes.resize(65536, None)?;
-    Ok(Device {
-        image: Image::new(bytes),
-        ram: RamRange {
-            lo: 0x0200,
-            hi: 0x02FF,
-            mirror: None,
-        },
-    })
-}
 
 /// R5 is 1 or 5, R6 is at a word that is 0109h, R7 may be any multiple of 16, and SR has a relation and a fact.
 fn state(alloc: Global, held: &str) -> Result<State<CellList>, Fail> {
@@ -74,12 +31,10 @@ fn state(alloc: Global, held: &str) -> Result<State<CellList>, Fail> {
         compared: 1,
         width: Width::Word,
     });
-    state.registers[1] = word(Vs16::one(1).join(&Vs16::one(5)));
-    state.registers[2] = word(Vs16::one(0x0200));
-    if let Some(set) = Vs16::run(0, 16, 4096) {
-        state.registers[3] = word(set);
-    }
-    state.cells.write_one(0x0200, 2, word(Vs16::one(0x0109)))?;
+    state.registers[1] = plain(two(1, 5));
+    state.registers[2] = plain(Vs16::one(0x0200));
+    state.registers[3] = plain(run(0, 16, 4096));
+    give_word(&mut state, 0x0200, Vs16::one(0x0109))?;
     Ok(state)
 }
 
@@ -91,19 +46,9 @@ fn behind(
     source: Source,
     held: &str,
 ) -> Result<Worked<CellList>, Fail> {
-    let (device, state) = (device(alloc)?, state(alloc, held)?);
-    let here = Here {
-        device: &device,
-        framed: true,
-        state: &state,
-        pc: 0xF000,
-        len: 2,
-    };
+    let (device, state) = (device(alloc, &[])?, state(alloc, held)?);
+    let here = here(&device, true, &state, 2);
     Ok(status(alloc, &here, operation, width, source)?)
-}
-
-fn in_register(worked: &Worked<CellList>, register: Register) -> Vs16 {
-    register_word(&worked.after, &Vs16::one(0), register).set
 }
 
 #[test]
@@ -174,10 +119,7 @@ fn register_that_grows(rt: HostRuntime) -> Result<(), Fail> {
         assert_eq!(rt; worked.accesses.as_slice().len(), 1);
         assert!(rt; worked.accesses.as_slice().contains(&read));
         assert_eq!(rt; in_register(&worked, Register::R6), Vs16::one(grown));
-        assert_eq!(rt;
-            in_register(&worked, Register::R5),
-            Vs16::one(1).join(&Vs16::one(5))
-        );
+        assert_eq!(rt; in_register(&worked, Register::R5), two(1, 5));
     }
     Ok(())
 }
@@ -203,14 +145,8 @@ fn one_operand(rt: HostRuntime) -> Result<(), Fail> {
         (Rrc, Byte, "000000000", "?????????"),
         (Sxt, Word, "111111111", "?????????"),
     ] {
-        let (device, state) = (device(rt.alloc())?, state(rt.alloc(), held)?);
-        let here = Here {
-            device: &device,
-            framed: true,
-            state: &state,
-            pc: 0xF000,
-            len: 2,
-        };
+        let (device, state) = (device(rt.alloc(), &[])?, state(rt.alloc(), held)?);
+        let here = here(&device, true, &state, 2);
         let worked = single_status(rt.alloc(), &here, operation, width)?;
         assert_eq!(rt; worked.after.status.bits, bits(found));
         assert_eq!(rt; worked.after.status.entry, None);

@@ -1,15 +1,13 @@
 //! Instructions over a small state against rows worked by hand from SLAU049, chapter 3.
 
-ghost use Rattle.std.specs.Prelude.{◌≤◌, IfOk};
-ghost use Rattle.msp430_chip.specs.Memory.{HasRam};
+ghost use Rattle.std.specs.Prelude.{◌≤◌};
 ghost use Rattle.msp430_results.specs.Results.{HasWidth};
 
+use crate::given::{device, give_word, here, in_register, one, plain, run, two};
 use abs_memory::CellList;
 use call_context::{Item, Set, Space};
-use entry_value::{Cells, Word};
-use image::{Image, RamRange};
-use msp430_alu::{Here, Worked, double, push, put_register, register_word, single};
-use msp430_chip::Device;
+use entry_value::Cells;
+use msp430_alu::{Worked, double, push, put_register, single};
 use msp430_decode::{Destination, Operation, Register, SingleOperation, Source, Width};
 use msp430_state::State;
 use std::alloc::Global;
@@ -18,70 +16,26 @@ use std::test::Fail;
 use value_bits::Tri;
 use value_set::Vs16;
 
-fn one(value: u16) -> Vs16 {
-    Vs16::one(value)
-}
-
-fn two(low: u16, high: u16) -> Vs16 {
-    one(low).join(&one(high))
-}
-
-/// From 0 by a stride, 256 numbers.
-fn bytes_by(stride: u16) -> Vs16 {
-    match Vs16::run(0, stride, 256) {
-        Some(set) => set,
-        None => Vs16::any(),
-    }
-}
-
-/// RAM from 0200h to 02FFh, and a program of two bytes.
-fn device(alloc: Global) -> Result<Device, Fail>
-    ensures { IfOk result HasRam }
-{
-    let mut bytes = Vec::new(alloc);
-    bytes.resize(65536, None)?;
-    bytes[0xF000] = Some(0x31);
-    bytes[0xF001] = Some(0x40);
-    Ok(Device {
-        image: Image::new(bytes),
-        ram: RamRange {
-            lo: 0x0200,
-            hi: 0x02FF,
-            mirror: None,
-        },
-    })
-}
+/// The program of a device, two bytes.
+const PROGRAM: [u8; 2] = [0x31, 0x40];
 
 fn give(state: &mut State<CellList>, register: Register, set: Vs16) {
-    put_register(state, register, Word { set, entry: None });
-}
-
-fn give_word(state: &mut State<CellList>, at: u16, value: u16) -> Result<(), Fail> {
-    let word = Word {
-        set: one(value),
-        entry: None,
-    };
-    state.cells.write_one(at, 2, word)?;
-    Ok(())
-}
-
-fn first(alloc: Global) -> Result<State<CellList>, Fail> {
-    Ok(State::first(alloc, 0x0200, 0x02FF)?)
+    put_register(state, register, plain(set));
 }
 
 /// Three words of RAM are known, SP is at the last one, and R5 at the first one. R6 is at the first or at the second, R7 at
 /// the first or at the program, R8 is 1 or 8000h, and C is unknown.
 fn small(alloc: Global) -> Result<State<CellList>, Fail> {
-    let mut state = first(alloc)?;
+    let mut state: State<CellList> = State::first(alloc, 0x0200, 0x02FF)?;
     state.status.bits[0] = Tri::Either;
     give(&mut state, Register::Sp, one(0x0280));
     give(&mut state, Register::R5, one(0x0200));
     give(&mut state, Register::R6, two(0x0200, 0x0202));
     give(&mut state, Register::R7, two(0x0200, 0xF000));
     give(&mut state, Register::R8, two(0x0001, 0x8000));
-    give_word(&mut state, 0x0200, 0x1234)?;
-    give_word(&mut state, 0x0202, 0x5678)?;
-    give_word(&mut state, 0x0280, 0x9ABC)?;
+    give_word(&mut state, 0x0200, one(0x1234))?;
+    give_word(&mut state, 0x0202, one(0x5678))?;
+    give_word(&mut state, 0x0280, one(0x9ABC))?;
     Ok(state)
 }
 
@@ -90,10 +44,6 @@ fn read(worked: &Worked<CellList>, at: u16, width: Width) -> Vs16 {
         Width::Word => worked.after.cells.read(at, 2).set,
         Width::Byte => worked.after.cells.read(at, 1).set,
     }
-}
-
-fn in_register(worked: &Worked<CellList>, register: Register) -> Vs16 {
-    register_word(&worked.after, &one(0), register).set
 }
 
 /// An instruction with two operands at F000h.
@@ -107,14 +57,8 @@ fn double_of(
 ) -> Result<Worked<CellList>, Fail>
     requires { 2 ≤ len }
 {
-    let (device, state) = (device(alloc)?, small(alloc)?);
-    let here = Here {
-        device: &device,
-        framed: false,
-        state: &state,
-        pc: 0xF000,
-        len,
-    };
+    let (device, state) = (device(alloc, &PROGRAM)?, small(alloc)?);
+    let here = here(&device, false, &state, len);
     Ok(double(alloc, &here, operation, width, source, destination)?)
 }
 
@@ -171,7 +115,7 @@ fn stores(rt: HostRuntime) -> Result<(), Fail> {
 
 #[test]
 fn bytes_of_a_word_that_is_cut(rt: HostRuntime) -> Result<(), Fail> {
-    let any = bytes_by(1);
+    let any = run(0, 1, 256);
     for (at, low, high) in [
         (0x0200, one(0x56), any),
         (0x0201, any, one(0x56)),
@@ -245,23 +189,17 @@ fn pushes(rt: HostRuntime) -> Result<(), Fail> {
     use SingleOperation::{Call, Push};
     use Source::{Immediate, IndirectIncrement, Register as In};
     use Width::{Byte, Word};
-    let (device, state) = (device(rt.alloc())?, small(rt.alloc())?);
+    let (device, state) = (device(rt.alloc(), &PROGRAM)?, small(rt.alloc())?);
     let popped = IndirectIncrement(Sp);
     for (operation, width, operand, next, sp, top) in [
         // SP may be read before it is lowered, or behind.
         (Push, Word, In(Sp), 0xF004, 0x027E, two(0x027E, 0x0280)),
         (Push, Word, In(R5), 0xF004, 0x027E, one(0x0200)),
-        (Push, Byte, In(R5), 0xF004, 0x027E, bytes_by(256)),
+        (Push, Byte, In(R5), 0xF004, 0x027E, run(0, 256, 256)),
         (Push, Word, popped, 0xF004, 0x0280, one(0x9ABC)),
         (Call, Word, Immediate(0xF101), 0xF100, 0x027E, one(0xF004)),
     ] {
-        let here = Here {
-            device: &device,
-            framed: false,
-            state: &state,
-            pc: 0xF000,
-            len: 4,
-        };
+        let here = here(&device, false, &state, 4);
         let worked = push(rt.alloc(), &here, operation, width, operand)?;
         assert_eq!(rt; worked.after.sp, one(sp));
         assert_eq!(rt; worked.next, one(next));
@@ -282,14 +220,8 @@ fn assert_single(
 ) -> Result<(), Fail>
     requires { HasWidth operation width }
 {
-    let (device, state) = (device(alloc)?, small(alloc)?);
-    let here = Here {
-        device: &device,
-        framed: false,
-        state: &state,
-        pc: 0xF000,
-        len: 4,
-    };
+    let (device, state) = (device(alloc, &PROGRAM)?, small(alloc)?);
+    let here = here(&device, false, &state, 4);
     let worked = single(alloc, &here, operation, width, operand)?;
     assert_eq!(rt; read(&worked, 0x0200, Width::Word), word);
     Ok(())
