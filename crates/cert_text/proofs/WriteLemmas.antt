@@ -1,5 +1,5 @@
 -- Texts of nodes that were sorted are the rows of a certificate.
-use Rattle.std.proofs.Common.{◌≡◌, ℕ, suc, ◌+◌, refl, sym, ap, ap₂, ◌∙◌, subst, true, false, inl, inr, arith, List, [], ◌∷◌, ◌++◌, append_assoc, get_or, length, map, codes}
+use Rattle.std.proofs.Common.{◌≡◌, ℕ, suc, ◌+◌, refl, sym, ap, ap₂, ◌∙◌, subst, true, false, arith, List, [], ◌∷◌, ◌++◌, append_assoc, get_or, length, map, codes}
 use Rattle.std.specs.Prelude.{IsPermutation, ◌↔◌}
 use Rattle.std.specs.List.{AllByRecursion, IsDistinct, flat_map, swap}
 use Rattle.std.specs.List.Sorted.{IsSorted, SwapsInRange, apply_swaps}
@@ -8,7 +8,7 @@ use Rattle.std.specs.Cmp.Lexicographic.{slice_cmp}
 use Rattle.std.specs.Ordering.{is_lt, nat_cmp, ordering_reverse, ordering_then}
 use Rattle.std.specs.declared.cmp.Ordering.{Ordering}
 use Rattle.std.specs.declared.cmp.Ordering.TheVariants.{Less, Equal, Greater}
-use Rattle.std.proofs.lemmas.Bool.{cases_Bool, true≢false}
+use Rattle.std.proofs.lemmas.Bool.{true≢false}
 use Rattle.std.proofs.lemmas.Cmp.{nat_list_cmp_total}
 use Rattle.std.proofs.lemmas.List.{length-map}
 use Rattle.std.proofs.lemmas.List.Elements.{recursion_from_All}
@@ -27,6 +27,7 @@ use Rattle.node_fields.specs.Nodes.{node_field, node_is_exact, row_text}
 use Rattle.state_text.specs.Texts.{AreTexts, StateTexts}
 use Rattle.cert_text.specs.Certificate.{AreRows, Ascend, is_below, last_line, node_text, state_field, table_row}
 use Rattle.cert_text.specs.Writing.{AreNodes, IsCert, Written, line_of, written}
+use Rattle.plain_lemmas.specs.Cases.{one_test}
 
 -- LISTS IN ANOTHER ORDER
 
@@ -126,13 +127,7 @@ module _ {A : Type 0} (a : Analysis A) (texts : StateTexts A) (are : AreTexts a 
 
   -- the test of two nodes is the same the other way
   flips : (m n : Node) → same_node m n ≡ same_node n m
-  flips m n = elim (cases_Bool (same_node m n)) [
-    | inl is ↦ is ∙ sym ((one n m).1 (sym ((one m n).0 is)))
-    | inr other ↦ elim (cases_Bool (same_node n m)) [
-      | inl is ↦ absurd (true≢false (sym ((one m n).1 (sym ((one n m).0 is))) ∙ other))
-      | inr other' ↦ other ∙ sym other'
-    ]
-  ]
+  flips m n = one_test (same_node m n) (same_node n m) (λ is. (one n m).1 (sym ((one m n).0 is))) (λ is. (one m n).1 (sym ((one n m).0 is)))
 
   pub still_distinct : (nodes rows : List Node) → IsPermutation nodes rows → IsDistinct same_node nodes → IsDistinct same_node rows
   still_distinct nodes rows p distinct = IsDistinct-IsPermutation same_node flips nodes rows p distinct

@@ -1,7 +1,9 @@
 //! What is wrong with a certificate.
 
+ghost use Rattle.std.specs.Prelude.{◌≡◌};
+
 use no_memory::Memory;
-use std::alloc::{AllocError, AllocFailed};
+use std::alloc::AllocFailed;
 use thiserror::Error;
 
 /// What is wrong with a line.
@@ -23,19 +25,7 @@ pub enum ReadError {
     Memory,
 }
 
-impl From<AllocError> for ReadError {
-    ghost use Rattle.std.specs.Prelude.{◌≡◌};
-    ghost use Rattle.cert_text.specs.declared.fault.ReadError.TheVariants as errors;
-
-    ghost from_gives = { λ _ e. e ≡ errors.Memory };
-
-    fn from(_error: AllocError) -> ReadError {
-        ReadError::Memory
-    }
-}
-
 impl<T: Drop> From<AllocFailed<T>> for ReadError {
-    ghost use Rattle.std.specs.Prelude.{◌≡◌};
     ghost use Rattle.cert_text.specs.declared.fault.ReadError.TheVariants as errors;
 
     ghost from_gives = { λ _ e. e ≡ errors.Memory };
@@ -46,7 +36,6 @@ impl<T: Drop> From<AllocFailed<T>> for ReadError {
 }
 
 impl From<Memory> for ReadError {
-    ghost use Rattle.std.specs.Prelude.{◌≡◌};
     ghost use Rattle.cert_text.specs.declared.fault.ReadError.TheVariants as errors;
 
     ghost from_gives = { λ _ e. e ≡ errors.Memory };

@@ -2,6 +2,7 @@
 
 ghost use Rattle.std.specs.Prelude.{◌≡◌, ◌&&◌, Ok, IfOk, IfErr, IfSome, OnOk, OnErr};
 ghost use Rattle.std.specs.Ordering.{is_lt};
+ghost use Rattle.node_fields.specs.Nodes.{node_field};
 ghost use Rattle.cert_text.specs.Certificate as certificates;
 ghost use Rattle.cert_text.specs.Certificate.{at_first, is_empty, node_text, placed, table_row, table_step};
 ghost use Rattle.cert_text.specs.Reading.{TellsLine};
@@ -69,6 +70,16 @@ fn is_below(first: &[u8], second: &[u8]) -> bool
     ensures { result ≡ certificates.is_below first.now second.now }
 {
     first.cmp(second).is_lt()
+}
+
+/// A node as it is written.
+pub fn text_of_node<C: StateText>(alloc: Global, chip: &C, node: &Node) -> Result<Vec<u8>, Memory>
+    ensures { (let texts = C.texts (C.base chip.now) in
+        IfOk result (λ text. text.items ≡ (node_field texts.digits).text node.now)) }
+{
+    let mut text = Vec::new(alloc);
+    push_node(&mut text, node, chip.sp_digits())?;
+    Ok(text)
 }
 
 /// The node and the state of a line.
@@ -145,8 +156,7 @@ fn accept_row<C: StateText>(
             fault: LineFault::Syntax,
         });
     };
-    let mut text = Vec::new(alloc);
-    push_node(&mut text, &node, chip.sp_digits())?;
+    let text = text_of_node(alloc, chip, &node)?;
     if !is_below(&progress.last, &text) {
         return Err(ReadError::Bad {
             line: number,

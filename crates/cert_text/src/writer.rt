@@ -12,9 +12,9 @@ ghost use Rattle.cert_text.specs.Writing as writing;
 ghost use Rattle.cert_text.specs.Writing.{AreNodes, IsCert, bytes_of, line_of};
 
 use crate::laws::nodes_of_books_are_formed;
+use crate::line::text_of_node;
 use call_context::Node;
 use no_memory::Memory;
-use node_fields::push_node;
 use round_core::{Book, tests_tell_which_are_one};
 use state_text::LawfulText;
 use std::alloc::{AllocError, Global};
@@ -29,8 +29,7 @@ fn written<C: LawfulText>(
     ensures { IfOk result (λ pair. bytes_of pair ≡ writing.written (C.texts (C.base chip.now)) row.now) }
 {
     let (node, state) = row;
-    let mut node_text = Vec::new(alloc);
-    push_node(&mut node_text, node, chip.sp_digits())?;
+    let node_text = text_of_node(alloc, chip, node)?;
     let mut state_text = Vec::new(alloc);
     chip.print_abs(state, &mut state_text)?;
     Ok((node_text, state_text))

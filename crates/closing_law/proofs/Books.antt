@@ -16,9 +16,9 @@ use Rattle.closing_law.specs.Covered.{AreCovering, CoversRuns, IsBroken, NoneIsO
 use Rattle.round_core.specs.Kept.{live_pairs, live_works}
 use Rattle.round_core.specs.Machine.{BookState, Done, done_at, IsUnit, IsFinished, IsClosed}
 use Rattle.round_core.specs.Table.{table_of}
-use Rattle.closing_law.proofs.ClosedBooks.{ArePairs, IsItsTable, one_done}
+use Rattle.closing_law.proofs.ClosedBooks.{one_done}
 use Rattle.plain_lemmas.specs.Members.{from_values}
-use Rattle.closing_law.specs.BookFacts.{AreListed}
+use Rattle.closing_law.specs.BookFacts.{AreListed, ArePairs, IsItsTable}
 
 abbrev AreKnown : {A : Type 0} → Analysis A → BookState A → Type 0
 AreKnown {A = A} m b = (unit : WorkUnit) (at : A) (exit : Option A) → IsUnitOver m (table_of b.nodes) unit at exit → IsUnit b unit

@@ -13,6 +13,7 @@ use Rattle.call_context.specs.declared.node.Unit.TheVariants.{One, Back}
 use Rattle.chip_law.specs.Analysis.{Analysis}
 use Rattle.chip_law.specs.Table.{IsUnitOver, IsHeldIn, IsClosedTable, IsFormedTable}
 use Rattle.chip_law.specs.declared.chip.Work.{Work}
+use Rattle.closing_law.specs.BookFacts.{ArePairs, IsItsTable}
 use Rattle.closing_law.specs.ClosedBook.{IsClosedBook, table_in}
 use Rattle.round_core.specs.Counts.{AreApart}
 use Rattle.round_core.specs.Kept.{live_pairs, nodes_of}
@@ -119,13 +120,6 @@ module _ {A : Type 0} (live : WorkUnit → Bool) where
   open_shut ps none = all_shut ps (recursion_from_All HasNone (live_in ps) (λ k d inside. none _ (All-contains_itself (live_in ps) k d inside)))
 
 -- THE CLOSED BOOK
--- what the laws of a book tell of its pairs
-pub record ArePairs {A : Type 0} (b : BookState A) : Type 0 where
-  pub listed : (unit : WorkUnit) (d : Done A) → IsUnit b unit → done_at b.done unit ≡ Some d → Contains (live_pairs b) (unit, d.work)
-  pub units : (unit : WorkUnit) (work : Work A) → Contains (live_pairs b) (unit, work)
-      → IsUnit b unit × (d : Done A) × (done_at b.done unit ≡ Some d) × (d.work ≡ work)
-  pub once : IsDistinct same_unit (keys_of (live_pairs b))
-
 pub has_none : {A : Type 0} (b : BookState A) → ArePairs b → IsFinished b → ((p : WorkUnit × Work A) → Contains (live_pairs b) p → p.1.opens ≡ []) → IsClosed b
 has_none b are finished none = record { finished = finished; no_open = λ unit d u found. none (unit, d.work) (are.listed unit d u found) }
 
@@ -133,13 +127,6 @@ pub none_has : {A : Type 0} (b : BookState A) → ArePairs b → IsClosed b → 
 none_has b are closed p there =
     let d = are.units p.0 p.1 there in
     ap (λ (w : Work _). w.opens) (sym d.3) ∙ closed.no_open p.0 d.1 d.0 d.2
-
--- what the laws tell of a finished book's table
-pub record IsItsTable {A : Type 0} (m : Analysis A) (b : BookState A) : Type 0 where
-  pub units : (unit : WorkUnit) → IsUnit b unit → (at : A) × (exit : Option A) × IsUnitOver m (table_of b.nodes) unit at exit
-  pub known : (unit : WorkUnit) (at : A) (exit : Option A) → IsUnitOver m (table_of b.nodes) unit at exit → IsUnit b unit
-  pub works : (unit : WorkUnit) (at : A) (exit : Option A) → IsUnitOver m (table_of b.nodes) unit at exit
-      → (d : Done A) × (done_at b.done unit ≡ Some d) × (d.work ≡ m.work unit at exit)
 
 pub one_done : {A : Type 0} (d e : Done A) (o : Option (Done A)) → o ≡ Some d → o ≡ Some e → d ≡ e
 one_done d e o f g = let s : Some d ≡ Some e = sym f ∙ g in cc

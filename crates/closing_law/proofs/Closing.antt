@@ -128,53 +128,50 @@ module _ {S A : Type 0} (machine : Machine S) (m : Analysis A) (covered : Cover 
         ];
       }
 
+  -- what holds the post of a location's work, and covers what the post covers
+  record HeldPost (to : Node) (state : A) : Type 0 where
+    more : IsHeldIn m table to state
+    covers : (t : S) (first : Option S) → covered to state t first → covered to more.0 t first
+
+  held_post : (node : Node) (a : A) → IsLocation node → table node ≡ Some a → (to : Node) (state : A) → Contains (m.work (One node) a None).posts (to, state)
+      → HeldPost to state
+  held_post node a location held to state posted =
+      let more : IsHeldIn m table to state = closed.posts_held (One node) a None to state (unit_of_location m table node a location held) posted in
+      let form : m.HasForm to state = laws.keeps.posts (One node) a None to state (formed_location m node a location (formed node a held)) posted in
+      record { more = more; covers = λ t first covers. covers_held to state t first form more covers }
+
+  -- a state stands under a location whose post is held
+  stands_at : (to : Node) (state : A) (post : HeldPost to state) (suspended : List S) (t : S) → IsLocation to
+      → Stands m covered table suspended to post.more.0 t → StandsSomewhere m covered table t
+  stands_at to state post suspended t location stands =
+      record { node = to; state = post.more.0; suspended = suspended; is_location = location; is_held = post.more.1; stands = stands }
+
+  -- what a location's work shows
+  shown_at : (node : Node) (a : A) → IsLocation node → table node ≡ Some a → (items : List Single)
+      → ((item : Single) → Contains items item → AreShowing (m.work (One node) a None).items item) → (item : Single) → Contains items item → IsShown m table item
+  shown_at node a location held items shows item contains =
+      record { unit = One node; at = a; exit = None; is_unit = unit_of_location m table node a location held; shows = shows item contains }
+
   -- where a step lands, the next state stands
   goes_on : (node : Node) (a : A) (s : S) (suspended : List S) (items : List Single) (t : S) → IsLocation node → table node ≡ Some a → Stands m covered table suspended node a s
       → Lands machine m covered node (m.work (One node) a None) s (first_of suspended) items t → Goes items t
   goes_on node a s suspended items t location held stands (stays to state posted to_location same covers shows) =
-      let work = m.work (One node) a None in
-      let is_unit = unit_of_location m table node a location held in
-      let more : IsHeldIn m table to state = closed.posts_held (One node) a None to state is_unit posted in
-      let form : m.HasForm to state = laws.keeps.posts (One node) a None to state (formed_location m node a location (formed node a held)) posted in
-      record {
-        after = record {
-          node = to;
-          state = more.0;
-          suspended = suspended;
-          is_location = to_location;
-          is_held = more.1;
-          stands = stands_like suspended node to a more.0 s t same stands (covers_held to state t (first_of suspended) form more covers);
-        };
-        shown = λ item contains. record { unit = One node; at = a; exit = None; is_unit = is_unit; shows = shows item contains };
-      }
+      let post = held_post node a location held to state posted in
+      let still = stands_like suspended node to a post.more.0 s t same stands (post.covers t (first_of suspended) covers) in
+      record { after = stands_at to state post suspended t to_location still; shown = shown_at node a location held items shows }
   goes_on node a s suspended items t location held stands (enters to state posted to_location waited covers shows) =
-      let work = m.work (One node) a None in
-      let is_unit = unit_of_location m table node a location held in
-      let more : IsHeldIn m table to state = closed.posts_held (One node) a None to state is_unit posted in
-      let form : m.HasForm to state = laws.keeps.posts (One node) a None to state (formed_location m node a location (formed node a held)) posted in
+      let post = held_post node a location held to state posted in
+      let below = suspended_at (m.work (One node) a None) (frame_of to) (λ n b. Stands m covered table suspended n b s) node a refl location held stands waited in
       record {
-        after = record {
-          node = to;
-          state = more.0;
-          suspended = s ∷ suspended;
-          is_location = to_location;
-          is_held = more.1;
-          stands = (
-            covers_held to state t (Some s) form more covers,
-            suspended_at work (frame_of to) (λ n b. Stands m covered table suspended n b s) node a refl location held stands waited,
-          );
-        };
-        shown = λ item contains. record { unit = One node; at = a; exit = None; is_unit = is_unit; shows = shows item contains };
+        after = stands_at to state post (s ∷ suspended) t to_location (post.covers t (Some s) covers, below);
+        shown = shown_at node a location held items shows;
       }
   goes_on node a s suspended items t location held stands (leaves state posted covers shows) =
-      let work = m.work (One node) a None in
-      let is_unit = unit_of_location m table node a location held in
       let exit = Exit (pc_of node) (frame_of node) in
-      let more : IsHeldIn m table exit state = closed.posts_held (One node) a None exit state is_unit posted in
-      let form : m.HasForm exit state = laws.keeps.posts (One node) a None exit state (formed_location m node a location (formed node a held)) posted in
-      let held_form : m.HasForm exit more.0 = formed exit more.0 more.1 in
-      returned (frame_of node) (pc_of node) more.0 t suspended work items (laws.exit_form exit more.0 (λ h. h) held_form) held_form more.1
-      (covers_held exit state t (first_of suspended) form more covers) node a s refl stands location held refl shows
+      let post = held_post node a location held exit state posted in
+      let form : m.HasForm exit post.more.0 = formed exit post.more.0 post.more.1 in
+      returned (frame_of node) (pc_of node) post.more.0 t suspended (m.work (One node) a None) items (laws.exit_form exit post.more.0 (λ h. h) form) form post.more.1
+      (post.covers t (first_of suspended) covers) node a s refl stands location held refl shows
 
   -- a step from a state that stands somewhere
   steps_on : (s : S) (items : List Single) (t : S) → (at : StandsSomewhere m covered table s) → machine.Step s (Next items t) → Goes items t

@@ -1,10 +1,9 @@
 -- A table is the same in whatever order its nodes stand.
-use Rattle.std.proofs.Common.{◌≡◌, Option, None, Some, true, List, refl, sym, ap, ◌∙◌, subst, inl, inr}
+use Rattle.std.proofs.Common.{◌≡◌, Option, None, Some, true, List, refl, sym, ap, ◌∙◌, subst}
 use Rattle.std.specs.Prelude.{◌↔◌, Contains, IsPermutation}
 use Rattle.std.specs.Cmp.{IsEquivalence}
 use Rattle.std.specs.List.{IsDistinct}
 use Rattle.std.specs.Map.{keys_of}
-use Rattle.std.proofs.lemmas.Bool.{cases_Bool, true≢false}
 use Rattle.std.proofs.lemmas.List.Sorted.{Contains-permutation, IsPermutation-map, IsPermutation-sym}
 use Rattle.std.proofs.lemmas.Map.Keys.{IsDistinct-IsPermutation}
 use Rattle.std.proofs.lemmas.Map.Views.{Contains-from_lookup, lookup-from_Contains}
@@ -16,16 +15,11 @@ use Rattle.chip_law.specs.declared.chip.Work.{Work}
 use Rattle.closing_law.specs.ClosedBook.{HaveSame, IsClosedBook, table_in}
 use Rattle.closing_law.proofs.ClosedBooks.{closed_like, unit_like}
 use Rattle.round_core.specs.Same.{same_node}
+use Rattle.plain_lemmas.specs.Cases.{one_test}
 
 module _ (one : (m n : Node) → (same_node m n ≡ true) ↔ (m ≡ n)) where
   turned : (m n : Node) → same_node m n ≡ same_node n m
-  turned m n = elim (cases_Bool (same_node m n)) [
-    | inl is ↦ is ∙ sym ((one n m).1 (sym ((one m n).0 is)))
-    | inr other ↦ elim (cases_Bool (same_node n m)) [
-      | inl is ↦ absurd (true≢false (sym ((one m n).1 (sym ((one n m).0 is))) ∙ other))
-      | inr other' ↦ other ∙ sym other'
-    ]
-  ]
+  turned m n = one_test (same_node m n) (same_node n m) (λ is. (one n m).1 (sym ((one m n).0 is))) (λ is. (one m n).1 (sym ((one n m).0 is)))
 
   equivalence : IsEquivalence same_node
   equivalence = record {

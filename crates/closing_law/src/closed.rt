@@ -8,10 +8,10 @@ ghost use Rattle.closing_law.specs.Covered.{AreCovering, CoversRuns, NoneIsOpen}
 ghost use Rattle.round_core.specs.Kept.{is_live, live_pairs, nodes_of, works_of};
 ghost use Rattle.round_core.specs.Machine.{replay, IsClosed};
 
-use crate::{closed_book_is_its_table, closed_tables_cover_runs};
+use crate::{closed_book_is_its_table, closed_tables_cover_runs, finished_books_are_their_units};
 use call_context::{Node, Unit};
 use chip_law::{Chip, LawfulChip, Work};
-use round_core::{Book, Event, live_pairs_are_units};
+use round_core::{Book, Event};
 use std::marker::Model;
 use std::snapshot::Snapshot;
 
@@ -90,7 +90,7 @@ fn has_no_open<C: Chip>(book: &Book<C>) -> bool
 fn is_closed<C: Chip>(book: &Book<C>) -> bool
     ensures { IsTrue result ↔ IsClosed (replay (C.analysis book.now.base) book.now.journal) }
 {
-    live_pairs_are_units::<C>();
+    finished_books_are_their_units::<C>();
     let _journal = book.journal();
     book.finished() && has_no_open(book)
 }

@@ -11,6 +11,7 @@ ghost use Rattle.call_context.specs.declared.node.Unit.{Unit as WorkUnit};
 ghost use Rattle.call_context.specs.declared.shown.Cause.{Cause};
 ghost use Rattle.chip_law.specs.declared.chip.Work.{Work};
 ghost use Rattle.chip_law.specs.Table.{IsClosedTable, IsFormedTable};
+ghost use Rattle.closing_law.specs.BookFacts.{ArePairs, IsItsTable};
 ghost use Rattle.closing_law.specs.Bounded.{AreBounded};
 ghost use Rattle.closing_law.specs.ClosedBook.{HaveSame, IsClosedBook, table_in};
 ghost use Rattle.closing_law.specs.Covered.{CoversRuns, NoneIsOpen, AreCovering, IsBroken};
@@ -51,6 +52,19 @@ pub fn closed_books_cover_runs<C: LawfulChip>()
     C::laws();
 }
 
+/// What the laws of the book tell of a finished one: its pairs are its units with their last works, and its table is that of
+/// its units.
+fn finished_books_are_their_units<C: Chip>()
+    ensures pairs { (base : C.Base) (journal : List Event) → IsLegalJournal (C.analysis base) journal
+        → ArePairs (replay (C.analysis base) journal) }
+    ensures table { (base : C.Base) (journal : List Event) → IsLegalJournal (C.analysis base) journal
+        → IsFinished (replay (C.analysis base) journal)
+        → IsItsTable (C.analysis base) (replay (C.analysis base) journal) }
+{
+    finished_book_is_its_table::<C>();
+    live_pairs_are_units::<C>();
+}
+
 /// Each open of a finished book is at a location of the book, where by the location's state the stated limit that its cause
 /// names is broken.
 pub fn opens_break_limits<C: LawfulChip>()
@@ -60,8 +74,7 @@ pub fn opens_break_limits<C: LawfulChip>()
         → IsBroken (C.analysis base) (replay (C.analysis base) journal).nodes pc cause }
 {
     closed_book_has_closed_table::<C>();
-    finished_book_is_its_table::<C>();
-    live_pairs_are_units::<C>();
+    finished_books_are_their_units::<C>();
     C::laws();
 }
 
@@ -74,8 +87,7 @@ pub fn closed_book_is_its_table<C: LawfulChip>()
     C::laws();
     nodes_stay::<C>();
     closed_book_has_closed_table::<C>();
-    finished_book_is_its_table::<C>();
-    live_pairs_are_units::<C>();
+    finished_books_are_their_units::<C>();
 }
 
 /// In whatever order the nodes of a table stand, it holds the same. If it is closed it stays so, and it has the same units

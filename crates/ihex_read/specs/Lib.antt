@@ -7,3 +7,4 @@ pub mod Loading
 pub mod Reading
 pub mod Stages
 pub mod TextFacts
+pub mod Word

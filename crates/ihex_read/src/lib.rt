@@ -26,6 +26,7 @@ mod placing;
 mod record;
 mod stage;
 mod tail;
+mod word;
 
 pub use fault::{HexError, HexFault};
 pub use feeding::{MOST_BYTES, Reader};
@@ -35,3 +36,4 @@ pub use law::{
 };
 pub use lines::without_return;
 pub use tail::Tail;
+pub use word::word_of_digits;

@@ -1,7 +1,7 @@
 //! Data bytes at their addresses: whether they may be placed, and the writing of them. An image is a slice of what
 //! stands at each address, and the bytes stand from one address on.
 
-ghost use Rattle.std.specs.Prelude.{◌≡◌, ◌+◌, ◌≤◌, ◌^◌, ◌<◌, nat_lt, max, min, length};
+ghost use Rattle.std.specs.Prelude.{◌≡◌, ◌+◌, ◌≤◌, ◌^◌, ◌<◌, ◌||◌, nat_lt, max, min, length};
 ghost use Rattle.std.specs.Bool.{OnFalse};
 ghost use Rattle.std.specs.List.{list_any, enumerate_from};
 ghost use Rattle.image.specs.Kept.{lies_in, lies_in_mirror};
@@ -43,13 +43,21 @@ pub fn is_barred(rules: Rules, start: usize, bytes: &[u8]) -> bool
     ensures { result ≡ list_any (λ byte. is_misplaced rules byte.0) (enumerate_from start bytes.now) }
 {
     match rules {
-        Rules::Msp430 { lo, hi, mirror } => {
-            stand_in(0, 0x1FF, start, bytes)
-                || stand_in(lo, hi, start, bytes)
-                || stand_in_mirror(mirror, start, bytes)
-        }
+        Rules::Msp430 { lo, hi, mirror } => stand_in_any(lo, hi, mirror, start, bytes),
         Rules::Mcs51 => false,
     }
+}
+
+/// Whether some of the bytes stands where an MSP430 allows none: below 0200h, in RAM, or in its mirror.
+fn stand_in_any(lo: u16, hi: u16, mirror: Option<(u16, u16)>, start: usize, bytes: &[u8]) -> bool
+    requires { start < 2 ^ 33 }
+    ensures { (let placed = enumerate_from start bytes.now in result
+        ≡ ((list_any (λ byte. lies_in 0 511 byte.0) placed || list_any (λ byte. lies_in lo hi byte.0) placed)
+        || list_any (λ byte. lies_in_mirror mirror byte.0) placed)) }
+{
+    stand_in(0, 0x1FF, start, bytes)
+        || stand_in(lo, hi, start, bytes)
+        || stand_in_mirror(mirror, start, bytes)
 }
 
 /// Whether some of the bytes stands in the mirror of RAM.

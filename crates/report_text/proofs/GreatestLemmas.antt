@@ -8,8 +8,9 @@ use Rattle.value_set.specs.declared.form.Form.{Form}
 use Rattle.value_set.specs.declared.form.Form.TheVariants.{Values, Run}
 use Rattle.value_set.specs.declared.form.Progression.{Progression}
 use Rattle.value_set.specs.Form.{Ascends, IsNormal, steps, IsNormalRun}
+use Rattle.report_text.proofs.Places.{place_in}
 use Rattle.report_text.specs.Deepest.{last_value, greatest_in_run, greatest_byte, IsGreatest}
-use Rattle.value_set.specs.StepFacts.{steps_from, steps_have}
+use Rattle.value_set.specs.StepFacts.{steps_have}
 use Rattle.plain_lemmas.specs.Members.{in_cons, in_first, in_none, in_rest}
 
 -- the last number of a run before the turn
@@ -59,13 +60,8 @@ at_most_before_turn base stride last i w pos small once most is =
 greatest_at_least : (base stride count w : ℕ) → IsNormalRun 256 base stride count → Contains (steps 256 base stride count) w
     → w ≤ greatest_in_run (record { base = base; stride = stride; count = count })
 greatest_at_least base stride count w run there =
-    let found = steps_from 256 base stride count w there in
-    let i = found.0 in
-    let inside : i < count = found.1 in
-    let is : w ≡ (base + i * stride) % 256 = found.2 in
+    let (i, is, most) = place_in 256 base stride count w there in
     let last = count - 1 in
-    let place : i ≤ last = omega arith in
-    let most : i * stride ≤ last * stride = mul-le-mul_right stride place in
     cond_both (nat_lt (base + last * stride) 256) (base + last * stride) (255 - (255 - base) % stride) (λ greatest. w ≤ greatest)
     (λ e. let short : base + last * stride < 256 = ltb-true (base + last * stride) 256 e in omega arith)
     (λ e. at_most_before_turn base stride last i w run.strides run.below run.once most is)

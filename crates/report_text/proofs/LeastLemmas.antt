@@ -8,9 +8,10 @@ use Rattle.value_set.specs.declared.form.Form.{Form}
 use Rattle.value_set.specs.declared.form.Form.TheVariants.{Values, Run}
 use Rattle.value_set.specs.declared.form.Progression.{Progression}
 use Rattle.value_set.specs.Form.{Ascends, IsNormal, steps, IsNormalRun}
+use Rattle.report_text.proofs.Places.{place_in}
 use Rattle.report_text.specs.Deepest.{first_value, is_whole, least_in_run, least_word, IsLeast}
 use Rattle.plain_lemmas.specs.Members.{in_cons, in_first, in_none}
-use Rattle.value_set.specs.StepFacts.{steps_from, steps_have}
+use Rattle.value_set.specs.StepFacts.{steps_have}
 
 -- a multiple of a stride that isn't below a number is at least the next multiple
 next_multiple : (gap stride i : ℕ) → gap ≤ i * stride → 0 < gap % stride → gap + stride ≤ i * stride + gap % stride
@@ -81,13 +82,8 @@ least_is base stride count run =
 least_at_most : (base stride count w : ℕ) → IsNormalRun 65536 base stride count → Contains (steps 65536 base stride count) w
     → least_in_run (record { base = base; stride = stride; count = count }) ≤ w
 least_at_most base stride count w run there =
-    let found = steps_from 65536 base stride count w there in
-    let i = found.0 in
-    let inside : i < count = found.1 in
-    let is : w ≡ (base + i * stride) % 65536 = found.2 in
+    let (i, is, most) = place_in 65536 base stride count w there in
     let last = count - 1 in
-    let place : i ≤ last = omega arith in
-    let most : i * stride ≤ last * stride = mul-le-mul_right stride place in
     let once : last * stride < 65536 = run.once in
     cond_both (nat_lt (base + last * stride) 65536) base ((stride - (65536 - base) % stride) % stride) (λ least. least ≤ w)
     (λ e. let short : base + last * stride < 65536 = ltb-true (base + last * stride) 65536 e in omega arith)

@@ -3,6 +3,7 @@ pub mod GreatestLemmas
 pub mod LeastLemmas
 pub mod OneStackLemmas
 pub mod OrderLemmas
+pub mod Places
 pub mod PromiseLemmas
 pub mod ReportLemmas
 pub mod SetLemmas

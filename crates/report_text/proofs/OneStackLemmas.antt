@@ -136,28 +136,10 @@ is_byte items none (Instr pc bytes) there = refl
 is_byte items none (Edge origin target) there = refl
 is_byte items none (Access pc space write size at) there = refl
 
-min_along : (a b c : ℕ) → min (min a b) c ≡ min a (min b c)
-min_along a b c = omega arith
-
-min_turned : (a b : ℕ) → min a b ≡ min b a
-min_turned a b = omega arith
-
-min_itself : (a : ℕ) → min a a ≡ a
-min_itself a = omega arith
-
-max_along : (a b c : ℕ) → max (max a b) c ≡ max a (max b c)
-max_along a b c = omega arith
-
-max_turned : (a b : ℕ) → max a b ≡ max b a
-max_turned a b = omega arith
-
-max_itself : (a : ℕ) → max a a ≡ a
-max_itself a = omega arith
-
 -- items that are the same have one deepest stack pointer
 pub one_deepest : (items others : List Item) → GrowsOneWay items → ((item : Item) → Contains items item → Contains others item)
     → ((item : Item) → Contains others item → Contains items item) → deepest_of None items ≡ deepest_of None others
 one_deepest items others (inl words) are are' =
-    one_made min min_along min_turned min_itself word_in Least (λ a b. refl) items others (is_word items words) are are'
+    one_made min (λ a b c. omega arith) (λ a b. omega arith) (λ a. omega arith) word_in Least (λ a b. refl) items others (is_word items words) are are'
 one_deepest items others (inr bytes) are are' =
-    one_made max max_along max_turned max_itself byte_in Greatest (λ a b. refl) items others (is_byte items bytes) are are'
+    one_made max (λ a b c. omega arith) (λ a b. omega arith) (λ a. omega arith) byte_in Greatest (λ a b. refl) items others (is_byte items bytes) are are'

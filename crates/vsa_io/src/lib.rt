@@ -23,6 +23,7 @@
 //! bytes: what a file, a terminal or a pipe gives or takes is not proved.
 #![tactic(auto)]
 
+mod calls;
 mod memory_sinks;
 mod memory_sources;
 mod refusal;

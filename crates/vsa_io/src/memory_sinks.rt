@@ -5,6 +5,7 @@ ghost use Rattle.vsa_io.specs.Count.{one_more};
 ghost use Rattle.vsa_io.specs.Fakes.{count_of, is_failing, is_full_for};
 ghost use Rattle.vsa_io.specs.Stream.{HasRisen, appended};
 
+use crate::calls::Calls;
 use crate::refusal::Failed;
 use crate::stream::Sink;
 use no_memory::Memory;
@@ -112,9 +113,7 @@ impl Sink for CleanSink {
 #[derive(Drop)]
 pub struct MemSink {
     sink: CleanSink,
-    calls: u64,
-    failing: Vec<u64>,
-    faults: u64,
+    calls: Calls,
 }
 
 impl Model for MemSink {
@@ -126,9 +125,9 @@ impl Model for MemSink {
       held = s.sink.held;
       piece = s.sink.piece;
       room = s.sink.room;
-      calls = s.calls;
-      failing = s.failing.items;
-      faults = s.faults;
+      calls = s.calls.count;
+      failing = s.calls.failing.items;
+      faults = s.calls.faults;
     } };
 }
 
@@ -154,9 +153,7 @@ impl MemSink {
     {
         Ok(MemSink {
             sink: CleanSink::with_room(alloc, piece, room)?,
-            calls: 0,
-            failing,
-            faults: 0,
+            calls: Calls::new(failing),
         })
     }
 
@@ -196,17 +193,10 @@ impl Sink for MemSink {
         ensures quiet { OnOk result (self.new.faults ≡ self.old.faults) }
         ensures never_falls { self.old.faults ≤ self.new.faults }
     {
-        self.calls = self.calls.saturating_add(1);
-        if self.failing.contains(&self.calls) {
-            self.faults = self.faults.saturating_add(1);
-            return Err(Failed);
-        }
+        self.calls.begin()?;
         match self.sink.write(bytes) {
             Ok(count) => Ok(count),
-            Err(Failed) => {
-                self.faults = self.faults.saturating_add(1);
-                Err(Failed)
-            }
+            Err(Failed) => Err(self.calls.fail()),
         }
     }
 }

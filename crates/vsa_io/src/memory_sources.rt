@@ -5,6 +5,7 @@ ghost use Rattle.vsa_io.specs.Count.{one_more};
 ghost use Rattle.vsa_io.specs.Fakes.{count_of, is_failing};
 ghost use Rattle.vsa_io.specs.Stream.{HasRisen, Takes, IsAtEnd};
 
+use crate::calls::Calls;
 use crate::refusal::Failed;
 use crate::stream::Source;
 use std::marker::Model;
@@ -82,9 +83,7 @@ impl Source for CleanSource {
 #[derive(Drop)]
 pub struct MemSource {
     source: CleanSource,
-    calls: u64,
-    failing: Vec<u64>,
-    faults: u64,
+    calls: Calls,
 }
 
 impl Model for MemSource {
@@ -95,9 +94,9 @@ impl Model for MemSource {
     ghost view = { λ s. record {
       left = s.source.left;
       piece = s.source.piece;
-      calls = s.calls;
-      failing = s.failing.items;
-      faults = s.faults;
+      calls = s.calls.count;
+      failing = s.calls.failing.items;
+      faults = s.calls.faults;
     } };
 }
 
@@ -116,9 +115,7 @@ impl MemSource {
     {
         MemSource {
             source: CleanSource::new(bytes, piece),
-            calls: 0,
-            failing,
-            faults: 0,
+            calls: Calls::new(failing),
         }
     }
 }
@@ -154,11 +151,7 @@ impl Source for MemSource {
         ensures quiet { OnOk result (self.new.faults ≡ self.old.faults) }
         ensures never_falls { self.old.faults ≤ self.new.faults }
     {
-        self.calls = self.calls.saturating_add(1);
-        if self.failing.contains(&self.calls) {
-            self.faults = self.faults.saturating_add(1);
-            return Err(Failed);
-        }
+        self.calls.begin()?;
         self.source.read(buffer)
     }
 }

@@ -65,6 +65,7 @@ impl<I: Input> Source for StdinSource<I> {
 pub struct StdoutSink<'a, P: Print> {
     writer: Printer<'a, P>,
     faults: u64,
+    is_closed: bool,
 }
 
 impl<'a, P: Print> Model for StdoutSink<'a, P> {
@@ -83,7 +84,13 @@ impl<'a, P: Print> StdoutSink<'a, P> {
         StdoutSink {
             writer: io::writer(rt),
             faults: 0,
+            is_closed: false,
         }
+    }
+
+    /// Whether the last write that failed did so since nobody reads any more, as where `head` does.
+    pub fn is_closed(&self) -> bool {
+        self.is_closed
     }
 }
 
@@ -109,7 +116,8 @@ impl<'a, P: Print> Sink for StdoutSink<'a, P> {
                 }
                 Ok(count)
             }
-            Err(_) => {
+            Err(error) => {
+                self.is_closed = error.kind() == io::ErrorKind::BrokenPipe;
                 self.faults = self.faults.saturating_add(1);
                 Err(Failed)
             }
