@@ -12,6 +12,7 @@ pub use crate::gathering::make;
 pub use crate::member::nth;
 use crate::number::Number;
 pub use crate::summing::single;
+use crate::summing::{Sign, signed_sum};
 use crate::{collecting, combining, cutting, joining, member, summing, widening};
 
 /// The set of all numbers below the modulus.
@@ -87,7 +88,7 @@ pub fn add(modulus: u32, first: &Form, second: &Form) -> Form
     ensures holds { (x y : ℕ) → Has modulus first.now x → Has modulus second.now y → Has modulus result ((x + y) % modulus) }
     ensures alone { (x y : ℕ) → first.now ≡ single x → second.now ≡ single y → result ≡ single ((x + y) % modulus) }
 {
-    summing::add(modulus, first, second)
+    signed_sum(modulus, Sign::Plus, first, second)
 }
 
 /// The differences of the members of two sets.
@@ -100,7 +101,7 @@ pub fn sub(modulus: u32, first: &Form, second: &Form) -> Form
     ensures holds { (x y : ℕ) → Has modulus first.now x → Has modulus second.now y → Has modulus result ((x + modulus - y) % modulus) }
     ensures alone { (x y : ℕ) → first.now ≡ single x → second.now ≡ single y → result ≡ single ((x + modulus - y) % modulus) }
 {
-    summing::sub(modulus, first, second)
+    signed_sum(modulus, Sign::Minus, first, second)
 }
 
 /// The sums of each member with itself.
