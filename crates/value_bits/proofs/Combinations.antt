@@ -146,9 +146,11 @@ pub members_below : (m : ℕ) (set : Form) → IsNormal m set → All (λ n. n <
 members_below m set n = λ k d short. member_below m (get_or (members m set) k d) set (positive m set n) n (Contains-get_or (members m set) k d short)
 
 -- known where all agree, of members that are listed
-pub agreed_listed : (m : ℕ) (flag : ℕ → ℕ → ℕ → Bool) (a b c carry : Form) (xs ys zs : List ℕ) → count_of m a * (count_of m b * count_of m c) ≤ 256
-    → xs ≡ members m a → ys ≡ members m b → zs ≡ members m c → c ≡ carry → agreed_of flag xs ys zs ≡ agreed m flag a b carry
-agreed_listed m flag a b c carry xs ys zs few p q r is = rw (p, q, r, ← is) (sym (agreed-few m flag a b c few))
+pub agreed_listed : (m : ℕ) (flag : ℕ → ℕ → ℕ → Bool) (a b c carry : Form) (xs ys zs : List ℕ) (t : Tri) → count_of m a * (count_of m b * count_of m c) ≤ 256
+    → xs ≡ members m a → ys ≡ members m b → zs ≡ members m c → c ≡ carry → t ≡ agreed_of flag xs ys zs → t ≡ agreed m flag a b carry
+agreed_listed m flag a b c carry xs ys zs t few p q r is told =
+    let same : agreed_of flag xs ys zs ≡ agreed m flag a b carry = rw (p, q, r, ← is) (sym (agreed-few m flag a b c few)) in
+    told ∙ same
 
 pub steps_none : (m base stride : ℕ) → [] ≡ steps m base stride 0
 unfolding steps

@@ -65,29 +65,22 @@ bit_not Either x is = omega (arith, is)
 
 pub and_bit : (a b : Tri) (x y : ℕ) → IsBit a x → IsBit b y → IsBit (tri_and a b) (min x y)
 and_bit Zero b x y h k = omega (arith, h)
-and_bit One Zero x y h k = omega (arith, h, k)
-and_bit One One x y h k = omega (arith, h, k)
-and_bit One Either x y h k = omega (arith, h, k)
+and_bit One b x y h k = let small = bit_below b y k in let same : y ≡ min x y = omega (arith, h, small) in subst (λ (bit : ℕ). IsBit b bit) same k
 and_bit Either Zero x y h k = omega (arith, h, k)
 and_bit Either One x y h k = omega (arith, h, k)
 and_bit Either Either x y h k = omega (arith, h, k)
 
 pub or_bit : (a b : Tri) (x y : ℕ) → IsBit a x → IsBit b y → IsBit (tri_or a b) (max x y)
-or_bit Zero Zero x y h k = omega (arith, h, k)
-or_bit Zero One x y h k = omega (arith, h, k)
-or_bit Zero Either x y h k = omega (arith, h, k)
+or_bit Zero b x y h k = let same : y ≡ max x y = omega (arith, h) in subst (λ (bit : ℕ). IsBit b bit) same k
 or_bit One b x y h k = let small = bit_below b y k in omega (arith, h, small)
 or_bit Either Zero x y h k = omega (arith, h, k)
 or_bit Either One x y h k = omega (arith, h, k)
 or_bit Either Either x y h k = omega (arith, h, k)
 
 pub xor_bit : (a b : Tri) (x y : ℕ) → IsBit a x → IsBit b y → IsBit (tri_xor a b) ((x + y) % 2)
-xor_bit Zero Zero x y h k = omega (arith, h, k)
-xor_bit Zero One x y h k = omega (arith, h, k)
-xor_bit Zero Either x y h k = omega (arith, h, k)
-xor_bit One Zero x y h k = omega (arith, h, k)
-xor_bit One One x y h k = omega (arith, h, k)
-xor_bit One Either x y h k = omega (arith, h, k)
+xor_bit Zero b x y h k = let small = bit_below b y k in let same : y ≡ (x + y) % 2 = omega (arith, h, small) in subst (λ (bit : ℕ). IsBit b bit) same k
+xor_bit One b x y h k = let small = bit_below b y k in let other : 1 - y ≡ (x + y) % 2 = omega (arith, h, small) in
+    subst (λ (bit : ℕ). IsBit (tri_not b) bit) other (bit_not b y k)
 xor_bit Either b x y h k = omega arith
 
 -- THE BITS OF A NUMBER, by their places

@@ -1,6 +1,6 @@
 //! All flags that an operation sets, over all combinations of members, by one walk.
 
-ghost use Rattle.std.specs.Prelude.{◌≡◌, ℕ, ◌*◌, ◌<◌, ◌≤◌, ◌↔◌, ◌&&◌, IsTrue, Bool, false, All, length};
+ghost use Rattle.std.specs.Prelude.{◌≡◌, ℕ, ◌<◌, ◌≤◌, ◌↔◌, ◌&&◌, IsTrue, Bool, false, All, length};
 ghost use Rattle.std.specs.List.{list_all};
 ghost use Rattle.value_set.specs.Form.{Has, IsNormal};
 ghost use Rattle.value_bits.specs.AllFlags.{Place, flag_at, known_at};

@@ -72,7 +72,8 @@ pub fn adjusted(a: u16, carry: u16, half: u16) -> u16
     high_adjusted(low_adjusted(a, half), carry) % 256
 }
 
-fn low_adjusted(a: u16, half: u16) -> u16
+/// The first step of the adjustment, by AC.
+pub fn low_adjusted(a: u16, half: u16) -> u16
     requires { a < 256 }
     ensures value { result ≡ numbers.low_adjusted a half }
     ensures below { result < 262 }
@@ -80,7 +81,8 @@ fn low_adjusted(a: u16, half: u16) -> u16
     if a % 16 > 9 || half == 1 { a + 6 } else { a }
 }
 
-fn high_adjusted(low: u16, carry: u16) -> u16
+/// The second step of the adjustment, by CY.
+pub fn high_adjusted(low: u16, carry: u16) -> u16
     requires { low < 262 }
     ensures { result ≡ numbers.high_adjusted low carry }
 {

@@ -8,7 +8,7 @@ ghost use Rattle.value_bits.specs.Bits as bits;
 ghost use Rattle.value_bits.specs.Sets as sets;
 ghost use Rattle.value_bits.specs.Lefts as lefts;
 
-use crate::tri::{Logic, Lowest, Top, Tri};
+use crate::tri::{Logic, Lowest, Top, Tri, tri_and, tri_or, tri_xor};
 use arrayvec::ArrayVec;
 use value_set::{Form, Progression};
 
@@ -123,37 +123,6 @@ fn tri_logic(logic: Logic, first: Tri, second: Tri) -> Tri
         Logic::And => tri_and(first, second),
         Logic::Or => tri_or(first, second),
         Logic::Xor => tri_xor(first, second),
-    }
-}
-
-fn tri_and(first: Tri, second: Tri) -> Tri
-    ensures { result ≡ bits.tri_and first second }
-{
-    match (first, second) {
-        (Tri::Zero, _) | (_, Tri::Zero) => Tri::Zero,
-        (Tri::One, Tri::One) => Tri::One,
-        _ => Tri::Either,
-    }
-}
-
-fn tri_or(first: Tri, second: Tri) -> Tri
-    ensures { result ≡ bits.tri_or first second }
-{
-    match (first, second) {
-        (Tri::One, _) | (_, Tri::One) => Tri::One,
-        (Tri::Zero, Tri::Zero) => Tri::Zero,
-        _ => Tri::Either,
-    }
-}
-
-fn tri_xor(first: Tri, second: Tri) -> Tri
-    ensures { result ≡ bits.tri_xor first second }
-{
-    match (first, second) {
-        (Tri::Zero, bit) => bit,
-        (Tri::One, Tri::Zero) => Tri::One,
-        (Tri::One, Tri::One) => Tri::Zero,
-        _ => Tri::Either,
     }
 }
 

@@ -41,4 +41,4 @@ pub use laws::{
     bit_laws, bits_hold, decimals_hold, evens_stay, flags_agree, halves_hold, left_shifts_hold,
     logic_holds, moves_hold,
 };
-pub use tri::{Lowest, Top, Tri};
+pub use tri::{Lowest, Top, Tri, tri_and, tri_not, tri_or, tri_xor};

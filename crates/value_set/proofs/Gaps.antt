@@ -63,16 +63,19 @@ fold_lesser_all r v [] i = absurd i
 fold_lesser_all r v (x ∷ xs) (inl e) = omega (arith, e, fold_lesser_kept (lesser r x) xs, lesser_right r x)
 fold_lesser_all r v (x ∷ xs) (inr i) = fold_lesser_all (lesser r x) v xs i
 
--- one of the list, unless all are above the first
-fold_lesser_in : (r : ℕ) (xs : List ℕ) → IsIn (fold lesser r xs) (r ∷ xs)
-fold_lesser_in r [] = inl refl
-fold_lesser_in r (x ∷ xs) = elim (fold_lesser_in (lesser r x) xs) [
+-- a fold that takes one of two numbers gives the first, or one of the list
+fold_in : (f : ℕ → ℕ → ℕ) → ((a b : ℕ) → (f a b ≡ a) ⊎ (f a b ≡ b)) → (r : ℕ) (xs : List ℕ) → IsIn (fold f r xs) (r ∷ xs)
+fold_in f one r [] = inl refl
+fold_in f one r (x ∷ xs) = elim (fold_in f one (f r x) xs) [
   | inr i ↦ inr (inr i)
-  | inl e ↦ elim (cases_lt x r) [
-    | inl low ↦ inr (inl (sym (let same : lesser r x ≡ x = rw (lt-ltb x r low) refl in sym e ∙ same)))
-    | inr high ↦ inl (sym (let same : lesser r x ≡ r = rw (le-ltb x r high) refl in sym e ∙ same))
-  ]
+  | inl e ↦ elim (one r x) [ inl first ↦ inl (sym first ∙ e) | inr second ↦ inr (inl (sym second ∙ e)) ]
 ]
+
+one_lesser : (a b : ℕ) → (lesser a b ≡ a) ⊎ (lesser a b ≡ b)
+one_lesser a b = elim (cases_lt b a) [ inl low ↦ inr (rw (lt-ltb b a low) refl) | inr high ↦ inl (rw (le-ltb b a high) refl) ]
+
+one_greater : (a b : ℕ) → (greater a b ≡ a) ⊎ (greater a b ≡ b)
+one_greater a b = elim (cases_lt a b) [ inl low ↦ inr (rw (lt-ltb a b low) refl) | inr high ↦ inl (rw (le-ltb a b high) refl) ]
 
 fold_greater_kept : (r : ℕ) (xs : List ℕ) → r ≤ fold greater r xs
 fold_greater_kept r [] = omega arith
@@ -83,26 +86,16 @@ fold_greater_all r v [] i = absurd i
 fold_greater_all r v (x ∷ xs) (inl e) = omega (arith, e, fold_greater_kept (greater r x) xs, greater_right r x)
 fold_greater_all r v (x ∷ xs) (inr i) = fold_greater_all (greater r x) v xs i
 
-fold_greater_in : (r : ℕ) (xs : List ℕ) → IsIn (fold greater r xs) (r ∷ xs)
-fold_greater_in r [] = inl refl
-fold_greater_in r (x ∷ xs) = elim (fold_greater_in (greater r x) xs) [
-  | inr i ↦ inr (inr i)
-  | inl e ↦ elim (cases_lt r x) [
-    | inl low ↦ inr (inl (sym (let same : greater r x ≡ x = rw (lt-ltb r x low) refl in sym e ∙ same)))
-    | inr high ↦ inl (sym (let same : greater r x ≡ r = rw (le-ltb r x high) refl in sym e ∙ same))
-  ]
-]
-
 least_in : (xs : List ℕ) → 1 ≤ length xs → ((v : ℕ) → IsIn v xs → v < 65536) → IsIn (fold lesser 65535 xs) xs
 least_in [] h below = absurd (omega arith)
-least_in (x ∷ xs) h below = elim (fold_lesser_in 65535 (x ∷ xs)) [
+least_in (x ∷ xs) h below = elim (fold_in lesser one_lesser 65535 (x ∷ xs)) [
   | inr i ↦ i
   | inl e ↦ inl (let low = fold_lesser_all 65535 x (x ∷ xs) (inl refl) in let fits = below x (inl refl) in omega (arith, low, e, fits))
 ]
 
 greatest_in : (xs : List ℕ) → 1 ≤ length xs → IsIn (fold greater 0 xs) xs
 greatest_in [] h = absurd (omega arith)
-greatest_in (x ∷ xs) h = elim (fold_greater_in 0 (x ∷ xs)) [
+greatest_in (x ∷ xs) h = elim (fold_in greater one_greater 0 (x ∷ xs)) [
   | inr i ↦ i
   | inl e ↦ inl (let high = fold_greater_all 0 x (x ∷ xs) (inl refl) in omega (arith, high, e))
 ]

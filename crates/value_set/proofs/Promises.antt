@@ -9,7 +9,6 @@ use Rattle.std.proofs.Math.Nat.{mul-le-mul_left}
 use Rattle.value_set.specs.declared.form.Form.{Form}
 use Rattle.value_set.specs.declared.form.Form.TheVariants.{Values, Run}
 use Rattle.value_set.specs.Form.{make, steps, members, Has, gather, Ascends, IsNormal, Fits, above}
-use Rattle.value_set.specs.Collecting.{IsNoRun}
 use Rattle.value_set.specs.Cutting.{IfThere, cut}
 use Rattle.value_set.specs.ListFacts.{IsIn}
 use Rattle.value_set.specs.StepFacts.{steps_from, length-steps}
@@ -26,14 +25,6 @@ whole_fits m pos = record { positive = pos; some = omega arith; once = omega ari
 
 pub any_has : (m v : ℕ) (set : Form) → set ≡ make m 0 1 m → 0 < m → v < m → Has m set v
 any_has m v set is pos low = subst (λ (s : Form). Has m s v) (sym is) (make_has m 0 1 m v (whole_fits m pos) (v, low, (let e : v ≡ 0 + v * 1 = omega arith in sym (mod_low v m low) ∙ ap (λ (n : ℕ). n % m) e)))
-
-pub run_fits : (m stride count : ℕ) → 0 < m → (IsNoRun m stride count → ⊥) → Fits m stride count
-run_fits m stride count pos not_none = record {
-  positive = pos;
-  some = elim (cases_lt 0 count) [ inl some ↦ some | inr none ↦ absurd (not_none (inl (omega arith))) ];
-  once = elim (cases_lt ((count - 1) * stride) m) [ inl once ↦ once | inr round ↦ absurd (not_none (inr (inr (inr round)))) ];
-  strides = λ more. elim (cases_lt 0 stride) [ inl some ↦ some | inr none ↦ absurd (not_none (inr (inr (inl (omega arith, more))))) ];
-}
 
 pub run_exact : (m base stride count v : ℕ) (set : Form) → set ≡ make m base stride count → Fits m stride count → Has m set v ↔ Contains (steps m base stride count) v
 run_exact m base stride count v set is fits = (
@@ -90,6 +81,3 @@ cut_not_none m set part low len n h is nobody =
 
 pub not_false : (n : ℕ) → (true ≡ false) ↔ (n ≡ 0) → 1 ≤ n
 not_false n h = elim (cases_lt 0 n) [ inl some ↦ some | inr none ↦ absurd (true≢false (h.1 (omega arith))) ]
-
-pub no_false : (P : Type 0) → (true ≡ false) ↔ P → P → ⊥
-no_false P h p = true≢false (h.1 p)

@@ -13,8 +13,10 @@ use Rattle.value_set.specs.declared.form.Form.{Form}
 use Rattle.value_set.specs.declared.form.Form.TheVariants.{Values, Run}
 use Rattle.value_set.specs.Form.{make, members, Has, gather, set_of, put, put_all, ascending, Ascends, IsNormal, Fits, span, class}
 use Rattle.value_set.specs.Joining.{reach}
-use Rattle.value_set.specs.Summing.{single, results, combine, count_of, sum_answer, difference_answer, add_spans, negated, add, sub, twice}
+use Rattle.value_set.specs.Summing.{single, results, combine, count_of, sum_answer, difference_answer, add_spans, negated, add, sub, signed, signed_answer, signed_span, twice}
 use Rattle.value_set.specs.Operations.{StaysBelow, sum_stays, difference_stays}
+use Rattle.value_set.specs.declared.summing.Sign.{Sign}
+use Rattle.value_set.specs.declared.summing.Sign.TheVariants.{Plus, Minus}
 use Rattle.value_set.specs.ListFacts.{IsIn, in_from_Contains, Contains_from_in, in_map, in_mapped, in_flat_map, in_flat}
 use Rattle.value_set.specs.StepFacts.{steps_from, length-steps}
 use Rattle.value_set.proofs.Divisors.{gcd_left, gcd_right}
@@ -300,6 +302,18 @@ pub taken_many : (m : ℕ) (a b : Form) (p q down : Progression) → (count_of m
 taken_many m a b p q down many s t d =
     let more : 256 < count_of m a * count_of m b = elim (cases_lt 256 (count_of m a * count_of m b)) [ inl over ↦ over | inr few ↦ absurd (many few) ] in
     ap (λ (n : Progression). add_spans m n down) s ∙ ap (λ (n : Progression). add_spans m (span m a) n) (d ∙ ap (λ (n : Progression). negated m n) t) ∙ sym (sub-many m a b more)
+
+-- ---- with either sign
+
+pub summed_few : (m : ℕ) (sign : Sign) (a b carry : Form) → count_of m a * count_of m b ≤ 256 → carry ≡ single 0
+    → combine m (signed_answer m sign) a b carry ≡ signed m sign a b
+summed_few m Plus = added_few m
+summed_few m Minus = taken_few m
+
+pub summed_many : (m : ℕ) (sign : Sign) (a b : Form) (p q : Progression) → (count_of m a * count_of m b ≤ 256 → ⊥) → p ≡ span m a → q ≡ signed_span m sign b
+    → add_spans m p q ≡ signed m sign a b
+summed_many m Plus a b p q many s t = added_many m a b p q many s t
+summed_many m Minus a b p q many s t = taken_many m a b p (span m b) q many s refl t
 
 pub few_with_one : (m n : ℕ) (a b carry : Form) → count_of m a * count_of m b ≤ 256 → carry ≡ single n → count_of m a * (count_of m b * count_of m carry) ≤ 256
 few_with_one m n a b carry few is =

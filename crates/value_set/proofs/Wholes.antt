@@ -4,7 +4,9 @@ use Rattle.std.proofs.lemmas.List.Elements.{Contains-get_or}
 use Rattle.std.proofs.Math.Nat.{mod-lt}
 use Rattle.value_set.specs.declared.form.Form.{Form}
 use Rattle.value_set.specs.Form.{members, Has, IsNormal, above, gather}
-use Rattle.value_set.specs.Summing.{whole, add, sub}
+use Rattle.value_set.specs.Summing.{whole, add, sub, signed}
+use Rattle.value_set.specs.declared.summing.Sign.{Sign}
+use Rattle.value_set.specs.declared.summing.Sign.TheVariants.{Plus, Minus}
 use Rattle.value_set.specs.StepFacts.{steps_from}
 use Rattle.value_set.proofs.Members.{steps_has}
 use Rattle.value_set.proofs.Rounds.{mod_low, above_below, above_back, above_sum}
@@ -66,6 +68,14 @@ less_whole m a b n k is = stays_whole m b a (sub m a b) k n is (sub_normal m a b
     let sum : w ≡ (y + v) % m = sym (above_back m v w low small) ∙ ap (λ (s : ℕ). s % m) (let e : v + y ≡ y + v = omega arith in e) in
     let back : above m y w ≡ v = ap (λ (s : ℕ). above m y s) sum ∙ above_sum m y v below low in
     (y, below, λ has. subst (λ (s : ℕ). Has m (sub m a b) s) back (sub_has m a b w y n k there has)))
+
+pub whole_signed : (m : ℕ) (sign : Sign) (a b : Form) → IsNormal m a → IsNormal m b → a ≡ whole m → a ≡ signed m sign a b
+whole_signed m Plus = whole_and m
+whole_signed m Minus = whole_less m
+
+pub signed_whole : (m : ℕ) (sign : Sign) (a b : Form) → IsNormal m a → IsNormal m b → b ≡ whole m → b ≡ signed m sign a b
+signed_whole m Plus = and_whole m
+signed_whole m Minus = less_whole m
 
 -- ---- all bytes as words
 

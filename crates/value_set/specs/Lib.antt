@@ -1,3 +1,4 @@
+pub mod Calls
 pub mod Collecting
 pub mod Few
 pub mod Form

@@ -7,6 +7,8 @@ use Rattle.value_set.specs.Joining.{reach}
 use Rattle.value_set.specs.declared.form.Progression.{Progression}
 use Rattle.value_set.specs.declared.form.Form.{Form}
 use Rattle.value_set.specs.declared.form.Form.TheVariants.{Values, Run}
+use Rattle.value_set.specs.declared.summing.Sign.{Sign}
+use Rattle.value_set.specs.declared.summing.Sign.TheVariants.{Plus, Minus}
 
 -- the set of one number
 abbrev pub single : ℕ → Form
@@ -53,6 +55,20 @@ unfoldable pub sub : ℕ → Form → Form → Form
 sub m first second =
     if nat_le (count_of m first * count_of m second) 256 then combine m (difference_answer m) first second (single 0)
     else add_spans m (span m first) (negated m (span m second))
+
+-- the sums, or the differences
+abbrev pub signed : ℕ → Sign → Form → Form → Form
+signed m Plus first second = add m first second
+signed m Minus first second = sub m first second
+
+abbrev pub signed_answer : ℕ → Sign → ℕ → ℕ → ℕ → ℕ
+signed_answer m Plus = sum_answer m
+signed_answer m Minus = difference_answer m
+
+-- the run that a set adds
+abbrev pub signed_span : ℕ → Sign → Form → Progression
+signed_span m Plus set = span m set
+signed_span m Minus set = negated m (span m set)
 
 -- the sums of each member with itself
 unfoldable pub twice : ℕ → Form → Form

@@ -2,14 +2,8 @@
 
 ghost use Rattle.std.specs.Prelude.{◌≡◌, ℕ, ◌+◌, ◌-◌, ◌*◌, ◌%◌, ◌<◌, ◌≤◌, ◌↔◌, IsTrue, IsNone, IfSome, All, length, slice_index};
 ghost use Rattle.std.specs.List.{Contains};
-ghost use Rattle.value_set.specs.Form as forms;
-ghost use Rattle.value_set.specs.Form.{Has, Includes, IsNormal, above, members};
-ghost use Rattle.value_set.specs.Collecting.{IsNoRun};
-ghost use Rattle.value_set.specs.Joining as joins;
-ghost use Rattle.value_set.specs.Widening as widens;
-ghost use Rattle.value_set.specs.Cutting as cuts;
-ghost use Rattle.value_set.specs.Summing as sums;
-ghost use Rattle.value_set.specs.Summing.{single};
+ghost use Rattle.value_set.specs.Calls as calls;
+ghost use Rattle.value_set.specs.Calls.{Has, Includes, IsNoRun, IsNormal, above, members, single};
 
 use crate::combining::Operation;
 use crate::form::Form;
@@ -60,7 +54,7 @@ impl Vs8 {
 
     /// The set of all numbers.
     pub fn any() -> Self
-        ensures value { result ≡ forms.make 256 0 1 256 }
+        ensures value { result ≡ calls.make 256 0 1 256 }
         ensures normal { IsNormal 256 result }
         ensures all { (v : ℕ) → v < 256 → Has 256 result v }
     {
@@ -72,7 +66,7 @@ impl Vs8 {
     /// A set with each number of a list: they alone where they are at most 16. There is none of an empty list.
     pub fn gather(list: &[u8]) -> Option<Self>
         ensures none { IsNone result ↔ (length list.now ≡ 0) }
-        ensures value { IfSome result (λ set. set ≡ forms.gather 256 list.now) }
+        ensures value { IfSome result (λ set. set ≡ calls.gather 256 list.now) }
         ensures normal { IfSome result (λ set. IsNormal 256 set) }
         ensures holds { IfSome result (λ set. All (λ v. Has 256 set v) list.now) }
     {
@@ -86,9 +80,9 @@ impl Vs8 {
     /// more than 256, with one number twice, and of a run that goes round.
     pub fn run(base: u8, stride: u8, count: u32) -> Option<Self>
         ensures none { IsNone result ↔ IsNoRun 256 stride count }
-        ensures value { IfSome result (λ set. set ≡ forms.make 256 base stride count) }
+        ensures value { IfSome result (λ set. set ≡ calls.make 256 base stride count) }
         ensures normal { IfSome result (λ set. IsNormal 256 set) }
-        ensures exact { IfSome result (λ set. (v : ℕ) → Has 256 set v ↔ Contains (forms.steps 256 base stride count) v) }
+        ensures exact { IfSome result (λ set. (v : ℕ) → Has 256 set v ↔ Contains (calls.steps 256 base stride count) v) }
     {
         match sets::run(MODULUS, base as u16, stride as u16, count) {
             Some(form) => Some(Vs8 { form }),
@@ -130,7 +124,7 @@ impl Vs8 {
 
     /// Whether each member is one of the other set.
     pub fn within(&self, other: &Vs8) -> bool
-        ensures value { result ≡ joins.is_within 256 self.now other.now }
+        ensures value { result ≡ calls.is_within 256 self.now other.now }
         ensures inclusion { IsTrue result ↔ Includes 256 other.now self.now }
     {
         member::within(MODULUS, &self.form, &other.form)
@@ -138,7 +132,7 @@ impl Vs8 {
 
     /// A set that has the members of both.
     pub fn join(&self, other: &Vs8) -> Vs8
-        ensures value { result ≡ joins.join 256 self.now other.now }
+        ensures value { result ≡ calls.join 256 self.now other.now }
         ensures normal { IsNormal 256 result }
         ensures own { Includes 256 result self.now }
         ensures others { Includes 256 result other.now }
@@ -151,7 +145,7 @@ impl Vs8 {
     /// A set that has the members of this one, which is held, and of a new one. Where it has to grow, its ends go on to
     /// the next marks.
     pub fn widen(&self, new: &Vs8, marks: &[u8]) -> Vs8
-        ensures value { result ≡ widens.widen 256 self.now new.now marks.now }
+        ensures value { result ≡ calls.widen 256 self.now new.now marks.now }
         ensures normal { IsNormal 256 result }
         ensures held { Includes 256 result self.now }
         ensures added { Includes 256 result new.now }
@@ -163,7 +157,7 @@ impl Vs8 {
 
     /// The sums modulo 256 of the members of two sets.
     pub fn add(&self, other: &Vs8) -> Vs8
-        ensures value { result ≡ sums.add 256 self.now other.now }
+        ensures value { result ≡ calls.add 256 self.now other.now }
         ensures normal { IsNormal 256 result }
         ensures holds { (x y : ℕ) → Has 256 self.now x → Has 256 other.now y → Has 256 result ((x + y) % 256) }
         ensures alone { (x y : ℕ) → self.now ≡ single x → other.now ≡ single y → result ≡ single ((x + y) % 256) }
@@ -175,7 +169,7 @@ impl Vs8 {
 
     /// The differences modulo 256 of the members of two sets.
     pub fn sub(&self, other: &Vs8) -> Vs8
-        ensures value { result ≡ sums.sub 256 self.now other.now }
+        ensures value { result ≡ calls.sub 256 self.now other.now }
         ensures normal { IsNormal 256 result }
         ensures holds { (x y : ℕ) → Has 256 self.now x → Has 256 other.now y → Has 256 result ((x + 256 - y) % 256) }
         ensures alone { (x y : ℕ) → self.now ≡ single x → other.now ≡ single y → result ≡ single ((x + 256 - y) % 256) }
@@ -187,7 +181,7 @@ impl Vs8 {
 
     /// The sums modulo 256 of each member with itself.
     pub fn twice(&self) -> Vs8
-        ensures value { result ≡ sums.twice 256 self.now }
+        ensures value { result ≡ calls.twice 256 self.now }
         ensures normal { IsNormal 256 result }
         ensures holds { (x : ℕ) → Has 256 self.now x → Has 256 result ((x + x) % 256) }
         ensures alone { (x : ℕ) → self.now ≡ single x → result ≡ single ((x + x) % 256) }
@@ -201,7 +195,7 @@ impl Vs8 {
     /// member does.
     pub fn cut(&self, low: u8, len: u32) -> Option<Vs8>
         ensures none { IsNone result ↔ ((v : ℕ) → Has 256 self.now v → len ≤ above 256 low v) }
-        ensures value { result ≡ cuts.cut 256 self.now low len }
+        ensures value { result ≡ calls.cut 256 self.now low len }
         ensures normal { IfSome result (λ set. IsNormal 256 set) }
         ensures holds { IfSome result (λ set. (v : ℕ) → Has 256 self.now v → above 256 low v < len → Has 256 set v) }
     {
@@ -215,7 +209,7 @@ impl Vs8 {
     pub fn combine<O: Operation>(operation: &O, first: &Vs8, second: &Vs8, carry: &Vs8) -> Vs8
         requires width { O.modulus operation.now ≡ 256 }
         requires few { length (members 256 first.now) * (length (members 256 second.now) * length (members 256 carry.now)) ≤ 256 }
-        ensures value { result ≡ sums.combine 256 (O.answer operation.now) first.now second.now carry.now }
+        ensures value { result ≡ calls.combine 256 (O.answer operation.now) first.now second.now carry.now }
         ensures normal { IsNormal 256 result }
         ensures holds { (x y z : ℕ) → Has 256 first.now x → Has 256 second.now y → Has 256 carry.now z → Has 256 result (O.answer operation.now x y z) }
         ensures alone { (x y z : ℕ) → first.now ≡ single x → second.now ≡ single y → carry.now ≡ single z → result ≡ single (O.answer operation.now x y z) }

@@ -1,8 +1,9 @@
 //! Sets from lists of any length, and from runs.
 
 ghost use Rattle.std.specs.Prelude.{◌≡◌, ℕ, ◌+◌, ◌-◌, ◌*◌, ◌<◌, ◌≤◌, ◌↔◌, length, map, All, IsNone, IfSome};
+ghost use Rattle.std.specs.List.{Contains};
 ghost use Rattle.value_set.specs.Form as forms;
-ghost use Rattle.value_set.specs.Form.{IsNormal};
+ghost use Rattle.value_set.specs.Form.{Has, IsNormal};
 ghost use Rattle.value_set.specs.Collecting.{IsNoRun};
 
 use crate::form::Form;
@@ -49,7 +50,8 @@ pub fn run(modulus: u32, base: u16, stride: u16, count: u32) -> Option<Form>
     requires small { modulus ≤ 65536 }
     ensures none { IsNone result ↔ IsNoRun modulus stride count }
     ensures value { IfSome result (λ set. set ≡ forms.make modulus base stride count) }
-    ensures form { IfSome result (λ set. IsNormal modulus set) }
+    ensures normal { IfSome result (λ set. IsNormal modulus set) }
+    ensures exact { IfSome result (λ set. (v : ℕ) → Has modulus set v ↔ Contains (forms.steps modulus base stride count) v) }
 {
     if count == 0 || count > modulus {
         return None;

@@ -30,7 +30,7 @@ pub trait Operation {
     ghost stays_below: { (operation : Self) → StaysBelow (modulus operation) (answer operation) };
 }
 
-/// The set of all results, of at most 256 combinations.
+/// The set of all results, of at most 256 combinations. Of sets of one number it is the one result.
 pub fn combine<O: Operation>(
     modulus: u32,
     operation: &O,
@@ -46,10 +46,21 @@ pub fn combine<O: Operation>(
     requires few { length (members modulus first.now) * (length (members modulus second.now) * length (members modulus carry.now)) ≤ 256 }
     ensures { result ≡ sums.combine modulus (O.answer operation.now) first.now second.now carry.now }
 {
-    match (alone(first), alone(second), alone(carry)) {
-        (Some(x), Some(y), Some(z)) => single(operation.apply(x, y, z)),
-        _ => combine_several(modulus, operation, first, second, carry),
+    if let (Some(x), Some(y), Some(z)) = (alone(first), alone(second), alone(carry)) {
+        return single(operation.apply(x, y, z));
     }
+    let mut values = ArrayVec::new();
+    for place in 0..count(modulus, first) {
+        put_second(
+            modulus,
+            operation,
+            nth(modulus, first, place),
+            second,
+            carry,
+            &mut values,
+        );
+    }
+    set_of(modulus, values.as_slice())
 }
 
 /// The number of a set of one.
@@ -63,36 +74,6 @@ pub fn alone(set: &Form) -> Option<u16>
         },
         Form::Run(_) => None,
     }
-}
-
-/// The set of all results, of sets that may have several members.
-fn combine_several<O: Operation>(
-    modulus: u32,
-    operation: &O,
-    first: &Form,
-    second: &Form,
-    carry: &Form,
-) -> Form
-    requires small { modulus ≤ 65536 }
-    requires first_normal { IsNormal modulus first.now }
-    requires second_normal { IsNormal modulus second.now }
-    requires carry_normal { IsNormal modulus carry.now }
-    requires width { O.modulus operation.now ≡ modulus }
-    requires few { length (members modulus first.now) * (length (members modulus second.now) * length (members modulus carry.now)) ≤ 256 }
-    ensures { result ≡ sums.combine modulus (O.answer operation.now) first.now second.now carry.now }
-{
-    let mut values = ArrayVec::new();
-    for place in 0..count(modulus, first) {
-        put_second(
-            modulus,
-            operation,
-            nth(modulus, first, place),
-            second,
-            carry,
-            &mut values,
-        );
-    }
-    set_of(modulus, values.as_slice())
 }
 
 /// Puts the results of one first number.

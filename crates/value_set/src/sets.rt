@@ -1,16 +1,10 @@
 //! The calls of a set at any modulus, with all that is promised of them.
 
 ghost use Rattle.std.specs.Prelude.{◌≡◌, ℕ, ◌+◌, ◌-◌, ◌*◌, ◌%◌, ◌<◌, ◌≤◌, ◌↔◌, IsNone, IfSome, All, length, map};
-ghost use Rattle.std.specs.List.{Contains};
-ghost use Rattle.value_set.specs.Form as forms;
-ghost use Rattle.value_set.specs.Form.{Has, Includes, IsNormal, above, members};
-ghost use Rattle.value_set.specs.Collecting.{IsNoRun};
-ghost use Rattle.value_set.specs.Joining as joins;
-ghost use Rattle.value_set.specs.Widening as widens;
-ghost use Rattle.value_set.specs.Cutting as cuts;
-ghost use Rattle.value_set.specs.Summing as sums;
-ghost use Rattle.value_set.specs.Summing.{single};
+ghost use Rattle.value_set.specs.Calls as calls;
+ghost use Rattle.value_set.specs.Calls.{Has, Includes, IsNormal, above, members, single};
 
+pub use crate::collecting::run;
 use crate::combining::Operation;
 pub use crate::combining::alone;
 use crate::form::Form;
@@ -18,13 +12,14 @@ pub use crate::gathering::make;
 pub use crate::member::nth;
 use crate::number::Number;
 pub use crate::summing::single;
+use crate::summing::{Sign, signed_sum};
 use crate::{collecting, combining, cutting, joining, member, summing, widening};
 
 /// The set of all numbers below the modulus.
 pub fn any(modulus: u32) -> Form
     requires positive { 0 < modulus }
     requires small { modulus ≤ 65536 }
-    ensures value { result ≡ forms.make modulus 0 1 modulus }
+    ensures value { result ≡ calls.make modulus 0 1 modulus }
     ensures normal { IsNormal modulus result }
     ensures all { (v : ℕ) → v < modulus → Has modulus result v }
 {
@@ -36,26 +31,11 @@ pub fn gather<N: Number>(modulus: u32, list: &[N]) -> Option<Form>
     requires small { modulus ≤ 65536 }
     requires below { All (λ n. N.number n < modulus) list.now }
     ensures none { IsNone result ↔ (length list.now ≡ 0) }
-    ensures value { IfSome result (λ set. set ≡ forms.gather modulus (map N.number list.now)) }
+    ensures value { IfSome result (λ set. set ≡ calls.gather modulus (map N.number list.now)) }
     ensures normal { IfSome result (λ set. IsNormal modulus set) }
     ensures holds { IfSome result (λ set. All (λ n. Has modulus set (N.number n)) list.now) }
 {
     match collecting::gather(modulus, list) {
-        Some(set) => Some(set),
-        None => None,
-    }
-}
-
-/// The set of `base + i * stride` for each `i` below the count.
-pub fn run(modulus: u32, base: u16, stride: u16, count: u32) -> Option<Form>
-    requires positive { 0 < modulus }
-    requires small { modulus ≤ 65536 }
-    ensures none { IsNone result ↔ IsNoRun modulus stride count }
-    ensures value { IfSome result (λ set. set ≡ forms.make modulus base stride count) }
-    ensures normal { IfSome result (λ set. IsNormal modulus set) }
-    ensures exact { IfSome result (λ set. (v : ℕ) → Has modulus set v ↔ Contains (forms.steps modulus base stride count) v) }
-{
-    match collecting::run(modulus, base, stride, count) {
         Some(set) => Some(set),
         None => None,
     }
@@ -76,7 +56,7 @@ pub fn join(modulus: u32, first: &Form, second: &Form) -> Form
     requires small { modulus ≤ 65536 }
     requires first_normal { IsNormal modulus first.now }
     requires second_normal { IsNormal modulus second.now }
-    ensures value { result ≡ joins.join modulus first.now second.now }
+    ensures value { result ≡ calls.join modulus first.now second.now }
     ensures normal { IsNormal modulus result }
     ensures own { Includes modulus result first.now }
     ensures others { Includes modulus result second.now }
@@ -90,7 +70,7 @@ pub fn widen<N: Number>(modulus: u32, held: &Form, new: &Form, marks: &[N]) -> F
     requires held_normal { IsNormal modulus held.now }
     requires new_normal { IsNormal modulus new.now }
     requires marks_below { All (λ n. N.number n < modulus) marks.now }
-    ensures value { result ≡ widens.widen modulus held.now new.now (map N.number marks.now) }
+    ensures value { result ≡ calls.widen modulus held.now new.now (map N.number marks.now) }
     ensures normal { IsNormal modulus result }
     ensures held { Includes modulus result held.now }
     ensures added { Includes modulus result new.now }
@@ -103,12 +83,12 @@ pub fn add(modulus: u32, first: &Form, second: &Form) -> Form
     requires small { modulus ≤ 65536 }
     requires first_normal { IsNormal modulus first.now }
     requires second_normal { IsNormal modulus second.now }
-    ensures value { result ≡ sums.add modulus first.now second.now }
+    ensures value { result ≡ calls.add modulus first.now second.now }
     ensures normal { IsNormal modulus result }
     ensures holds { (x y : ℕ) → Has modulus first.now x → Has modulus second.now y → Has modulus result ((x + y) % modulus) }
     ensures alone { (x y : ℕ) → first.now ≡ single x → second.now ≡ single y → result ≡ single ((x + y) % modulus) }
 {
-    summing::add(modulus, first, second)
+    signed_sum(modulus, Sign::Plus, first, second)
 }
 
 /// The differences of the members of two sets.
@@ -116,19 +96,19 @@ pub fn sub(modulus: u32, first: &Form, second: &Form) -> Form
     requires small { modulus ≤ 65536 }
     requires first_normal { IsNormal modulus first.now }
     requires second_normal { IsNormal modulus second.now }
-    ensures value { result ≡ sums.sub modulus first.now second.now }
+    ensures value { result ≡ calls.sub modulus first.now second.now }
     ensures normal { IsNormal modulus result }
     ensures holds { (x y : ℕ) → Has modulus first.now x → Has modulus second.now y → Has modulus result ((x + modulus - y) % modulus) }
     ensures alone { (x y : ℕ) → first.now ≡ single x → second.now ≡ single y → result ≡ single ((x + modulus - y) % modulus) }
 {
-    summing::sub(modulus, first, second)
+    signed_sum(modulus, Sign::Minus, first, second)
 }
 
 /// The sums of each member with itself.
 pub fn twice(modulus: u32, set: &Form) -> Form
     requires small { modulus ≤ 65536 }
     requires normal { IsNormal modulus set.now }
-    ensures value { result ≡ sums.twice modulus set.now }
+    ensures value { result ≡ calls.twice modulus set.now }
     ensures normal { IsNormal modulus result }
     ensures holds { (x : ℕ) → Has modulus set.now x → Has modulus result ((x + x) % modulus) }
     ensures alone { (x : ℕ) → set.now ≡ single x → result ≡ single ((x + x) % modulus) }
@@ -142,7 +122,7 @@ pub fn cut(modulus: u32, set: &Form, low: u16, len: u32) -> Option<Form>
     requires normal { IsNormal modulus set.now }
     requires low_below { low < modulus }
     ensures none { IsNone result ↔ ((v : ℕ) → Has modulus set.now v → len ≤ above modulus low v) }
-    ensures value { result ≡ cuts.cut modulus set.now low len }
+    ensures value { result ≡ calls.cut modulus set.now low len }
     ensures normal { IfSome result (λ part. IsNormal modulus part) }
     ensures holds { IfSome result (λ part. (v : ℕ) → Has modulus set.now v → above modulus low v < len → Has modulus part v) }
 {
@@ -166,7 +146,7 @@ pub fn combine<O: Operation>(
     requires carry_normal { IsNormal modulus carry.now }
     requires width { O.modulus operation.now ≡ modulus }
     requires few { length (members modulus first.now) * (length (members modulus second.now) * length (members modulus carry.now)) ≤ 256 }
-    ensures value { result ≡ sums.combine modulus (O.answer operation.now) first.now second.now carry.now }
+    ensures value { result ≡ calls.combine modulus (O.answer operation.now) first.now second.now carry.now }
     ensures normal { IsNormal modulus result }
     ensures holds { (x y z : ℕ) → Has modulus first.now x → Has modulus second.now y → Has modulus carry.now z → Has modulus result (O.answer operation.now x y z) }
     ensures alone { (x y z : ℕ) → first.now ≡ single x → second.now ≡ single y → carry.now ≡ single z → result ≡ single (O.answer operation.now x y z) }

@@ -1,8 +1,7 @@
 //! Sums and differences of sets.
 
-ghost use Rattle.std.specs.Prelude.{◌≡◌, ℕ, ◌+◌, ◌-◌, ◌*◌, ◌%◌, ◌<◌, ◌≤◌, ◌↔◌, IfSome, IsTrue, length, map};
-ghost use Rattle.value_set.specs.Form as forms;
-ghost use Rattle.value_set.specs.Form.{Ascends, IsNormal, IsNormalRun, IsSpan, members};
+ghost use Rattle.std.specs.Prelude.{◌≡◌, ◌+◌, ◌-◌, ◌*◌, ◌<◌, ◌≤◌, ◌↔◌, IfSome, IsTrue, length};
+ghost use Rattle.value_set.specs.Form.{IsNormal, IsNormalRun, IsSpan, members};
 ghost use Rattle.value_set.specs.Summing as sums;
 
 use crate::circle::reach;
@@ -15,44 +14,36 @@ use crate::joining::{class, span};
 use crate::member::{count, is_whole};
 use arrayvec::ArrayVec;
 
-/// The sum of two numbers.
+/// Which of sum and difference.
+#[derive(Clone, Copy)]
+pub enum Sign {
+    Plus,
+    Minus,
+}
+
+/// The sum or the difference of two numbers.
 #[derive(Clone, Copy)]
 struct Sum {
     modulus: u32,
+    sign: Sign,
 }
 
 impl Operation for Sum {
-    ghost use Rattle.value_set.specs.Operations.{sum_stays};
+    ghost use Rattle.value_set.specs.Operations.{signed_stays};
+    ghost use Rattle.value_set.specs.Summing.{signed_answer};
 
     ghost modulus = { λ operation. operation.modulus };
 
-    ghost answer = { λ operation x y carry. (x + y) % operation.modulus };
+    ghost answer = { λ operation. signed_answer operation.modulus operation.sign };
 
     fn apply(&self, x: u16, y: u16, _carry: u16) -> u16 {
-        ((x as u32 + y as u32) % self.modulus) as u16
+        match self.sign {
+            Sign::Plus => ((x as u32 + y as u32) % self.modulus) as u16,
+            Sign::Minus => ((x as u32 + self.modulus - y as u32) % self.modulus) as u16,
+        }
     }
 
-    ghost stays_below = { λ operation. sum_stays operation.modulus };
-}
-
-/// The difference of two numbers.
-#[derive(Clone, Copy)]
-struct Difference {
-    modulus: u32,
-}
-
-impl Operation for Difference {
-    ghost use Rattle.value_set.specs.Operations.{difference_stays};
-
-    ghost modulus = { λ operation. operation.modulus };
-
-    ghost answer = { λ operation x y carry. (x + operation.modulus - y) % operation.modulus };
-
-    fn apply(&self, x: u16, y: u16, _carry: u16) -> u16 {
-        ((x as u32 + self.modulus - y as u32) % self.modulus) as u16
-    }
-
-    ghost stays_below = { λ operation. difference_stays operation.modulus };
+    ghost stays_below = { λ operation. signed_stays operation.modulus operation.sign };
 }
 
 /// The set of one number.
@@ -105,12 +96,24 @@ fn negated(modulus: u32, run: &Progression) -> Progression
     }
 }
 
+/// The run that a set adds to another one.
+fn signed_span(modulus: u32, sign: Sign, set: &Form) -> Progression
+    requires small { modulus ≤ 65536 }
+    requires normal { IsNormal modulus set.now }
+    ensures value { result ≡ sums.signed_span modulus sign set.now }
+    ensures form { IsSpan modulus result.base result.stride result.count }
+{
+    match sign {
+        Sign::Plus => span(modulus, set),
+        Sign::Minus => negated(modulus, &span(modulus, set)),
+    }
+}
+
 /// The set of all numbers, where one of two is that: it is that of their sums, and that of their differences.
-fn whole_of(modulus: u32, first: &Form, second: &Form) -> Option<Form>
+fn whole_of(modulus: u32, sign: Sign, first: &Form, second: &Form) -> Option<Form>
     requires first_normal { IsNormal modulus first.now }
     requires second_normal { IsNormal modulus second.now }
-    ensures sums { IfSome result (λ set. set ≡ sums.add modulus first.now second.now) }
-    ensures differences { IfSome result (λ set. set ≡ sums.sub modulus first.now second.now) }
+    ensures { IfSome result (λ set. set ≡ sums.signed modulus sign first.now second.now) }
 {
     if is_whole(modulus, first) {
         return Some(*first);
@@ -121,37 +124,24 @@ fn whole_of(modulus: u32, first: &Form, second: &Form) -> Option<Form>
     None
 }
 
-/// The sums of the members of two sets.
-pub fn add(modulus: u32, first: &Form, second: &Form) -> Form
+/// The sums or the differences of the members of two sets.
+pub fn signed_sum(modulus: u32, sign: Sign, first: &Form, second: &Form) -> Form
     requires small { modulus ≤ 65536 }
     requires first_normal { IsNormal modulus first.now }
     requires second_normal { IsNormal modulus second.now }
-    ensures { result ≡ sums.add modulus first.now second.now }
+    ensures { result ≡ sums.signed modulus sign first.now second.now }
 {
-    if let Some(all) = whole_of(modulus, first, second) {
+    if let Some(all) = whole_of(modulus, sign, first, second) {
         return all;
     }
     if has_few_results(modulus, first, second) {
-        return combine(modulus, &Sum { modulus }, first, second, &single(0));
+        return combine(modulus, &Sum { modulus, sign }, first, second, &single(0));
     }
-    add_spans(modulus, &span(modulus, first), &span(modulus, second))
-}
-
-/// The differences of the members of two sets.
-pub fn sub(modulus: u32, first: &Form, second: &Form) -> Form
-    requires small { modulus ≤ 65536 }
-    requires first_normal { IsNormal modulus first.now }
-    requires second_normal { IsNormal modulus second.now }
-    ensures { result ≡ sums.sub modulus first.now second.now }
-{
-    if let Some(all) = whole_of(modulus, first, second) {
-        return all;
-    }
-    if has_few_results(modulus, first, second) {
-        return combine(modulus, &Difference { modulus }, first, second, &single(0));
-    }
-    let down = negated(modulus, &span(modulus, second));
-    add_spans(modulus, &span(modulus, first), &down)
+    add_spans(
+        modulus,
+        &span(modulus, first),
+        &signed_span(modulus, sign, second),
+    )
 }
 
 /// The sums of each member with itself.

@@ -2,14 +2,8 @@
 
 ghost use Rattle.std.specs.Prelude.{◌≡◌, ℕ, ◌+◌, ◌-◌, ◌*◌, ◌%◌, ◌<◌, ◌≤◌, ◌↔◌, IsTrue, IsNone, IsSome, IfSome, All, length, slice_index};
 ghost use Rattle.std.specs.List.{Contains};
-ghost use Rattle.value_set.specs.Form as forms;
-ghost use Rattle.value_set.specs.Form.{Has, Includes, IsNormal, above, members};
-ghost use Rattle.value_set.specs.Collecting.{IsNoRun};
-ghost use Rattle.value_set.specs.Joining as joins;
-ghost use Rattle.value_set.specs.Widening as widens;
-ghost use Rattle.value_set.specs.Cutting as cuts;
-ghost use Rattle.value_set.specs.Summing as sums;
-ghost use Rattle.value_set.specs.Summing.{single};
+ghost use Rattle.value_set.specs.Calls as calls;
+ghost use Rattle.value_set.specs.Calls.{Has, Includes, IsNoRun, IsNormal, above, members, single};
 ghost use Rattle.value_set.specs.Widths.{IsByteList};
 
 use crate::bytes::Vs8;
@@ -62,7 +56,7 @@ impl Vs16 {
 
     /// The set of all numbers.
     pub fn any() -> Self
-        ensures value { result ≡ forms.make 65536 0 1 65536 }
+        ensures value { result ≡ calls.make 65536 0 1 65536 }
         ensures normal { IsNormal 65536 result }
         ensures all { (v : ℕ) → v < 65536 → Has 65536 result v }
     {
@@ -74,7 +68,7 @@ impl Vs16 {
     /// A set with each number of a list: they alone where they are at most 16. There is none of an empty list.
     pub fn gather(list: &[u16]) -> Option<Self>
         ensures none { IsNone result ↔ (length list.now ≡ 0) }
-        ensures value { IfSome result (λ set. set ≡ forms.gather 65536 list.now) }
+        ensures value { IfSome result (λ set. set ≡ calls.gather 65536 list.now) }
         ensures normal { IfSome result (λ set. IsNormal 65536 set) }
         ensures holds { IfSome result (λ set. All (λ v. Has 65536 set v) list.now) }
     {
@@ -88,9 +82,9 @@ impl Vs16 {
     /// more than 65536, with one number twice, and of a run that goes round.
     pub fn run(base: u16, stride: u16, count: u32) -> Option<Self>
         ensures none { IsNone result ↔ IsNoRun 65536 stride count }
-        ensures value { IfSome result (λ set. set ≡ forms.make 65536 base stride count) }
+        ensures value { IfSome result (λ set. set ≡ calls.make 65536 base stride count) }
         ensures normal { IfSome result (λ set. IsNormal 65536 set) }
-        ensures exact { IfSome result (λ set. (v : ℕ) → Has 65536 set v ↔ Contains (forms.steps 65536 base stride count) v) }
+        ensures exact { IfSome result (λ set. (v : ℕ) → Has 65536 set v ↔ Contains (calls.steps 65536 base stride count) v) }
     {
         match sets::run(MODULUS, base, stride, count) {
             Some(form) => Some(Vs16 { form }),
@@ -100,7 +94,7 @@ impl Vs16 {
 
     /// The bytes of a set gathered as words with the high byte 0. A list of bytes is the same list of words.
     pub fn from_bytes(bytes: &Vs8) -> Self
-        ensures value { result ≡ forms.gather 65536 (members 256 bytes.now) }
+        ensures value { result ≡ calls.gather 65536 (members 256 bytes.now) }
         ensures normal { IsNormal 65536 result }
         ensures holds { (v : ℕ) → Has 256 bytes.now v → Has 65536 result v }
         ensures listed { length (members 256 bytes.now) ≤ 16 → result ≡ bytes.now }
@@ -114,7 +108,7 @@ impl Vs16 {
     pub fn as_bytes(&self) -> Option<Vs8>
         ensures listed { IsSome result ↔ IsByteList self.now }
         ensures value { IfSome result (λ set. set ≡ self.now) }
-        ensures gathered { IfSome result (λ set. set ≡ forms.gather 256 (members 65536 self.now)) }
+        ensures gathered { IfSome result (λ set. set ≡ calls.gather 256 (members 65536 self.now)) }
         ensures normal { IfSome result (λ set. IsNormal 256 set) }
     {
         match widths::as_bytes(&self.form) {
@@ -157,7 +151,7 @@ impl Vs16 {
 
     /// Whether each member is one of the other set.
     pub fn within(&self, other: &Vs16) -> bool
-        ensures value { result ≡ joins.is_within 65536 self.now other.now }
+        ensures value { result ≡ calls.is_within 65536 self.now other.now }
         ensures inclusion { IsTrue result ↔ Includes 65536 other.now self.now }
     {
         member::within(MODULUS, &self.form, &other.form)
@@ -165,7 +159,7 @@ impl Vs16 {
 
     /// A set that has the members of both.
     pub fn join(&self, other: &Vs16) -> Vs16
-        ensures value { result ≡ joins.join 65536 self.now other.now }
+        ensures value { result ≡ calls.join 65536 self.now other.now }
         ensures normal { IsNormal 65536 result }
         ensures own { Includes 65536 result self.now }
         ensures others { Includes 65536 result other.now }
@@ -178,7 +172,7 @@ impl Vs16 {
     /// A set that has the members of this one, which is held, and of a new one. Where it has to grow, its ends go on to
     /// the next marks.
     pub fn widen(&self, new: &Vs16, marks: &[u16]) -> Vs16
-        ensures value { result ≡ widens.widen 65536 self.now new.now marks.now }
+        ensures value { result ≡ calls.widen 65536 self.now new.now marks.now }
         ensures normal { IsNormal 65536 result }
         ensures held { Includes 65536 result self.now }
         ensures added { Includes 65536 result new.now }
@@ -190,7 +184,7 @@ impl Vs16 {
 
     /// The sums modulo 65536 of the members of two sets.
     pub fn add(&self, other: &Vs16) -> Vs16
-        ensures value { result ≡ sums.add 65536 self.now other.now }
+        ensures value { result ≡ calls.add 65536 self.now other.now }
         ensures normal { IsNormal 65536 result }
         ensures holds { (x y : ℕ) → Has 65536 self.now x → Has 65536 other.now y → Has 65536 result ((x + y) % 65536) }
         ensures alone { (x y : ℕ) → self.now ≡ single x → other.now ≡ single y → result ≡ single ((x + y) % 65536) }
@@ -202,7 +196,7 @@ impl Vs16 {
 
     /// The differences modulo 65536 of the members of two sets.
     pub fn sub(&self, other: &Vs16) -> Vs16
-        ensures value { result ≡ sums.sub 65536 self.now other.now }
+        ensures value { result ≡ calls.sub 65536 self.now other.now }
         ensures normal { IsNormal 65536 result }
         ensures holds { (x y : ℕ) → Has 65536 self.now x → Has 65536 other.now y → Has 65536 result ((x + 65536 - y) % 65536) }
         ensures alone { (x y : ℕ) → self.now ≡ single x → other.now ≡ single y → result ≡ single ((x + 65536 - y) % 65536) }
@@ -214,7 +208,7 @@ impl Vs16 {
 
     /// The sums modulo 65536 of each member with itself.
     pub fn twice(&self) -> Vs16
-        ensures value { result ≡ sums.twice 65536 self.now }
+        ensures value { result ≡ calls.twice 65536 self.now }
         ensures normal { IsNormal 65536 result }
         ensures holds { (x : ℕ) → Has 65536 self.now x → Has 65536 result ((x + x) % 65536) }
         ensures alone { (x : ℕ) → self.now ≡ single x → result ≡ single ((x + x) % 65536) }
@@ -228,7 +222,7 @@ impl Vs16 {
     /// member does.
     pub fn cut(&self, low: u16, len: u32) -> Option<Vs16>
         ensures none { IsNone result ↔ ((v : ℕ) → Has 65536 self.now v → len ≤ above 65536 low v) }
-        ensures value { result ≡ cuts.cut 65536 self.now low len }
+        ensures value { result ≡ calls.cut 65536 self.now low len }
         ensures normal { IfSome result (λ set. IsNormal 65536 set) }
         ensures holds { IfSome result (λ set. (v : ℕ) → Has 65536 self.now v → above 65536 low v < len → Has 65536 set v) }
     {
@@ -242,7 +236,7 @@ impl Vs16 {
     pub fn combine<O: Operation>(operation: &O, first: &Vs16, second: &Vs16, carry: &Vs16) -> Vs16
         requires width { O.modulus operation.now ≡ 65536 }
         requires few { length (members 65536 first.now) * (length (members 65536 second.now) * length (members 65536 carry.now)) ≤ 256 }
-        ensures value { result ≡ sums.combine 65536 (O.answer operation.now) first.now second.now carry.now }
+        ensures value { result ≡ calls.combine 65536 (O.answer operation.now) first.now second.now carry.now }
         ensures normal { IsNormal 65536 result }
         ensures holds { (x y z : ℕ) → Has 65536 first.now x → Has 65536 second.now y → Has 65536 carry.now z → Has 65536 result (O.answer operation.now x y z) }
         ensures alone { (x y z : ℕ) → first.now ≡ single x → second.now ≡ single y → carry.now ≡ single z → result ≡ single (O.answer operation.now x y z) }

@@ -45,10 +45,10 @@ pub returns : goal.returns
 returns g c =
     let m = c.args.modulus in let first = c.args.first.now in let second = c.args.second.now in
     let value : (place : Place) → known_at place c.all_agreed_of.result ≡ agreed m (g.F.AllFlags.value c.args.operation.now place) first second (chosen c.args.carry) =
-    λ place. c.all_agreed_of.ensures place ∙ agreed_listed m (g.F.AllFlags.value c.args.operation.now place) first second c.chosen-carries.result (chosen c.args.carry)
-    c.as_slice.result.now c.as_slice-2.result.now c.as_slice-3.result.now (c.is_few.ensures.0 c.if-not-is_few.false)
+    λ place. agreed_listed m (g.F.AllFlags.value c.args.operation.now place) first second c.chosen-carries.result (chosen c.args.carry)
+    c.as_slice.result.now c.as_slice-2.result.now c.as_slice-3.result.now (known_at place c.all_agreed_of.result) (c.is_few.ensures.0 c.if-not-is_few.false)
     (c.as_slice.ensures.value ∙ c.listed-xs.ensures) (c.as_slice-2.ensures.value ∙ c.listed-ys.ensures) (c.as_slice-3.ensures.value ∙ c.listed-zs.ensures)
-    c.chosen-carries.ensures.value in
+    c.chosen-carries.ensures.value (c.all_agreed_of.ensures place) in
     record {
       value = value;
       holds = λ place x y bit h k is.

@@ -1,7 +1,7 @@
 use Rattle.std.proofs.Common.{◌≡◌, ◌≤◌, ◌*◌, take, length}
 use Rattle.value_set.specs.Form.{ascending, Ascends, members}
 use Rattle.value_set.specs.Summing.{results}
-use Rattle.value_set.proofs.combining.combine_several.Given as goal
+use Rattle.value_set.proofs.combining.combine.Given as goal
 
 abbrev pub invariant-loop-place : goal.invariant-loop-place
 invariant-loop-place g l = record {

@@ -6,12 +6,12 @@ use Rattle.value_set.proofs.Singles.{sub_one}
 use Rattle.value_set.proofs.sets.sub.Goals as goal
 
 pub returns-clause-normal : goal.returns-clause-normal
-returns-clause-normal c = subst (λ (set : Form). IsNormal c.args.modulus set) (sym c.sub.ensures)
+returns-clause-normal c = subst (λ (set : Form). IsNormal c.args.modulus set) (sym c.signed_sum.ensures)
     (sub_normal c.args.modulus c.args.first.now c.args.second.now c.requires.first_normal c.requires.second_normal)
 
 pub returns-clause-holds : goal.returns-clause-holds
-returns-clause-holds c x y h k = subst (λ (set : Form). Has c.args.modulus set ((x + c.args.modulus - y) % c.args.modulus)) (sym c.sub.ensures)
+returns-clause-holds c x y h k = subst (λ (set : Form). Has c.args.modulus set ((x + c.args.modulus - y) % c.args.modulus)) (sym c.signed_sum.ensures)
     (sub_has c.args.modulus c.args.first.now c.args.second.now x y c.requires.first_normal c.requires.second_normal h k)
 
 pub returns-clause-alone : goal.returns-clause-alone
-returns-clause-alone c x y h k = c.sub.ensures ∙ sub_one c.args.modulus c.args.first.now c.args.second.now x y h k
+returns-clause-alone c x y h k = c.signed_sum.ensures ∙ sub_one c.args.modulus c.args.first.now c.args.second.now x y h k
