@@ -17,7 +17,7 @@ use Rattle.mcs51_state.specs.Forms.{IsKnown}
 use Rattle.mcs51_state.specs.Known.{Known, top_known, known_united, known_joined, known_widened, known_within, registers_within}
 use Rattle.mcs51_state.proofs.FactLemmas.{linear_equality, carry_equality}
 use Rattle.mcs51_state.proofs.LevelLemmas.{levels_ordered}
-use Rattle.mcs51_state.proofs.StateForms.{a_part, b_part, bits_part, byte_ordered, carry_part, cells_part, dph_part, dpl_part, ie_part, ip_part, levels_part, linear_part, relation_part, sp_part, touched_part, united_form}
+use Rattle.mcs51_state.proofs.StateForms.{bits_part, byte_ordered, byte_part, carry_part, cells_part, levels_part, linear_part, relation_part, sp_part, touched_part, united_form}
 
 -- marks of bytes are marks of the words of cells
 word_marks : (marks : List ℕ) → AreMarks 256 marks → AreMarks 65536 marks
@@ -33,12 +33,12 @@ module _ (laws : KnownLaws) (framed : Bool) where
         let byte = byte_ordered laws sets cells unions in
         both_ordered (both_ordered (both_ordered (both_ordered (both_ordered (both_ordered
         (part_ordered (sp_part framed) form (λ s t. refl) unions.sets)
-        (part_ordered (a_part framed) form (λ s t. refl) byte))
-        (part_ordered (b_part framed) form (λ s t. refl) byte))
-        (part_ordered (dpl_part framed) form (λ s t. refl) byte))
-        (part_ordered (dph_part framed) form (λ s t. refl) byte))
-        (part_ordered (ie_part framed) form (λ s t. refl) byte))
-        (part_ordered (ip_part framed) form (λ s t. refl) byte)
+        (part_ordered (byte_part framed (λ known. known.a) (λ known form. form.a.normal)) form (λ s t. refl) byte))
+        (part_ordered (byte_part framed (λ known. known.b) (λ known form. form.b.normal)) form (λ s t. refl) byte))
+        (part_ordered (byte_part framed (λ known. known.dpl) (λ known form. form.dpl.normal)) form (λ s t. refl) byte))
+        (part_ordered (byte_part framed (λ known. known.dph) (λ known form. form.dph.normal)) form (λ s t. refl) byte))
+        (part_ordered (byte_part framed (λ known. known.ie) (λ known form. form.ie.normal)) form (λ s t. refl) byte))
+        (part_ordered (byte_part framed (λ known. known.ip) (λ known form. form.ip.normal)) form (λ s t. refl) byte)
 
     united_ordered : IsOrdered (IsKnown framed) known_within (known_united sets cells) (top_known framed)
     unfolding known_within

@@ -103,23 +103,9 @@ module _ (framed : Bool) where
   abbrev pub sp_part : Part (IsKnown framed) (IsNormal 256)
   sp_part = record { of = λ known. known.sp; formed = λ known form. form.sp }
 
-  abbrev pub a_part : Part (IsKnown framed) IsNormalByte
-  a_part = record { of = λ known. known.a; formed = λ known form. form.a.normal }
-
-  abbrev pub b_part : Part (IsKnown framed) IsNormalByte
-  b_part = record { of = λ known. known.b; formed = λ known form. form.b.normal }
-
-  abbrev pub dpl_part : Part (IsKnown framed) IsNormalByte
-  dpl_part = record { of = λ known. known.dpl; formed = λ known form. form.dpl.normal }
-
-  abbrev pub dph_part : Part (IsKnown framed) IsNormalByte
-  dph_part = record { of = λ known. known.dph; formed = λ known form. form.dph.normal }
-
-  abbrev pub ie_part : Part (IsKnown framed) IsNormalByte
-  ie_part = record { of = λ known. known.ie; formed = λ known form. form.ie.normal }
-
-  abbrev pub ip_part : Part (IsKnown framed) IsNormalByte
-  ip_part = record { of = λ known. known.ip; formed = λ known form. form.ip.normal }
+  -- one of the registers that are bytes with a relation
+  abbrev pub byte_part : (register : Known → Byte) → ((known : Known) → IsKnown framed known → IsNormalByte (register known)) → Part (IsKnown framed) IsNormalByte
+  byte_part register formed = record { of = register; formed = formed }
 
   abbrev pub bits_part : Part (IsKnown framed) (AreEach {A = Tri} 6 IsAny)
   bits_part = record { of = λ known. known.psw.bits; formed = λ known form. record { count = form.bits; each = λ k d lt. tt } }

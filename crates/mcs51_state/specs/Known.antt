@@ -55,16 +55,16 @@ byte_of set = record { set = set; entry = None }
 abbrev pub no_cells : CellMap
 no_cells = record { lo = 0; hi = 255; cells = [] }
 
--- A, B and DPTR are of one set, and nothing is known beside registers and levels
-abbrev pub known_by : (sp each ie ip : Form) → Status → Levels → (touched : List (ℕ × ℕ)) → Known
+-- A, B, DPL and DPH are alike, and nothing is known beside registers and levels
+abbrev pub known_by : (sp : Form) → (each ie ip : Byte) → Status → Levels → (touched : List (ℕ × ℕ)) → Known
 known_by sp each ie ip psw levels touched = record {
   sp = sp;
-  a = byte_of each;
-  b = byte_of each;
-  dpl = byte_of each;
-  dph = byte_of each;
-  ie = byte_of ie;
-  ip = byte_of ip;
+  a = each;
+  b = each;
+  dpl = each;
+  dph = each;
+  ie = ie;
+  ip = ip;
   psw = psw;
   levels = levels;
   linear_fact = None;
@@ -76,14 +76,15 @@ known_by sp each ie ip psw levels touched = record {
 -- Behind a reset SP is 7, the other registers are 0 in the bits that they hold and any in the others, no level is in service,
 -- and RAM is any.
 abbrev pub first_known : Known
-first_known = known_by (single 7) (single 0) (gather 256 (0 ∷ 64 ∷ [])) (gather 256 (0 ∷ 64 ∷ 128 ∷ 192 ∷ [])) (status_of Zero) only_none []
+first_known =
+    known_by (single 7) (byte_of (single 0)) (byte_of (gather 256 (0 ∷ 64 ∷ []))) (byte_of (gather 256 (0 ∷ 64 ∷ 128 ∷ 192 ∷ []))) (status_of Zero) only_none []
 
 abbrev pub all_touched : Bool → List (ℕ × ℕ)
 all_touched framed = ranges.all_touched framed 0 255
 
 -- nothing is known; in an interrupt's frame all RAM may be touched
 abbrev pub top_known : (framed : Bool) → Known
-top_known framed = known_by any_byte any_byte any_byte any_byte (status_of Either) all_levels (all_touched framed)
+top_known framed = known_by any_byte (byte_of any_byte) (byte_of any_byte) (byte_of any_byte) (status_of Either) all_levels (all_touched framed)
 
 -- JOINING AND WIDENING
 

@@ -1,37 +1,23 @@
-use Rattle.std.proofs.Common.{◌≡◌}
 use Rattle.entry_value.specs.Cells.{widen_cells}
-use Rattle.entry_value.specs.Representing.{is_united, widenings_unite}
+use Rattle.entry_value.specs.Representing.{IsUnited, is_united, widenings_unite}
 use Rattle.abs_pages.specs.Paging.{flat}
 use Rattle.abs_memory.specs.Joining.{marks_below}
 use Rattle.abs_pages.proofs.Seen.{map_of, seen}
 use Rattle.abs_pages.proofs.pages.CellPagesCells.widen.Goals as goal
+use Rattle.abs_pages.proofs.pages.CellPagesCells.widen.Goals.{In_ok-passed}
+
+-- the cells that are made, as callers see them
+widened : (c : In_ok-passed) → let held = c.self.inside in IsUnited (λ held new. widen_cells held new c.args.marks.now)
+    (map_of held.lo held.hi held.pages.items) c.args.self.now c.args.new.now (flat c.in_ok-passed.field-0.items)
+unfolding widen_cells
+widened c =
+    let marks = c.args.marks.now in
+    is_united (λ held new. widen_cells held new marks) (widenings_unite c.cell_laws.ensures marks (marks_below marks (λ k. (c.type_inv.marks k).fits))) _ _ _ _ _
+    (seen c.self.invariant c.self.view_is) (seen c.new.invariant c.new.view_is) (rw (c.deref.ensures.value, c.deref-2.ensures.value) at c.in_ok-passed.ensures.value)
 
 pub invariant_of-result : goal.invariant_of-result
-unfolding widen_cells
 invariant_of-result c =
-    let held = c.self.inside in
-    let new = c.new.inside in
-    let marks = c.args.marks.now in
-    let cells : flat c.in_ok-passed.field-0.items ≡ widen_cells (flat held.pages.items) (flat new.pages.items) marks =
-    rw (c.deref.ensures.value, c.deref-2.ensures.value) at c.in_ok-passed.ensures.value in
-    let all = is_united (λ held new. widen_cells held new marks)
-    (widenings_unite c.cell_laws.ensures marks (marks_below marks (λ k. (c.type_inv.marks k).fits)))
-    (map_of held.lo held.hi held.pages.items) c.args.self.now (map_of new.lo new.hi new.pages.items) c.args.new.now
-    (flat c.in_ok-passed.field-0.items) (seen held.lo held.hi held.pages.items c.args.self.now c.self.invariant c.self.view_is)
-    (seen new.lo new.hi new.pages.items c.args.new.now c.new.invariant c.new.view_is) cells in
-    record { some = c.self.invariant.some; high = c.self.invariant.high; form = c.in_ok-passed.ensures.pages; are = all.are }
+    record { some = c.self.invariant.some; high = c.self.invariant.high; form = c.in_ok-passed.ensures.pages; are = (widened c).are }
 
 pub returns : goal.returns
-unfolding widen_cells
-returns c =
-    let held = c.self.inside in
-    let new = c.new.inside in
-    let marks = c.args.marks.now in
-    let cells : flat c.in_ok-passed.field-0.items ≡ widen_cells (flat held.pages.items) (flat new.pages.items) marks =
-    rw (c.deref.ensures.value, c.deref-2.ensures.value) at c.in_ok-passed.ensures.value in
-    let all = is_united (λ held new. widen_cells held new marks)
-    (widenings_unite c.cell_laws.ensures marks (marks_below marks (λ k. (c.type_inv.marks k).fits)))
-    (map_of held.lo held.hi held.pages.items) c.args.self.now (map_of new.lo new.hi new.pages.items) c.args.new.now
-    (flat c.in_ok-passed.field-0.items) (seen held.lo held.hi held.pages.items c.args.self.now c.self.invariant c.self.view_is)
-    (seen new.lo new.hi new.pages.items c.args.new.now c.new.invariant c.new.view_is) cells in
-    record { value = all.value; held = all.own; added = all.others }
+returns c = let all = widened c in record { value = all.value; held = all.own; added = all.others }
