@@ -20,7 +20,7 @@ use Rattle.mcs51_state.specs.Holding.{GoesOn, StandsIn}
 use Rattle.mcs51_state.specs.Known.{Known, is_interrupt}
 use Rattle.mcs51_state.specs.Places.{suspended_of}
 use Rattle.mcs51_state.specs.Under.{IsUnder}
-use Rattle.mcs51_control.specs.Premises.{Premises}
+use Rattle.mcs51_results.specs.InstructionLaws.{InstructionLaws}
 use Rattle.mcs51_control.specs.Returning.{goes_back, high_byte, is_behind_entry, is_counter, low_byte}
 use Rattle.mcs51_control.proofs.Levels.{ended_pc, ended_sp}
 use Rattle.mcs51_control.proofs.Tops.{high_holds, low_holds}
@@ -51,7 +51,7 @@ counter_byte f place v (Some entry) is held small from =
     let first_two = and_parts (entry.place == place) (entry.and == 255) both.0 in
     whole_byte f place v entry (eqb-true entry.place place first_two.0) (eqb-true entry.and 255 first_two.1) (eqb-true entry.or 0 both.1) held small from
 
-pub back_so : (laws : Premises) (framed : Bool) (a : Known) (s : ChipState) (first : Option ChipState) (frame : Frame) → IsUnder framed a s first → StandsIn frame first
+pub back_so : (laws : InstructionLaws) (framed : Bool) (a : Known) (s : ChipState) (first : Option ChipState) (frame : Frame) → IsUnder framed a s first → StandsIn frame first
     → goes_back framed frame a ≡ true → GoesOn frame (level_ended (returned s)) first
 unfolding goes_back
 back_so laws framed a s first Base under stands goes = absurd (cc)

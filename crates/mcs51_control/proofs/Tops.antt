@@ -13,27 +13,27 @@ use Rattle.mcs51_state.specs.Standing.{AreAddresses, MayStandAt}
 use Rattle.mcs51_state.specs.Under.{IsUnder}
 use Rattle.mcs51_stores.specs.Stack.{byte_popped, stack_top}
 use Rattle.mcs51_stores.specs.ValueFacts.{lowered_normal}
-use Rattle.mcs51_control.specs.Premises.{Premises}
+use Rattle.mcs51_results.specs.InstructionLaws.{InstructionLaws}
 use Rattle.mcs51_control.specs.Returning.{below_top, high_byte, low_byte}
 
-pub popped_under : (laws : Premises) (framed : Bool) (a : Known) (s : ChipState) (first : Option ChipState) → IsUnder framed a s first
+pub popped_under : (laws : InstructionLaws) (framed : Bool) (a : Known) (s : ChipState) (first : Option ChipState) → IsUnder framed a s first
     → IsUnder framed (byte_popped a) (popped s) first
 popped_under laws framed a s first under = laws.stores.stack.pop framed first a s under
 
-pub below_form : (laws : Premises) (framed : Bool) (a : Known) → IsKnown framed a → AreAddresses (below_top a)
+pub below_form : (laws : InstructionLaws) (framed : Bool) (a : Known) → IsKnown framed a → AreAddresses (below_top a)
 below_form laws framed a form = lowered_normal laws.known a.sp form.sp
 
-pub below_stands : (laws : Premises) (framed : Bool) (a : Known) (s : ChipState) (first : Option ChipState) → IsUnder framed a s first
+pub below_stands : (laws : InstructionLaws) (framed : Bool) (a : Known) (s : ChipState) (first : Option ChipState) → IsUnder framed a s first
     → MayStandAt (below_top a) (AtRam ((s.sp + 255) % 256))
 below_stands laws framed a s first under = laws.stores.stack.top framed first (byte_popped a) (popped s) (popped_under laws framed a s first under)
 
 -- the chip's two bytes
-pub high_holds : (laws : Premises) (framed : Bool) (a : Known) (s : ChipState) (first : Option ChipState) → IsUnder framed a s first
+pub high_holds : (laws : InstructionLaws) (framed : Bool) (a : Known) (s : ChipState) (first : Option ChipState) → IsUnder framed a s first
     → HoldsOfByte (option_map suspended_of first) (high_byte framed a) (top_of s)
 high_holds laws framed a s first under =
     laws.operands.reads.byte framed a s first under (stack_top a) (AtRam s.sp) (top_of s) (laws.stores.stack.top framed first a s under) (laws.stores.stack.top_form framed first a s under) refl
 
-pub low_holds : (laws : Premises) (framed : Bool) (a : Known) (s : ChipState) (first : Option ChipState) → IsUnder framed a s first
+pub low_holds : (laws : InstructionLaws) (framed : Bool) (a : Known) (s : ChipState) (first : Option ChipState) → IsUnder framed a s first
     → HoldsOfByte (option_map suspended_of first) (low_byte framed a) (top_of (popped s))
 low_holds laws framed a s first under =
     laws.operands.reads.byte framed a s first under (below_top a) (AtRam ((s.sp + 255) % 256)) (top_of (popped s)) (below_stands laws framed a s first under) (below_form laws framed a under.form) refl

@@ -1,3 +1,2 @@
 pub mod Laws
-pub mod Premises
 pub mod Returning

@@ -3,21 +3,15 @@
 ghost use Rattle.mcs51_jumps.specs.Premises.{Premises};
 ghost use Rattle.mcs51_jumps.specs.Laws.{JumpsDo, JumpsKeepForm};
 
-use irq_frames::known_laws;
 use mcs51_bits::{bits_do, bits_keep_form};
 use mcs51_branch::branch_laws;
-use mcs51_chip::formats_lead;
-use mcs51_operands::operand_laws;
-use mcs51_stores::store_laws;
+use mcs51_results::instruction_laws;
 
 /// The laws of cuts, operands, bits, writes and formats that those below rest on.
 fn premises_hold()
     ensures { Premises }
 {
-    known_laws();
-    formats_lead();
-    operand_laws();
-    store_laws();
+    instruction_laws();
     bits_do();
     bits_keep_form();
     branch_laws();

@@ -25,18 +25,18 @@ use Rattle.mcs51_stores.specs.ValueFacts.{plain_value}
 use Rattle.mcs51_operands.specs.Doing.{DoesSo}
 use Rattle.mcs51_operands.specs.ShowingFacts.{none_shown}
 use Rattle.mcs51_memories.specs.Pairs.{divided_known, multiplied_known, pointer_loaded, pointer_raised, with_pair}
-use Rattle.mcs51_memories.specs.Premises.{Premises}
+use Rattle.mcs51_results.specs.InstructionLaws.{InstructionLaws}
 
 -- DPTR
 
-pub load_form : (laws : Premises) (framed : Bool) (a : Known) (value : ℕ) → IsKnown framed a → value < 65536 → IsKnown framed (pointer_loaded value a)
+pub load_form : (laws : InstructionLaws) (framed : Bool) (a : Known) (value : ℕ) → IsKnown framed a → value < 65536 → IsKnown framed (pointer_loaded value a)
 unfolding pointer_loaded
 load_form laws framed a value form small =
     let low = laws.known.sets.single 256 (value % 256) (omega arith) in
     let high = laws.known.sets.single 256 (value / 256) (omega (arith, small)) in
     laws.stores.forms.data_pointer framed (byte_of (single (value % 256))) (byte_of (single (value / 256))) (byte_form framed (single (value % 256)) low.0) (byte_form framed (single (value / 256)) high.0) a form
 
-load_under : (laws : Premises) (framed : Bool) (a : Known) (s : ChipState) (first : Option ChipState) (value : ℕ) → IsUnder framed a s first → value < 65536
+load_under : (laws : InstructionLaws) (framed : Bool) (a : Known) (s : ChipState) (first : Option ChipState) (value : ℕ) → IsUnder framed a s first → value < 65536
     → IsUnder framed (pointer_loaded value a) (with_data_pointer value s) first
 unfolding pointer_loaded
 load_under laws framed a s first value under small =
@@ -45,20 +45,20 @@ load_under laws framed a s first value under small =
     laws.stores.writes.data_pointer framed first (byte_of (single (value % 256))) (byte_of (single (value / 256))) value
     (plain_value framed first (single (value % 256)) (value % 256) low.0 low.1) (plain_value framed first (single (value / 256)) (value / 256) high.0 high.1) a s under
 
-pub load_does : (laws : Premises) (framed : Bool) (a : Known) (s : ChipState) (first : Option ChipState) (image : List (Option ℕ)) (pc value : ℕ)
+pub load_does : (laws : InstructionLaws) (framed : Bool) (a : Known) (s : ChipState) (first : Option ChipState) (image : List (Option ℕ)) (pc value : ℕ)
     → IsUnder framed a s first → value < 65536
     → Gives (DoesSo framed first [] pc (pointer_loaded value a) s) (effect_of image s (LoadDataPointer value))
 unfolding effect_of
 load_does laws framed a s first image pc value under small =
     laws.operands.formats.implied framed first pc (pointer_loaded value a) s (with_data_pointer value s) (record { onward = refl; under = load_under laws framed a s first value under small })
 
-pub raise_form : (laws : Premises) (framed : Bool) (a : Known) → IsKnown framed a → IsKnown framed (pointer_raised a)
+pub raise_form : (laws : InstructionLaws) (framed : Bool) (a : Known) → IsKnown framed a → IsKnown framed (pointer_raised a)
 unfolding pointer_raised
 raise_form laws framed a form =
     let is = laws.results.changes.pointer_form framed a.dpl a.dph form.dpl form.dph in
     laws.stores.forms.data_pointer framed (pointer_increased a.dpl a.dph).0 (pointer_increased a.dpl a.dph).1 is.0 is.1 a form
 
-raise_under : (laws : Premises) (framed : Bool) (a : Known) (s : ChipState) (first : Option ChipState) → IsUnder framed a s first
+raise_under : (laws : InstructionLaws) (framed : Bool) (a : Known) (s : ChipState) (first : Option ChipState) → IsUnder framed a s first
     → IsUnder framed (pointer_raised a) (with_data_pointer ((data_pointer s + 1) % 65536) s) first
 unfolding pointer_raised
 raise_under laws framed a s first under =
@@ -69,7 +69,7 @@ raise_under laws framed a s first under =
     laws.stores.writes.data_pointer framed first (pointer_increased a.dpl a.dph).0 (pointer_increased a.dpl a.dph).1 ((data_pointer s + 1) % 65536)
     (record { form = is.0; holds = holds.0 }) (record { form = is.1; holds = holds.1 }) a s under
 
-pub raise_does : (laws : Premises) (framed : Bool) (a : Known) (s : ChipState) (first : Option ChipState) (image : List (Option ℕ)) (pc : ℕ) → IsUnder framed a s first
+pub raise_does : (laws : InstructionLaws) (framed : Bool) (a : Known) (s : ChipState) (first : Option ChipState) (image : List (Option ℕ)) (pc : ℕ) → IsUnder framed a s first
     → Gives (DoesSo framed first [] pc (pointer_raised a) s) (effect_of image s IncrementDataPointer)
 unfolding effect_of
 raise_does laws framed a s first image pc under =
@@ -107,11 +107,11 @@ pair_under framed made a s first x y p state is holds under =
 
 -- MUL
 
-pub multiply_form : (laws : Premises) (framed : Bool) (a : Known) → IsKnown framed a → IsKnown framed (multiplied_known a)
+pub multiply_form : (laws : InstructionLaws) (framed : Bool) (a : Known) → IsKnown framed a → IsKnown framed (multiplied_known a)
 unfolding multiplied_known
 multiply_form laws framed a form = pair_form framed (multiplied_made a.a a.b a.psw) a (laws.results.products.multiplied_form framed (pair_before a) (before_form framed a form)) form
 
-multiply_under : (laws : Premises) (framed : Bool) (a : Known) (s : ChipState) (first : Option ChipState) → IsUnder framed a s first
+multiply_under : (laws : InstructionLaws) (framed : Bool) (a : Known) (s : ChipState) (first : Option ChipState) → IsUnder framed a s first
     → IsUnder framed (multiplied_known a) (multiplied s) first
 unfolding multiplied_known
 multiply_under laws framed a s first under =
@@ -120,7 +120,7 @@ multiply_under laws framed a s first under =
     let holds = laws.results.products.multiplied framed (option_map suspended_of first) (pair_before a) s (before_stands framed a s first under) in
     pair_under framed made a s first (s.a * s.b % 256) (s.a * s.b / 256) (multiplied s).psw (multiplied_kept s under.holds.state) is holds under
 
-pub multiply_does : (laws : Premises) (framed : Bool) (a : Known) (s : ChipState) (first : Option ChipState) (image : List (Option ℕ)) (pc : ℕ) → IsUnder framed a s first
+pub multiply_does : (laws : InstructionLaws) (framed : Bool) (a : Known) (s : ChipState) (first : Option ChipState) (image : List (Option ℕ)) (pc : ℕ) → IsUnder framed a s first
     → Gives (DoesSo framed first [] pc (multiplied_known a) s) (effect_of image s Multiply)
 unfolding effect_of
 multiply_does laws framed a s first image pc under =
@@ -128,11 +128,11 @@ multiply_does laws framed a s first image pc under =
 
 -- DIV
 
-pub divide_form : (laws : Premises) (framed : Bool) (a : Known) → IsKnown framed a → IsKnown framed (divided_known a)
+pub divide_form : (laws : InstructionLaws) (framed : Bool) (a : Known) → IsKnown framed a → IsKnown framed (divided_known a)
 unfolding divided_known
 divide_form laws framed a form = pair_form framed (divided_made a.a a.b a.psw) a (laws.results.products.divided_form framed (pair_before a) (before_form framed a form)) form
 
-divide_so : (laws : Premises) (framed : Bool) (a : Known) (s : ChipState) (first : Option ChipState) (pc : ℕ) (none : Bool) (effect : Effect)
+divide_so : (laws : InstructionLaws) (framed : Bool) (a : Known) (s : ChipState) (first : Option ChipState) (pc : ℕ) (none : Bool) (effect : Effect)
     → (s.b == 0) ≡ none → IsUnder framed a s first → MayDivide none s effect → HoldsOfPair (option_map suspended_of first) (divided_made a.a a.b a.psw) effect.1
     → DoesSo framed first [] pc (with_pair (divided_made a.a a.b a.psw) a) s effect
 divide_so laws framed a s first pc true effect zero under (x, y, x_small, y_small, same) holds =
@@ -148,7 +148,7 @@ divide_so laws framed a s first pc false effect some under same holds =
     (subst (λ (e : Effect). HoldsOfPair (option_map suspended_of first) made e.1) same holds) under in
     subst (DoesSo framed first [] pc (with_pair made a) s) (sym same) (record { shown = none_shown [] pc; leads = record { onward = refl; under = behind } })
 
-pub divide_does : (laws : Premises) (framed : Bool) (a : Known) (s : ChipState) (first : Option ChipState) (image : List (Option ℕ)) (pc : ℕ) → IsUnder framed a s first
+pub divide_does : (laws : InstructionLaws) (framed : Bool) (a : Known) (s : ChipState) (first : Option ChipState) (image : List (Option ℕ)) (pc : ℕ) → IsUnder framed a s first
     → Gives (DoesSo framed first [] pc (divided_known a) s) (effect_of image s Divide)
 unfolding divided_known effect_of
 divide_does laws framed a s first image pc under =

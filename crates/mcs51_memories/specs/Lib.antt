@@ -2,5 +2,4 @@ pub mod Codes
 pub mod Externals
 pub mod Laws
 pub mod Pairs
-pub mod Premises
 pub mod Stacking

@@ -1,33 +1,20 @@
 //! Two registers at once.
 
 ghost use Rattle.std.specs.Prelude.{◌≡◌};
-ghost use Rattle.value_set.specs.Summing.{single};
-ghost use Rattle.mcs51_state.specs.Known.{byte_of};
 ghost use Rattle.mcs51_memories.specs.Pairs as pairs;
 
-use entry_value::{Byte, Cells};
+use entry_value::Cells;
 use mcs51_results::{MadePair, divided_made, multiplied_made, pointer_increased};
 use mcs51_state::State;
-use mcs51_stores::{set_accumulator, set_data_pointer, set_status};
-use value_set::Vs8;
-
-/// A byte that is one number.
-fn one(number: u8) -> Byte
-    ensures { result ≡ byte_of (single number) }
-{
-    Byte {
-        set: Vs8::one(number),
-        entry: None,
-    }
-}
+use mcs51_stores::{one_byte, set_accumulator, set_data_pointer, set_status};
 
 /// MOV of a number to DPTR.
 #[tactic(auto, unfolding(crate::specs::Pairs::pointer_loaded))]
 pub fn load_data_pointer<M: Cells>(state: &mut State<M>, value: u16)
     ensures { state.new ≡ pairs.pointer_loaded value state.old }
 {
-    let low = one((value % 256) as u8);
-    let high = one((value / 256) as u8);
+    let low = one_byte((value % 256) as u8);
+    let high = one_byte((value / 256) as u8);
     set_data_pointer(state, &low, &high);
 }
 

@@ -31,7 +31,7 @@ use Rattle.mcs51_stores.specs.Writing.{byte_written, status_written}
 use Rattle.mcs51_operands.specs.Doing.{DoesSo, LeadsSo}
 use Rattle.mcs51_operands.specs.Accesses.{update_at}
 use Rattle.mcs51_moves.specs.Moves.{direct_made, direct_masked, mask_operand}
-use Rattle.mcs51_moves.specs.Premises.{Premises}
+use Rattle.mcs51_results.specs.InstructionLaws.{InstructionLaws}
 use Rattle.mcs51_moves.proofs.Written.{direct_placed, read_value, value_small, written_leads}
 
 -- MASKS
@@ -47,7 +47,7 @@ mask_so framed a s first (mask.Immediate value) under is = (is, refl)
 
 -- BYTES
 
-masked_value : (laws : Premises) (framed : Bool) (first : Option ChipState) (done : Logic) (byte : Byte) (operand : Operand) (x m : ℕ)
+masked_value : (laws : InstructionLaws) (framed : Bool) (first : Option ChipState) (done : Logic) (byte : Byte) (operand : Operand) (x m : ℕ)
     → IsValue framed first byte x → AreOperands operand → IsOperand operand m
     → IsValue framed first (masked_made done byte operand) (masked done x m)
 masked_value laws framed first done byte operand x m value are is = record {
@@ -57,7 +57,7 @@ masked_value laws framed first done byte operand x m value are is = record {
 
 -- PSW
 
-status_leads : (laws : Premises) (framed : Bool) (a : Known) (s : ChipState) (first : Option ChipState) (done : Logic) (operand : Operand) (x m : ℕ)
+status_leads : (laws : InstructionLaws) (framed : Bool) (a : Known) (s : ChipState) (first : Option ChipState) (done : Logic) (operand : Operand) (x m : ℕ)
     → IsUnder framed a s first → AreOperands operand → IsOperand operand m
     → MayRead s (InSfr 0xD0) x → masked done x m < 256 → LeadsSo framed first (status_written (masked_status done a.psw operand) a) s (write (InSfr 0xD0) (masked done x m) s)
 unfolding write
@@ -73,7 +73,7 @@ status_leads laws framed a s first done operand x m under are is may small =
 
 -- THE INSTRUCTION
 
-masked_leads : (laws : Premises) (framed : Bool) (a : Known) (s : ChipState) (first : Option ChipState) (done : Logic) (direct : ℕ) (by : Mask) (x : ℕ)
+masked_leads : (laws : InstructionLaws) (framed : Bool) (a : Known) (s : ChipState) (first : Option ChipState) (done : Logic) (direct : ℕ) (by : Mask) (x : ℕ)
     → IsUnder framed a s first → direct < 256 → IsMask by
     → MayRead s (direct_address direct) x → LeadsSo framed first (direct_masked framed done direct by a) s (write (direct_address direct) (masked done x (mask_value s by)) s)
 unfolding direct_masked
@@ -93,7 +93,7 @@ masked_leads laws framed a s first done direct by x under small is may =
     (value_small laws framed first (direct_made framed done direct by a) (masked done x m) value)))
     (λ other. written_leads laws framed a s first at (direct_address direct) (direct_made framed done direct by a) (masked done x m) under placed value)
 
-pub mask_direct_so : (laws : Premises) (framed : Bool) (a : Known) (s : ChipState) (first : Option ChipState) (image : List (Option ℕ)) (pc : ℕ) (done : Logic) (direct : ℕ) (by : Mask) → IsUnder framed a s first
+pub mask_direct_so : (laws : InstructionLaws) (framed : Bool) (a : Known) (s : ChipState) (first : Option ChipState) (image : List (Option ℕ)) (pc : ℕ) (done : Logic) (direct : ℕ) (by : Mask) → IsUnder framed a s first
     → direct < 256 → IsMask by
     → Gives (DoesSo framed first (update_at pc (direct_addresses direct)) pc (direct_masked framed done direct by a) s) (effect_of image s (DirectLogic done direct by))
 unfolding effect_of
@@ -103,7 +103,7 @@ mask_direct_so laws framed a s first image pc done direct by under small is =
     (λ x. write (direct_address direct) (masked done x (mask_value s by)) s) (λ access there. absurd (omega (arith, there.1))) placed.stands placed.are
     (λ x may. masked_leads laws framed a s first done direct by x under small is may)
 
-pub mask_direct_form : (laws : Premises) (framed : Bool) (a : Known) (done : Logic) (direct : ℕ) (by : Mask) → IsKnown framed a → direct < 256 → IsMask by
+pub mask_direct_form : (laws : InstructionLaws) (framed : Bool) (a : Known) (done : Logic) (direct : ℕ) (by : Mask) → IsKnown framed a → direct < 256 → IsMask by
     → IsKnown framed (direct_masked framed done direct by a)
 unfolding direct_masked
 mask_direct_form laws framed a done direct by form small is =

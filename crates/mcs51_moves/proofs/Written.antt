@@ -24,7 +24,7 @@ use Rattle.mcs51_operands.specs.Showing.{address_accesses}
 use Rattle.mcs51_stores.specs.Following.{IsValue}
 use Rattle.mcs51_stores.specs.ValueFacts.{plain_value}
 use Rattle.mcs51_stores.specs.Writing.{accumulator_written, byte_written}
-use Rattle.mcs51_moves.specs.Premises.{Premises}
+use Rattle.mcs51_results.specs.InstructionLaws.{InstructionLaws}
 
 -- OPERANDS
 
@@ -32,16 +32,16 @@ pub record IsPlaced (at : Addresses) (address : Address) : Type 0 where
   pub stands : MayStandAt at address
   pub are : AreAddresses at
 
-pub memory_placed : (laws : Premises) (framed : Bool) (a : Known) (s : ChipState) (first : Option ChipState) (m : Memory) → IsUnder framed a s first
+pub memory_placed : (laws : InstructionLaws) (framed : Bool) (a : Known) (s : ChipState) (first : Option ChipState) (m : Memory) → IsUnder framed a s first
     → IsMemory m → IsPlaced (addresses_of a m) (address_of s m)
 memory_placed laws framed a s first m under is = record { stands = laws.operands.stands.operand framed a s first under m; are = laws.operands.stands.operand_form framed a under.form m is }
 
-pub direct_placed : (laws : Premises) (direct : ℕ) → direct < 256 → IsPlaced (direct_addresses direct) (direct_address direct)
+pub direct_placed : (laws : InstructionLaws) (direct : ℕ) → direct < 256 → IsPlaced (direct_addresses direct) (direct_address direct)
 direct_placed laws direct small = let both = laws.operands.stands.direct direct small in record { stands = both.0; are = both.1 }
 
 -- VALUES
 
-pub read_value : (laws : Premises) (framed : Bool) (a : Known) (s : ChipState) (first : Option ChipState) (at : Addresses) (address : Address) (x : ℕ)
+pub read_value : (laws : InstructionLaws) (framed : Bool) (a : Known) (s : ChipState) (first : Option ChipState) (at : Addresses) (address : Address) (x : ℕ)
     → IsUnder framed a s first → IsPlaced at address → MayRead s address x
     → IsValue framed first (read_byte framed a at) x
 read_value laws framed a s first at address x under placed may = record {
@@ -52,15 +52,15 @@ read_value laws framed a s first at address x under placed may = record {
 pub accumulator_value : (framed : Bool) (a : Known) (s : ChipState) (first : Option ChipState) → IsUnder framed a s first → IsValue framed first a.a s.a
 accumulator_value framed a s first under = record { form = under.form.a; holds = under.holds.parts.a }
 
-pub number_value : (laws : Premises) (framed : Bool) (first : Option ChipState) (value : ℕ) → value < 256 → IsValue framed first (byte_of (single value)) value
+pub number_value : (laws : InstructionLaws) (framed : Bool) (first : Option ChipState) (value : ℕ) → value < 256 → IsValue framed first (byte_of (single value)) value
 number_value laws framed first value small = let one = laws.known.sets.single 256 value small in plain_value framed first (single value) value one.0 one.1
 
-pub value_small : (laws : Premises) (framed : Bool) (first : Option ChipState) (byte : Byte) (x : ℕ) → IsValue framed first byte x → x < 256
+pub value_small : (laws : InstructionLaws) (framed : Bool) (first : Option ChipState) (byte : Byte) (x : ℕ) → IsValue framed first byte x → x < 256
 value_small laws framed first byte x value = laws.known.sets.below 256 x byte.set value.form.normal value.holds.0
 
 -- WRITES
 
-pub written_leads : (laws : Premises) (framed : Bool) (a : Known) (s : ChipState) (first : Option ChipState) (at : Addresses) (address : Address) (byte : Byte) (x : ℕ) → IsUnder framed a s first → IsPlaced at address
+pub written_leads : (laws : InstructionLaws) (framed : Bool) (a : Known) (s : ChipState) (first : Option ChipState) (at : Addresses) (address : Address) (byte : Byte) (x : ℕ) → IsUnder framed a s first → IsPlaced at address
     → IsValue framed first byte x → LeadsSo framed first (byte_written framed at byte a) s (write address x s)
 written_leads laws framed a s first at address byte x under placed value = record {
   onward = laws.operands.formats.write_keeps address x s;
@@ -68,7 +68,7 @@ written_leads laws framed a s first at address byte x under placed value = recor
 }
 
 -- and then of the accumulator
-pub both_lead : (laws : Premises) (framed : Bool) (a : Known) (s : ChipState) (first : Option ChipState) (at : Addresses) (address : Address) (byte held : Byte) (x y : ℕ) → IsUnder framed a s first → IsPlaced at address
+pub both_lead : (laws : InstructionLaws) (framed : Bool) (a : Known) (s : ChipState) (first : Option ChipState) (at : Addresses) (address : Address) (byte held : Byte) (x y : ℕ) → IsUnder framed a s first → IsPlaced at address
     → IsValue framed first byte x → IsValue framed first held y
     → LeadsSo framed first (accumulator_written held (byte_written framed at byte a)) s (with_accumulator y (write address x s))
 both_lead laws framed a s first at address byte held x y under placed value held_value =
@@ -77,18 +77,18 @@ both_lead laws framed a s first at address byte held x y under placed value held
       under = laws.stores.writes.accumulator framed first held y held_value (byte_written framed at byte a) (write address x s) one.under;
     }
 
-pub both_form : (laws : Premises) (framed : Bool) (a : Known) (at : Addresses) (byte held : Byte) → IsKnown framed a → AreAddresses at → IsByte framed byte → IsByte framed held
+pub both_form : (laws : InstructionLaws) (framed : Bool) (a : Known) (at : Addresses) (byte held : Byte) → IsKnown framed a → AreAddresses at → IsByte framed byte → IsByte framed held
     → IsKnown framed (accumulator_written held (byte_written framed at byte a))
 both_form laws framed a at byte held form are is held_is =
     laws.stores.forms.accumulator framed held held_is (byte_written framed at byte a) (laws.stores.forms.byte framed at byte are is a form)
 
 -- an operand is written
-pub memory_form : (laws : Premises) (framed : Bool) (a : Known) (m : Memory) (byte : Byte) → IsKnown framed a → IsMemory m → IsByte framed byte
+pub memory_form : (laws : InstructionLaws) (framed : Bool) (a : Known) (m : Memory) (byte : Byte) → IsKnown framed a → IsMemory m → IsByte framed byte
     → IsKnown framed (byte_written framed (addresses_of a m) byte a)
 memory_form laws framed a m byte form is byte_is =
     laws.stores.forms.byte framed (addresses_of a m) byte (laws.operands.stands.operand_form framed a form m is) byte_is a form
 
-pub write_does : (laws : Premises) (framed : Bool) (a : Known) (s : ChipState) (first : Option ChipState) (pc : ℕ) (m : Memory) (byte : Byte) (x : ℕ)
+pub write_does : (laws : InstructionLaws) (framed : Bool) (a : Known) (s : ChipState) (first : Option ChipState) (pc : ℕ) (m : Memory) (byte : Byte) (x : ℕ)
     → IsUnder framed a s first → IsMemory m → IsValue framed first byte x
     → Gives (DoesSo framed first (write_items pc a m) pc (byte_written framed (addresses_of a m) byte a) s) (writing s (address_reads s m) (address_of s m) x)
 write_does laws framed a s first pc m byte x under is value =
@@ -98,7 +98,7 @@ write_does laws framed a s first pc m byte x under is value =
     (laws.operands.shown.address framed pc a s first under m) placed.stands placed.are (written_leads laws framed a s first at (address_of s m) byte x under placed value)
 
 -- and is changed
-pub change_does : (laws : Premises) (framed : Bool) (a : Known) (s : ChipState) (first : Option ChipState) (pc : ℕ) (m : Memory) (change : ℕ → ℕ) (byte : Byte)
+pub change_does : (laws : InstructionLaws) (framed : Bool) (a : Known) (s : ChipState) (first : Option ChipState) (pc : ℕ) (m : Memory) (change : ℕ → ℕ) (byte : Byte)
     → IsUnder framed a s first → IsMemory m
     → ((x : ℕ) → IsValue framed first (read_byte framed a (addresses_of a m)) x → IsValue framed first byte (change x))
     → Gives (DoesSo framed first (update_items pc a m) pc (byte_written framed (addresses_of a m) byte a) s) (changing s (address_reads s m) (address_of s m) change)

@@ -5,15 +5,5 @@ use Rattle.mcs51_control.proofs.laws.returns_hold.Goals as goal
 
 pub returns : goal.returns
 returns c =
-    let laws = c.premises_hold.ensures in
-    record {
-      returned = returned_so laws;
-      interrupt = interrupt_so laws;
-      target = target_so laws;
-      targets = targets_so laws;
-      form = returned_form laws;
-      interrupt_form = interrupt_form laws;
-      shown = return_shown laws;
-      back = back_so laws;
-      base = base_so;
-    }
+    let laws = c.instruction_laws.ensures in
+    assumption (returned_so laws, interrupt_so laws, target_so laws, targets_so laws, returned_form laws, interrupt_form laws, return_shown laws, back_so laws, base_so)

@@ -3,7 +3,7 @@ use Rattle.mcs51_control.proofs.laws.transfers_do.Goals as goal
 
 pub returns : goal.returns
 returns c =
-    let laws = c.premises_hold.ensures in
+    let laws = c.instruction_laws.ensures in
     record {
       absolute_jump = absolute_jump_does laws;
       long_jump = long_jump_does laws;

@@ -6,7 +6,7 @@ use Rattle.mcs51_memories.proofs.laws.memories_do.Goals as goal
 
 pub returns : goal.returns
 returns c =
-    let laws = c.premises_hold.ensures in
+    let laws = c.instruction_laws.ensures in
     record {
       push = push_does laws;
       pop = pop_does laws;

@@ -6,7 +6,7 @@ use Rattle.mcs51_memories.proofs.laws.memories_keep_form.Goals as goal
 
 pub returns : goal.returns
 returns c =
-    let laws = c.premises_hold.ensures in
+    let laws = c.instruction_laws.ensures in
     record {
       push = push_form laws;
       pop = pop_form laws;

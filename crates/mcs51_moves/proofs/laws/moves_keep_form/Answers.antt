@@ -5,7 +5,7 @@ use Rattle.mcs51_moves.proofs.laws.moves_keep_form.Goals as goal
 
 pub returns : goal.returns
 returns c =
-    let laws = c.premises_hold.ensures in
+    let laws = c.instruction_laws.ensures in
     record {
       increment = increment_form laws;
       decrement = decrement_form laws;
