@@ -1,6 +1,6 @@
 -- What posts and claims of one turn do to a book.
-use Rattle.std.proofs.Common.{◌≡◌, ◌≢◌, ℕ, ◌==◌, ◌<◌, Bool, true, false, List, [], ◌∷◌, ◌++◌, length, Some, None, Result, Ok, Err, refl, sym, ap, ◌∙◌, subst, inl, inr, append-nil, append_assoc, arith, slice_index_or}
-use Rattle.std.specs.List.{AllByRecursion, IsDistinct, remove}
+use Rattle.std.proofs.Common.{◌≡◌, ◌≢◌, ℕ, ◌==◌, ◌<◌, Bool, true, false, List, [], ◌∷◌, ◌++◌, length, Some, None, Result, Ok, Err, refl, sym, ap, ◌∙◌, subst, inl, inr, append-nil, append_assoc, arith}
+use Rattle.std.specs.List.{AllByRecursion, IsDistinct}
 use Rattle.std.specs.Prelude.{nat_lt}
 use Rattle.std.proofs.lemmas.Bool.{false_from_ne_true}
 use Rattle.std.proofs.lemmas.Bool.Decides.{nat_tests}
@@ -41,11 +41,6 @@ distinct_push : {X : Type 0} (e : X → X → Bool) (xs : List X) (x : X) → Is
 unfolding IsDistinct
 distinct_push e [] x d a = (tt, tt)
 distinct_push e (y ∷ ys) x d a = (all_push (λ z. e y z ≡ false) ys x d.0 a.0, distinct_push e ys x d.1 a.1)
-
--- the first is taken from a list
-pub first_taken : {X : Type 0} (xs : List X) (x : X) (ys : List X) → 0 < length xs → x ≡ slice_index_or xs 0 x → ys ≡ remove xs 0 → xs ≡ x ∷ ys
-first_taken [] x ys some e d = absurd (omega arith)
-first_taken (z ∷ zs) x ys some e d = ap (λ w. w ∷ zs) (sym e) ∙ ap (λ l. x ∷ l) (sym d)
 
 pub none_from_test : {X : Type 0} (n : ℕ) (xs : List X) → n ≡ length xs → (n == 0) ≡ true → xs ≡ []
 none_from_test n [] e h = refl

@@ -2,7 +2,8 @@
 use denote.RattleType.{RattleType}
 use denote.Struct.Declared.{shape}
 use denote.Param.Send.{IsSend, sendable, view_send, recorded_send, struct_send}
-use Rattle.std.proofs.Crossing.{crosses}
+use denote.Param.SendFields.{declared_send}
+use Rattle.std.proofs.Crossing.{crosses, Box-send}
 use Rattle.chip_law.specs.declared.chip.Chip.{Ghosts}
 use Rattle.round_core.proofs.parts.Parts.TheSendSync as parts
 use Rattle.round_core.proofs.spent.Spent.TheSendSync as spent
@@ -23,6 +24,4 @@ module _ (C B A : RattleType) (g : Ghosts C.Denot B.Denot A.Denot) where
   book_send s = view_send (inside.the_row C B A g) _ _ _ _ (inside_send s)
 
   pub facts_send : IsSend A → IsSend (facts.the_row C B A g)
-  facts_send s =
-      recorded_send (facts.the_field C B A g).row _ _ (facts.the_type C B A g).to_one
-      (struct_send (shape (facts.the_type C B A g)) (search (sendable, book_send, s) depth 20, tt))
+  facts_send s = declared_send (facts.the_type C B A g) (Box-send (book.the_row C B A g) (book_send s), tt)

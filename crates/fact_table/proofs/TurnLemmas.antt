@@ -139,31 +139,41 @@ module _ {B : Type 0} where
           (claims_of_seat number ts),
     )
 
-  -- a seat's turn at the book, and what the call made of both
-  pub record IsTurn (old begun new : ShownSeat Event B) (k k' : Kept B) : Type 0 where
+  -- a seat's turn began with the book
+  pub record IsBegun (old begun : ShownSeat Event B) (k : Kept B) : Type 0 where
     pub base : Some k.base ≡ old.base
     pub idle : old.holds ≡ false
     pub begun_is : begun ≡ turn_begun old k.journal
-    pub new_is : new ≡ turn_ended begun k'.journal
     pub begins : StartsWith k.journal old.seen
+
+  -- the same, where the book stands behind a pointer
+  pub begun_by : {old begun : ShownSeat Event B} {k held : Kept B} → k ≡ held → Some held.base ≡ old.base → old.holds ≡ false
+      → begun ≡ turn_begun old held.journal → StartsWith held.journal old.seen → IsBegun old begun k
+  begun_by {old} {begun} {k} {held} same base idle begun_is begins =
+      subst (λ b. IsBegun old begun b) (sym same) (record { base = base; idle = idle; begun_is = begun_is; begins = begins })
+
+  -- a seat's turn at the book, and what the call made of both
+  pub record IsTurn (old begun new : ShownSeat Event B) (k k' : Kept B) : Type 0 where
+    pub start : IsBegun old begun k
+    pub new_is : new ≡ turn_ended begun k'.journal
 
   module _ {A : Type 0} (analysis : B → Analysis A) where
     pub looks : (old begun new : ShownSeat Event B) (k k' : Kept B) → IsTurn old begun new k k' → k' ≡ k → Looks old new
     looks old begun new k k' t e = record {
       log = k.journal;
-      begins = t.begins;
-      seat = looked_turn old begun new k.journal k'.journal t.idle t.begun_is t.new_is (ap (λ b. b.journal) e);
+      begins = t.start.begins;
+      seat = looked_turn old begun new k.journal k'.journal t.start.idle t.start.begun_is t.new_is (ap (λ b. b.journal) e);
     }
 
     pub ends : (old begun new : ShownSeat Event B) (k k' : Kept B) (ticket : Out A) (event : Event) → IsTurn old begun new k k'
         → IsOutOf (replay (analysis k.base) k.journal) ticket → k' ≡ with_event k event → Ends analysis old ticket event new
     ends old begun new k k' ticket event t out e = record {
       base = k.base;
-      base_is = t.base;
+      base_is = t.start.base;
       log = k.journal;
-      begins = t.begins;
+      begins = t.start.begins;
       out = out;
-      seat = behind_turn old begun new k.journal (event ∷ []) k'.journal t.idle t.begun_is t.new_is (ap (λ b. b.journal) e);
+      seat = behind_turn old begun new k.journal (event ∷ []) k'.journal t.start.idle t.start.begun_is t.new_is (ap (λ b. b.journal) e);
     }
 
     -- the answer of the book, told of the seat
@@ -182,14 +192,14 @@ module _ {B : Type 0} where
     claimed_turn : {C : Type 0} (old begun new : ShownSeat Event B) (k k' : Kept B) (claimed : Claimed C B A) → IsTurn old begun new k k'
         → AnswersClaim (analysis k.base) k k' old.number claimed → Claims analysis old claimed new
     claimed_turn old begun new k k' (Ticket ticket) t a =
-        let s = behind_turn old begun new k.journal (Claim old.number ticket.unit ∷ []) k'.journal t.idle t.begun_is t.new_is (ap (λ b. b.journal) a.2) in
-        claims_as old new k k' (Ticket ticket) t.base t.begins (ap (λ b. b.base) a.2) (ap (λ b. b.journal) a.2 ∙ sym (ap (λ x. x.seen) s)) a s
+        let s = behind_turn old begun new k.journal (Claim old.number ticket.unit ∷ []) k'.journal t.start.idle t.start.begun_is t.new_is (ap (λ b. b.journal) a.2) in
+        claims_as old new k k' (Ticket ticket) t.start.base t.start.begins (ap (λ b. b.base) a.2) (ap (λ b. b.journal) a.2 ∙ sym (ap (λ x. x.seen) s)) a s
     claimed_turn old begun new k k' Idle t a =
-        let s = looked_turn old begun new k.journal k'.journal t.idle t.begun_is t.new_is (ap (λ b. b.journal) a.0) in
-        claims_as old new k k' Idle t.base t.begins (ap (λ b. b.base) a.0) (ap (λ b. b.journal) a.0 ∙ sym (ap (λ x. x.seen) s)) a s
+        let s = looked_turn old begun new k.journal k'.journal t.start.idle t.start.begun_is t.new_is (ap (λ b. b.journal) a.0) in
+        claims_as old new k k' Idle t.start.base t.start.begins (ap (λ b. b.base) a.0) (ap (λ b. b.journal) a.0 ∙ sym (ap (λ x. x.seen) s)) a s
     claimed_turn old begun new k k' Finished t a =
-        let s = looked_turn old begun new k.journal k'.journal t.idle t.begun_is t.new_is (ap (λ b. b.journal) a.0) in
-        claims_as old new k k' Finished t.base t.begins (ap (λ b. b.base) a.0) (ap (λ b. b.journal) a.0 ∙ sym (ap (λ x. x.seen) s)) a s
+        let s = looked_turn old begun new k.journal k'.journal t.start.idle t.start.begun_is t.new_is (ap (λ b. b.journal) a.0) in
+        claims_as old new k k' Finished t.start.base t.start.begins (ap (λ b. b.base) a.0) (ap (λ b. b.journal) a.0 ∙ sym (ap (λ x. x.seen) s)) a s
 
     pub claims_ok : {C X : Type 0} (old begun new : ShownSeat Event B) (k k' : Kept B) (r : Result (Claimed C B A) X) → IsTurn old begun new k k'
         → IfOk r (λ claimed. AnswersClaim (analysis k.base) k k' old.number claimed) → IfOk r (λ claimed. Claims analysis old claimed new)
@@ -197,14 +207,13 @@ module _ {B : Type 0} where
     claims_ok old begun new k k' (Err x) t a = tt
 
     -- tickets that are out to a seat are out when its turn begins
-    pub outs_at_turn : (old begun : ShownSeat Event B) (k : Kept B) (tickets : List (Out A)) → ((base : B) → Stays (analysis base)) → Some k.base ≡ old.base
-        → begun ≡ turn_begun old k.journal → StartsWith k.journal old.seen → IsOwn seat_of old → IsOwn seat_of begun
+    pub outs_at_turn : (old begun : ShownSeat Event B) (k : Kept B) (tickets : List (Out A)) → ((base : B) → Stays (analysis base)) → IsBegun old begun k → IsOwn seat_of old → IsOwn seat_of begun
         → IsLegalJournal (analysis k.base) k.journal → AreOutTo analysis old tickets → AreOutOf (replay (analysis k.base) k.journal) tickets
-    outs_at_turn old begun k tickets stays base b begins own own' legal out =
-        let same : out.base ≡ k.base = same_Some out.base k.base (out.base_is ∙ sym base) in
+    outs_at_turn old begun k tickets stays start own own' legal out =
+        let same : out.base ≡ k.base = same_Some out.base k.base (out.base_is ∙ sym start.base) in
         record {
           each = all_map _ (IsOutOf (replay (analysis k.base) k.journal)) tickets
-              (λ t h. out_still (analysis k.base) old.number old.seen k.journal old.mine t (stays k.base) begins own (subst (IsOwn seat_of) b own') legal
+              (λ t h. out_still (analysis k.base) old.number old.seen k.journal old.mine t (stays k.base) start.begins own (subst (IsOwn seat_of) start.begun_is own') legal
               (subst (λ c. IsOutOf (replay (analysis c) old.seen) t) same h.0) h.1) (all_both _ _ tickets out.out.each out.seat);
           distinct = out.out.distinct;
         }
@@ -215,13 +224,13 @@ module _ {B : Type 0} where
         → IsLegalJournal (analysis k.base) k.journal → k' ≡ with_event k event → AreOutTo analysis old (ticket ∷ tickets) → AreOutTo analysis new tickets
     outs_behind old begun new k k' ticket event tickets stays beside own_unit t own own' legal e out =
         let m = analysis k.base in
-        let at = outs_at_turn old begun k (ticket ∷ tickets) stays t.base t.begun_is t.begins own own' legal out in
+        let at = outs_at_turn old begun k (ticket ∷ tickets) stays t.start own own' legal out in
         let seen : k.journal ++ event ∷ [] ≡ new.seen = sym (ap (λ b. b.journal) e) ∙ sym (ap (λ s. s.seen) t.new_is) in
         record {
           base = k.base;
-          base_is = t.base ∙ sym (ap (λ s. s.base) t.new_is ∙ ap (λ s. s.base) t.begun_is);
+          base_is = t.start.base ∙ sym (ap (λ s. s.base) t.new_is ∙ ap (λ s. s.base) t.start.begun_is);
           out = subst (λ l. AreOutOf (replay m l) tickets) seen (others_out m (beside k.base) k.journal event ticket tickets own_unit at);
-          seat = subst (λ n. AllByRecursion (λ s. s.seat ≡ n) tickets) (sym (ap (λ s. s.number) t.new_is ∙ ap (λ s. s.number) t.begun_is)) out.seat.1;
+          seat = subst (λ n. AllByRecursion (λ s. s.seat ≡ n) tickets) (sym (ap (λ s. s.number) t.new_is ∙ ap (λ s. s.number) t.start.begun_is)) out.seat.1;
         }
 
     -- what an exchange on the book makes of the seat
@@ -232,21 +241,21 @@ module _ {B : Type 0} where
         → (IsTrue (not r.left) → HasAtLeast (replay (analysis k'.base) k'.journal) 1 → ⊥) → Exchanges analysis old done want share r new
     exchange_turn old begun new k k' done want share r t out seats x none =
         let m = analysis k.base in
-        let number : old.number ≡ new.number = sym (ap (λ s. s.number) t.new_is ∙ ap (λ s. s.number) t.begun_is) in
-        let base : Some k.base ≡ new.base = t.base ∙ sym (ap (λ s. s.base) t.new_is ∙ ap (λ s. s.base) t.begun_is) in
+        let number : old.number ≡ new.number = sym (ap (λ s. s.number) t.new_is ∙ ap (λ s. s.number) t.start.begun_is) in
+        let base : Some k.base ≡ new.base = t.start.base ∙ sym (ap (λ s. s.base) t.new_is ∙ ap (λ s. s.base) t.start.begun_is) in
         let seen : k'.journal ≡ new.seen = sym (ap (λ s. s.seen) t.new_is) in
         let left : AllByRecursion (λ s. s.seat ≡ old.number) (tickets_of r.unposted.items) =
         (seats_split old.number x.posted r.unposted.items (subst (λ ds. AllByRecursion (λ s. s.seat ≡ old.number) (tickets_of ds)) x.whole seats)).1 in
         record {
           base = k.base;
-          base_is = t.base;
+          base_is = t.start.base;
           log = k.journal;
-          begins = t.begins;
+          begins = t.start.begins;
           out = out;
           posted = x.posted;
           whole = x.whole;
           claims = x.claims;
-          seat = behind_turn old begun new k.journal (post_events (tickets_of x.posted) ++ claim_events old.number r.tickets.items) k'.journal t.idle t.begun_is t.new_is
+          seat = behind_turn old begun new k.journal (post_events (tickets_of x.posted) ++ claim_events old.number r.tickets.items) k'.journal t.start.idle t.start.begun_is t.new_is
               (ap (λ b. b.journal) x.book);
           still_out = record {
             base = k.base;
@@ -282,19 +291,18 @@ module _ {B : Type 0} where
           none_left = λ no some. let bad : false ≡ true = subst (λ b. IsTrue (not b)) more no in absurd (cc);
         }
 
-    pub out_at_turn : (old begun : ShownSeat Event B) (k : Kept B) (ticket : Out A) → ((base : B) → Stays (analysis base)) → Some k.base ≡ old.base
-        → begun ≡ turn_begun old k.journal → StartsWith k.journal old.seen → IsOwn seat_of old → IsOwn seat_of begun
+    pub out_at_turn : (old begun : ShownSeat Event B) (k : Kept B) (ticket : Out A) → ((base : B) → Stays (analysis base)) → IsBegun old begun k → IsOwn seat_of old → IsOwn seat_of begun
         → IsLegalJournal (analysis k.base) k.journal → IsOutTo analysis old ticket → IsOutOf (replay (analysis k.base) k.journal) ticket
-    out_at_turn old begun k ticket stays base b begins own own' legal out =
-        let same : out.base ≡ k.base = same_Some out.base k.base (out.base_is ∙ sym base) in
-        out_still (analysis k.base) old.number old.seen k.journal old.mine ticket (stays k.base) begins own (subst (IsOwn seat_of) b own') legal
+    out_at_turn old begun k ticket stays start own own' legal out =
+        let same : out.base ≡ k.base = same_Some out.base k.base (out.base_is ∙ sym start.base) in
+        out_still (analysis k.base) old.number old.seen k.journal old.mine ticket (stays k.base) start.begins own (subst (IsOwn seat_of) start.begun_is own') legal
         (subst (λ c. IsOutOf (replay (analysis c) old.seen) ticket) same out.out) out.seat
 
     pub still_out : (old begun new : ShownSeat Event B) (k k' : Kept B) (ticket : Out A) → IsTurn old begun new k k' → k' ≡ k
         → IsOutOf (replay (analysis k.base) k.journal) ticket → IsOutTo analysis old ticket → IsOutTo analysis new ticket
     still_out old begun new k k' ticket t e out was =
-        let s = looked_turn old begun new k.journal k'.journal t.idle t.begun_is t.new_is (ap (λ b. b.journal) e) in
-        subst (λ x. IsOutTo analysis x ticket) (sym s) (record { base = k.base; base_is = t.base; out = out; seat = was.seat })
+        let s = looked_turn old begun new k.journal k'.journal t.start.idle t.start.begun_is t.new_is (ap (λ b. b.journal) e) in
+        subst (λ x. IsOutTo analysis x ticket) (sym s) (record { base = k.base; base_is = t.start.base; out = out; seat = was.seat })
 
 pub on_ok : {X Y P Q : Type 0} (r : Result X Y) → OnOk r P → (P → Q) → OnOk r Q
 on_ok (Ok x) p f = f p
@@ -310,6 +318,6 @@ grows_post number k k' event (Ok x) a e s = grows_by number k k' event a s
 grows_post number k k' event (Err y) a e s = grows_not number k k' e
 
 -- so the turn may be passed
-pub pass_adds : {B : Type 0} (old begun : ShownSeat Event B) (k k' : Kept B) → begun ≡ turn_begun old k.journal → Grows begun.number k k'
+pub pass_adds : {B : Type 0} (old begun : ShownSeat Event B) (k k' : Kept B) → IsBegun old begun k → Grows begun.number k k'
     → (added : List Event) × (k'.journal ≡ begun.seen ++ added) × AllOf seat_of begun.number added
-pass_adds old begun k k' b grows = (grows.0, grows.1 ∙ ap (λ s. s.seen ++ grows.0) (sym b), grows.2)
+pass_adds old begun k k' start grows = (grows.0, grows.1 ∙ ap (λ s. s.seen ++ grows.0) (sym start.begun_is), grows.2)

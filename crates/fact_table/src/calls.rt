@@ -12,7 +12,7 @@ use crate::exchange::{Exchanged, Last, exchange_on, look_ahead, post_one};
 use crate::facts::{Seat, Turns};
 use chip_law::Chip;
 use no_memory::Memory;
-use round_core::{Claimed, Done, Ticket, outs_stay, outs_stay_beside};
+use round_core::{Claimed, Done, Spent, Ticket, outs_stay, outs_stay_beside};
 use std::alloc::Global;
 use std::sync::Wait;
 
@@ -30,7 +30,8 @@ pub fn claim_at<R: Wait, C: Chip>(
     ensures refused { OnErr result (Looks seat.old seat.new) }
 {
     let mut turn = turns.turn(rt, seat);
-    let claimed = turn.value.book.claim(chip, seat.number());
+    let book = &mut *turn.value.book;
+    let claimed = book.claim(chip, seat.number());
     turns.pass(seat, turn);
     claimed
 }
@@ -57,8 +58,9 @@ pub fn post_at<R: Wait, C: Chip>(
     // What the seat's own events are, before the turn and in it, says that the ticket is out still.
     seat.number();
     let mut turn = turns.turn(rt, seat);
-    turn.value.book.journal();
-    let (posted, spent) = post_one(&mut turn.value.book, chip, done);
+    let book = &mut *turn.value.book;
+    book.journal();
+    let (posted, spent) = post_one(book, chip, done);
     turns.pass(seat, turn);
     // Others wait no longer while it is freed.
     drop(spent);
@@ -97,22 +99,15 @@ pub fn exchange_at<R: Wait, C: Chip>(
             left: true,
         };
     };
-    // Others wait no longer while states are compared and joined.
+    // Others wait no longer while states are compared and joined, and memory is taken.
     let ahead = look_ahead(alloc, chip, done.as_slice());
+    let next = Spent::with_room(alloc);
     let mut turn = turns.turn(rt, seat);
-    turn.value.book.journal();
+    let book = &mut *turn.value.book;
+    book.journal();
     let number = seat.number();
-    let exchanged = exchange_on(
-        &mut turn.value.book,
-        chip,
-        number,
-        done,
-        ahead,
-        tickets,
-        want,
-        share,
-    );
-    let spent = turn.value.book.take_spent();
+    let exchanged = exchange_on(book, chip, number, done, ahead, tickets, want, share);
+    let spent = book.exchange_spent(next);
     turns.pass(seat, turn);
     // Others wait no longer while it is freed.
     drop(spent);
@@ -137,7 +132,8 @@ pub fn give_back_at<R: Wait, C: Chip>(
     outs_stay_beside::<C>();
     seat.number();
     let mut turn = turns.turn(rt, seat);
-    turn.value.book.journal();
-    turn.value.book.give_back(ticket);
+    let book = &mut *turn.value.book;
+    book.journal();
+    book.give_back(ticket);
     turns.pass(seat, turn);
 }

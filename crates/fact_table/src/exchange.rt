@@ -1,6 +1,6 @@
 //! What an exchange does to the book: it posts works, and then claims units.
 
-ghost use Rattle.std.specs.Prelude.{IfErr, OnErr, OnOk, ◌≡◌, ◌≤◌, ◌<◌, ◌⊎◌, ◌++◌, ◌∷◌, [], false, true, not, IsTrue, vec_len, vec_capacity};
+ghost use Rattle.std.specs.Prelude.{IfErr, OnErr, OnOk, OnSome, MatchOption, ◌≡◌, ◌≤◌, ◌<◌, ◌⊎◌, ◌∷◌, [], false, true, not, IsTrue, vec_len, vec_capacity};
 ghost use Rattle.std.specs.List.{AllByRecursion};
 ghost use Rattle.fact_table.specs.Exchange.{AnswersFurther, AreAhead, AreOutOf, ClaimsSome, ExchangesOn, IsWorked, Posts, tickets_of};
 ghost use Rattle.round_core.specs.Claimable.{HasAtLeast};
@@ -14,6 +14,7 @@ use round_core::{
     Ahead, Book, Claimed, Done, Spent, Ticket, outs_stay_beside, tests_tell_which_are_one,
 };
 use std::alloc::Global;
+use std::collections::VecDeque;
 
 /// Why an exchange gave no further ticket.
 #[derive(Clone, Copy, Debug, PartialEq, Eq)]
@@ -51,15 +52,16 @@ fn put_first<T: Drop>(items: &mut Vec<T>, item: T)
     }
 }
 
-/// Puts an item behind all others, for which there is room.
-fn put_last<T: Drop>(items: &mut Vec<T>, item: T)
-    requires { vec_len items.old < vec_capacity items.old }
-    ensures items { items.new.items ≡ items.old.items ++ item ∷ [] }
-    ensures capacity { vec_capacity items.old ≤ vec_capacity items.new }
+/// Takes the first item, which leaves room for one.
+fn take_front<T>(items: &mut Vec<T>) -> Option<T>
+    ensures first { MatchOption result ((items.old.items ≡ []) × (items.new.items ≡ []))
+        (λ first. items.old.items ≡ first ∷ items.new.items) }
+    ensures room { OnSome result (vec_len items.new < vec_capacity items.new) }
 {
-    match items.push(item) {
-        Ok(()) => {}
-        Err(_) => unreachable!(),
+    if items.is_empty() {
+        None
+    } else {
+        Some(items.remove(0))
     }
 }
 
@@ -83,12 +85,16 @@ pub(crate) fn post_one<C: Chip>(
 }
 
 /// Works out ahead of the turn what the posts of works make of nodes that don't rise before, as far as memory lasts.
-pub(crate) fn look_ahead<C: Chip>(alloc: Global, chip: &C, done: &[Done<C>]) -> Vec<Ahead<C::Abs>>
+pub(crate) fn look_ahead<C: Chip>(
+    alloc: Global,
+    chip: &C,
+    done: &[Done<C>],
+) -> VecDeque<Ahead<C::Abs>>
     ensures { AreAhead (C.analysis (C.base chip.now)) done.now result.items }
 {
-    let mut ahead = Vec::new(alloc);
+    let mut ahead = VecDeque::new(alloc);
     for one in done {
-        match ahead.push(one.look_ahead(alloc, chip)) {
+        match ahead.push_back(one.look_ahead(alloc, chip)) {
             Ok(()) => {}
             Err(_) => return ahead,
         }
@@ -97,14 +103,13 @@ pub(crate) fn look_ahead<C: Chip>(alloc: Global, chip: &C, done: &[Done<C>]) -> 
 }
 
 /// What was looked ahead of the next work.
-fn take_first<A: Drop>(alloc: Global, ahead: &mut Vec<Ahead<A>>) -> Ahead<A>
+fn take_first<A: Drop>(alloc: Global, ahead: &mut VecDeque<Ahead<A>>) -> Ahead<A>
     ensures { (ahead.old.items ≡ result ∷ ahead.new.items)
         ⊎ ((ahead.old.items ≡ []) × (ahead.new.items ≡ []) × (result ≡ [])) }
 {
-    if ahead.is_empty() {
-        Ahead::none(alloc)
-    } else {
-        ahead.remove(0)
+    match ahead.pop_front() {
+        Some(first) => first,
+        None => Ahead::none(alloc),
     }
 }
 
@@ -113,7 +118,7 @@ fn post_all<C: Chip>(
     book: &mut Book<C>,
     chip: &C,
     done: Vec<Done<C>>,
-    ahead: Vec<Ahead<C::Abs>>,
+    ahead: VecDeque<Ahead<C::Abs>>,
 ) -> Vec<Done<C>>
     requires chip { C.base chip.now ≡ book.old.base }
     requires out { AreOutOf (replay (C.analysis book.old.base) book.old.journal)
@@ -125,8 +130,7 @@ fn post_all<C: Chip>(
     outs_stay_beside::<C>();
     let mut left = done;
     let mut ahead = ahead;
-    while !left.is_empty() {
-        let first = left.remove(0);
+    while let Some(first) = take_front(&mut left) {
         let looked = take_first(*left.allocator(), &mut ahead);
         if let Err((_, refused)) = book.post_ahead(chip, first, looked) {
             put_first(&mut left, refused);
@@ -201,7 +205,7 @@ fn claim_some<C: Chip>(
     let mut tickets = tickets;
     for count in 0..want {
         match claim_further(book, chip, seat, share, 0 < count) {
-            Ok(ticket) => put_last(&mut tickets, ticket),
+            Ok(ticket) => tickets.push_reserved(ticket),
             Err(last) => return (tickets, last),
         }
     }
@@ -222,7 +226,7 @@ pub(crate) fn exchange_on<C: Chip>(
     chip: &C,
     seat: u32,
     done: Vec<Done<C>>,
-    ahead: Vec<Ahead<C::Abs>>,
+    ahead: VecDeque<Ahead<C::Abs>>,
     tickets: Vec<Ticket<C>>,
     want: u32,
     share: u32,

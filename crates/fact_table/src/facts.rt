@@ -4,10 +4,10 @@ use chip_law::Chip;
 use round_core::{Book, Event};
 use turn_table::{Journaled, TurnTable};
 
-/// The book that the workers share.
+/// The book that the workers share, behind a pointer: a turn moves no more than that.
 #[derive(Drop)]
 pub struct Facts<C: Chip> {
-    pub(crate) book: Book<C>,
+    pub(crate) book: Box<Book<C>>,
 }
 
 impl<C: Chip> Journaled for Facts<C> {
@@ -17,9 +17,9 @@ impl<C: Chip> Journaled for Facts<C> {
 
     type Base = C::Base;
 
-    ghost history = { λ facts. facts.book.journal };
+    ghost history = { λ facts. facts.book.value.journal };
 
-    ghost base = { λ facts. facts.book.base };
+    ghost base = { λ facts. facts.book.value.base };
 
     ghost seat_of = { seat_of };
 }

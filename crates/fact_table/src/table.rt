@@ -35,6 +35,9 @@ impl<C: Chip> FactTable<C> {
         requires empty { book.journal ≡ [] }
         ensures { IfOk result (λ t. t.1 ≡ first_seat (table_of t.0) book.base seats) }
     {
+        let Ok(book) = Box::new(alloc, book) else {
+            return Err(Memory);
+        };
         let (turns, seat) = TurnTable::new(alloc, Facts { book }, seats)?;
         Ok((FactTable { turns }, seat))
     }
@@ -145,6 +148,6 @@ impl<C: Chip> FactTable<C> {
     {
         let FactTable { turns } = self;
         let Facts { book } = turns.close(seat);
-        book
+        Box::into_inner(book)
     }
 }

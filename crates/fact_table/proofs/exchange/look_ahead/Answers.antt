@@ -15,7 +15,7 @@ loop-one-preserved g c =
     let inside : i < length done = omega arith in
     let at : slice_get done i ≡ Some one = got done i one inside c.one-item.is in
     let was = c.loop-one.invariant.len in
-    let more : length c.push.new.self.items ≡ length (ahead ++ rows ∷ []) = ap length items in
+    let more : length c.push_back.new.self.items ≡ length (ahead ++ rows ∷ []) = ap length items in
     let sum = length-append ahead (rows ∷ []) in
     record {
       len = omega arith;
