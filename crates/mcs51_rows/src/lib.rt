@@ -12,6 +12,8 @@ mod control;
 #[cfg(test)]
 mod entries;
 #[cfg(test)]
+mod given;
+#[cfg(test)]
 mod joins;
 #[cfg(test)]
 mod memories;

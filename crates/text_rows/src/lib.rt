@@ -3,24 +3,4 @@
 #![tactic(auto)]
 
 #[cfg(test)]
-mod calls;
-#[cfg(test)]
-mod choices;
-#[cfg(test)]
-mod digits;
-#[cfg(test)]
-mod images;
-#[cfg(test)]
-mod lines;
-#[cfg(test)]
-mod making;
-#[cfg(test)]
-mod parts;
-#[cfg(test)]
-mod reports;
-#[cfg(test)]
-mod scripts;
-#[cfg(test)]
-mod streams;
-#[cfg(test)]
-mod ways;
+mod tests;

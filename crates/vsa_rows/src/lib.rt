@@ -8,9 +8,9 @@ mod answers;
 #[cfg(test)]
 mod asserts;
 #[cfg(test)]
-mod checks;
+mod calls;
 #[cfg(test)]
-mod code;
+mod checks;
 #[cfg(test)]
 mod mcs51;
 #[cfg(test)]

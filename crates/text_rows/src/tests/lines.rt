@@ -22,11 +22,11 @@ impl InstrText for Silent {
 }
 
 /// Asserts the text of a set, as it stands in the line of a stack pointer.
-fn has_text(rt: &impl Abort, alloc: Global, set: Set, text: &str) -> Result<(), Fail> {
-    let item = Item::Stack {
-        pc: 0xF000,
-        at: set,
+fn has_text(rt: &impl Abort, alloc: Global, set: Option<Set>, text: &str) -> Result<(), Fail> {
+    let Some(at) = set else {
+        panic!(rt; "no set: {text}");
     };
+    let item = Item::Stack { pc: 0xF000, at };
     let line = item_line(alloc, &Silent, &item)?;
     let expected = format!(in alloc; "S F000 {text}")?;
     assert_eq!(rt; line.as_slice(), expected.as_bytes());
@@ -45,11 +45,8 @@ fn rows_of_runs_of_words(rt: HostRuntime) -> Result<(), Fail> {
         (0x0274, 2, 3, "0274,0276,0278"),
         (0xFFFE, 1, 4, "0000,0001,FFFE,FFFF"),
     ] {
-        if let Some(set) = Vs16::run(base, stride, count) {
-            has_text(&rt, rt.alloc(), Set::W(set), text)?;
-        } else {
-            assert!(rt; false, "{text}");
-        }
+        let set = Vs16::run(base, stride, count).map(Set::W);
+        has_text(&rt, rt.alloc(), set, text)?;
     }
     Ok(())
 }
@@ -62,11 +59,8 @@ fn rows_of_runs_of_bytes(rt: HostRuntime) -> Result<(), Fail> {
         (0x00, 1, 0x100, "*"),
         (0x33, 2, 2, "33,35"),
     ] {
-        if let Some(set) = Vs8::run(base, stride, count) {
-            has_text(&rt, rt.alloc(), Set::B(set), text)?;
-        } else {
-            assert!(rt; false, "{text}");
-        }
+        let set = Vs8::run(base, stride, count).map(Set::B);
+        has_text(&rt, rt.alloc(), set, text)?;
     }
     Ok(())
 }

@@ -1,28 +1,15 @@
 //! The MCS-51's analyses, disassemblies and runs, whole calls over streams in memory.
 
-use crate::answers::answers;
-use std::process::Abort;
-use std::sync::Wait;
+use crate::calls::{answers, fronts_answer};
 use std::test::Fail;
-use std::thread::Threads;
 use vsa_top::Status;
 
-/// The answer to the image of some records, with a script behind it.
-fn answers_image<R: Abort + Threads + Wait + AllocGlobal + Sync>(
-    rt: &R,
-    words: &str,
-    records: &str,
-    script: &str,
-    status: Status,
-    text: &str,
-) -> Result<(), Fail> {
-    let input = format!(in rt.alloc(); "{records}\n:00000001FF\n{script}")?;
-    answers(rt, words, input.as_str(), status, text)
-}
+/// What stands behind the records of an image.
+const END: &str = "\n:00000001FF\n";
 
 #[test]
 fn rows_of_a_disassembly(rt: HostRuntime) -> Result<(), Fail> {
-    for (records, lines) in [
+    let rows = [
         // the excluded opcode, and an instruction behind it
         (":01000000A55A", "0000 A5 ?\n"),
         (":02000000A50059", "0000 A5 ?\n0001 00 NOP\n"),
@@ -39,10 +26,8 @@ fn rows_of_a_disassembly(rt: HostRuntime) -> Result<(), Fail> {
             "0000 12 ?\n0001 34 ?\nFFFF 021234 LJMP 1234h\n",
         ),
         ("", ""),
-    ] {
-        answers_image(&rt, "disasm mcs51", records, "", Status::Done, lines)?;
-    }
-    Ok(())
+    ];
+    fronts_answer(&rt, "disasm mcs51", END, Status::Done, &rows)
 }
 
 const TWO_STEPS: &str =
@@ -50,14 +35,14 @@ const TWO_STEPS: &str =
 
 #[test]
 fn rows_of_a_port(rt: HostRuntime) -> Result<(), Fail> {
-    let records = ":04000000E58080FE19";
+    let record = ":04000000E58080FE19";
     for (words, script, status, text) in [
         ("run mcs51 --steps 2", "5A", Status::Done, TWO_STEPS),
         ("run mcs51", "", Status::NeedChoice, "NEED 1\n"),
         ("run mcs51", "5A\nx\n", Status::BadCert, "NO 2 Syntax\n"),
         ("run mcs51 --steps 0", "", Status::Done, "END 0\n"),
     ] {
-        answers_image(&rt, words, records, script, status, text)?;
+        answers(&rt, words, &[record, END, script], status, text)?;
     }
     Ok(())
 }
@@ -68,14 +53,8 @@ const FOUR_STEPS: &str =
 #[test]
 fn row_of_the_spaces(rt: HostRuntime) -> Result<(), Fail> {
     // The choices are the high byte of the last address, and what stands there.
-    answers_image(
-        &rt,
-        "run mcs51 --steps 4",
-        ":0600000075305AF093E296",
-        "12\n34\n",
-        Status::Done,
-        FOUR_STEPS,
-    )
+    let input = [":0600000075305AF093E296", END, "12\n34\n"];
+    answers(&rt, "run mcs51 --steps 4", &input, Status::Done, FOUR_STEPS)
 }
 
 #[test]
@@ -87,7 +66,7 @@ fn rows_of_an_empty_image(rt: HostRuntime) -> Result<(), Fail> {
         ("disasm mcs51", "", Status::BadImage, "BAD 1 NoEnd\n"),
         ("analyse mcs51", "", Status::BadImage, "BAD 1 NoEnd\n"),
     ] {
-        answers(&rt, words, input, status, text)?;
+        answers(&rt, words, &[input], status, text)?;
     }
     Ok(())
 }
@@ -123,7 +102,7 @@ fn rows_of_analyses(rt: HostRuntime) -> Result<(), Fail> {
         ("", Status::Open, NO_INSTRUCTION),
         (JUMP_TABLE, Status::Done, FOUR_TARGETS),
     ] {
-        answers_image(&rt, "analyse mcs51", records, "", status, report)?;
+        answers(&rt, "analyse mcs51", &[records, END], status, report)?;
     }
     Ok(())
 }
@@ -131,12 +110,6 @@ fn rows_of_analyses(rt: HostRuntime) -> Result<(), Fail> {
 #[test]
 fn row_of_two_priorities(rt: HostRuntime) -> Result<(), Fail> {
     let report = format!(in rt.alloc(); "{EDGES}{INSTRUCTIONS}{ACCESSES}")?;
-    answers_image(
-        &rt,
-        "analyse mcs51",
-        PRIORITIES,
-        "",
-        Status::Done,
-        report.as_str(),
-    )
+    let input = [PRIORITIES, END];
+    answers(&rt, "analyse mcs51", &input, Status::Done, report.as_str())
 }

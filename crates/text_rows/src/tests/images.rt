@@ -4,6 +4,7 @@ ghost use Rattle.image.specs.Kept.{IsRamRange};
 use ihex_read::{HexError, HexFault, MOST_BYTES, Reader, Tail};
 use image::{Image, Rules};
 use std::alloc::Global;
+use std::process::Abort;
 use std::test::Fail;
 
 const MSP430: Rules = Rules::Msp430 {
@@ -40,20 +41,39 @@ fn by_bytes(alloc: Global, text: &[u8], rules: Rules) -> Result<Image, HexError>
     reader.end()
 }
 
+/// What stands behind a record that is alone with the reset vector.
+const RESET: &str = "\n:02FFFE0000F011\n:00000001FF\n";
+
+/// Both answer each text in front of the same rest so, of which none is that there is an image.
+fn answer<R: Abort + AllocGlobal>(
+    rt: &R,
+    rules: Rules,
+    rest: &str,
+    rows: &[(&str, Option<HexError>)],
+) -> Result<(), Fail>
+    requires { IsRamRange rules }
+{
+    for (front, answer) in rows {
+        let text = format!(in rt.alloc(); "{front}{rest}")?;
+        assert!(rt; text.len() <= MOST_BYTES);
+        let one = in_one(rt.alloc(), text.as_bytes(), rules).err();
+        assert_eq!(rt; one, *answer, "{front:?}");
+        let many = by_bytes(rt.alloc(), text.as_bytes(), rules).err();
+        assert_eq!(rt; many, *answer, "{front:?} byte by byte");
+    }
+    Ok(())
+}
+
 const fn bad(line: u32, fault: HexFault) -> Option<HexError> {
     Some(HexError::Bad { line, fault })
 }
 
 #[test]
 fn rows(rt: HostRuntime) -> Result<(), Fail> {
-    for (text, answer) in [
+    let whole = [
         ("", bad(1, HexFault::NoEnd)),
         (":00000001FF\n", bad(1, HexFault::NoReset)),
         // accepted
-        (
-            ":06F0000031408002FF3FD9\n:02FFFE0000F011\n:00000001FF\n",
-            None,
-        ),
         (
             ":06f0000031408002ff3fd9\r\n:02fffe0000f011\r\n:00000001ff\r\n",
             None,
@@ -67,56 +87,11 @@ fn rows(rt: HostRuntime) -> Result<(), Fail> {
             None,
         ),
         (
-            ":020000040000FA\n:0400000500000000F7\n:06F0000031408002FF3FD9\n:02FFFE0000F011\n:00000001FF\n",
-            None,
-        ),
-        (
             ":020000020F00ED\n:0600000031408002FF3FC9\n:020FFE0000F001\n:00000001FF\n",
             None,
         ),
-        // the first line at fault
-        (
-            "F000\n:02FFFE0000F011\n:00000001FF\n",
-            bad(1, HexFault::NoColon),
-        ),
-        (
-            ":0G\n:02FFFE0000F011\n:00000001FF\n",
-            bad(1, HexFault::BadDigit),
-        ),
+        // refused
         (":06F0000031408002FF3F", bad(1, HexFault::BadLength)),
-        (
-            ":06F0000031408002FF3FE9\n:02FFFE0000F011\n:00000001FF\n",
-            bad(1, HexFault::BadSum),
-        ),
-        (
-            ":00000006FA\n:02FFFE0000F011\n:00000001FF\n",
-            bad(1, HexFault::BadType),
-        ),
-        (
-            ":0100000100FE\n:02FFFE0000F011\n:00000001FF\n",
-            bad(1, HexFault::BadTypeLength),
-        ),
-        (
-            ":02FFFF00000000\n:02FFFE0000F011\n:00000001FF\n",
-            bad(1, HexFault::OutOfRange),
-        ),
-        (
-            ":0109FF0000F7\n:02FFFE0000F011\n:00000001FF\n",
-            bad(1, HexFault::Misplaced),
-        ),
-        // a later line at fault
-        (
-            ":06F0000031408002FF3FD9\n:01F000003FD0\n:02FFFE0000F011\n:00000001FF\n",
-            bad(2, HexFault::Clash),
-        ),
-        (
-            ":020000040001F9\n:06F0000031408002FF3FD9\n:02FFFE0000F011\n:00000001FF\n",
-            bad(2, HexFault::OutOfRange),
-        ),
-        (
-            ":020000020001FB\n:01FFFF000001\n:02FFFE0000F011\n:00000001FF\n",
-            bad(2, HexFault::OutOfRange),
-        ),
         (":06F0000031408002FF3FD9\n", bad(2, HexFault::NoEnd)),
         (
             ":06F0000031408002FF3FD9\n:02FFFE0000F011\n:00000001FF\nx\n",
@@ -130,20 +105,44 @@ fn rows(rt: HostRuntime) -> Result<(), Fail> {
             ":02FFFE0000F011\r\r\n:00000001FF\n",
             bad(1, HexFault::BadDigit),
         ),
-    ] {
-        assert!(rt; text.len() <= MOST_BYTES);
-        let one = in_one(rt.alloc(), text.as_bytes(), MSP430).err();
-        assert_eq!(rt; one, answer, "{text:?}");
-        let many = by_bytes(rt.alloc(), text.as_bytes(), MSP430).err();
-        assert_eq!(rt; many, answer, "{text:?} byte by byte");
-    }
-    Ok(())
+    ];
+    answer(&rt, MSP430, "", &whole)?;
+    let fronts = [
+        // accepted
+        (":06F0000031408002FF3FD9", None),
+        (
+            ":020000040000FA\n:0400000500000000F7\n:06F0000031408002FF3FD9",
+            None,
+        ),
+        // the first line at fault
+        ("F000", bad(1, HexFault::NoColon)),
+        (":0G", bad(1, HexFault::BadDigit)),
+        (":06F0000031408002FF3FE9", bad(1, HexFault::BadSum)),
+        (":00000006FA", bad(1, HexFault::BadType)),
+        (":0100000100FE", bad(1, HexFault::BadTypeLength)),
+        (":02FFFF00000000", bad(1, HexFault::OutOfRange)),
+        (":0109FF0000F7", bad(1, HexFault::Misplaced)),
+        // a later line at fault
+        (
+            ":06F0000031408002FF3FD9\n:01F000003FD0",
+            bad(2, HexFault::Clash),
+        ),
+        (
+            ":020000040001F9\n:06F0000031408002FF3FD9",
+            bad(2, HexFault::OutOfRange),
+        ),
+        (
+            ":020000020001FB\n:01FFFF000001",
+            bad(2, HexFault::OutOfRange),
+        ),
+    ];
+    answer(&rt, MSP430, RESET, &fronts)
 }
 
 #[test]
 fn mirror(rt: HostRuntime) -> Result<(), Fail> {
     let misplaced = bad(1, HexFault::Misplaced);
-    for (row, answer) in [
+    let rows = [
         (":0101FF0000FF", misplaced),
         (":0102000000FD", misplaced),
         (":0109FF0000F7", misplaced),
@@ -153,15 +152,8 @@ fn mirror(rt: HostRuntime) -> Result<(), Fail> {
         (":0111000000EE", misplaced),
         (":0138FF0000C8", misplaced),
         (":0139000000C6", None),
-    ] {
-        let text = format!(in rt.alloc(); "{row}\n:02FFFE0000F011\n:00000001FF\n")?;
-        assert!(rt; text.len() <= MOST_BYTES);
-        let one = in_one(rt.alloc(), text.as_bytes(), MIRRORED).err();
-        assert_eq!(rt; one, answer, "{row}");
-        let many = by_bytes(rt.alloc(), text.as_bytes(), MIRRORED).err();
-        assert_eq!(rt; many, answer, "{row} byte by byte");
-    }
-    Ok(())
+    ];
+    answer(&rt, MIRRORED, RESET, &rows)
 }
 
 #[test]

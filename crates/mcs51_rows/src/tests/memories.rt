@@ -41,24 +41,17 @@ fn from_psw(and: u16) -> Option<Entry> {
 
 #[test]
 fn masked_psw_from_the_stack(rt: HostRuntime) -> Result<(), Fail> {
+    use Tri::{Either, Zero};
     let mut state: State<CellList> = State::first(rt.alloc())?;
     state.psw = Status {
-        bits: [Tri::Either; 6],
+        bits: [Either; 6],
         entry: from_psw(0xFF),
     };
     push(true, &mut state, PSW)?;
     mask_direct(true, &mut state, Logic::Anl, 8, Mask::Immediate(0x84))?;
     assert_eq!(rt; state.cells.read(8, 1).entry, from_psw(0x84));
     pop(true, &mut state, PSW)?;
-    let want = [
-        Tri::Either,
-        Tri::Zero,
-        Tri::Zero,
-        Tri::Zero,
-        Tri::Zero,
-        Tri::Either,
-    ];
-    assert_eq!(rt; state.psw.bits, want);
+    assert_eq!(rt; state.psw.bits, [Either, Zero, Zero, Zero, Zero, Either]);
     assert_eq!(rt; state.psw.entry, from_psw(0x87));
     Ok(())
 }

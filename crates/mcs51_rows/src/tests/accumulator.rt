@@ -1,25 +1,13 @@
 //! The accumulator and a byte of RAM.
 
-ghost use Rattle.std.specs.Prelude.{ℕ, ◌<◌};
-ghost use Rattle.value_set.specs.Form.{Has};
-
+use crate::given::byte;
 use abs_memory::CellList;
-use entry_value::{Cells, Word};
+use entry_value::Cells;
 use mcs51_alu::{accumulate, change, count, load};
 use mcs51_decode::{AccumulatorOperation, Memory, Operation, Source};
 use mcs51_state::{LinearFact, State};
 use std::test::Fail;
-use value_set::{Vs8, Vs16};
-
-/// A byte of RAM that is one number.
-fn byte(v: u8) -> Word
-    ensures { (n : ℕ) → Has 65536 result.set n → n < 256 }
-{
-    Word {
-        set: Vs16::one(v as u16),
-        entry: None,
-    }
-}
+use value_set::Vs8;
 
 #[test]
 fn three_times_and_ten_more(rt: HostRuntime) -> Result<(), Fail> {

@@ -1,27 +1,15 @@
 //! Operands against rows worked by hand.
 
-ghost use Rattle.std.specs.Prelude.{ℕ, ◌<◌};
-ghost use Rattle.value_set.specs.Form.{Has};
-
+use crate::given::byte;
 use abs_memory::CellList;
-use entry_value::{Byte, Cells, Entry, Word};
+use entry_value::{Byte, Cells, Entry};
 use mcs51_decode::{Memory, Pointer, Register, Working};
 use mcs51_operands::{addresses_of, direct_addresses, read_bit, read_byte};
 use mcs51_state::{Addresses, State};
 use std::alloc::Global;
 use std::test::Fail;
 use value_bits::Tri;
-use value_set::{Vs8, Vs16};
-
-/// A byte of RAM that is one number.
-fn byte(v: u8) -> Word
-    ensures { (n : ℕ) → Has 65536 result.set n → n < 256 }
-{
-    Word {
-        set: Vs16::one(v as u16),
-        entry: None,
-    }
-}
+use value_set::Vs8;
 
 /// The state behind a reset, but for RS0, which is any, for R0 of the banks 0 and 1, and for the bytes that they point to.
 fn state(alloc: Global) -> Result<State<CellList>, Fail> {

@@ -87,6 +87,7 @@ fn rows_of_writes(rt: HostRuntime) -> Result<(), Fail> {
 
 #[test]
 fn a_call_and_flags(rt: HostRuntime) -> Result<(), Fail> {
+    use Tri::{Either, One, Zero};
     let mut state: State<CellList> = State::first(rt.alloc())?;
     push_address(true, &mut state, 0x1234)?;
     assert_eq!(rt; state.cells.read(8, 1).set, Vs16::one(0x34));
@@ -96,16 +97,8 @@ fn a_call_and_flags(rt: HostRuntime) -> Result<(), Fail> {
     assert_eq!(rt; stack_top(&state), Addresses::InRam(Vs8::one(8)));
     set_accumulator(&mut state, &number(2));
     set_data_pointer(&mut state, &number(3), &number(4));
-    set_carry(&mut state, Tri::Either);
-    set_flags(&mut state, Tri::One, Tri::Zero, Tri::Either);
-    let want = [
-        Tri::Either,
-        Tri::Zero,
-        Tri::Zero,
-        Tri::Zero,
-        Tri::Zero,
-        Tri::One,
-    ];
-    assert_eq!(rt; state.psw.bits, want);
+    set_carry(&mut state, Either);
+    set_flags(&mut state, One, Zero, Either);
+    assert_eq!(rt; state.psw.bits, [Either, Zero, Zero, Zero, Zero, One]);
     Ok(())
 }

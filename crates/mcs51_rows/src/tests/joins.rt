@@ -1,26 +1,14 @@
 //! States against rows worked by hand.
 
-ghost use Rattle.std.specs.Prelude.{ℕ, ◌<◌};
-ghost use Rattle.value_set.specs.Form.{Has};
-
+use crate::given::byte;
 use abs_memory::CellList;
 use call_context::Frame;
-use entry_value::{Cells, Word};
+use entry_value::Cells;
 use mcs51_state::{CarryFact, Compared, State};
 use std::alloc::Global;
 use std::test::Fail;
 use value_bits::Tri;
 use value_set::{Vs8, Vs16};
-
-/// A byte of RAM that is one number.
-fn byte(v: u8) -> Word
-    ensures { (n : ℕ) → Has 65536 result.set n → n < 256 }
-{
-    Word {
-        set: Vs16::one(v as u16),
-        entry: None,
-    }
-}
 
 /// The first state, but for the accumulator, CY, its fact, and a byte of RAM that is as the accumulator.
 fn state(alloc: Global, a: u8, carry: Tri, bound: u8) -> Result<State<CellList>, Fail> {

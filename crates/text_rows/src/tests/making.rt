@@ -2,6 +2,7 @@
 
 use image_gen::{ChipName, MOST, make};
 use std::alloc::{AllocError, Global};
+use std::process::Abort;
 use std::test::Fail;
 
 /// The lines, each with its line feed.
@@ -12,6 +13,22 @@ fn text_of(alloc: Global, lines: &[&str]) -> Result<Vec<u8>, AllocError> {
         text.push(b'\n')?;
     }
     Ok(text)
+}
+
+/// Programs of so many functions have these lines.
+fn are_made(
+    rt: &impl Abort,
+    alloc: Global,
+    chip: ChipName,
+    rows: &[(u32, &[&str])],
+) -> Result<(), Fail> {
+    for (number, lines) in rows {
+        let number = *number;
+        assert!(rt; 1 <= number && number <= MOST);
+        let text = make(alloc, chip, number)?;
+        assert_eq!(rt; text.as_slice(), text_of(alloc, *lines)?.as_slice());
+    }
+    Ok(())
 }
 
 #[test]
@@ -49,11 +66,7 @@ fn msp430_rows(rt: HostRuntime) -> Result<(), Fail> {
             ],
         ),
     ];
-    for (number, lines) in rows {
-        let text = make(rt.alloc(), ChipName::Msp430, number)?;
-        assert_eq!(rt; text.as_slice(), text_of(rt.alloc(), lines)?.as_slice());
-    }
-    Ok(())
+    are_made(&rt, rt.alloc(), ChipName::Msp430, &rows)
 }
 
 #[test]
@@ -89,11 +102,7 @@ fn mcs51_rows(rt: HostRuntime) -> Result<(), Fail> {
             ],
         ),
     ];
-    for (number, lines) in rows {
-        let text = make(rt.alloc(), ChipName::Mcs51, number)?;
-        assert_eq!(rt; text.as_slice(), text_of(rt.alloc(), lines)?.as_slice());
-    }
-    Ok(())
+    are_made(&rt, rt.alloc(), ChipName::Mcs51, &rows)
 }
 
 #[test]

@@ -1,0 +1,11 @@
+mod calls;
+mod choices;
+mod digits;
+mod images;
+mod lines;
+mod making;
+mod parts;
+mod reports;
+mod scripts;
+mod streams;
+mod ways;
