@@ -1,5 +1,5 @@
 -- The tests of instruction bytes, sets, causes and items hold exactly where the two are one.
-use Rattle.std.specs.Prelude.{◌≡◌, ℕ, ◌-◌, ◌&&◌, Bool, false, List, [], ◌∷◌, ◌++◌, length, replicate}
+use Rattle.std.specs.Prelude.{◌≡◌, ℕ, ◌-◌, ◌&&◌, false, List, [], ◌∷◌, ◌++◌, length, replicate}
 use Rattle.std.specs.Bool.{Decides}
 use Rattle.std.specs.Cmp.{booleans_Decides}
 use Rattle.std.specs.Cmp.Lexicographic.{pointwise}
@@ -14,7 +14,8 @@ use Rattle.call_context.specs.declared.shown.Item.TheVariants.{Instr, Edge, Acce
 use Rattle.call_context.specs.declared.shown.Set.{Set}
 use Rattle.call_context.specs.declared.shown.Set.TheVariants.{B, W}
 use Rattle.chip_numbers.specs.declared.space.Space.{Space}
-use Rattle.chip_numbers.specs.declared.space.Space.TheVariants.{Mem, Ram, Sfr, Xram, Code}
+use Rattle.chip_numbers.specs.contracts.space.Space.{the_type}
+use denote.Enum.Bare.{same_true, true_same}
 use Rattle.call_context.specs.contracts.shown.CausePartialEq.TheImpl as cause_impl
 use Rattle.call_context.specs.contracts.shown.ItemPartialEq.TheImpl as item_impl
 use Rattle.call_context.specs.contracts.shown.SetPartialEq.TheImpl as set_impl
@@ -23,21 +24,6 @@ use Rattle.value_set.specs.declared.form.Form.{Form}
 use Rattle.value_set.specs.declared.form.Form.TheVariants.{Values, Run}
 use Rattle.value_set.specs.declared.form.Progression.{Progression}
 use Rattle.value_set.specs.contracts.form.FormPartialEq.TheImpl as form_impl
-
-abbrev form_eq : Form → Form → Bool
-form_eq = (form_impl.ghosts).eq
-
-abbrev set_eq : Set → Set → Bool
-set_eq = (set_impl.ghosts).eq
-
-abbrev space_eq : Space → Space → Bool
-space_eq = (space_impl.ghosts).eq
-
-abbrev cause_eq : Cause → Cause → Bool
-cause_eq = (cause_impl.ghosts).eq
-
-abbrev item_eq : Item → Item → Bool
-item_eq = (item_impl.ghosts).eq
 
 pub apart : {P : Type 0} → (P → ⊥) → Decides false P
 apart never = (λ e. cc e, λ p. absurd (never p))
@@ -78,46 +64,22 @@ run_same a b = Decides-like _ (λ parts. runs_same a.base a.stride a.count b.bas
     (λ e. (ap (λ (r : Progression). r.base) e, (ap (λ (r : Progression). r.stride) e, ap (λ (r : Progression). r.count) e)))
     (Decides-and _ _ (Decides-eqb a.base b.base) (Decides-and _ _ (Decides-eqb a.stride b.stride) (Decides-eqb a.count b.count)))
 
-form_same : (a b : Form) → Decides (form_eq a b) (a ≡ b)
+form_same : (a b : Form) → Decides ((form_impl.ghosts).eq a b) (a ≡ b)
 form_same (Values xs) (Values ys) = Decides-like _ (ap Values) (λ e. cc e) (few_same 16 xs ys)
 form_same (Run a) (Run b) = Decides-like _ (ap Run) (λ e. cc e) (run_same a b)
 form_same (Values xs) (Run b) = apart (λ e. cc e)
 form_same (Run a) (Values ys) = apart (λ e. cc e)
 
-pub set_same : (a b : Set) → Decides (set_eq a b) (a ≡ b)
+pub set_same : (a b : Set) → Decides ((set_impl.ghosts).eq a b) (a ≡ b)
 set_same (B x) (B y) = Decides-like _ (ap B) (λ e. cc e) (form_same x y)
 set_same (W x) (W y) = Decides-like _ (ap W) (λ e. cc e) (form_same x y)
 set_same (B x) (W y) = apart (λ e. cc e)
 set_same (W x) (B y) = apart (λ e. cc e)
 
-space_same : (a b : Space) → Decides (space_eq a b) (a ≡ b)
-space_same Mem Mem = (λ e. refl, λ e. refl)
-space_same Mem Ram = apart (λ e. cc e)
-space_same Mem Sfr = apart (λ e. cc e)
-space_same Mem Xram = apart (λ e. cc e)
-space_same Mem Code = apart (λ e. cc e)
-space_same Ram Mem = apart (λ e. cc e)
-space_same Ram Ram = (λ e. refl, λ e. refl)
-space_same Ram Sfr = apart (λ e. cc e)
-space_same Ram Xram = apart (λ e. cc e)
-space_same Ram Code = apart (λ e. cc e)
-space_same Sfr Mem = apart (λ e. cc e)
-space_same Sfr Ram = apart (λ e. cc e)
-space_same Sfr Sfr = (λ e. refl, λ e. refl)
-space_same Sfr Xram = apart (λ e. cc e)
-space_same Sfr Code = apart (λ e. cc e)
-space_same Xram Mem = apart (λ e. cc e)
-space_same Xram Ram = apart (λ e. cc e)
-space_same Xram Sfr = apart (λ e. cc e)
-space_same Xram Xram = (λ e. refl, λ e. refl)
-space_same Xram Code = apart (λ e. cc e)
-space_same Code Mem = apart (λ e. cc e)
-space_same Code Ram = apart (λ e. cc e)
-space_same Code Sfr = apart (λ e. cc e)
-space_same Code Xram = apart (λ e. cc e)
-space_same Code Code = (λ e. refl, λ e. refl)
+space_same : (a b : Space) → Decides ((space_impl.ghosts).eq a b) (a ≡ b)
+space_same a b = (same_true the_type tt a b, true_same the_type a b)
 
-pub cause_same : (a b : Cause) → Decides (cause_eq a b) (a ≡ b)
+pub cause_same : (a b : Cause) → Decides ((cause_impl.ghosts).eq a b) (a ≡ b)
 cause_same Fetch Fetch = (λ e. refl, λ e. refl)
 cause_same (Targets x) (Targets y) = Decides-like _ (ap Targets) (λ e. cc e) (form_same x y)
 cause_same (Store x) (Store y) = Decides-like _ (ap Store) (λ e. cc e) (form_same x y)
@@ -128,7 +90,7 @@ cause_same (Targets x) (Store y) = apart (λ e. cc e)
 cause_same (Store x) Fetch = apart (λ e. cc e)
 cause_same (Store x) (Targets y) = apart (λ e. cc e)
 
-pub item_same : (a b : Item) → Decides (item_eq a b) (a ≡ b)
+pub item_same : (a b : Item) → Decides ((item_impl.ghosts).eq a b) (a ≡ b)
 item_same (Instr pc bytes) (Instr pc' bytes') = Decides-like _
     (λ parts. let p = parts.0 in let b = parts.1 in cc (p, b))
     (λ e. (cc e, cc e))

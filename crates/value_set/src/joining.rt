@@ -144,8 +144,7 @@ pub fn join(modulus: u32, first: &Form, second: &Form) -> Form
     requires small { modulus ≤ 65536 }
     requires first_normal { IsNormal modulus first.now }
     requires second_normal { IsNormal modulus second.now }
-    ensures value { result ≡ joins.join modulus first.now second.now }
-    ensures normal { IsNormal modulus result }
+    ensures { result ≡ joins.join modulus first.now second.now }
 {
     if same(first, second) {
         return *first;

@@ -7,8 +7,9 @@ ghost use Rattle.value_set.specs.Widening as widens;
 use crate::circle::reach;
 use crate::form::{Form, Progression, same};
 use crate::gathering::{make, steps_to};
-use crate::joining::{class, join, span};
+use crate::joining::{class, span};
 use crate::number::Number;
+use crate::sets::join;
 
 /// The best mark so far with one more seen: the greatest of those at most a bound.
 fn nearer_below(bound: u32, best: Option<u32>, mark: u32) -> Option<u32>
