@@ -32,7 +32,7 @@ use Rattle.mcs51_stores.specs.Stack.{pair_pushed, raised}
 use Rattle.mcs51_entry.specs.declared.coming.Coming.{Coming}
 use Rattle.mcs51_entry.specs.Coming.{ComesSo, comings_of, frame_of_coming}
 use Rattle.mcs51_entry.specs.Entering.{counter_pushed, entered_known, entry_accesses, handed, levels_at, related}
-use Rattle.mcs51_entry.specs.Premises.{Premises}
+use Rattle.mcs51_results.specs.InstructionLaws.{InstructionLaws}
 use Rattle.mcs51_entry.proofs.ComingLemmas.{allowed_when, is_listed}
 use Rattle.mcs51_entry.proofs.HandingLemmas.{handed_form, handed_under}
 use Rattle.mcs51_entry.proofs.Levels.{level_by, level_serves, levels_some}
@@ -41,19 +41,19 @@ use Rattle.mcs51_entry.proofs.Relations.{from_itself}
 
 -- THE PUSHED COUNTER
 
-low_form : (laws : Premises) (pc : ℕ) → pc < 65536 → IsByte true (related 512 (single (pc % 256)))
+low_form : (laws : InstructionLaws) (pc : ℕ) → pc < 65536 → IsByte true (related 512 (single (pc % 256)))
 low_form laws pc small = record { normal = (laws.known.sets.single 256 (pc % 256) (omega arith)).0; entry = (refl, omega arith, omega arith) }
 
-high_form : (laws : Premises) (pc : ℕ) → pc < 65536 → IsByte true (related 513 (single (pc / 256)))
+high_form : (laws : InstructionLaws) (pc : ℕ) → pc < 65536 → IsByte true (related 513 (single (pc / 256)))
 high_form laws pc small = record { normal = (laws.known.sets.single 256 (pc / 256) (omega (arith, small))).0; entry = (refl, omega arith, omega arith) }
 
-low_value : (laws : Premises) (s : ChipState) → s.pc < 65536 → IsValue true (Some s) (related 512 (single (s.pc % 256))) (s.pc % 256)
+low_value : (laws : InstructionLaws) (s : ChipState) → s.pc < 65536 → IsValue true (Some s) (related 512 (single (s.pc % 256))) (s.pc % 256)
 low_value laws s small = record {
   form = low_form laws s.pc small;
   holds = ((laws.known.sets.single 256 (s.pc % 256) (omega arith)).1, from_itself s 512 (s.pc % 256) (omega arith) refl);
 }
 
-high_value : (laws : Premises) (s : ChipState) → s.pc < 65536 → IsValue true (Some s) (related 513 (single (s.pc / 256))) (s.pc / 256)
+high_value : (laws : InstructionLaws) (s : ChipState) → s.pc < 65536 → IsValue true (Some s) (related 513 (single (s.pc / 256))) (s.pc / 256)
 high_value laws s small = record {
   form = high_form laws s.pc small;
   holds = ((laws.known.sets.single 256 (s.pc / 256) (omega (arith, small))).1, from_itself s 513 (s.pc / 256) (omega (arith, small)) refl);
@@ -105,7 +105,7 @@ served_at false t pc = refl
 
 -- WHERE THE HANDLER BEGINS
 
-pub covered : (laws : Premises) (framed : Bool) (a : Known) (s : ChipState) (first : Option ChipState) (coming_so : Coming) → IsUnder framed a s first → ComesSo a s coming_so
+pub covered : (laws : InstructionLaws) (framed : Bool) (a : Known) (s : ChipState) (first : Option ChipState) (coming_so : Coming) → IsUnder framed a s first → ComesSo a s coming_so
     → Covers (At (vector_of coming_so.source) [] (frame_of_coming coming_so)) (entered_known a s.pc coming_so) (serving (is_high s coming_so.source) (called (vector_of coming_so.source) s)) (Some s)
 unfolding entered_known with_levels
 covered laws framed a s first coming_so under so =
@@ -117,7 +117,7 @@ covered laws framed a s first coming_so under so =
     let start = handed_under laws framed coming_so.sp a s first is.normal so.at under in
     let low = related 512 (single (s.pc % 256)) in
     let top = related 513 (single (s.pc / 256)) in
-    let pushed = laws.pushed true (Some s) low top s.pc (low_value laws s counter) (high_value laws s counter) (handed coming_so.sp a) s start in
+    let pushed = laws.stores.stack.push_pair true (Some s) low top s.pc (low_value laws s counter) (high_value laws s counter) (handed coming_so.sp a) s start in
     let level : level_by high s.serves_low ≡ coming_so.level = sym so.level in
     let serves = level_serves high s.serves_low s.serves_high (allowed_when s coming_so.source so.comes) in
     let serves_so = subst (λ n. may_serve (levels_at n) (if high then s.serves_low else true) (if high then true else s.serves_high) ≡ true) level serves in (
@@ -131,12 +131,12 @@ covered laws framed a s first coming_so under so =
 levels_form : (known : Known) (levels : Levels) → AreLevels levels → IsKnown true known → IsKnown true (record known { levels = levels })
 levels_form known levels are form = assumption (form, are)
 
-pub entered_form : (laws : Premises) (framed : Bool) (a : Known) (pc : ℕ) (coming_so : Coming) → IsKnown framed a → pc < 65536 → Contains (comings_of a) coming_so → IsKnown true (entered_known a pc coming_so)
+pub entered_form : (laws : InstructionLaws) (framed : Bool) (a : Known) (pc : ℕ) (coming_so : Coming) → IsKnown framed a → pc < 65536 → Contains (comings_of a) coming_so → IsKnown true (entered_known a pc coming_so)
 unfolding entered_known
 entered_form laws framed a pc coming_so form small h =
     let is = is_listed laws a coming_so form.sp h in
     let start = handed_form laws framed coming_so.sp a is.normal form in
-    let pushed = laws.pushed_form true (related 512 (single (pc % 256))) (related 513 (single (pc / 256))) (low_form laws pc small) (high_form laws pc small) (handed coming_so.sp a) start in
+    let pushed = laws.stores.forms.push_pair true (related 512 (single (pc % 256))) (related 513 (single (pc / 256))) (low_form laws pc small) (high_form laws pc small) (handed coming_so.sp a) start in
     levels_form (counter_pushed pc (handed coming_so.sp a)) (levels_at coming_so.level) (levels_some coming_so.level) pushed
 
 -- WHAT IS SHOWN
@@ -147,13 +147,13 @@ showing_more item other pc access shows = (shows.0, Contains-append_left (item �
 showing_later : (item other : Item) (pc : ℕ) (access : Access) → AreShowing (other ∷ []) (accessed pc access) → AreShowing (item ∷ other ∷ []) (accessed pc access)
 showing_later item other pc access shows = (shows.0, Contains-append_right (item ∷ []) (other ∷ []) shows.0 shows.1, shows.2)
 
-raised_normal : (laws : Premises) (sp : Form) → IsNormal 256 sp → IsNormal 256 (raised sp)
+raised_normal : (laws : InstructionLaws) (sp : Form) → IsNormal 256 sp → IsNormal 256 (raised sp)
 raised_normal laws sp normal = laws.known.sets.add_normal 256 sp (single 1) normal (laws.known.sets.single 256 1 (omega arith)).0
 
-raised_has : (laws : Premises) (sp : Form) (v : ℕ) → IsNormal 256 sp → Has 256 sp v → Has 256 (raised sp) ((v + 1) % 256)
+raised_has : (laws : InstructionLaws) (sp : Form) (v : ℕ) → IsNormal 256 sp → Has 256 sp v → Has 256 (raised sp) ((v + 1) % 256)
 raised_has laws sp v normal has = let one = laws.known.sets.single 256 1 (omega arith) in laws.known.sets.add 256 v 1 sp (single 1) normal one.0 has one.1
 
-pub shown : (laws : Premises) (framed : Bool) (a : Known) (s : ChipState) (first : Option ChipState) (coming_so : Coming) → IsUnder framed a s first → ComesSo a s coming_so
+pub shown : (laws : InstructionLaws) (framed : Bool) (a : Known) (s : ChipState) (first : Option ChipState) (coming_so : Coming) → IsUnder framed a s first → ComesSo a s coming_so
     → AreShown (entry_accesses s.pc coming_so) s.pc (push_writes s)
 shown laws framed a s first coming_so under so access there =
     let is = is_listed laws a coming_so under.form.sp so.listed in
@@ -168,10 +168,10 @@ shown laws framed a s first coming_so under so access there =
     let second_write : Access = Internal true (AtRam ((s.sp + 2) % 256)) in
     elim (in_cons first_write (second_write ∷ []) access there) [
       | inl same ↦ subst (λ (x : Access). AreShowing (one ∷ other ∷ []) (accessed s.pc x)) same
-          (showing_more one other s.pc first_write (laws.shown s.pc true (InRam low) (AtRam ((s.sp + 1) % 256)) low_has low_normal first_write (Contains-push [] first_write)))
+          (showing_more one other s.pc first_write (laws.operands.shown.operand s.pc true (InRam low) (AtRam ((s.sp + 1) % 256)) low_has low_normal first_write (Contains-push [] first_write)))
       | inr later ↦ elim (in_cons second_write [] access later) [
         | inl same ↦ subst (λ (x : Access). AreShowing (one ∷ other ∷ []) (accessed s.pc x)) same
-            (showing_later one other s.pc second_write (laws.shown s.pc true (InRam high) (AtRam ((s.sp + 2) % 256)) high_has (raised_normal laws low low_normal) second_write (Contains-push [] second_write)))
+            (showing_later one other s.pc second_write (laws.operands.shown.operand s.pc true (InRam high) (AtRam ((s.sp + 2) % 256)) high_has (raised_normal laws low low_normal) second_write (Contains-push [] second_write)))
         | inr none ↦ absurd (in_none access none)
       ]
     ]

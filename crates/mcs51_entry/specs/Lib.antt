@@ -1,3 +1,3 @@
 pub mod Coming
 pub mod Entering
-pub mod Premises
+pub mod Laws

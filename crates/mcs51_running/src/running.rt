@@ -2,7 +2,6 @@
 
 ghost use Rattle.std.specs.Prelude.{◌≡◌, IfOk, IsSome, Some};
 ghost use Rattle.mcs51_decode.specs.Targets.{following as the_following, target_of};
-ghost use Rattle.mcs51_jumps.specs.Jumps as jumps;
 ghost use Rattle.mcs51_running.specs.Running as running;
 
 use crate::changing::pass;
@@ -11,7 +10,7 @@ use crate::showing::show;
 use call_context::{Item, Sequence};
 use entry_value::Cells;
 use mcs51_control::return_targets;
-use mcs51_decode::{BitTest, Comparison, Condition, Counter, Image, Instr};
+use mcs51_decode::{Image, Instr};
 use mcs51_jumps::{
     Ways, show_bit, show_comparison, show_counter, ways_by_comparison, ways_by_counter,
     ways_on_bit, ways_on_condition,
@@ -81,71 +80,6 @@ fn fork<M: Cells>(target: u16, items: Sequence<Item>, ways: Ways<M>) -> Ran<M>
     }
 }
 
-/// JC, JNC, JZ, JNZ or SJMP.
-fn jump_on<M: Cells>(
-    alloc: Global,
-    at: &State<M>,
-    target: u16,
-    condition: Condition,
-) -> Result<Ran<M>, Memory>
-    ensures { IfOk result (λ ran. ran ≡ running.jumping_on target condition at.now) }
-{
-    let ways = ways_on_condition(alloc, at, condition)?;
-    Ok(fork(target, Sequence::new(alloc), ways))
-}
-
-/// JB, JNB or JBC.
-fn jump_on_bit<M: Cells>(
-    alloc: Global,
-    framed: bool,
-    at: &State<M>,
-    pc: u16,
-    target: u16,
-    test: BitTest,
-    bit: u8,
-) -> Result<Ran<M>, Memory>
-    ensures { IfOk result (λ ran. ran ≡ running.jumping_on_bit framed pc target test bit at.now) }
-{
-    let mut items = Sequence::new(alloc);
-    let ways = ways_on_bit(alloc, framed, at, test, bit)?;
-    show_bit(&mut items, pc, test, bit, &ways.jumped)?;
-    Ok(fork(target, items, ways))
-}
-
-/// CJNE.
-fn compare_and_jump<M: Cells>(
-    alloc: Global,
-    framed: bool,
-    at: &State<M>,
-    pc: u16,
-    target: u16,
-    comparison: Comparison,
-) -> Result<Ran<M>, Memory>
-    ensures { IfOk result (λ ran. ran ≡ running.comparing framed pc target comparison at.now) }
-{
-    let mut items = Sequence::new(alloc);
-    show_comparison(&mut items, pc, at, comparison)?;
-    let ways = ways_by_comparison(alloc, framed, at, comparison)?;
-    Ok(fork(target, items, ways))
-}
-
-/// DJNZ.
-fn lower_and_jump<M: Cells>(
-    alloc: Global,
-    framed: bool,
-    at: &State<M>,
-    pc: u16,
-    target: u16,
-    counter: Counter,
-) -> Result<Ran<M>, Memory>
-    ensures { IfOk result (λ ran. ran ≡ running.lowering framed pc target counter at.now) }
-{
-    let mut items = Sequence::new(alloc);
-    show_counter(&mut items, pc, at, counter)?;
-    let ways = ways_by_counter(alloc, framed, at, counter)?;
-    Ok(fork(target, items, ways))
-}
-
 /// What an instruction at an address makes of what is known of a state.
 #[tactic(auto, unfolding(crate::specs::Running::ran_from))]
 pub fn run<M: Cells>(
@@ -159,15 +93,27 @@ pub fn run<M: Cells>(
     ensures { IfOk result (λ ran. ran ≡ running.ran_of image.now framed pc at.now instr.now) }
 {
     match *instr {
-        Instr::JumpOn { condition, .. } => jump_on(alloc, at, named_target(pc, instr), condition),
+        Instr::JumpOn { condition, .. } => {
+            let ways = ways_on_condition(alloc, at, condition)?;
+            Ok(fork(named_target(pc, instr), Sequence::new(alloc), ways))
+        }
         Instr::JumpOnBit { test, bit, .. } => {
-            jump_on_bit(alloc, framed, at, pc, named_target(pc, instr), test, bit)
+            let ways = ways_on_bit(alloc, framed, at, test, bit)?;
+            let mut items = Sequence::new(alloc);
+            show_bit(&mut items, pc, test, bit, &ways.jumped)?;
+            Ok(fork(named_target(pc, instr), items, ways))
         }
         Instr::CompareJump { comparison, .. } => {
-            compare_and_jump(alloc, framed, at, pc, named_target(pc, instr), comparison)
+            let ways = ways_by_comparison(alloc, framed, at, comparison)?;
+            let mut items = Sequence::new(alloc);
+            show_comparison(&mut items, pc, at, comparison)?;
+            Ok(fork(named_target(pc, instr), items, ways))
         }
         Instr::DecrementJump { counter, .. } => {
-            lower_and_jump(alloc, framed, at, pc, named_target(pc, instr), counter)
+            let ways = ways_by_counter(alloc, framed, at, counter)?;
+            let mut items = Sequence::new(alloc);
+            show_counter(&mut items, pc, at, counter)?;
+            Ok(fork(named_target(pc, instr), items, ways))
         }
         _ => land(alloc, image, framed, at, pc, instr),
     }

@@ -4,12 +4,5 @@ use Rattle.mcs51_entry.proofs.laws.entries_hold.Goals as goal
 
 pub returns : goal.returns
 returns c =
-    let laws = c.premises_hold.ensures in
-    record {
-      comes = comes laws;
-      covered = covered laws;
-      shown = shown laws;
-      form = entered_form laws;
-      frame = frame_so laws;
-      below = source_below;
-    }
+    let laws = c.instruction_laws.ensures in
+    assumption (comes laws, covered laws, shown laws, entered_form laws, frame_so laws, source_below)
