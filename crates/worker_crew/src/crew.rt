@@ -8,9 +8,9 @@ ghost use Rattle.turn_table.specs.Events.{AllBelow, events_of};
 ghost use Rattle.turn_table.specs.Named.{name_of};
 ghost use Rattle.worker_crew.specs.Turns.{AreAnswered, IsReady, StaysAnswered, TakesIn, Works};
 
+use crate::calls::Calls;
 use crate::worker::work;
 use chip_law::Chip;
-use crossbeam_utils::sync::EventCount;
 use fact_table::{FactTable, Seat, Turns};
 use no_memory::Memory;
 use round_core::Book;
@@ -40,7 +40,7 @@ fn work_through<R: Wait, C: Chip, G: Gate>(
     turns: &Turns<C>,
     chip: &C,
     gate: &G,
-    answers: &EventCount,
+    calls: &Calls,
     seat: Seat<C>,
     more: u32,
 ) -> Seat<C>
@@ -49,10 +49,10 @@ fn work_through<R: Wait, C: Chip, G: Gate>(
     ensures takes_in { TakesIn seat result }
     ensures answered { StaysAnswered seat result }
 {
-    let mut seat = work(rt, alloc, turns, chip, gate, answers, seat);
+    let mut seat = work(rt, alloc, turns, chip, gate, calls, seat);
     for _ in 0..more {
         let other = turns.split(&mut seat);
-        let other = work(rt, alloc, turns, chip, gate, answers, other);
+        let other = work(rt, alloc, turns, chip, gate, calls, other);
         turns.join(&mut seat, other);
     }
     seat
@@ -67,7 +67,7 @@ fn work_beside<R: Threads + Wait + Sync, C: Chip<Base: Send> + Send + Sync, G: G
     turns: &Turns<C>,
     chip: &C,
     gate: &G,
-    answers: &EventCount,
+    calls: &Calls,
     mut seat: Seat<C>,
     helpers: u32,
     more: u32,
@@ -80,13 +80,13 @@ fn work_beside<R: Threads + Wait + Sync, C: Chip<Base: Send> + Send + Sync, G: G
     ensures answered { StaysAnswered seat result }
 {
     if helpers == 0 {
-        return work_through(rt, alloc, turns, chip, gate, answers, seat, more);
+        return work_through(rt, alloc, turns, chip, gate, calls, seat, more);
     }
     let helper = turns.split(&mut seat);
     let help = move || -> Seat<C>
         requires { IsReady (name_of turns.now) (C.base chip.now) helper }
         ensures { Works helper result }
-    { work(rt, alloc, turns, chip, gate, answers, helper) };
+    { work(rt, alloc, turns, chip, gate, calls, helper) };
     let go_on = move || -> Seat<C>
         requires threads { IsSync R.row × IsSend C.row × IsSync C.row × IsSync G.row
             × IsSend C.Base.row × IsSend C.Abs.row }
@@ -94,19 +94,7 @@ fn work_beside<R: Threads + Wait + Sync, C: Chip<Base: Send> + Send + Sync, G: G
         requires room { (0 < helpers) × (helpers + more ≤ seat.room + 1) }
         ensures takes_in { TakesIn seat result }
         ensures answered { StaysAnswered seat result }
-    {
-        work_beside(
-            rt,
-            alloc,
-            turns,
-            chip,
-            gate,
-            answers,
-            seat,
-            helpers - 1,
-            more,
-        )
-    };
+    { work_beside(rt, alloc, turns, chip, gate, calls, seat, helpers - 1, more) };
     let (helper, mut seat) = join(rt, help, go_on);
     turns.join(&mut seat, helper);
     seat
@@ -131,7 +119,7 @@ pub fn fixpoint<R: Threads + Wait + Sync, C: Chip<Base: Send> + Send + Sync, G: 
 {
     let book = Book::open(alloc, chip)?;
     let (table, seat) = FactTable::new(alloc, book, workers)?;
-    let answers = EventCount::new();
+    let calls = Calls::new();
     let threads = threads_for(rt, workers);
     let seat = work_beside(
         rt,
@@ -139,7 +127,7 @@ pub fn fixpoint<R: Threads + Wait + Sync, C: Chip<Base: Send> + Send + Sync, G: 
         table.turns(),
         chip,
         gate,
-        &answers,
+        &calls,
         seat,
         threads - 1,
         workers - threads,

@@ -6,11 +6,11 @@
 //! others go on. There are at most as many threads as processors, and at least two. The caller does the rest, and the work of
 //! threads that couldn't be started.
 //!
-//! An idle worker sleeps: where no unit can be claimed and some unit is out, nothing changes before that unit is posted
-//! or given back. It announces that it waits at an `EventCount`, claims, and sleeps at the system until another worker
-//! wakes it. Who leaves units behind its turn wakes one that sleeps: that one claims, and wakes the next, as long as there are
-//! units. Who runs out of memory wakes one too, and who finds the book finished wakes all. Where no one waits this is no call
-//! of the system.
+//! An idle worker waits: where no unit can be claimed and some unit is out, nothing changes before that unit is posted
+//! or given back. It looks for a call for a while, and then announces a sleep at an `EventCount`, claims, and sleeps at the system
+//! until another worker wakes it. Who leaves units behind its turn calls one that looks, or else wakes one that sleeps: that one
+//! claims, and calls the next, as long as there are units. Who runs out of memory calls one too, and who finds the book finished
+//! calls all. Where no one sleeps this is no call of the system.
 //!
 //! Proved:
 //!
@@ -21,6 +21,7 @@
 //! Nothing is proved of progress: [`fixpoint`] may wait, and owes no return. That workers run at once is only tested.
 #![tactic(auto)]
 
+mod calls;
 mod crew;
 mod worker;
 

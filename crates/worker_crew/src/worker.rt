@@ -1,14 +1,14 @@
 //! What one worker does.
 
-ghost use Rattle.std.specs.Prelude.{◌≡◌, ◌+◌, ◌<◌, ◌≤◌, ◌++◌, ◌∷◌, [], length, false, not, true, IfErr, IfOk, IsTrue, MatchOption, OnErr, vec_len, vec_capacity};
+ghost use Rattle.std.specs.Prelude.{◌≡◌, ◌<◌, ◌≤◌, ◌++◌, ◌∷◌, [], length, false, not, true, IfErr, IfOk, IsTrue, MatchOption, OnErr, vec_len, vec_capacity};
 ghost use Rattle.std.specs.List.{AllByRecursion};
 ghost use Rattle.fact_table.specs.Exchange.{IsWorked, tickets_of};
 ghost use Rattle.fact_table.specs.Seats.{AreOutTo};
 ghost use Rattle.turn_table.specs.Named.{name_of};
 ghost use Rattle.worker_crew.specs.Turns.{GoesOn, IsReady, Serves, Works, units_of};
 
+use crate::calls::Calls;
 use chip_law::Chip;
-use crossbeam_utils::sync::EventCount;
 use fact_table::{Exchanged, Last, Seat, Turns, exchange_at, give_back_at};
 use no_memory::Memory;
 use round_core::{Done, Ticket};
@@ -36,19 +36,6 @@ fn put_first<C: Chip>(tickets: &mut Vec<Ticket<C>>, ticket: Ticket<C>)
     ensures { tickets.new.items ≡ ticket ∷ tickets.old.items }
 {
     match tickets.insert(0, ticket) {
-        Ok(()) => {}
-        Err(_) => unreachable!(),
-    }
-}
-
-/// Puts a work behind all others, for which there is room.
-fn put_last<C: Chip>(done: &mut Vec<Done<C>>, one: Done<C>)
-    requires { vec_len done.old < vec_capacity done.old }
-    ensures items { done.new.items ≡ done.old.items ++ one ∷ [] }
-    ensures len { vec_len done.new ≡ vec_len done.old + 1 }
-    ensures capacity { vec_capacity done.old ≤ vec_capacity done.new }
-{
-    match done.push(one) {
         Ok(()) => {}
         Err(_) => unreachable!(),
     }
@@ -91,7 +78,7 @@ fn work_on<C: Chip, G: Gate>(
     while !left.is_empty() {
         let first = left.remove(0);
         match work_one(alloc, chip, gate, seat, first) {
-            Ok(one) => put_last(&mut done, one),
+            Ok(one) => done.push_reserved(one),
             Err(ticket) => {
                 put_first(&mut left, ticket);
                 return (done, left);
@@ -183,18 +170,17 @@ fn is_finished(last: Last) -> bool
     matches!(last, Last::Finished)
 }
 
-/// Works on units, posts their works and claims the next ones. Where units may be left for others, one worker that sleeps is
-/// woken for them. It answers the tickets, and why there are no more.
+/// Works on units, posts their works and claims the next ones. It answers the tickets, why there are no more, and whether units may
+/// be left for others.
 fn go_on<R: Wait, C: Chip, G: Gate>(
     rt: &R,
     alloc: Global,
     turns: &Turns<C>,
     chip: &C,
     gate: &G,
-    answers: &EventCount,
     seat: &mut Seat<C>,
     tickets: Vec<Ticket<C>>,
-) -> Result<(Vec<Ticket<C>>, Last), Memory>
+) -> Result<(Vec<Ticket<C>>, Last, bool), Memory>
     requires ready { IsReady (name_of turns.now) (C.base chip.now) seat.old }
     requires tickets { AreOutTo C.analysis seat.old tickets.items }
     requires few { length tickets.items ≤ 4 }
@@ -217,22 +203,20 @@ fn go_on<R: Wait, C: Chip, G: Gate>(
         give_back_all(rt, turns, seat, unposted, tickets);
         return Err(Memory);
     }
-    if left {
-        answers.notify_one();
-    }
-    Ok((tickets, last))
+    Ok((tickets, last, left))
 }
 
-/// The same, where a worker that has no unit and finds none sleeps until another one wakes it. True says that the book is
-/// finished.
+/// The same. Where units may be left, one worker that has none is called for them. A worker that has no unit and finds none looks
+/// for a call, and behind that, where it is sleepy, sleeps until another one wakes it. True says that the book is finished.
 fn turn<R: Wait, C: Chip, G: Gate>(
     rt: &R,
     alloc: Global,
     turns: &Turns<C>,
     chip: &C,
     gate: &G,
-    answers: &EventCount,
+    calls: &Calls,
     seat: &mut Seat<C>,
+    sleepy: &mut bool,
     tickets: Vec<Ticket<C>>,
 ) -> Result<(Vec<Ticket<C>>, bool), Memory>
     requires ready { IsReady (name_of turns.now) (C.base chip.now) seat.old }
@@ -244,17 +228,30 @@ fn turn<R: Wait, C: Chip, G: Gate>(
     ensures ended { OnErr result (Serves (units_of tickets.items) [] seat.old seat.new) }
 {
     // Announced before the claim, so that a unit that comes behind it ends the wait.
-    let wait = tickets.is_empty().then(|| answers.prepare_wait());
-    let (next, last) = go_on(rt, alloc, turns, chip, gate, answers, seat, tickets)?;
-    if let Some(key) = wait {
-        if next.is_empty() && matches!(last, Last::Idle) {
+    let idle = tickets.is_empty();
+    let watch = (idle && !*sleepy).then(|| calls.watch());
+    let sleep = (idle && *sleepy).then(|| calls.announce());
+    *sleepy = false;
+    let (next, last, left) = go_on(rt, alloc, turns, chip, gate, seat, tickets)?;
+    if next.is_empty() && matches!(last, Last::Idle) {
+        if let Some(watch) = watch {
+            *sleepy = !watch.was_called();
+        }
+        if let Some(key) = sleep {
             key.wait(rt);
+        }
+    } else {
+        // Who has units is not the one to be called.
+        drop(watch);
+        drop(sleep);
+        if left {
+            calls.call_one();
         }
     }
     Ok((next, is_finished(last)))
 }
 
-/// Takes turns until the book is finished or memory runs out. Who finds it finished wakes all; who is out of memory wakes
+/// Takes turns until the book is finished or memory runs out. Who finds it finished calls all; who is out of memory calls
 /// one, which looks for the units that are left.
 pub(crate) fn work<R: Wait, C: Chip, G: Gate>(
     rt: &R,
@@ -262,22 +259,33 @@ pub(crate) fn work<R: Wait, C: Chip, G: Gate>(
     turns: &Turns<C>,
     chip: &C,
     gate: &G,
-    answers: &EventCount,
+    calls: &Calls,
     mut seat: Seat<C>,
 ) -> Seat<C>
     requires ready { IsReady (name_of turns.now) (C.base chip.now) seat }
     ensures { Works seat result }
 {
     let mut tickets = Vec::new(alloc);
+    let mut sleepy = false;
     for _ in rt.forever() {
-        match turn(rt, alloc, turns, chip, gate, answers, &mut seat, tickets) {
+        match turn(
+            rt,
+            alloc,
+            turns,
+            chip,
+            gate,
+            calls,
+            &mut seat,
+            &mut sleepy,
+            tickets,
+        ) {
             Ok((next, false)) => tickets = next,
             Ok((_, true)) => {
-                answers.notify_all();
+                calls.call_all();
                 return seat;
             }
             Err(Memory) => {
-                answers.notify_one();
+                calls.call_one();
                 return seat;
             }
         }

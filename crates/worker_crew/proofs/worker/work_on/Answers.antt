@@ -16,10 +16,10 @@ loop-alloc-preserved g c =
     let worked = subst (λ r. IfOk r (IsWorked m)) c.in-Ok-work_one.is c.work_one.ensures.worked in
     let some : 0 < length c.loop-alloc.left.items = search rules in
     let taken : c.loop-alloc.left.items ≡ first ∷ left = first_taken c.loop-alloc.left.items first left some c.remove-first.ensures.value c.remove-first.ensures.items in
-    let items = c.put_last.ensures.items in
+    let items = c.push_reserved.ensures.items in
     let room = was.room in
-    let longer = c.put_last.ensures.len in
-    let wider = c.put_last.ensures.capacity in
+    let longer = c.push_reserved.ensures.len in
+    let wider = c.push_reserved.ensures.capacity in
     let shorter = c.remove-first.ensures.len in
     record {
       whole = subst (λ ds. c.args.tickets.items ≡ tickets_of ds ++ left) (sym items)
