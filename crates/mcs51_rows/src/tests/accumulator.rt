@@ -1,6 +1,6 @@
 //! The accumulator and a byte of RAM.
 
-use crate::given::byte;
+use super::given::byte;
 use abs_memory::CellList;
 use entry_value::Cells;
 use mcs51_alu::{accumulate, change, count, load};

@@ -1,6 +1,6 @@
 //! States against rows worked by hand.
 
-use crate::given::byte;
+use super::given::byte;
 use abs_memory::CellList;
 use call_context::Frame;
 use entry_value::Cells;

@@ -1,6 +1,6 @@
 //! Operands against rows worked by hand.
 
-use crate::given::byte;
+use super::given::byte;
 use abs_memory::CellList;
 use entry_value::{Byte, Cells, Entry};
 use mcs51_decode::{Memory, Pointer, Register, Working};

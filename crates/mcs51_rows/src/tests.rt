@@ -1,0 +1,13 @@
+mod accumulator;
+mod bits;
+mod branches;
+mod control;
+mod entries;
+mod given;
+mod joins;
+mod memories;
+mod moves;
+mod operands;
+mod results;
+mod resuming;
+mod stores;
