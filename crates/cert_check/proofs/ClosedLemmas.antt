@@ -13,15 +13,15 @@ use Rattle.call_context.specs.declared.node.Node.TheVariants.{At, Exit}
 use Rattle.call_context.specs.declared.node.Unit.{Unit as WorkUnit}
 use Rattle.call_context.specs.declared.node.Unit.TheVariants.{One, Back}
 use Rattle.chip_law.specs.declared.chip.Work.{Work}
-use Rattle.chip_law.specs.Analysis.{Analysis, AreFormed, KeepsForm}
+use Rattle.chip_law.specs.Analysis.{Analysis, AreFormed}
 use Rattle.chip_law.specs.Table.{IsClosedTable, IsFormedTable, IsUnitOver}
 use Rattle.closing_law.specs.ClosedBook.{IsClosedBook, IsUnitWithWork, table_in}
 use Rattle.round_core.specs.Same.{same_frame, same_node, same_unit}
 use Rattle.state_text.specs.declared.text.Outside.{Outside}
-use Rattle.state_text.specs.Texts.{AreTexts, StateTexts}
-use Rattle.cert_text.specs.Writing.{AreNodes}
+use Rattle.state_text.specs.Texts.{StateTexts}
 use Rattle.cert_check.proofs.TableLemmas.{flips_from}
 use Rattle.cert_check.specs.declared.refusal.Refusal.TheVariants.{NotIn}
+use Rattle.cert_check.specs.Known.{Known}
 use Rattle.cert_check.specs.Refusal.{exits_in, first_of, held_refusal, Input, Open, open_refusal, or_else, post_refusal, refusal_of, return_from, rows_refusal, start_refusal, unit_refusal, units_of, work_refusal, worked, works_in}
 use Rattle.plain_lemmas.specs.Members.{in_cons, in_first, in_flat_map, in_map, in_none, in_rest}
 
@@ -241,15 +241,6 @@ keys_apart a (x ∷ xs) apart = (
 )
 
 -- THE CLOSED BOOK
-
--- what the definitions and the laws give
-pub record Known {A : Type 0} (a : Analysis A) (texts : StateTexts A) (rows : List (Node × A)) : Type 0 where
-  pub are : AreTexts a texts
-  pub keeps : KeepsForm a
-  pub nodes_are : AreNodes a rows
-  pub one : (m n : Node) → (same_node m n ≡ true) ↔ (m ≡ n)
-  pub frames : (f g : Frame) → (same_frame f g ≡ true) ↔ (f ≡ g)
-  pub units : (u v : WorkUnit) → (same_unit u v ≡ true) ↔ (u ≡ v)
 
 module _ {A : Type 0} (a : Analysis A) (texts : StateTexts A) (rows : List (Node × A)) (known : Known a texts rows) where
   abbrev inputs : List (Input A)

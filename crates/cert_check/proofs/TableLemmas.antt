@@ -4,24 +4,19 @@ use Rattle.std.specs.Prelude.{◌↔◌}
 use Rattle.std.specs.Bool.{Decides}
 use Rattle.std.specs.List.{AllByRecursion, IsDistinct}
 use Rattle.std.specs.Map.{keys_of, lookup}
-use Rattle.std.proofs.lemmas.Bool.{cases_Bool, cond-true, cond-false, true≢false}
+use Rattle.std.proofs.lemmas.Bool.{cases_Bool, cond-true, cond-false}
 use Rattle.std.proofs.lemmas.List.{map-append}
 use Rattle.std.proofs.lemmas.Option.{none-some, same_Some}
 use Rattle.call_context.specs.declared.node.Node.{Node}
 use Rattle.closing_law.specs.ClosedBook.{table_in}
 use Rattle.round_core.specs.Same.{same_node}
 use Rattle.cert_check.specs.Table.{placed}
+use Rattle.plain_lemmas.specs.Cases.{one_test}
 
 -- two tests that tell equal ones are one test: that of code, and that of the definitions
 module _ {X : Type 0} (eq : X → X → Bool) {same : X → X → Bool} (tells : (m n : X) → Decides (eq m n) (m ≡ n)) (one : (m n : X) → (same m n ≡ true) ↔ (m ≡ n)) where
   pub same_test : (m n : X) → eq m n ≡ same m n
-  same_test m n = elim (cases_Bool (eq m n)) [
-    | inl is ↦ is ∙ sym ((one m n).1 ((tells m n).0 is))
-    | inr other ↦ elim (cases_Bool (same m n)) [
-      | inl is ↦ absurd (true≢false (sym ((tells m n).1 ((one m n).0 is)) ∙ other))
-      | inr other' ↦ other ∙ sym other'
-    ]
-  ]
+  same_test m n = one_test (eq m n) (same m n) (λ is. (one m n).1 ((tells m n).0 is)) (λ is. (tells m n).1 ((one m n).0 is))
 
 module _ {A : Type 0} (eq : Node → Node → Bool) (same : (m n : Node) → eq m n ≡ same_node m n) where
   -- a node that has no place isn't in the table
@@ -91,10 +86,4 @@ none_yet eq same flips rows entries i row h is so_far distinct =
     fresh eq same entries row.0 (keys_of (placed (i + 1) (drop (i + 1) rows))) flips (subst (IsDistinct same_node) (sym keys) distinct)
 
 pub flips_from : ((m n : Node) → (same_node m n ≡ true) ↔ (m ≡ n)) → (m n : Node) → same_node m n ≡ same_node n m
-flips_from one m n = elim (cases_Bool (same_node m n)) [
-  | inl is ↦ is ∙ sym ((one n m).1 (sym ((one m n).0 is)))
-  | inr other ↦ elim (cases_Bool (same_node n m)) [
-    | inl is ↦ absurd (true≢false (sym ((one m n).1 (sym ((one n m).0 is))) ∙ other))
-    | inr other' ↦ other ∙ sym other'
-  ]
-]
+flips_from one m n = one_test (same_node m n) (same_node n m) (λ is. (one n m).1 (sym ((one m n).0 is))) (λ is. (one m n).1 (sym ((one n m).0 is)))

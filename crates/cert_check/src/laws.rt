@@ -6,6 +6,7 @@ ghost use Rattle.chip_law.specs.Table.{IsClosedTable};
 ghost use Rattle.closing_law.specs.ClosedBook.{IsClosedBook, table_in};
 ghost use Rattle.cert_text.specs.Writing.{AreNodes, IsCert};
 ghost use Rattle.cert_check.specs.Accepted.{GivesReport, IsAccepted};
+ghost use Rattle.cert_check.specs.Known.{Known};
 ghost use Rattle.cert_check.specs.Refusal.{refusal_of, works_in};
 ghost use Rattle.round_core.specs.Kept.{nodes_of};
 ghost use Rattle.round_core.specs.Machine.{replay, IsClosed, IsLegalJournal};
@@ -17,15 +18,23 @@ use report_text::closed_reports_are_of_tables;
 use round_core::tests_tell_which_are_one;
 use state_text::LawfulText;
 
+/// What the laws of the chip and of its texts tell of a table that is checked.
+pub fn tables_are_known<C: LawfulText>()
+    ensures { (b : C.Base) → C.program b → (rows : List (ANode × C.Abs)) → AreNodes (C.analysis b) rows
+        → Known (C.analysis b) (C.texts b) rows }
+{
+    C::laws();
+    C::texts_are_exact();
+    tests_tell_which_are_one();
+}
+
 /// There is no refusal exactly where the table is closed.
 pub fn refusals_are_exact<C: LawfulText>()
     ensures { (b : C.Base) → C.program b → (let a = C.analysis b in
         (rows : List (ANode × C.Abs)) (first : ℕ) → AreNodes a rows
         → (refusal_of a (C.texts b).outside rows first ≡ None) ↔ IsClosedTable a (table_in rows)) }
 {
-    C::laws();
-    C::texts_are_exact();
-    tests_tell_which_are_one();
+    tables_are_known::<C>();
 }
 
 /// The works that the checker finds of a table without a refusal are those of a closed book.
@@ -34,9 +43,7 @@ pub fn unrefused_tables_are_closed_books<C: LawfulText>()
         (rows : List (ANode × C.Abs)) (first : ℕ) → AreNodes a rows
         → refusal_of a (C.texts b).outside rows first ≡ None → IsClosedBook a rows (works_in a rows)) }
 {
-    C::laws();
-    C::texts_are_exact();
-    tests_tell_which_are_one();
+    tables_are_known::<C>();
 }
 
 /// The certificate of a closed table is accepted, in whatever order the nodes were written.
@@ -59,9 +66,8 @@ pub fn own_certificates_give_the_report<C: LawfulText>()
         → IsClosed (replay a journal) → IsCert a texts (nodes_of (replay a journal)) text
         → GivesReport a texts journal text) }
 {
-    C::laws();
-    C::texts_are_exact();
     certificates_of_closed_tables_pass::<C>();
+    unrefused_tables_are_closed_books::<C>();
     closed_book_is_its_table::<C>();
     closed_reports_are_of_tables::<C>();
     tests_tell_which_are_one();

@@ -1,9 +1,10 @@
 //! Why a table is refused.
 
+ghost use Rattle.std.specs.Prelude.{◌≡◌};
+
 use call_context::{Cause, Node};
 use no_memory::Memory;
 use state_text::Outside;
-use std::alloc::{AllocError, AllocFailed};
 
 /// Why a table isn't closed. Lines are those of its certificate.
 #[derive(Drop)]
@@ -37,30 +38,7 @@ pub enum CheckError {
     Memory,
 }
 
-impl From<AllocError> for CheckError {
-    ghost use Rattle.std.specs.Prelude.{◌≡◌};
-    ghost use Rattle.cert_check.specs.declared.refusal.CheckError.TheVariants as errors;
-
-    ghost from_gives = { λ _ e. e ≡ errors.Memory };
-
-    fn from(_error: AllocError) -> CheckError {
-        CheckError::Memory
-    }
-}
-
-impl<T: Drop> From<AllocFailed<T>> for CheckError {
-    ghost use Rattle.std.specs.Prelude.{◌≡◌};
-    ghost use Rattle.cert_check.specs.declared.refusal.CheckError.TheVariants as errors;
-
-    ghost from_gives = { λ _ e. e ≡ errors.Memory };
-
-    fn from(_error: AllocFailed<T>) -> CheckError {
-        CheckError::Memory
-    }
-}
-
 impl From<Memory> for CheckError {
-    ghost use Rattle.std.specs.Prelude.{◌≡◌};
     ghost use Rattle.cert_check.specs.declared.refusal.CheckError.TheVariants as errors;
 
     ghost from_gives = { λ _ e. e ≡ errors.Memory };

@@ -1,9 +1,8 @@
 //! The table of a certificate, for looking nodes up.
 
-ghost use Rattle.std.specs.Prelude.{◌≡◌, IfOk};
+ghost use Rattle.std.specs.Prelude.{◌≡◌, IfOk, option_map};
 ghost use Rattle.std.specs.List.{IsDistinct};
 ghost use Rattle.std.specs.Map.{keys_of};
-ghost use Rattle.std.specs.Option.{option_map};
 ghost use Rattle.closing_law.specs.ClosedBook.{table_in};
 ghost use Rattle.round_core.specs.Same.{same_node};
 ghost use Rattle.cert_check.specs.Table.{placed};

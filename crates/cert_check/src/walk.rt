@@ -1,8 +1,6 @@
 //! The walk over a table.
 
-ghost use Rattle.std.specs.Prelude.{◌≡◌, ◌+◌, ◌<◌, ◌^◌, ◌++◌, ◌∷◌, [], None, Some, if◌then◌else◌, map, length, IfOk, IfErr, OnOk};
-ghost use Rattle.std.specs.List.{flat_map};
-ghost use Rattle.std.specs.Option.{option_copied};
+ghost use Rattle.std.specs.Prelude.{◌≡◌, ◌+◌, ◌<◌, ◌^◌, ◌++◌, ◌∷◌, [], None, Some, if◌then◌else◌, flat_map, map, option_copied, length, IfOk, IfErr, OnOk};
 ghost use Rattle.chip_law.specs.Line.{open_line_of};
 ghost use Rattle.closing_law.specs.ClosedBook.{table_in};
 ghost use Rattle.cert_text.specs.Certificate.{is_below};
@@ -11,6 +9,7 @@ ghost use Rattle.cert_check.specs.Refusal as refusals;
 ghost use Rattle.cert_check.specs.Refusal.{Decides, Tells, first_of, least_from, open_refusal, post_refusal, refusal_of, return_from, rows_refusal, start_refusal, unit_refusal, units_of, work_refusal, worked, works_in};
 
 use crate::exits::{Exits, exits_in};
+use crate::laws::tables_are_known;
 use crate::refusal::{CheckError, Refusal};
 use crate::table::Table;
 use call_context::{Cause, Frame, Node, Unit};
@@ -18,9 +17,8 @@ use cert_text::Cert;
 use chip_law::{Work, open_line};
 use closing_law::ClosedBook;
 use no_memory::Memory;
-use round_core::tests_tell_which_are_one;
 use state_text::LawfulText;
-use std::alloc::{AllocError, Global};
+use std::alloc::Global;
 
 /// Refuses the start where the table doesn't hold it.
 fn hold_start<C: LawfulText>(
@@ -150,6 +148,16 @@ fn held_work<C: LawfulText>(
     Ok(work)
 }
 
+/// Adds the work of a unit.
+fn push_work<A>(works: &mut Vec<(Unit, Work<A>)>, unit: Unit, work: Work<A>) -> Result<(), Memory>
+where
+    A: Drop,
+    ensures { OnOk result (works.new.items ≡ works.old.items ++ (unit, work) ∷ []) }
+{
+    works.push((unit, work))?;
+    Ok(())
+}
+
 /// Adds the return to a location from an exit.
 fn add_return<C: LawfulText>(
     alloc: Global,
@@ -171,7 +179,7 @@ fn add_return<C: LawfulText>(
     };
     let unit = Unit::Back(row.0, *node);
     let work = held_work(alloc, chip, table, line, &unit, &row.1, Some(left))?;
-    works.push((unit, work))?;
+    push_work(works, unit, work)?;
     Ok(())
 }
 
@@ -206,7 +214,7 @@ fn no_exit<A>(_at: &A) -> Option<&A>
 }
 
 /// Adds all of a list.
-fn move_all<T>(mut from: Vec<T>, to: &mut Vec<T>) -> Result<(), AllocError>
+fn move_all<T>(mut from: Vec<T>, to: &mut Vec<T>) -> Result<(), Memory>
 where
     T: Drop,
     ensures { OnOk result (to.new.items ≡ to.old.items ++ from.items) }
@@ -237,7 +245,7 @@ fn add_units<C: LawfulText>(
     let unit = Unit::One(*node);
     let work = held_work(alloc, chip, table, line, &unit, state, no_exit(state))?;
     let returns = returns_of(alloc, chip, table, line, row, work.waits.as_slice(), exits)?;
-    works.push((unit, work))?;
+    push_work(works, unit, work)?;
     move_all(returns, works)?;
     Ok(())
 }
@@ -305,9 +313,7 @@ pub fn check<C: LawfulText>(
         IfOk result (λ book. book ≡ record { base = cert.base; nodes = cert.rows; works = works_in a cert.rows })) }
 {
     chip.is_program();
-    C::laws();
-    C::texts_are_exact();
-    tests_tell_which_are_one();
+    tables_are_known::<C>();
     let first = cert.first();
     let _rows = cert.nodes();
     let table = Table::new(alloc, cert.into_nodes())?;

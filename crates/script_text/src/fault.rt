@@ -2,7 +2,7 @@
 
 ghost use Rattle.std.specs.Prelude.{◌≡◌};
 
-use std::alloc::{AllocError, AllocFailed};
+use std::alloc::AllocFailed;
 use thiserror::Error;
 
 /// Why a text gives no numbers.
@@ -13,16 +13,6 @@ pub enum ScriptError {
     Syntax { line: u32 },
     #[error("out of memory")]
     Memory,
-}
-
-impl From<AllocError> for ScriptError {
-    ghost use Rattle.script_text.specs.declared.fault.ScriptError.TheVariants.{Memory};
-
-    ghost from_gives = { λ _ e. e ≡ Memory };
-
-    fn from(_error: AllocError) -> ScriptError {
-        ScriptError::Memory
-    }
 }
 
 impl<T: Drop> From<AllocFailed<T>> for ScriptError {

@@ -25,7 +25,8 @@ use Rattle.vsa_words.specs.declared.reading.Target.{Target}
 use Rattle.clap.specs.Words.{first_value, matches_of, rows_of}
 use Rattle.clap.specs.declared.parser.matches.Found.{Found}
 use Rattle.vsa_words.specs.Command.{AreTaken, command, given}
-use Rattle.vsa_words.specs.Numbers.{IsDigit, IsNumber, IsNumberBehind, IsNumberIn, IsRange, number_behind, number_from, number_of}
+use Rattle.ihex_read.specs.Word.{word_from, word_of_digits}
+use Rattle.vsa_words.specs.Numbers.{IsDigit, IsNumber, IsNumberBehind, IsNumberIn, IsRange, number_behind}
 use Rattle.vsa_words.specs.Options.{IsNumberFor, IsSaid, Say, SaysNumber, SaysRange, is_given, option_word, value_of}
 use Rattle.vsa_words.specs.Words.{Ask, EndsInMemory, IsAsked, IsBounded, IsOnlyReading, Reads, asked, chip_word, mode_word, or_else, ram_by, rules_of, target_by, target_rules, task_of, usual_target}
 use Rattle.vsa_words.proofs.CommandLemmas.{given_is}
@@ -253,14 +254,14 @@ digit_below c =
     (λ _. cond_both (nat_le 48 c && nat_le c 57) (Some (c - 48)) None (λ o. IfSome o (λ v. v < 16)) (λ e. grind (arith, nat_tests)) (λ _. tt)))
 
 four_below : (a b c d : Option ℕ) → IfSome a (λ v. v < 16) → IfSome b (λ v. v < 16) → IfSome c (λ v. v < 16) → IfSome d (λ v. v < 16)
-    → IfSome (number_from a b c d) (λ n. n < 65536)
+    → IfSome (word_from a b c d) (λ n. n < 65536)
 four_below (Some a) (Some b) (Some c) (Some d) h i j k = omega arith
 four_below (Some a) (Some b) (Some c) None h i j k = tt
 four_below (Some a) (Some b) None d h i j k = tt
 four_below (Some a) None c d h i j k = tt
 four_below None b c d h i j k = tt
 
-number_below : (digits : List ℕ) → IfSome (number_of digits) (λ n. n < 65536)
+number_below : (digits : List ℕ) → IfSome (word_of_digits digits) (λ n. n < 65536)
 number_below [] = tt
 number_below (a ∷ []) = tt
 number_below (a ∷ b ∷ []) = tt

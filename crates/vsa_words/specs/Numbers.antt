@@ -1,28 +1,14 @@
 -- Numbers and ranges of addresses as texts.
-use Rattle.std.specs.Prelude.{◌≡◌, ℕ, ◌+◌, ◌-◌, ◌*◌, ◌<◌, ◌≤◌, All, Option, None, Some, List, [], ◌∷◌, length, take, drop, slice_index}
-use Rattle.hex.specs.Hex.{hex_digit_value}
+use Rattle.std.specs.Prelude.{◌≡◌, ℕ, ◌+◌, ◌-◌, ◌*◌, ◌<◌, ◌≤◌, All, Some, List, [], ◌∷◌, length, take, drop, slice_index}
+use Rattle.ihex_read.specs.Word.{word_of_digits}
 use Rattle.vsa_words.specs.declared.numbers.Span.{Span}
-
--- the number of four digits, the highest first, where each has a value
-abbrev pub number_from : (a b c d : Option ℕ) → Option ℕ
-number_from (Some a) (Some b) (Some c) (Some d) = Some (a * 4096 + b * 256 + c * 16 + d)
-number_from (Some a) (Some b) (Some c) None = None
-number_from (Some a) (Some b) None d = None
-number_from (Some a) None c d = None
-number_from None b c d = None
-
--- the number of four hexadecimal digits in either case
-abbrev pub number_of : List ℕ → Option ℕ
-number_of (a ∷ b ∷ c ∷ d ∷ []) =
-    number_from (hex_digit_value a) (hex_digit_value b) (hex_digit_value c) (hex_digit_value d)
-number_of digits = None
 
 -- two numbers with a hyphen between
 pub record IsRange (text : List ℕ) (span : Span) : Type 0 where
   pub size : length text ≡ 9
   pub hyphen : slice_index text 4 ≡ 45
-  pub first : number_of (take 4 text) ≡ Some span.lo
-  pub last : number_of (drop 5 text) ≡ Some span.hi
+  pub first : word_of_digits (take 4 text) ≡ Some span.lo
+  pub last : word_of_digits (drop 5 text) ≡ Some span.hi
 
 -- the number that decimal digits write, behind those of another one
 abbrev pub number_behind : ℕ → List ℕ → ℕ

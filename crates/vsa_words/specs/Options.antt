@@ -13,36 +13,6 @@ use Rattle.vsa_words.specs.declared.reading.Mode.{Mode}
 use Rattle.vsa_words.specs.declared.reading.Mode.TheVariants as mode
 use Rattle.vsa_words.specs.Numbers.{IsNumberIn, IsRange}
 
--- the word of an option, behind its hyphens
-abbrev pub option_word : OptionName → List ℕ
-option_word name.Ram = codes "ram"
-option_word name.Mirror = codes "mirror"
-option_word name.Calls = codes "calls"
-option_word name.Targets = codes "targets"
-option_word name.Workers = codes "workers"
-option_word name.Steps = codes "steps"
-option_word name.Number = codes "number"
-option_word name.Cert = codes "cert"
-
--- what stands behind it
-abbrev pub value_of : OptionName → Value
-value_of name.Ram = Range
-value_of name.Mirror = Range
-value_of name.Calls = Number 0 8
-value_of name.Targets = Number 1 256
-value_of name.Workers = Number 1 16
-value_of name.Steps = Number 0 1000000
-value_of name.Number = Number 1 2000
-value_of name.Cert = Nothing
-
-abbrev pub is_number : Value → Bool
-is_number Range = false
-is_number (Number least most) = true
-is_number Nothing = false
-
-abbrev pub takes_number : OptionName → Bool
-takes_number option = is_number (value_of option)
-
 -- whether a mode has it, by what each of them does
 abbrev pub by_mode : (analyse assert check disasm run gen : Bool) → Mode → Bool
 by_mode analyse assert check disasm run gen mode.Analyse = analyse
@@ -52,16 +22,38 @@ by_mode analyse assert check disasm run gen mode.Disasm = disasm
 by_mode analyse assert check disasm run gen mode.Run = run
 by_mode analyse assert check disasm run gen mode.Gen = gen
 
--- the modes that have it
+-- what each option is: its word behind its hyphens, what stands behind that, and the modes that have it
+pub record Row : Type 0 where
+  pub word : List ℕ
+  pub value : Value
+  pub has : Mode → Bool
+
+abbrev pub row_of : OptionName → Row
+row_of name.Ram = record { word = codes "ram"; value = Range; has = by_mode true true true true true false }
+row_of name.Mirror = record { word = codes "mirror"; value = Range; has = by_mode true true true true true false }
+row_of name.Calls = record { word = codes "calls"; value = Number 0 8; has = by_mode true true true false false false }
+row_of name.Targets = record { word = codes "targets"; value = Number 1 256; has = by_mode true true true false false false }
+row_of name.Workers = record { word = codes "workers"; value = Number 1 16; has = by_mode true true false false false false }
+row_of name.Steps = record { word = codes "steps"; value = Number 0 1000000; has = by_mode false false false false true false }
+row_of name.Number = record { word = codes "number"; value = Number 1 2000; has = by_mode false false false false false true }
+row_of name.Cert = record { word = codes "cert"; value = Nothing; has = by_mode true false false false false false }
+
+abbrev pub option_word : OptionName → List ℕ
+option_word option = (row_of option).word
+
+abbrev pub value_of : OptionName → Value
+value_of option = (row_of option).value
+
 abbrev pub is_of_mode : OptionName → Mode → Bool
-is_of_mode name.Ram = by_mode true true true true true false
-is_of_mode name.Mirror = by_mode true true true true true false
-is_of_mode name.Calls = by_mode true true true false false false
-is_of_mode name.Targets = by_mode true true true false false false
-is_of_mode name.Workers = by_mode true true false false false false
-is_of_mode name.Steps = by_mode false false false false true false
-is_of_mode name.Number = by_mode false false false false false true
-is_of_mode name.Cert = by_mode true false false false false false
+is_of_mode option = (row_of option).has
+
+abbrev pub is_number : Value → Bool
+is_number Range = false
+is_number (Number least most) = true
+is_number Nothing = false
+
+abbrev pub takes_number : OptionName → Bool
+takes_number option = is_number (value_of option)
 
 -- the chips that have it: of the MCS-51 nothing is said of RAM
 abbrev pub is_of_chip : OptionName → ChipName → Bool

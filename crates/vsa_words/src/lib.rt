@@ -10,7 +10,7 @@ mod reading;
 mod words;
 
 pub use command::vsa_command;
-pub use numbers::{Span, number_in, number_of, range_of};
+pub use numbers::{Span, number_in, range_of};
 pub use options::{OptionName, Value};
 pub use reading::{Mode, Reading, Target, Task, USUAL_RAM, word_of};
 pub use words::{chip_of, mode_of, reading_of};

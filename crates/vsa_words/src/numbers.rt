@@ -1,9 +1,10 @@
 //! Numbers and ranges of addresses in words.
 
-ghost use Rattle.std.specs.Prelude.{◌≡◌, ◌<◌, ◌≤◌, ◌↔◌, ℕ, IfSome, IsTrue, MatchOption, None};
-ghost use Rattle.hex.specs.Hex.{hex_digit_value};
+ghost use Rattle.std.specs.Prelude.{◌≤◌, ℕ, MatchOption};
 ghost use Rattle.vsa_words.specs.declared.numbers.Span.{Span as ASpan};
-ghost use Rattle.vsa_words.specs.Numbers.{IsNumber, IsNumberBehind, IsNumberIn, IsRange, number_of as the_number};
+ghost use Rattle.vsa_words.specs.Numbers.{IsNumber, IsNumberBehind, IsNumberIn, IsRange};
+
+use ihex_read::word_of_digits;
 
 /// The first and the last address of a range.
 #[derive(Clone, Copy, Debug, PartialEq, Eq)]
@@ -15,33 +16,6 @@ pub struct Span {
 /// The greatest number that words say.
 const MOST_NUMBER: u32 = 1_000_000;
 
-/// The value of a hexadecimal digit in either case.
-fn digit_of(byte: u8) -> Option<u16>
-    ensures value { result ≡ hex_digit_value byte }
-    ensures below { IfSome result (λ digit. digit < 16) }
-{
-    match byte {
-        b'0'..=b'9' => Some((byte - b'0') as u16),
-        b'A'..=b'F' => Some((byte - b'A') as u16 + 10),
-        b'a'..=b'f' => Some((byte - b'a') as u16 + 10),
-        _ => None,
-    }
-}
-
-/// The number of four hexadecimal digits.
-pub fn number_of(digits: &[u8]) -> Option<u16>
-    ensures { result ≡ the_number digits.now }
-{
-    match digits {
-        [a, b, c, d] => {
-            let (a, b) = (digit_of(*a)?, digit_of(*b)?);
-            let (c, d) = (digit_of(*c)?, digit_of(*d)?);
-            Some(a * 4096 + b * 256 + c * 16 + d)
-        }
-        _ => None,
-    }
-}
-
 /// The range `LO-HI`, by four hexadecimal digits each.
 pub fn range_of(text: &[u8]) -> Option<Span>
     ensures { MatchOption result ((span : ASpan) → ¬ IsRange text.now span) (IsRange text.now) }
@@ -49,8 +23,8 @@ pub fn range_of(text: &[u8]) -> Option<Span>
     if text.len() != 9 || text[4] != b'-' {
         return None;
     }
-    let lo = number_of(&text[..4])?;
-    let hi = number_of(&text[5..])?;
+    let lo = word_of_digits(&text[..4])?;
+    let hi = word_of_digits(&text[5..])?;
     Some(Span { lo, hi })
 }
 

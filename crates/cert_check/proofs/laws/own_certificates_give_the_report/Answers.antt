@@ -2,7 +2,6 @@ use Rattle.round_core.specs.Kept.{live_pairs, nodes_of}
 use Rattle.round_core.specs.Machine.{replay}
 use Rattle.cert_check.specs.Refusal.{works_in}
 use Rattle.cert_check.proofs.AcceptedLemmas.{nodes_of_table, nodes_reordered}
-use Rattle.cert_check.proofs.ClosedLemmas.{Known, closed_book}
 use Rattle.cert_check.proofs.laws.own_certificates_give_the_report.Goals as goal
 use Rattle.std.proofs.Common.{sym}
 
@@ -16,15 +15,8 @@ returns g c = λ b program journal text legal is_closed cert.
     let own = c.closed_book_is_its_table.ensures b journal program legal is_closed in
     let are = nodes_of_table one a nodes own.distinct own.formed in
     let accepted = c.certificates_of_closed_tables_pass.ensures b program nodes text are own.closed cert in
-    let known : Known a texts accepted.rows = record {
-      are = c.texts_are_exact.ensures b program;
-      keeps = (c.laws.ensures b program).keeps;
-      nodes_are = nodes_reordered one a nodes accepted.rows accepted.same are;
-      one = one;
-      frames = c.tests_tell_which_are_one.ensures.frames;
-      units = c.tests_tell_which_are_one.ensures.units;
-    } in
-    let read = closed_book a texts accepted.rows known 0 (accepted.passes 0) in
+    let forms = nodes_reordered one a nodes accepted.rows accepted.same are in
+    let read = c.unrefused_tables_are_closed_books.ensures b program accepted.rows 0 forms (accepted.passes 0) in
     record {
       accepted = accepted;
       report = λ one_stack text_of. sym (c.closed_reports_are_of_tables.ensures b text_of one_stack nodes accepted.rows (live_pairs book)

@@ -2,7 +2,7 @@ use Rattle.std.proofs.Common.{sym, ◌∙◌, subst}
 use Rattle.closing_law.specs.ClosedBook.{IsClosedBook}
 use Rattle.cert_text.specs.Writing.{AreNodes}
 use Rattle.cert_check.specs.Refusal.{works_in}
-use Rattle.cert_check.proofs.ClosedLemmas.{Known, closed_book, no_refusal}
+use Rattle.cert_check.proofs.ClosedLemmas.{closed_book, no_refusal}
 use Rattle.cert_check.proofs.walk.check.Goals as goal
 
 pub of_table-requires-after_bounds : goal.of_table-requires-after_bounds
@@ -12,14 +12,7 @@ of_table-requires-after_bounds g c κs within =
     let table = c.in_ok-table.table in
     let forms = subst (AreNodes a) (sym (c.in_ok-table.ensures ∙ c.into_nodes.ensures))
     (subst (λ x. AreNodes (g.C.Chip.analysis x) c.args.cert.rows) (sym c.requires) c.nodes-rows.ensures.forms) in
-    let known : Known a (g.C.StateText.texts b) table = record {
-      are = c.texts_are_exact.ensures b c.is_program.ensures;
-      keeps = (c.laws.ensures b c.is_program.ensures).keeps;
-      nodes_are = forms;
-      one = c.tests_tell_which_are_one.ensures.nodes;
-      frames = c.tests_tell_which_are_one.ensures.frames;
-      units = c.tests_tell_which_are_one.ensures.units;
-    } in
+    let known = c.tables_are_known.ensures b c.is_program.ensures table forms in
     let book = closed_book a (g.C.StateText.texts b) table known c.first-first.result
     (no_refusal a (g.C.StateText.texts b).outside table c.first-first.result c.in_ok-hold_start.ensures c.in_ok-works.ensures.held) in
     subst (IsClosedBook a c.into_rows.result.items) (sym c.in_ok-works.ensures.works)

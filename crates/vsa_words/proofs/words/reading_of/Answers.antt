@@ -2,20 +2,15 @@ use Rattle.std.proofs.lemmas.Result.{IfOk-weaker}
 use Rattle.vsa_words.proofs.WordsLemmas.{only_alone, only_bounds, only_end, only_none, only_range, only_reads}
 use Rattle.vsa_words.proofs.words.reading_of.Goals as goal
 
-pub returns-clause-reads : goal.returns-clause-reads
-returns-clause-reads c = IfOk-weaker c.only_reading.result _ _ (only_reads c.args.words.now) c.only_reading.ensures
-
-pub returns-clause-range : goal.returns-clause-range
-returns-clause-range c = IfOk-weaker c.only_reading.result _ _ (only_range c.args.words.now) c.only_reading.ensures
-
-pub returns-clause-end : goal.returns-clause-end
-returns-clause-end c = IfOk-weaker c.only_reading.result _ _ (only_end c.args.words.now) c.only_reading.ensures
-
-pub returns-clause-bounded : goal.returns-clause-bounded
-returns-clause-bounded c = IfOk-weaker c.only_reading.result _ _ (only_bounds c.args.words.now) c.only_reading.ensures
-
-pub returns-clause-alone : goal.returns-clause-alone
-returns-clause-alone c = IfOk-weaker c.only_reading.result _ _ (only_alone c.args.words.now) c.only_reading.ensures
-
-pub returns-clause-none : goal.returns-clause-none
-returns-clause-none c = IfOk-weaker c.only_reading.result _ _ (only_none c.args.words.now) c.only_reading.ensures
+pub returns : goal.returns
+returns c =
+    let words = c.args.words.now in
+    let found = c.only_reading in
+    record {
+      reads = IfOk-weaker found.result _ _ (only_reads words) found.ensures;
+      range = IfOk-weaker found.result _ _ (only_range words) found.ensures;
+      end = IfOk-weaker found.result _ _ (only_end words) found.ensures;
+      bounded = IfOk-weaker found.result _ _ (only_bounds words) found.ensures;
+      alone = IfOk-weaker found.result _ _ (only_alone words) found.ensures;
+      none = IfOk-weaker found.result _ _ (only_none words) found.ensures;
+    }
