@@ -11,7 +11,7 @@ use entry_value::Cells;
 use mcs51_state::State;
 use no_memory::Memory;
 use std::alloc::{AllocError, Global};
-use value_text::{push_memory, read_memory};
+use value_text::{RamField, push_memory, read_memory};
 
 /// The state that a text spells, in an interrupt's frame or in none.
 fn read_known<M: Cells>(
@@ -26,7 +26,8 @@ fn read_known<M: Cells>(
     };
     let (((sp, (a, (b, dpl))), ((dph, (ie, ip)), third)), text) = front;
     let (psw, (levels, (linear_fact, carry_fact))) = third;
-    let Some((cells, touched)) = read_memory(alloc, Remembered, framed, 0, 255, text)? else {
+    let ram = RamField::new(Remembered, framed, 0, 255);
+    let Some((cells, touched)) = read_memory(alloc, ram, text)? else {
         return Ok(None);
     };
     Ok(Some(State {

@@ -18,7 +18,7 @@ use std::alloc::{AllocError, Global};
 use text_fields::{push_front, read_front};
 use value_bits::Tri;
 use value_set::Vs16;
-use value_text::{push_memory, read_memory};
+use value_text::{RamField, push_memory, read_memory};
 
 /// What stands in front of the memory: SP, SR, L, R4 to R15, and F.
 type Front = (Vs16, (Status, (Tri, ([Word; 12], Option<FlagFact>))));
@@ -62,7 +62,8 @@ fn read_known<M: Cells>(
         return Ok(None);
     };
     let ((sp, (status, (late, (registers, fact)))), text) = front;
-    let Some((cells, touched)) = read_memory(alloc, Registers, framed, lo, hi, text)? else {
+    let ram = RamField::new(Registers, framed, lo, hi);
+    let Some((cells, touched)) = read_memory(alloc, ram, text)? else {
         return Ok(None);
     };
     Ok(Some(State {

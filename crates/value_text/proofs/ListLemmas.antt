@@ -44,10 +44,8 @@ the_list digits values text few is =
     ∙ ap (λ b. if b then Some values else None) (room (ascends 0 values))
 
 -- the last number, and the test of all
-pub tested : (digits : ℕ) (values longer slice text rest : List ℕ) (value : ℕ) (passes : Bool) → length values ≤ 16 → (length values ≡ 16 → ⊥)
-    → longer ≡ values ++ value ∷ []
-    → (listed (hex_number digits) 44).value text ≡ Some longer → slice ≡ longer → ascends 0 slice ≡ passes → (if passes then Some longer else None)
-    ≡ (list_field digits).value text
-tested digits values longer slice text rest value passes few other pushed is same test =
+pub tested : (digits : ℕ) (values longer text : List ℕ) (value : ℕ) → length values ≤ 16 → (length values ≡ 16 → ⊥) → longer ≡ values ++ value ∷ []
+    → (listed (hex_number digits) 44).value text ≡ Some longer → (if ascends 0 longer then Some longer else None) ≡ (list_field digits).value text
+tested digits values longer text value few other pushed is =
     let long : length longer ≡ length values + 1 = ap length pushed ∙ omega (arith, length-append values (value ∷ [])) in
-    sym (the_list digits longer text (omega (arith, long, few, other)) is ∙ ap (λ b. if b then Some longer else None) (ap (ascends 0) (sym same) ∙ test))
+    sym (the_list digits longer text (omega (arith, long, few, other)) is)

@@ -2,23 +2,44 @@
 
 ghost use Rattle.std.specs.Prelude.{◌≡◌, IfOk};
 ghost use Rattle.std.specs.Option.{option_map};
-ghost use Rattle.entry_value.specs.Cells as the_cells;
 ghost use Rattle.text_fields.specs.Numbers.{IsWidth, hex_number};
 ghost use Rattle.text_fields.specs.Fields.{beside};
 ghost use Rattle.value_text.specs.Cells as fields;
 
 use crate::members::is_byte_set;
 use crate::words::{Places, push_word, read_word};
-use entry_value::{Cell, Word};
+use entry_value::{Cell, is_nothing};
 use std::alloc::{AllocError, Global};
 use text_fields::{Field, cut, number, push_number, read_list_or_mark};
-use value_set::Vs16;
 
 /// A cell as a field, in an interrupt's frame or in none.
 #[derive(Clone, Copy)]
 pub(crate) struct CellField<P: Places> {
     pub(crate) places: P,
     pub(crate) framed: bool,
+}
+
+/// A RAM as a text, in an interrupt's frame or in none.
+#[derive(Clone, Copy)]
+pub struct RamField<P: Places> {
+    pub places: P,
+    pub framed: bool,
+    /// Its first and last address.
+    pub lo: u16,
+    pub hi: u16,
+}
+
+impl<P: Places> RamField<P> {
+    pub fn new(places: P, framed: bool, lo: u16, hi: u16) -> RamField<P>
+        ensures { result ≡ record { places = places; framed = framed; lo = lo; hi = hi } }
+    {
+        RamField {
+            places,
+            framed,
+            lo,
+            hi,
+        }
+    }
 }
 
 /// How many bytes: one or two.
@@ -78,26 +99,6 @@ impl<P: Places> Field for CellField<P> {
     }
 }
 
-/// A word of which nothing is known, of one byte or two.
-fn any_of(size: u8) -> Vs16
-    ensures { result ≡ the_cells.any_of size }
-{
-    if size != 1 {
-        return Vs16::any();
-    }
-    match Vs16::run(0, 1, 256) {
-        Some(bytes) => bytes,
-        None => unreachable!(),
-    }
-}
-
-/// Whether a word of a size says nothing.
-fn is_nothing(size: u8, word: &Word) -> bool
-    ensures { result ≡ the_cells.is_nothing size word.now }
-{
-    any_of(size).within(&word.set) && word.entry.is_none()
-}
-
 /// Whether a cell lies in RAM, has numbers of its size, and says something.
 fn is_cell(lo: u16, hi: u16, cell: &Cell) -> bool
     ensures { result ≡ fields.is_cell lo hi cell.now }
@@ -122,23 +123,23 @@ fn are_cells(lo: u16, hi: u16, cells: &[Cell]) -> bool
     true
 }
 
-/// The cells that a text spells, in RAM from an address to another, in an interrupt's frame or in none.
+/// The cells of a RAM that a text spells.
 pub(crate) fn listed_cells<P: Places>(
     alloc: Global,
-    places: P,
-    framed: bool,
-    lo: u16,
-    hi: u16,
+    ram: RamField<P>,
     text: &[u8],
 ) -> Result<Option<Vec<Cell>>, AllocError>
     ensures { IfOk result (λ found. option_map (λ cells. cells.items) found
-        ≡ (fields.cells_field (P.width places) (P.names places) framed (P.keeps places) lo hi).value text.now) }
+        ≡ (fields.cells_field (P.width ram.places) (P.names ram.places) ram.framed (P.keeps ram.places) ram.lo ram.hi).value text.now) }
 {
-    let field = CellField { places, framed };
+    let field = CellField {
+        places: ram.places,
+        framed: ram.framed,
+    };
     let Some(cells) = read_list_or_mark(alloc, &field, b';', b"-".as_slice(), text)? else {
         return Ok(None);
     };
-    if are_cells(lo, hi, &cells) {
+    if are_cells(ram.lo, ram.hi, &cells) {
         Ok(Some(cells))
     } else {
         Ok(None)

@@ -16,6 +16,7 @@ mod words;
 mod writing;
 
 pub use bits::{push_bit, push_bits, read_bit, read_bits};
+pub use cells::RamField;
 pub use members::is_even_set;
 pub use memory::{memory_outside, push_memory, read_memory};
 pub use ram::{push_cells, read_cells};

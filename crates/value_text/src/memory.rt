@@ -6,6 +6,7 @@ ghost use Rattle.entry_value.specs.Cells.{CellMap};
 ghost use Rattle.value_text.specs.Cells.{cells_field, map_of};
 ghost use Rattle.value_text.specs.Memories as fields;
 
+use crate::cells::RamField;
 use crate::ram::{push_cells, read_cells};
 use crate::ranges::{push_ranges, read_ranges};
 use crate::words::Places;
@@ -17,24 +18,20 @@ use std::alloc::{AllocError, Global};
 use text_fields::{behind, cut};
 
 /// Touched ranges behind their name, of which there are some in an interrupt's frame alone.
-fn read_touched(
+fn read_touched<P: Places>(
     alloc: Global,
-    digits: u8,
-    framed: bool,
-    lo: u16,
-    hi: u16,
+    ram: RamField<P>,
     text: &[u8],
 ) -> Result<Option<Ranges>, Memory>
-    requires { digits ≤ 4 }
-    ensures { IfOk result (λ found. found ≡ (fields.touched_named digits framed lo hi).value text.now) }
+    ensures { IfOk result (λ found. found ≡ (fields.touched_named (P.width ram.places) ram.framed ram.lo ram.hi).value text.now) }
 {
     let Some(text) = behind(b"T=", text) else {
         return Ok(None);
     };
-    let Some(touched) = read_ranges(alloc, digits, lo, hi, text)? else {
+    let Some(touched) = read_ranges(alloc, ram.places.digits(), ram.lo, ram.hi, text)? else {
         return Ok(None);
     };
-    if framed || touched.list().is_empty() {
+    if ram.framed || touched.list().is_empty() {
         Ok(Some(touched))
     } else {
         Ok(None)
@@ -44,47 +41,40 @@ fn read_touched(
 /// Cells behind their name.
 fn read_named_cells<P: Places, M: Cells>(
     alloc: Global,
-    places: P,
-    framed: bool,
-    lo: u16,
-    hi: u16,
+    ram: RamField<P>,
     text: &[u8],
 ) -> Result<Option<M>, Memory>
-    requires ram { lo ≤ hi }
-    requires short { hi < 16 ^ P.width places }
+    requires ram { ram.lo ≤ ram.hi }
+    requires short { ram.hi < 16 ^ P.width ram.places }
     ensures { IfOk result (λ found. option_map (λ cells. M.map cells) found
-        ≡ option_map (map_of lo hi) ((fields.cells_named (cells_field (P.width places)
-        (P.names places) framed (P.keeps places) lo hi)).value text.now)) }
+        ≡ option_map (map_of ram.lo ram.hi) ((fields.cells_named (cells_field (P.width ram.places)
+        (P.names ram.places) ram.framed (P.keeps ram.places) ram.lo ram.hi)).value text.now)) }
 {
     let Some(text) = behind(b"M=", text) else {
         return Ok(None);
     };
-    read_cells(alloc, places, framed, lo, hi, text)
+    read_cells(alloc, ram, text)
 }
 
-/// The cells and the touched ranges that a text spells, with RAM from an address to another, in an interrupt's frame or in
-/// none.
+/// The cells and the touched ranges of a RAM that a text spells.
 pub fn read_memory<P: Places, M: Cells>(
     alloc: Global,
-    places: P,
-    framed: bool,
-    lo: u16,
-    hi: u16,
+    ram: RamField<P>,
     text: &[u8],
 ) -> Result<Option<(M, Ranges)>, Memory>
-    requires ram { lo ≤ hi }
-    requires short { hi < 16 ^ P.width places }
+    requires ram { ram.lo ≤ ram.hi }
+    requires short { ram.hi < 16 ^ P.width ram.places }
     ensures { IfOk result (λ found. option_map {U = CellMap × List (ℕ × ℕ)} (λ x. (M.map x.0, x.1)) found
-        ≡ option_map (fields.memory_of lo hi) ((fields.memory_field (P.width places)
-        (cells_field (P.width places) (P.names places) framed (P.keeps places) lo hi) framed lo hi).value text.now)) }
+        ≡ option_map (fields.memory_of ram.lo ram.hi) ((fields.memory_field (P.width ram.places)
+        (cells_field (P.width ram.places) (P.names ram.places) ram.framed (P.keeps ram.places) ram.lo ram.hi) ram.framed ram.lo ram.hi).value text.now)) }
 {
     let Some((cells, touched)) = cut(text, b' ') else {
         return Ok(None);
     };
-    let Some(cells) = read_named_cells(alloc, places, framed, lo, hi, cells)? else {
+    let Some(cells) = read_named_cells(alloc, ram, cells)? else {
         return Ok(None);
     };
-    let Some(touched) = read_touched(alloc, places.digits(), framed, lo, hi, touched)? else {
+    let Some(touched) = read_touched(alloc, ram, touched)? else {
         return Ok(None);
     };
     Ok(Some((cells, touched)))

@@ -5,7 +5,7 @@ ghost use Rattle.std.specs.Option.{option_map};
 ghost use Rattle.entry_value.specs.Cells.{AreCells};
 ghost use Rattle.value_text.specs.Cells as fields;
 
-use crate::cells::{CellField, listed_cells};
+use crate::cells::{CellField, RamField, listed_cells};
 use crate::words::Places;
 use entry_value::{Cell, Cells};
 use no_memory::Memory;
@@ -25,25 +25,22 @@ fn ram_of<M: Cells>(alloc: Global, lo: u16, hi: u16, cells: &[Cell]) -> Result<M
     Ok(ram)
 }
 
-/// The cells that a text spells, in RAM from an address to another, in an interrupt's frame or in none.
+/// The cells of a RAM that a text spells.
 pub fn read_cells<P: Places, M: Cells>(
     alloc: Global,
-    places: P,
-    framed: bool,
-    lo: u16,
-    hi: u16,
+    ram: RamField<P>,
     text: &[u8],
 ) -> Result<Option<M>, Memory>
-    requires ram { lo ≤ hi }
-    requires short { hi < 16 ^ P.width places }
-    ensures { IfOk result (λ found. option_map (λ ram. M.map ram) found
-        ≡ fields.maps_in (P.width places) (P.names places) framed (P.keeps places) lo hi text.now) }
+    requires ram { ram.lo ≤ ram.hi }
+    requires short { ram.hi < 16 ^ P.width ram.places }
+    ensures { IfOk result (λ found. option_map (λ cells. M.map cells) found
+        ≡ fields.maps_in (P.width ram.places) (P.names ram.places) ram.framed (P.keeps ram.places) ram.lo ram.hi text.now) }
 {
-    places.names_are_exact();
-    let Some(cells) = listed_cells(alloc, places, framed, lo, hi, text)? else {
+    ram.places.names_are_exact();
+    let Some(cells) = listed_cells(alloc, ram, text)? else {
         return Ok(None);
     };
-    Ok(Some(ram_of(alloc, lo, hi, &cells)?))
+    Ok(Some(ram_of(alloc, ram.lo, ram.hi, &cells)?))
 }
 
 /// Adds cells.

@@ -1,6 +1,6 @@
 //! Sets of numbers.
 
-ghost use Rattle.std.specs.Prelude.{◌≡◌, ◌<◌, ◌≤◌, ◌^◌, IfSome, length};
+ghost use Rattle.std.specs.Prelude.{◌≡◌, ◌<◌, ◌≤◌, ◌^◌, if◌then◌else◌, None, Some, IfSome, length};
 ghost use Rattle.value_set.specs.Form.{Ascends, IsNormal};
 ghost use Rattle.text_fields.specs.Numbers.{IsWidth, hex_number};
 ghost use Rattle.text_fields.specs.Fields.{beside};
@@ -88,6 +88,17 @@ fn ascends(low: u32, values: &[u16]) -> bool
     low <= *first as u32 && ascends(*first as u32 + 1, rest)
 }
 
+/// The numbers, if they ascend.
+fn ascending(values: Few<16>) -> Option<Few<16>>
+    ensures { result ≡ (if runs.ascends 0 values then Some values else None) }
+{
+    if ascends(0, values.as_slice()) {
+        Some(values)
+    } else {
+        None
+    }
+}
+
 /// Ascending numbers, at most 16.
 fn read_values(text: &[u8], digits: u8) -> Option<Few<16>>
     requires { IsWidth digits }
@@ -112,11 +123,7 @@ fn read_values(text: &[u8], digits: u8) -> Option<Few<16>>
         return None;
     }
     values.push(value);
-    if ascends(0, values.as_slice()) {
-        Some(values)
-    } else {
-        None
-    }
+    ascending(values)
 }
 
 /// The set of a text that isn't a star.

@@ -9,8 +9,8 @@ use std::alloc::AllocError;
 use text_fields::{push_name, read_name};
 use value_bits::Tri;
 use value_text::{
-    Places, is_even_set, push_bits, push_ranges, push_word, read_bits, read_byte_set, read_cells,
-    read_ranges, read_word, read_word_set,
+    Places, RamField, is_even_set, push_bits, push_ranges, push_word, read_bits, read_byte_set,
+    read_cells, read_ranges, read_word, read_word_set,
 };
 
 /// Places of a chip with three of them, whose words have even places.
@@ -154,7 +154,8 @@ fn cells(rt: HostRuntime) {
         ("0200.2:0000;", false),
         ("0200:0000", false),
     ] {
-        let read = read_cells(rt.alloc(), Three, true, 0x200, 0x3FF, text.as_bytes());
+        let ram = RamField::new(Three, true, 0x200, 0x3FF);
+        let read = read_cells(rt.alloc(), ram, text.as_bytes());
         let found: Option<CellList> = read.expect(&rt, "memory");
         assert_eq!(rt; found.is_some(), spells, "{text}");
     }

@@ -14,11 +14,11 @@ pub returns-in_default-2 : goal.returns-in_default-2
 returns-in_default-2 g c =
     no_rest (fields_read c.args.framed c.args.lo c.args.hi) (known_of c.args.lo c.args.hi) (memory_of c.args.lo c.args.hi) c.args.text.now
     c.in-Some.front.1.now c.in-Some.front.0 c.in-Some.ensures
-    (ap (option_map {U = CellMap × List (ℕ × ℕ)} (λ x. (g.M.Cells.map x.0, x.1))) (sym c.in_default-2.is) ∙ c.in_ok-cells.ensures)
+    (ap (option_map {U = CellMap × List (ℕ × ℕ)} (λ x. (g.M.Cells.map x.0, x.1))) (sym c.in_default-2.is) ∙ (rw c.new-ram.ensures at c.in_ok-cells.ensures))
 
 pub returns : goal.returns
 returns g c =
     rest_read (fields_read c.args.framed c.args.lo c.args.hi) (known_of c.args.lo c.args.hi) (memory_of c.args.lo c.args.hi) c.args.text.now
     c.in-Some.front.1.now c.in-Some.front.0 (state_of c.in-Some.front.0) (λ memory. refl) (g.M.Cells.map c.in-Some-2.cells, c.in-Some-2.touched)
     c.in-Some.ensures
-    (ap (option_map {U = CellMap × List (ℕ × ℕ)} (λ x. (g.M.Cells.map x.0, x.1))) (sym c.in-Some-2.is) ∙ c.in_ok-cells.ensures)
+    (ap (option_map {U = CellMap × List (ℕ × ℕ)} (λ x. (g.M.Cells.map x.0, x.1))) (sym c.in-Some-2.is) ∙ (rw c.new-ram.ensures at c.in_ok-cells.ensures))

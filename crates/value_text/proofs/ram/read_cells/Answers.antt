@@ -6,9 +6,9 @@ use Rattle.value_text.proofs.ram.read_cells.Goals as goal
 
 pub ram_of-requires-clause-are : goal.ram_of-requires-clause-are
 ram_of-requires-clause-are g c =
-    let digits = g.P.Places.width c.args.places in
-    let names = g.P.Places.names c.args.places in
-    let exact = cells_is_exact digits names c.args.framed (g.P.Places.keeps c.args.places) c.args.lo c.args.hi c.requires.short c.names_are_exact.ensures.exact
+    let digits = g.P.Places.width c.args.ram.places in
+    let names = g.P.Places.names c.args.ram.places in
+    let exact = cells_is_exact digits names c.args.ram.framed (g.P.Places.keeps c.args.ram.places) c.args.ram.lo c.args.ram.hi c.requires.short c.names_are_exact.ensures.exact
     c.names_are_exact.ensures.apart c.names_are_exact.ensures.parted in
-    subst (AreCells c.args.lo c.args.hi c.args.lo) (sym c.deref.ensures.value) (exact.only c.args.text.now c.in-Some.cells.items (sym
+    subst (AreCells c.args.ram.lo c.args.ram.hi c.args.ram.lo) (sym c.deref.ensures.value) (exact.only c.args.text.now c.in-Some.cells.items (sym
     c.in_ok-cells.ensures ∙ ap (option_map (λ cells. cells.items)) c.in-Some.is)).0.0

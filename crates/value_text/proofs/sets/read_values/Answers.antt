@@ -1,4 +1,4 @@
-use Rattle.std.proofs.Common.{◌≡◌, ◌+◌, ◌∷◌, [], true, false, length, length-append, arith, sym, ap, ◌∙◌}
+use Rattle.std.proofs.Common.{◌≡◌, ◌+◌, ◌∷◌, [], length, length-append, arith, ap, ◌∙◌}
 use Rattle.text_fields.specs.Numbers.{hex_number}
 use Rattle.text_fields.specs.Lists.{list_bad, list_last, list_last_bad, list_more}
 use Rattle.value_text.proofs.ListLemmas.{no_list, tested, too_many}
@@ -36,20 +36,11 @@ returns-then-len-eq-LONGEST-2 c =
     too_many c.args.digits c.loop-first.values c.args.text.now c.loop-first.rest.now
     (omega (arith, c.if-len-eq-LONGEST-2.true, c.len-2.ensures.length)) c.loop-first.invariant.0
 
-pub returns-then-ascends : goal.returns-then-ascends
-returns-then-ascends c =
-    tested c.args.digits c.loop-first.values c.push-2.new.self c.as_slice.result.now c.args.text.now c.loop-first.rest.now c.in-Some-number-2.value true
-    c.loop-first.invariant.1 (λ full. absurd (omega (arith, full, c.if-len-eq-LONGEST-2.false, c.len-2.ensures.length))) c.push-2.ensures
+pub returns : goal.returns
+returns c =
+    c.ascending.ensures
+    ∙ tested c.args.digits c.loop-first.values c.push-2.new.self c.args.text.now c.in-Some-number-2.value c.loop-first.invariant.1
+    (λ full. absurd (omega (arith, full, c.if-len-eq-LONGEST-2.false, c.len-2.ensures.length))) c.push-2.ensures
     (c.loop-first.invariant.0
     ∙ list_last (hex_number c.args.digits) 44 c.loop-first.values c.push-2.new.self c.loop-first.rest.now c.in-Some-number-2.value c.in_default.ensures.parts
     c.in-Some-number-2.ensures.value c.push-2.ensures)
-    c.as_slice.ensures.numbers (sym c.ascends.ensures ∙ c.if-ascends.true)
-
-pub returns-else-ascends : goal.returns-else-ascends
-returns-else-ascends c =
-    tested c.args.digits c.loop-first.values c.push-2.new.self c.as_slice.result.now c.args.text.now c.loop-first.rest.now c.in-Some-number-2.value false
-    c.loop-first.invariant.1 (λ full. absurd (omega (arith, full, c.if-len-eq-LONGEST-2.false, c.len-2.ensures.length))) c.push-2.ensures
-    (c.loop-first.invariant.0
-    ∙ list_last (hex_number c.args.digits) 44 c.loop-first.values c.push-2.new.self c.loop-first.rest.now c.in-Some-number-2.value c.in_default.ensures.parts
-    c.in-Some-number-2.ensures.value c.push-2.ensures)
-    c.as_slice.ensures.numbers (sym c.ascends.ensures ∙ c.if-ascends.false)
