@@ -6,54 +6,29 @@
 //! Worked out from Intel's MCS-51 Programmer's Guide and Instruction Set.
 #![tactic(auto)]
 
-use hex_digits::{bytes, word};
-use mcs51_decode::{Image, decode, encode, from_bytes};
+use mcs51_decode::{decode, encode, from_bytes};
 use mcs51_text::text;
+use row_parts::{CodeRow, tell};
 use std::alloc::{AllocError, Global};
-use std::io::{self, BufRead, BufReader};
-
-/// Whether bytes at an address are decoded to an instruction of this text, and are its bytes.
-fn has_text(alloc: Global, pc: u16, bytes: &[u8], expected: &str) -> Result<bool, AllocError> {
-    let Ok(image) = Image::with_bytes(alloc, pc, bytes) else {
-        return Err(AllocError);
-    };
-    let Ok((instr, length)) = decode(&image, pc) else {
-        return Ok(false);
-    };
-    let found = text(&instr, pc);
-    Ok(
-        length as usize == bytes.len()
-            && encode(&instr).as_slice() == bytes
-            && from_bytes(bytes) == Some(instr)
-            && found.as_str() == expected,
-    )
-}
+use std::io;
 
 /// Whether a line holds. One of another form doesn't.
 fn holds(alloc: Global, line: &str) -> Result<bool, AllocError> {
-    let mut words = line.splitn(3, ' ');
-    let pc = word(words.next().unwrap_or("").as_bytes());
-    let bytes = bytes(alloc, words.next().unwrap_or("").as_bytes())?;
-    match (pc, bytes) {
-        (Some(pc), Some(bytes)) => has_text(alloc, pc, &bytes, words.next().unwrap_or("")),
-        _ => Ok(false),
-    }
+    let Some(row) = CodeRow::of(alloc, line)? else {
+        return Ok(false);
+    };
+    let Ok((instr, length)) = decode(&row.image, row.pc) else {
+        return Ok(false);
+    };
+    Ok(
+        length as usize == row.bytes.len()
+            && encode(&instr).as_slice() == row.bytes.as_slice()
+            && from_bytes(&row.bytes) == Some(instr)
+            && text(&instr, row.pc).as_str() == row.rest,
+    )
 }
 
 fn main(rt: HostRuntime) -> io::Result<()> {
     let alloc = rt.alloc();
-    let mut count = 0u32;
-    for line in BufReader::new(alloc, rt.reader())?.lines(alloc) {
-        let line = line?;
-        if line.as_str().starts_with('#') {
-            continue;
-        }
-        if holds(alloc, line.as_str())? {
-            count = count.wrapping_add(1);
-        } else {
-            println!(rt; "doesn't hold: {line}")?;
-        }
-    }
-    println!(rt; "{count} rows hold")?;
-    Ok(())
+    tell(rt, |line| Ok(Some(holds(alloc, line)?)))
 }

@@ -1,6 +1,6 @@
 //! Instructions on two operands.
 
-ghost use Rattle.std.specs.Prelude.{◌≡◌, ◌%◌, ◌<◌, ◌≤◌, ℕ, IfSome, IsTrue, List, None, [], false, length, slice_index, true};
+ghost use Rattle.std.specs.Prelude.{◌≡◌, ◌%◌, ◌<◌, ◌≤◌, ℕ, IfSome, IsTrue, List, None, [], false, slice_index, true};
 ghost use Rattle.choosing.specs.Asking.{continued};
 ghost use Rattle.msp430_decode.specs.declared.instr.Instr.TheVariants as instr;
 ghost use Rattle.msp430_chip.specs.declared.device.Device.{Device};
@@ -10,18 +10,19 @@ ghost use Rattle.msp430_chip.specs.State as states;
 ghost use Rattle.msp430_chip.specs.Step as steps;
 ghost use Rattle.choosing.specs.Choosing.{asked, asked_as};
 ghost use Rattle.msp430_emu.specs.Drafting.{all_shown, double_behind, drafted, left_by, shown};
+ghost use Rattle.msp430_emu.specs.Here.{Stands};
 ghost use Rattle.msp430_chip.specs.Registers.{AreRegisters};
 
 use crate::arithmetic::{reads_destination, result_of, sets_flags, writes_result};
 use crate::effect::{Access, Accesses, Draft, Effect};
-use crate::memory::Layout;
+use crate::here::{Here, TwoOperands};
 use crate::operands::{
     behind, destination_place, grown, has_free_bits, is_status, source_place, value_at,
     with_free_bits,
 };
 use crate::put::{access_to, free_status, put_if, with_status};
 use choosing::Unused;
-use msp430_chip::{ChipState, Place, Ram};
+use msp430_chip::{ChipState, Place};
 use msp430_decode::{Destination, Operation, Register, Source, Width};
 
 /// The operands of an instruction, and the registers behind them.
@@ -67,22 +68,21 @@ fn counter(
 
 /// What the destination held, where the operation reads it.
 fn destination_value(
-    layout: &Layout,
-    ram: &Ram,
+    here: &Here,
     registers: &[u16; 16],
-    operation: Operation,
-    width: Width,
     place: Place,
+    two: TwoOperands,
     choices: &mut Unused,
 ) -> Option<u16>
-    requires size { length ram.now ≡ states.ram_size layout.now }
+    requires here { Stands here.now }
     requires status { slice_index registers.now 2 < 512 }
-    ensures exact { asked result choices.new ≡ steps.destination_value layout.now ram.now registers.now operation width place choices.old }
-    ensures below { IfSome result (λ value. value < numbers.modulus width) }
-    ensures held { IfSome result (λ value. IsTrue (operands.has_free_bits width place) → value < 512) }
+    ensures exact { asked result choices.new ≡
+        steps.destination_value here.now.layout.now here.now.s.now.ram registers.now two.operation two.width place choices.old }
+    ensures below { IfSome result (λ value. value < numbers.modulus two.width) }
+    ensures held { IfSome result (λ value. IsTrue (operands.has_free_bits two.width place) → value < 512) }
 {
-    if reads_destination(operation) {
-        value_at(layout, ram, registers, width, place, choices)
+    if reads_destination(two.operation) {
+        value_at(here, registers, two.width, place, choices)
     } else {
         Some(0)
     }
@@ -160,38 +160,28 @@ fn double_left(
     Some(with_status(flags, effect))
 }
 
-/// The operands of an instruction, of so many bytes, and the registers behind them.
+/// The operands of an instruction, and the registers behind them.
 #[tactic(auto, using(msp430_chip::specs::Registers::registers_kept), unfolding(msp430_chip::specs::Step::double))]
-fn double_operands(
-    layout: &Layout,
-    s: &ChipState,
-    len: u8,
-    operation: Operation,
-    width: Width,
-    source: Source,
-    destination: Destination,
-    choices: &mut Unused,
-) -> Option<Operands>
-    requires size { length s.now.ram ≡ states.ram_size layout.now }
-    requires registers { AreRegisters s.now.registers }
-    requires len { 2 ≤ len }
-    requires even { len % 2 ≡ 0 }
-    ensures exact { continued (double_behind layout.now s.now operation width source destination) (asked result choices.new) ≡
-        steps.double layout.now s.now len operation width source destination choices.old }
-    ensures x { IfSome result (λ operands. operands.x < numbers.modulus width) }
-    ensures y { IfSome result (λ operands. operands.y < numbers.modulus width) }
+fn double_operands(here: &Here, two: TwoOperands, choices: &mut Unused) -> Option<Operands>
+    requires here { Stands here.now }
+    ensures exact { continued (double_behind here.now.layout.now here.now.s.now two.operation two.width two.source two.destination) (asked result choices.new) ≡
+        steps.double here.now.layout.now here.now.s.now here.now.len two.operation two.width two.source two.destination choices.old }
+    ensures x { IfSome result (λ operands. operands.x < numbers.modulus two.width) }
+    ensures y { IfSome result (λ operands. operands.y < numbers.modulus two.width) }
     ensures form { IfSome result (λ operands. AreRegisters operands.registers) }
 {
+    let s = here.s;
+    let width = two.width;
     let pc = s.registers[0];
     let mut before = s.registers;
-    before[0] = counter(s, len, source, destination, choices)?;
-    let origin = source_place(pc, &before, source);
-    let mut registers = grown(&before, width, source);
-    let place = destination_place(pc, len, &registers, destination);
-    let x = value_at(layout, &s.ram, &before, width, origin, choices)?;
-    let y = destination_value(layout, &s.ram, &registers, operation, width, place, choices)?;
-    let bits = status_bits(operation, width, origin, place, choices)?;
-    registers[0] = behind(s, len);
+    before[0] = counter(s, here.len, two.source, two.destination, choices)?;
+    let origin = source_place(pc, &before, two.source);
+    let mut registers = grown(&before, width, two.source);
+    let place = destination_place(pc, here.len, &registers, two.destination);
+    let x = value_at(here, &before, width, origin, choices)?;
+    let y = destination_value(here, &registers, place, two, choices)?;
+    let bits = status_bits(two.operation, width, origin, place, choices)?;
+    registers[0] = behind(s, here.len);
     Some(Operands {
         registers,
         origin,
@@ -201,39 +191,18 @@ fn double_operands(
     })
 }
 
-/// An instruction on two operands, of so many bytes.
-pub(crate) fn double(
-    layout: &Layout,
-    s: &ChipState,
-    len: u8,
-    operation: Operation,
-    width: Width,
-    source: Source,
-    destination: Destination,
-    choices: &mut Unused,
-) -> Option<Draft>
-    requires size { length s.now.ram ≡ states.ram_size layout.now }
-    requires registers { AreRegisters s.now.registers }
-    requires len { 2 ≤ len }
-    requires even { len % 2 ≡ 0 }
-    ensures exact { asked_as (drafted layout.now s.now (instr.Double operation width source destination)) result choices.new ≡
-        steps.double layout.now s.now len operation width source destination choices.old }
+/// An instruction on two operands.
+pub(crate) fn double(here: &Here, two: TwoOperands, choices: &mut Unused) -> Option<Draft>
+    requires here { Stands here.now }
+    ensures exact { asked_as (drafted here.now.layout.now here.now.s.now (instr.Double two.operation two.width two.source two.destination)) result choices.new ≡
+        steps.double here.now.layout.now here.now.s.now here.now.len two.operation two.width two.source two.destination choices.old }
     ensures form { IfSome result (λ draft. AreRegisters draft.effect.registers) }
 {
-    let operands = double_operands(
-        layout,
-        s,
-        len,
-        operation,
-        width,
-        source,
-        destination,
-        choices,
-    )?;
-    let carry = s.registers[2] % 2;
-    let effect = double_left(operation, width, operands, carry, choices)?;
+    let operands = double_operands(here, two, choices)?;
+    let carry = here.s.registers[2] % 2;
+    let effect = double_left(two.operation, two.width, operands, carry, choices)?;
     Some(Draft {
-        accesses: double_accesses(operation, width, operands.origin, operands.place),
+        accesses: double_accesses(two.operation, two.width, operands.origin, operands.place),
         effect,
     })
 }

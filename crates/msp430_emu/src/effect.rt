@@ -1,6 +1,7 @@
 //! What a step does, before anything is written.
 
-ghost use Rattle.std.specs.Prelude.{◌<◌};
+ghost use Rattle.std.specs.Prelude.{◌≡◌, ◌<◌};
+ghost use Rattle.msp430_decode.specs.declared.instr.Width.TheVariants as widths;
 ghost use Rattle.msp430_chip.specs.Arithmetic.{modulus};
 
 use arrayvec::ArrayVec;
@@ -21,6 +22,19 @@ pub(crate) struct Access {
     pub write: bool,
     pub width: Width,
     pub at: u16,
+}
+
+impl Access {
+    /// An access of a word of the stack.
+    pub(crate) fn of_stack(write: bool, at: u16) -> Access
+        ensures { result ≡ record { write = write; width = widths.Word; at = at } }
+    {
+        Access {
+            write,
+            width: Width::Word,
+            at,
+        }
+    }
 }
 
 /// The accesses of a step, in order.

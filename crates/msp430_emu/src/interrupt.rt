@@ -3,7 +3,6 @@
 ghost use Rattle.std.specs.Prelude.{◌≡◌, ◌+◌, ◌<◌, All, IfSome, true};
 ghost use Rattle.std.specs.List.{filter, range_with_len};
 ghost use Rattle.image.specs.Image.{byte_at};
-ghost use Rattle.msp430_decode.specs.declared.instr.Width.TheVariants as widths;
 ghost use Rattle.msp430_chip.specs.Interrupts as interrupts;
 ghost use Rattle.msp430_chip.specs.State as states;
 ghost use Rattle.choosing.specs.Choosing.{asked_as};
@@ -101,17 +100,6 @@ fn entered(layout: &Layout, s: &ChipState, vector: u16) -> [u16; 16]
     registers
 }
 
-/// A word written to the stack.
-fn written(at: u16) -> Access
-    ensures { result ≡ record { write = true; width = widths.Word; at = at } }
-{
-    Access {
-        write: true,
-        width: Width::Word,
-        at,
-    }
-}
-
 /// The entry of an interrupt: PC is pushed, then SR with any bits 9 to 15.
 #[tactic(auto, unfolding(msp430_chip::specs::Interrupts::enter))]
 pub(crate) fn enter(
@@ -132,8 +120,8 @@ pub(crate) fn enter(
         bytes: None,
         accesses: Accesses {
             first: None,
-            second: Some(written(first)),
-            third: Some(written(second)),
+            second: Some(Access::of_stack(true, first)),
+            third: Some(Access::of_stack(true, second)),
         },
         registers: entered(layout, s, vector),
         first: Some(Store {

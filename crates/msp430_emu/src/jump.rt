@@ -2,7 +2,6 @@
 
 ghost use Rattle.std.specs.Prelude.{◌≡◌, ◌<◌, IfSome, false, length};
 ghost use Rattle.msp430_decode.specs.declared.instr.Instr.TheVariants as instr;
-ghost use Rattle.msp430_decode.specs.declared.instr.Width.TheVariants as width;
 ghost use Rattle.msp430_chip.specs.State as states;
 ghost use Rattle.msp430_chip.specs.Step as steps;
 ghost use Rattle.choosing.specs.Choosing.{asked_as};
@@ -14,7 +13,7 @@ use crate::memory::{Layout, even, read_word};
 use crate::operands::behind;
 use choosing::Unused;
 use msp430_chip::ChipState;
-use msp430_decode::{Condition, Width, offset_target};
+use msp430_decode::{Condition, offset_target};
 
 /// Whether a jump is taken, by SR.
 fn is_taken(condition: Condition, status: u16) -> bool
@@ -83,23 +82,12 @@ pub(crate) fn return_from_interrupt(
     Some(Draft {
         accesses: Accesses {
             first: None,
-            second: Some(popped(sp)),
-            third: Some(popped(second)),
+            second: Some(Access::of_stack(false, sp)),
+            third: Some(Access::of_stack(false, second)),
         },
         effect: Effect {
             registers,
             store: None,
         },
     })
-}
-
-/// A word read from the stack.
-fn popped(at: u16) -> Access
-    ensures { result ≡ record { write = false; width = width.Word; at = at } }
-{
-    Access {
-        write: false,
-        width: Width::Word,
-        at,
-    }
 }

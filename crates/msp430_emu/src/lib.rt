@@ -21,6 +21,7 @@ mod commit;
 mod decimal;
 mod double;
 mod effect;
+mod here;
 mod interrupt;
 mod items;
 mod jump;

@@ -1,16 +1,17 @@
 //! Registers, and where operands stand (SLAU049, chapter 3, "Addressing Modes").
 
-ghost use Rattle.std.specs.Prelude.{◌≡◌, ◌%◌, ◌<◌, ◌≤◌, IfSome, IsTrue, length, slice_index};
+ghost use Rattle.std.specs.Prelude.{◌≡◌, ◌%◌, ◌<◌, ◌≤◌, IfSome, IsTrue, slice_index};
 ghost use Rattle.msp430_chip.specs.Arithmetic as numbers;
 ghost use Rattle.msp430_chip.specs.Operands as operands;
-ghost use Rattle.msp430_chip.specs.State as states;
 ghost use Rattle.msp430_chip.specs.Step as steps;
 ghost use Rattle.choosing.specs.Choosing.{asked};
+ghost use Rattle.msp430_emu.specs.Here.{Stands};
 ghost use Rattle.msp430_chip.specs.Registers.{AreRegisters};
 
-use crate::memory::{Layout, even, read};
+use crate::here::Here;
+use crate::memory::{even, read};
 use choosing::Unused;
-use msp430_chip::{ChipState, Place, Ram};
+use msp430_chip::{ChipState, Place};
 use msp430_decode::{Destination, Register, Source, Width};
 
 /// The address behind an instruction of so many bytes.
@@ -158,22 +159,22 @@ pub(crate) fn with_free_bits(width: Width, place: Place, bits: u32, value: u16) 
 
 /// What stands at a place, but for the bits of SR that nothing holds.
 pub(crate) fn value_at(
-    layout: &Layout,
-    ram: &Ram,
+    here: &Here,
     registers: &[u16; 16],
     width: Width,
     place: Place,
     choices: &mut Unused,
 ) -> Option<u16>
-    requires size { length ram.now ≡ states.ram_size layout.now }
+    requires here { Stands here.now }
     requires status { slice_index registers.now 2 < 512 }
-    ensures exact { asked result choices.new ≡ operands.value_at layout.now ram.now registers.now width place choices.old }
+    ensures exact { asked result choices.new ≡
+        operands.value_at here.now.layout.now here.now.s.now.ram registers.now width place choices.old }
     ensures below { IfSome result (λ value. value < numbers.modulus width) }
     ensures held { IfSome result (λ value. IsTrue (operands.has_free_bits width place) → value < 512) }
 {
     match place {
         Place::InRegister(register) => Some(low_part(width, value_in(registers, register))),
-        Place::InMemory(address) => read(layout, ram, width, address, choices),
+        Place::InMemory(address) => read(here.layout, &here.s.ram, width, address, choices),
         Place::Fixed(value) => Some(low_part(width, value)),
     }
 }

@@ -1,24 +1,25 @@
 //! PUSH and CALL.
 
-ghost use Rattle.std.specs.Prelude.{◌≡◌, ◌%◌, ◌<◌, ◌≤◌, ◌++◌, ℕ, IfSome, List, false, length, slice_index, true};
+ghost use Rattle.std.specs.Prelude.{◌≡◌, ◌<◌, ◌≤◌, ◌++◌, ℕ, IfSome, List, false, slice_index, true};
 ghost use Rattle.msp430_decode.specs.declared.instr.Instr.TheVariants as instr;
 ghost use Rattle.msp430_decode.specs.declared.instr.Width.TheVariants as widths;
 ghost use Rattle.msp430_chip.specs.declared.device.Device.{Device};
 ghost use Rattle.msp430_chip.specs.declared.place.Place.TheVariants as places;
 ghost use Rattle.msp430_chip.specs.Arithmetic as numbers;
 ghost use Rattle.msp430_chip.specs.Operands as operands;
-ghost use Rattle.msp430_chip.specs.State as states;
 ghost use Rattle.msp430_chip.specs.Step as steps;
 ghost use Rattle.choosing.specs.Choosing.{asked, asked_as};
 ghost use Rattle.msp430_emu.specs.Drafting.{all_shown, drafted, left_by};
+ghost use Rattle.msp430_emu.specs.Here.{Stands};
 ghost use Rattle.msp430_chip.specs.Registers.{AreRegisters};
 
 use crate::effect::{Accesses, Draft, Effect};
-use crate::memory::{Layout, even};
+use crate::here::{Here, OneOperand};
+use crate::memory::even;
 use crate::operands::{behind, grown, has_free_bits, source_place, value_at, with_free_bits};
 use crate::put::{access_to, put};
 use choosing::Unused;
-use msp430_chip::{ChipState, Place};
+use msp430_chip::Place;
 use msp430_decode::{Register, SingleOperation, Source, Width};
 
 /// Whether an operand is formed by SP, without growth: before or after SP is lowered.
@@ -123,34 +124,26 @@ fn push_accesses(width: Width, place: Place, sp: u16) -> Accesses
 
 /// PUSH or CALL, of so many bytes.
 #[tactic(auto, using(msp430_chip::specs::Registers::registers_kept), unfolding(msp430_chip::specs::Step::push))]
-pub(crate) fn push(
-    layout: &Layout,
-    s: &ChipState,
-    len: u8,
-    operation: SingleOperation,
-    width: Width,
-    operand: Source,
-    choices: &mut Unused,
-) -> Option<Draft>
-    requires size { length s.now.ram ≡ states.ram_size layout.now }
-    requires registers { AreRegisters s.now.registers }
-    requires len { len % 2 ≡ 0 }
-    ensures exact { asked_as (drafted layout.now s.now (instr.Single operation width operand)) result choices.new ≡
-        steps.push layout.now s.now len operation width operand choices.old }
+pub(crate) fn push(here: &Here, one: OneOperand, choices: &mut Unused) -> Option<Draft>
+    requires here { Stands here.now }
+    ensures exact { asked_as (drafted here.now.layout.now here.now.s.now (instr.Single one.operation one.width one.operand)) result choices.new ≡
+        steps.push here.now.layout.now here.now.s.now here.now.len one.operation one.width one.operand choices.old }
     ensures form { IfSome result (λ draft. AreRegisters draft.effect.registers) }
 {
+    let s = here.s;
+    let next = behind(s, here.len);
     let mut before = s.registers;
-    before[0] = behind(s, len);
-    let option = choices.ask_if(is_formed_by_stack(operand), 2)?;
+    before[0] = next;
+    let option = choices.ask_if(is_formed_by_stack(one.operand), 2)?;
     let forming = with_lowered(option, &before);
-    let place = source_place(s.registers[0], &forming, operand);
-    let registers = grown(&before, width, operand);
-    let x = value_at(layout, &s.ram, &forming, width, place, choices)?;
-    let bits = choices.ask_if(has_free_bits(width, place), 128)?;
-    let x = with_free_bits(width, place, bits, x);
-    let effect = push_left(&registers, operation, width, x, behind(s, len), choices)?;
+    let place = source_place(s.registers[0], &forming, one.operand);
+    let registers = grown(&before, one.width, one.operand);
+    let x = value_at(here, &forming, one.width, place, choices)?;
+    let bits = choices.ask_if(has_free_bits(one.width, place), 128)?;
+    let x = with_free_bits(one.width, place, bits, x);
+    let effect = push_left(&registers, one.operation, one.width, x, next, choices)?;
     Some(Draft {
-        accesses: push_accesses(width, place, registers[1]),
+        accesses: push_accesses(one.width, place, registers[1]),
         effect,
     })
 }

@@ -1,28 +1,28 @@
 //! RRC, SWPB, RRA and SXT.
 
-ghost use Rattle.std.specs.Prelude.{◌≡◌, ◌%◌, ◌<◌, ◌≤◌, ◌++◌, ℕ, IfSome, List, false, length, true};
+ghost use Rattle.std.specs.Prelude.{◌≡◌, ◌<◌, ◌≤◌, ◌++◌, ℕ, IfSome, List, false, true};
 ghost use Rattle.msp430_decode.specs.declared.instr.Instr.TheVariants as instr;
 ghost use Rattle.msp430_decode.specs.declared.instr.Source.{Source as ASource};
 ghost use Rattle.msp430_decode.specs.Table.{AreSingle};
 ghost use Rattle.msp430_chip.specs.declared.device.Device.{Device};
 ghost use Rattle.msp430_chip.specs.Arithmetic as numbers;
 ghost use Rattle.msp430_chip.specs.Operands as operands;
-ghost use Rattle.msp430_chip.specs.State as states;
 ghost use Rattle.msp430_chip.specs.Step as steps;
 ghost use Rattle.choosing.specs.Choosing.{asked_as};
 ghost use Rattle.msp430_emu.specs.Drafting.{all_shown, drafted, left_by};
+ghost use Rattle.msp430_emu.specs.Here.{Stands};
 ghost use Rattle.msp430_chip.specs.Registers.{AreRegisters};
 
 use crate::arithmetic::{single_result, single_sets_flags};
 use crate::effect::{Accesses, Draft, Effect};
-use crate::memory::Layout;
+use crate::here::{Here, OneOperand};
 use crate::operands::{
     behind, grown, has_free_bits, is_status, source_place, value_at, with_free_bits,
 };
 use crate::put::{access_to, free_status, put, with_status};
 use choosing::Unused;
-use msp430_chip::{ChipState, Place};
-use msp430_decode::{SingleOperation, Source, Width};
+use msp430_chip::Place;
+use msp430_decode::{SingleOperation, Width};
 
 /// The result of the value x in its place, and the flags.
 #[tactic(auto, using(msp430_chip::specs::Registers::registers_kept), unfolding(msp430_chip::specs::Step::single_left))]
@@ -63,34 +63,33 @@ fn single_accesses(width: Width, place: Place) -> Accesses
 
 /// An instruction on one operand that it reads and writes, of so many bytes.
 #[tactic(auto, using(msp430_chip::specs::Registers::registers_kept), unfolding(msp430_chip::specs::Step::single))]
-pub(crate) fn single(
-    layout: &Layout,
-    s: &ChipState,
-    len: u8,
-    operation: SingleOperation,
-    width: Width,
-    operand: Source,
-    choices: &mut Unused,
-) -> Option<Draft>
-    requires size { length s.now.ram ≡ states.ram_size layout.now }
-    requires registers { AreRegisters s.now.registers }
-    requires len { len % 2 ≡ 0 }
-    requires form { AreSingle operation width operand }
-    ensures exact { asked_as (drafted layout.now s.now (instr.Single operation width operand)) result choices.new ≡
-        steps.single layout.now s.now len operation width operand choices.old }
+pub(crate) fn single(here: &Here, one: OneOperand, choices: &mut Unused) -> Option<Draft>
+    requires here { Stands here.now }
+    requires form { AreSingle one.operation one.width one.operand }
+    ensures exact { asked_as (drafted here.now.layout.now here.now.s.now (instr.Single one.operation one.width one.operand)) result choices.new ≡
+        steps.single here.now.layout.now here.now.s.now here.now.len one.operation one.width one.operand choices.old }
     ensures form { IfSome result (λ draft. AreRegisters draft.effect.registers) }
 {
+    let s = here.s;
     let mut before = s.registers;
-    before[0] = behind(s, len);
-    let place = source_place(s.registers[0], &before, operand);
-    let registers = grown(&before, width, operand);
-    let x = value_at(layout, &s.ram, &before, width, place, choices)?;
-    let bits = choices.ask_if(has_free_bits(width, place), 128)?;
-    let x = with_free_bits(width, place, bits, x);
+    before[0] = behind(s, here.len);
+    let place = source_place(s.registers[0], &before, one.operand);
+    let registers = grown(&before, one.width, one.operand);
+    let x = value_at(here, &before, one.width, place, choices)?;
+    let bits = choices.ask_if(has_free_bits(one.width, place), 128)?;
+    let x = with_free_bits(one.width, place, bits, x);
     let carry = s.registers[2] % 2;
-    let effect = single_left(&registers, operation, width, place, x, carry, choices)?;
+    let effect = single_left(
+        &registers,
+        one.operation,
+        one.width,
+        place,
+        x,
+        carry,
+        choices,
+    )?;
     Some(Draft {
-        accesses: single_accesses(width, place),
+        accesses: single_accesses(one.width, place),
         effect,
     })
 }

@@ -10,6 +10,7 @@ ghost use Rattle.msp430_chip.specs.State as states;
 ghost use Rattle.msp430_chip.specs.Step as steps;
 ghost use Rattle.choosing.specs.Choosing.{asked_as};
 ghost use Rattle.msp430_emu.specs.Drafting.{drafted};
+ghost use Rattle.msp430_emu.specs.Here.{Stands};
 ghost use Rattle.msp430_emu.specs.Planning.{outcome_of, planned};
 ghost use Rattle.msp430_chip.specs.Registers.{AreRegisters};
 ghost use Rattle.msp430_emu.specs.Stepping.{Ends, IsStill, Steps};
@@ -17,6 +18,7 @@ ghost use Rattle.msp430_emu.specs.Stepping.{Ends, IsStill, Steps};
 use crate::commit::{commit, plan_hit};
 use crate::double::double;
 use crate::effect::{Draft, Plan};
+use crate::here::{Here, OneOperand, TwoOperands};
 use crate::interrupt::{allows_interrupts, coming, enter};
 use crate::items::items_of;
 use crate::jump::{jump, return_from_interrupt};
@@ -26,52 +28,31 @@ use crate::single::single;
 use crate::stepped::Stepped;
 use choosing::Unused;
 use msp430_chip::{ChipState, Wild};
-use msp430_decode::{Instr, NoInstr, SingleOperation, Source, Width, decode, encode};
+use msp430_decode::{Instr, NoInstr, SingleOperation, decode, encode};
 
-/// An instruction on one operand, of so many bytes.
-fn one_operand(
-    layout: &Layout,
-    s: &ChipState,
-    len: u8,
-    operation: SingleOperation,
-    width: Width,
-    operand: Source,
-    choices: &mut Unused,
-) -> Option<Draft>
-    requires size { length s.now.ram ≡ states.ram_size layout.now }
-    requires registers { AreRegisters s.now.registers }
-    requires len { len % 2 ≡ 0 }
-    requires form { AreSingle operation width operand }
-    ensures exact { asked_as (drafted layout.now s.now (instr.Single operation width operand)) result choices.new ≡
-        steps.one_operand layout.now s.now len operation width operand choices.old }
+/// An instruction on one operand.
+fn one_operand(here: &Here, one: OneOperand, choices: &mut Unused) -> Option<Draft>
+    requires here { Stands here.now }
+    requires form { AreSingle one.operation one.width one.operand }
+    ensures exact { asked_as (drafted here.now.layout.now here.now.s.now (instr.Single one.operation one.width one.operand)) result choices.new ≡
+        steps.one_operand here.now.layout.now here.now.s.now here.now.len one.operation one.width one.operand choices.old }
     ensures form { IfSome result (λ draft. AreRegisters draft.effect.registers) }
 {
-    match operation {
-        SingleOperation::Push | SingleOperation::Call => {
-            push(layout, s, len, operation, width, operand, choices)
-        }
+    match one.operation {
+        SingleOperation::Push | SingleOperation::Call => push(here, one, choices),
         SingleOperation::Rrc
         | SingleOperation::Swpb
         | SingleOperation::Rra
-        | SingleOperation::Sxt => single(layout, s, len, operation, width, operand, choices),
+        | SingleOperation::Sxt => single(here, one, choices),
     }
 }
 
-/// An instruction of so many bytes.
-fn executed(
-    layout: &Layout,
-    s: &ChipState,
-    instr: Instr,
-    len: u8,
-    choices: &mut Unused,
-) -> Option<Draft>
-    requires size { length s.now.ram ≡ states.ram_size layout.now }
-    requires registers { AreRegisters s.now.registers }
-    requires len { 2 ≤ len }
-    requires even { len % 2 ≡ 0 }
+/// An instruction.
+fn executed(here: &Here, instr: Instr, choices: &mut Unused) -> Option<Draft>
+    requires here { Stands here.now }
     requires form { IsInstr instr }
-    ensures exact { asked_as (drafted layout.now s.now instr) result choices.new ≡
-        steps.executed layout.now s.now instr len choices.old }
+    ensures exact { asked_as (drafted here.now.layout.now here.now.s.now instr) result choices.new ≡
+        steps.executed here.now.layout.now here.now.s.now instr here.now.len choices.old }
     ensures form { IfSome result (λ draft. AreRegisters draft.effect.registers) }
 {
     match instr {
@@ -80,23 +61,29 @@ fn executed(
             width,
             source,
             destination,
-        } => double(
-            layout,
-            s,
-            len,
-            operation,
-            width,
-            source,
-            destination,
-            choices,
-        ),
+        } => {
+            let two = TwoOperands {
+                operation,
+                width,
+                source,
+                destination,
+            };
+            double(here, two, choices)
+        }
         Instr::Single {
             operation,
             width,
             operand,
-        } => one_operand(layout, s, len, operation, width, operand, choices),
-        Instr::Jump { condition, offset } => Some(jump(layout, s, condition, offset)),
-        Instr::ReturnFromInterrupt => return_from_interrupt(layout, s, choices),
+        } => {
+            let one = OneOperand {
+                operation,
+                width,
+                operand,
+            };
+            one_operand(here, one, choices)
+        }
+        Instr::Jump { condition, offset } => Some(jump(here.layout, here.s, condition, offset)),
+        Instr::ReturnFromInterrupt => return_from_interrupt(here.layout, here.s, choices),
     }
 }
 
@@ -127,7 +114,8 @@ fn run(layout: &Layout, s: &ChipState, choices: &mut Unused) -> Option<Result<Pl
 {
     match decode(layout.image, s.registers[0]) {
         Ok((instr, len)) => {
-            let draft = executed(layout, s, instr, len, choices)?;
+            let here = Here { layout, s, len };
+            let draft = executed(&here, instr, choices)?;
             Some(Ok(done(s, &instr, draft)))
         }
         Err(none) => Some(Err(none)),
