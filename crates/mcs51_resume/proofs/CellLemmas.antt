@@ -23,7 +23,7 @@ use Rattle.mcs51_state.specs.Holding.{KeepsUntouched}
 use Rattle.mcs51_state.specs.Known.{Known}
 use Rattle.mcs51_state.specs.Places.{suspended_of}
 use Rattle.mcs51_state.specs.Under.{IsFramed, IsUnder}
-use Rattle.mcs51_resume.specs.Premises.{Premises}
+use Rattle.mcs51_results.specs.InstructionLaws.{InstructionLaws}
 use Rattle.mcs51_resume.specs.Resume.{cell_word_by, masked_by, place_byte, resumed_cell_word, resumed_cells}
 use Rattle.mcs51_resume.proofs.Masks.{AreFormed, Tells, masked_form, told_holds}
 use Rattle.mcs51_resume.proofs.PlaceLemmas.{relation_formed, relation_tells}
@@ -63,7 +63,7 @@ all_of : (P : Cell → Type 0) (cells : List Cell) → Each P cells → All P ce
 all_of P [] h = All-nil P
 all_of P (cell ∷ cells) h = All-cons P cell cells h.0 (all_of P cells h.1)
 
-module _ (laws : Premises) (framed : Bool) (a exit : Known) (pc : ℕ) (small : pc < 65536) (form : IsKnown framed a) (exit_form : IsKnown true exit) where
+module _ (laws : InstructionLaws) (framed : Bool) (a exit : Known) (pc : ℕ) (small : pc < 65536) (form : IsKnown framed a) (exit_form : IsKnown true exit) where
   each_fits : EachFits (resumed_cell_word (place_byte framed a pc)) exit.cells.cells
   each_fits cell held =
       let is : IsCell 0 255 cell = cell_of 0 255 0 exit.cells.cells cell exit_form.cells held in
@@ -102,7 +102,7 @@ module _ (laws : Premises) (framed : Bool) (a exit : Known) (pc : ℕ) (small : 
       all_of (IsChipCell framed) cells (each_from (IsChipCell framed) cells
       (λ cell held. chip_cell cell (laws.known.frames.origin (resumed_cell_word (place_byte framed a pc)) a.cells exit.cells exit.touched cell held)))
 
-each_holds : (laws : Premises) (framed : Bool) (a exit : Known) (f t : ChipState) (first : Option ChipState) → IsUnder framed a f first → IsUnder true exit t (Some f)
+each_holds : (laws : InstructionLaws) (framed : Bool) (a exit : Known) (f t : ChipState) (first : Option ChipState) → IsUnder framed a f first → IsUnder true exit t (Some f)
     → EachHolds (option_map suspended_of first) (resumed_cell_word (place_byte framed a f.pc)) (slice_index t.ram) exit.cells.cells
 each_holds laws framed a exit f t first under left cell held =
     let own = All-contains (IsChipCell true) exit.cells.cells cell left.form.each_cell held in
@@ -111,7 +111,7 @@ each_holds laws framed a exit f t first under left cell held =
     (relation_formed laws framed a f.pc under.holds.state.pc under.form cell.word.entry own.entry) own.entry (relation_tells laws framed a f first under cell.word.entry own.entry)
     (left.holds.parts.cells.1 cell held)
 
-pub cells_stand : (laws : Premises) (framed : Bool) (a exit : Known) (f t : ChipState) (first : Option ChipState) → IsUnder framed a f first → IsUnder true exit t (Some f)
+pub cells_stand : (laws : InstructionLaws) (framed : Bool) (a exit : Known) (f t : ChipState) (first : Option ChipState) → IsUnder framed a f first → IsUnder true exit t (Some f)
     → StandsUnder (option_map suspended_of first) (resumed_cells (place_byte framed a f.pc) a.cells exit.cells exit.touched).cells (slice_index t.ram)
 cells_stand laws framed a exit f t first under left =
     laws.known.frames.untouched (resumed_cell_word (place_byte framed a f.pc)) (option_map suspended_of first) (slice_index f.ram) (slice_index t.ram)

@@ -15,7 +15,7 @@ use Rattle.mcs51_state.specs.Holding.{CameAt, GoesOn, HoldsOf, HoldsOfParts, Hol
 use Rattle.mcs51_state.specs.Known.{Known}
 use Rattle.mcs51_state.specs.Places.{ie_place, ip_place, suspended_of}
 use Rattle.mcs51_state.specs.Under.{IsUnder}
-use Rattle.mcs51_resume.specs.Premises.{Premises}
+use Rattle.mcs51_results.specs.InstructionLaws.{InstructionLaws}
 use Rattle.mcs51_resume.specs.Resume.{place_byte, resumed_byte, resumed_known}
 use Rattle.mcs51_resume.proofs.Masks.{byte_form, byte_holds, own_form, own_is_relation}
 use Rattle.mcs51_resume.proofs.PlaceLemmas.{at_enable, at_priority, relation_formed, relation_tells}
@@ -27,7 +27,7 @@ use Rattle.plain_lemmas.specs.AnyOf.{any_from}
 
 -- COVER
 
-module _ (laws : Premises) (framed : Bool) (a exit : Known) (f t : ChipState) (first : Option ChipState) (under : IsUnder framed a f first) (left : IsUnder true exit t (Some f)) where
+module _ (laws : InstructionLaws) (framed : Bool) (a exit : Known) (f t : ChipState) (first : Option ChipState) (under : IsUnder framed a f first) (left : IsUnder true exit t (Some f)) where
   byte_stands : (byte : Byte) (v : ℕ) → IsRelation true byte.entry → HoldsOfByte (Some (suspended_of f)) byte v
       → HoldsOfByte (option_map suspended_of first) (resumed_byte (place_byte framed a f.pc) byte) v
   byte_stands byte v named holds =
@@ -66,11 +66,11 @@ has_pointer a f first sp holds came = any_from sp (members 256 a.sp) (subst (Has
 
 -- FORM
 
-module _ (laws : Premises) (framed : Bool) (a exit : Known) (pc : ℕ) (small : pc < 65536) (form : IsKnown framed a) (exit_form : IsKnown true exit) where
+module _ (laws : InstructionLaws) (framed : Bool) (a exit : Known) (pc : ℕ) (small : pc < 65536) (form : IsKnown framed a) (exit_form : IsKnown true exit) where
   one_form : (byte : Byte) → IsByte true byte → IsByte framed (resumed_byte (place_byte framed a pc) byte)
   one_form byte is = byte_form laws.known framed (place_byte framed a pc) byte (relation_formed laws framed a pc small form byte.entry is.entry) is
 
-  pub in_form : (sp : ℕ) → sp < 256 → IsKnown framed (resumed_known framed a pc sp exit)
+  in_form : (sp : ℕ) → sp < 256 → IsKnown framed (resumed_known framed a pc sp exit)
   unfolding resumed_known
   in_form sp sp_small =
       let psw = status_form framed a.psw exit.psw form.bits exit_form.bits form.psw exit_form.psw in
@@ -95,7 +95,11 @@ module _ (laws : Premises) (framed : Bool) (a exit : Known) (pc : ℕ) (small : 
         none_touched = none_touched framed a.touched exit.touched;
       }
 
-pub covers : (laws : Premises) (framed : Bool) (a exit : Known) (f t : ChipState) (first : Option ChipState) (vector sp level : ℕ) → IsUnder framed a f first → IsUnder true exit t (Some f)
+pub resumed_form : (laws : InstructionLaws) (framed : Bool) (a exit : Known) (pc sp : ℕ) → IsKnown framed a → IsKnown true exit → pc < 65536 → sp < 256
+    → IsKnown framed (resumed_known framed a pc sp exit)
+resumed_form laws framed a exit pc sp form exit_form small = in_form laws framed a exit pc small form exit_form sp
+
+pub covers : (laws : InstructionLaws) (framed : Bool) (a exit : Known) (f t : ChipState) (first : Option ChipState) (vector sp level : ℕ) → IsUnder framed a f first → IsUnder true exit t (Some f)
     → GoesOn (Irq vector (Some sp) level) t (Some f) → IsUnder framed (resumed_known framed a f.pc sp exit) t first
 covers laws framed a exit f t first vector sp level under left goes = record {
   base = under.base;

@@ -17,32 +17,23 @@ use Rattle.mcs51_state.specs.Places.{held_by, is_place, is_remembered, number_of
 -- WHICH PLACES THERE ARE
 
 -- the registers that values remember have addresses from 80h
-remembered_at : (at : ℕ) → is_remembered (sfr_at at) ≡ true → (128 ≤ at) × (at < 256)
-remembered_at at is = elim (cases_Bool (at == 0x81)) [
-  | inl sp ↦ let same = eqb-true at 0x81 sp in (omega (arith, same), omega (arith, same))
-  | inr no_sp ↦ elim (cases_Bool (at == 0x82)) [
-    | inl dpl ↦ let same = eqb-true at 0x82 dpl in (omega (arith, same), omega (arith, same))
-    | inr no_dpl ↦ elim (cases_Bool (at == 0x83)) [
-      | inl dph ↦ let same = eqb-true at 0x83 dph in (omega (arith, same), omega (arith, same))
-      | inr no_dph ↦ elim (cases_Bool (at == 0xA8)) [
-        | inl ie ↦ let same = eqb-true at 0xA8 ie in (omega (arith, same), omega (arith, same))
-        | inr no_ie ↦ elim (cases_Bool (at == 0xB8)) [
-          | inl ip ↦ let same = eqb-true at 0xB8 ip in (omega (arith, same), omega (arith, same))
-          | inr no_ip ↦ elim (cases_Bool (at == 0xD0)) [
-            | inl psw ↦ let same = eqb-true at 0xD0 psw in (omega (arith, same), omega (arith, same))
-            | inr no_psw ↦ elim (cases_Bool (at == 0xE0)) [
-              | inl acc ↦ let same = eqb-true at 0xE0 acc in (omega (arith, same), omega (arith, same))
-              | inr no_acc ↦ elim (cases_Bool (at == 0xF0)) [
-                | inl b ↦ let same = eqb-true at 0xF0 b in (omega (arith, same), omega (arith, same))
-                | inr no_b ↦ let none : false ≡ true = (rw (no_sp, no_dpl, no_dph, no_ie, no_ip, no_psw, no_acc, no_b) at is) in absurd (cc)
-              ]
-            ]
-          ]
-        ]
-      ]
-    ]
-  ]
+at_or : (at key : ℕ) → 128 ≤ key → key < 256 → ((at == key) ≡ false → (128 ≤ at) × (at < 256)) → (128 ≤ at) × (at < 256)
+at_or at key low high other = elim (cases_Bool (at == key)) [
+  | inl e ↦ let same = eqb-true at key e in (omega (arith, same, low), omega (arith, same, high))
+  | inr differs ↦ other differs
 ]
+
+remembered_at : (at : ℕ) → is_remembered (sfr_at at) ≡ true → (128 ≤ at) × (at < 256)
+remembered_at at is =
+    at_or at 0x81 (omega arith) (omega arith) (λ no_sp.
+    at_or at 0x82 (omega arith) (omega arith) (λ no_dpl.
+    at_or at 0x83 (omega arith) (omega arith) (λ no_dph.
+    at_or at 0xA8 (omega arith) (omega arith) (λ no_ie.
+    at_or at 0xB8 (omega arith) (omega arith) (λ no_ip.
+    at_or at 0xD0 (omega arith) (omega arith) (λ no_psw.
+    at_or at 0xE0 (omega arith) (omega arith) (λ no_acc.
+    at_or at 0xF0 (omega arith) (omega arith) (λ no_b.
+    let none : false ≡ true = (rw (no_sp, no_dpl, no_dph, no_ie, no_ip, no_psw, no_acc, no_b) at is) in absurd (cc)))))))))
 
 -- a register, by its place
 pub record IsRegister (place : ℕ) : Type 0 where

@@ -20,7 +20,7 @@ use Rattle.mcs51_state.specs.Known.{Known, byte_of}
 use Rattle.mcs51_state.specs.Places.{ie_place, ip_place, is_place, sfr_of, suspended_of}
 use Rattle.mcs51_state.specs.Under.{IsUnder}
 use Rattle.mcs51_operands.specs.Reading.{read_byte, register_byte}
-use Rattle.mcs51_resume.specs.Premises.{Premises}
+use Rattle.mcs51_results.specs.InstructionLaws.{InstructionLaws}
 use Rattle.mcs51_resume.specs.Resume.{place_byte}
 use Rattle.mcs51_resume.proofs.Masks.{AreFormed, Tells}
 use Rattle.mcs51_resume.proofs.Numbers.{IsRegister, MayReadHeld, place_cases, reads_ram, reads_register, same_alone}
@@ -53,15 +53,15 @@ at_priority framed a pc = refl
 
 -- WHAT THEY HOLD OF
 
-module _ (laws : Premises) (framed : Bool) (a : Known) (f : ChipState) (first : Option ChipState) (under : IsUnder framed a f first) where
+module _ (laws : InstructionLaws) (framed : Bool) (a : Known) (f : ChipState) (first : Option ChipState) (under : IsUnder framed a f first) where
   read_by_chip : (at word : ℕ) → 128 ≤ at → at < 256 → (sfr : Sfr) → sfr_at at ≡ sfr → MayReadSfr f sfr word → HoldsOfByte (option_map suspended_of first) (read_byte framed a (InSfr at)) word
   read_by_chip at word low high sfr is may =
-      laws.holds framed a f first under (InSfr at) (AtSfr at) word refl (low, high) (subst (λ r. MayReadSfr f r word) (sym is) may)
+      laws.operands.reads.byte framed a f first under (InSfr at) (AtSfr at) word refl (low, high) (subst (λ r. MayReadSfr f r word) (sym is) may)
 
   read_status : (at word : ℕ) → sfr_at at ≡ Psw → MayReadHeld f Psw word → HoldsOfByte (option_map suspended_of first) (read_byte framed a (InSfr at)) word
   unfolding read_byte
   read_status at word is (y, few, same) =
-      subst (λ r. HoldsOfByte (option_map suspended_of first) (register_byte a r) word) (sym is) (laws.status framed a f first under word y few same)
+      subst (λ r. HoldsOfByte (option_map suspended_of first) (register_byte a r) word) (sym is) (laws.operands.reads.status framed a f first under word y few same)
 
   read_held : (at word : ℕ) → 128 ≤ at → at < 256 → (sfr : Sfr) → sfr_at at ≡ sfr → MayReadHeld f sfr word → HoldsOfByte (option_map suspended_of first) (read_byte framed a (InSfr at)) word
   read_held at word low high Sp is may = read_by_chip at word low high Sp is may
@@ -78,7 +78,7 @@ module _ (laws : Premises) (framed : Bool) (a : Known) (f : ChipState) (first : 
   ram_holds place word low reads =
       let alone = laws.known.sets.single 256 place low in
       subst (λ byte. HoldsOfByte (option_map suspended_of first) byte word) (sym (at_ram framed a f.pc place low))
-      (laws.holds framed a f first under (InRam (single place)) (AtRam place) word alone.1 alone.0 (reads_ram f under.holds.state place word low reads))
+      (laws.operands.reads.byte framed a f first under (InRam (single place)) (AtRam place) word alone.1 alone.0 (reads_ram f under.holds.state place word low reads))
 
   register_holds : (place word : ℕ) → IsRegister place → Reads (suspended_of f) place word → HoldsOfByte (option_map suspended_of first) (place_byte framed a f.pc place) word
   register_holds place word one reads =
@@ -106,25 +106,25 @@ module _ (laws : Premises) (framed : Bool) (a : Known) (f : ChipState) (first : 
 
 -- THEIR FORM
 
-number_form : (laws : Premises) (framed : Bool) (byte : Byte) (n : ℕ) → byte ≡ byte_of (single n) → n < 256 → IsByte framed byte
+number_form : (laws : InstructionLaws) (framed : Bool) (byte : Byte) (n : ℕ) → byte ≡ byte_of (single n) → n < 256 → IsByte framed byte
 number_form laws framed byte n is small = subst (IsByte framed) (sym is) (byte_form framed (single n) (laws.known.sets.single 256 n small).0)
 
-place_form : (laws : Premises) (framed : Bool) (a : Known) (pc : ℕ) → pc < 65536 → IsKnown framed a → (place : ℕ) → is_place place ≡ true → IsByte framed (place_byte framed a pc place)
+place_form : (laws : InstructionLaws) (framed : Bool) (a : Known) (pc : ℕ) → pc < 65536 → IsKnown framed a → (place : ℕ) → is_place place ≡ true → IsByte framed (place_byte framed a pc place)
 place_form laws framed a pc small form place names = elim (place_cases place names) [
-  | inl low ↦ subst (IsByte framed) (sym (at_ram framed a pc place low)) (laws.form framed a form (InRam (single place)) (laws.known.sets.single 256 place low).0)
-  | inr (inl one) ↦ subst (IsByte framed) (sym (at_register framed a pc place one.low one.high)) (laws.form framed a form (InSfr (place - 256)) (one.low, one.high))
+  | inl low ↦ subst (IsByte framed) (sym (at_ram framed a pc place low)) (laws.operands.reads.form framed a form (InRam (single place)) (laws.known.sets.single 256 place low).0)
+  | inr (inl one) ↦ subst (IsByte framed) (sym (at_register framed a pc place one.low one.high)) (laws.operands.reads.form framed a form (InSfr (place - 256)) (one.low, one.high))
   | inr (inr (inl low_byte)) ↦ subst (λ p. IsByte framed (place_byte framed a pc p)) (sym low_byte) (number_form laws framed (place_byte framed a pc 512) (pc % 256) (at_low framed a pc) (omega arith))
   | inr (inr (inr high_byte)) ↦ subst (λ p. IsByte framed (place_byte framed a pc p)) (sym high_byte) (number_form laws framed (place_byte framed a pc 513) (pc / 256) (at_high framed a pc) (omega (arith, small)))
 ]
 
 -- OF RELATIONS
 
-pub relation_formed : (laws : Premises) (framed : Bool) (a : Known) (pc : ℕ) → pc < 65536 → IsKnown framed a → (entry : Option Entry) → IsRelation true entry
+pub relation_formed : (laws : InstructionLaws) (framed : Bool) (a : Known) (pc : ℕ) → pc < 65536 → IsKnown framed a → (entry : Option Entry) → IsRelation true entry
     → AreFormed framed (place_byte framed a pc) entry
 relation_formed laws framed a pc small form None named = tt
 relation_formed laws framed a pc small form (Some entry) named = place_form laws framed a pc small form entry.place named.0
 
-pub relation_tells : (laws : Premises) (framed : Bool) (a : Known) (f : ChipState) (first : Option ChipState) → IsUnder framed a f first → (entry : Option Entry) → IsRelation true entry
+pub relation_tells : (laws : InstructionLaws) (framed : Bool) (a : Known) (f : ChipState) (first : Option ChipState) → IsUnder framed a f first → (entry : Option Entry) → IsRelation true entry
     → Tells (place_byte framed a f.pc) (suspended_of f) (option_map suspended_of first) entry
 relation_tells laws framed a f first under None named = tt
 relation_tells laws framed a f first under (Some entry) named = record {

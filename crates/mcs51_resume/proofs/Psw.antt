@@ -13,7 +13,7 @@ use Rattle.mcs51_state.specs.Holding.{HoldsOfStatus}
 use Rattle.mcs51_state.specs.Places.{psw_place, suspended_of}
 use Rattle.mcs51_state.specs.Under.{IsUnder}
 use Rattle.mcs51_state.specs.Known.{Known}
-use Rattle.mcs51_resume.specs.Premises.{Premises}
+use Rattle.mcs51_results.specs.InstructionLaws.{InstructionLaws}
 use Rattle.irq_frames.specs.Masking.{masked_bits, masked_entry}
 use Rattle.irq_frames.specs.MaskFacts.{Low, low_agrees, low_from, masked_length, masked_low}
 use Rattle.mcs51_state.specs.FormFacts.{no_own_relation}
@@ -21,7 +21,7 @@ use Rattle.mcs51_resume.specs.Resume.{status_by, status_resumed}
 use Rattle.mcs51_resume.proofs.Masks.{own_masked}
 use Rattle.mcs51_resume.proofs.Numbers.{reads_status}
 
-by_holds : (laws : Premises) (framed : Bool) (a : Known) (f : ChipState) (first : Option ChipState) (exit : Status) (entry : Option Entry) (psw : ℕ) → IsUnder framed a f first → exit.entry ≡ entry
+by_holds : (laws : InstructionLaws) (framed : Bool) (a : Known) (f : ChipState) (first : Option ChipState) (exit : Status) (entry : Option Entry) (psw : ℕ) → IsUnder framed a f first → exit.entry ≡ entry
     → IsOwnRelation true psw_place 3 entry → psw < 256 → HoldsOfStatus (Some (suspended_of f)) exit psw → HoldsOfStatus (option_map suspended_of first) (status_by a.psw exit entry) psw
 by_holds laws framed a f first exit None psw under is form small holds =
     record { bits = holds.bits; entry = subst (λ e. IsFromEntry (option_map suspended_of first) e psw) (sym is) tt }
@@ -42,14 +42,14 @@ by_holds laws framed a f first exit (Some entry) psw under is (place, and_small,
     ap (λ n. bit_or n (entry.or / 4)) (sym (and_shr word entry.and 2)) ∙ sym (or_shr (bit_and word entry.and) entry.or 2) ∙ ap (λ n. n / 4) (sym from.2) in
     let below : psw / 4 < 2 ^ length all = omega (arith, room, small) in
     let first_of = option_map suspended_of first in
-    let related : IsFromEntry first_of a.psw.entry word = (laws.status framed a f first under word y few number).1 in
+    let related : IsFromEntry first_of a.psw.entry word = (laws.operands.reads.status framed a f first under word y few number).1 in
     record {
       bits = low_agrees all (psw / 4) below (subst (Low all) high (masked_low bits (entry.and / 4) (entry.or / 4) (word / 4) low));
       entry = subst (IsFromEntry first_of (masked_entry entry a.psw.entry)) (sym from.2)
           (laws.known.values.entries.or first_of (option_map (entry_and entry.and) a.psw.entry) (bit_and word entry.and) entry.or (laws.known.values.entries.and first_of a.psw.entry word entry.and related));
     }
 
-pub status_holds : (laws : Premises) (framed : Bool) (a : Known) (f : ChipState) (first : Option ChipState) (exit : Status) (psw : ℕ) → IsUnder framed a f first
+pub status_holds : (laws : InstructionLaws) (framed : Bool) (a : Known) (f : ChipState) (first : Option ChipState) (exit : Status) (psw : ℕ) → IsUnder framed a f first
     → IsOwnRelation true psw_place 3 exit.entry → psw < 256 → HoldsOfStatus (Some (suspended_of f)) exit psw → HoldsOfStatus (option_map suspended_of first) (status_resumed a.psw exit) psw
 status_holds laws framed a f first exit psw under form small holds = by_holds laws framed a f first exit exit.entry psw under refl form small holds
 

@@ -1,2 +1,2 @@
+pub mod Laws
 pub mod Resume
-pub mod Premises

@@ -11,7 +11,6 @@ use Rattle.entry_value.specs.Words.{byte_and, byte_or}
 use Rattle.irq_frames.specs.Masking.{masked_bits, masked_entry}
 use Rattle.irq_frames.specs.Ranges.{has_address, touched_behind}
 use Rattle.irq_frames.specs.Resuming.{cells_behind, is_itself, is_unmasked}
-use Rattle.value_bits.specs.Sets.{pair_set}
 use Rattle.value_set.specs.Summing.{single}
 use Rattle.mcs51_state.specs.declared.addresses.Addresses.TheVariants.{InRam, InSfr}
 use Rattle.mcs51_state.specs.declared.fact.CarryFact.{CarryFact}
@@ -22,6 +21,7 @@ use Rattle.mcs51_state.specs.declared.status.Status.{Status}
 use Rattle.mcs51_state.specs.Known.{Known, byte_of}
 use Rattle.mcs51_state.specs.Places.{psw_place}
 use Rattle.mcs51_operands.specs.Reading.{read_byte}
+use Rattle.mcs51_stores.specs.Writing.{word_of_byte}
 
 -- THE PLACES OF THE SUSPENDED STATE
 
@@ -86,10 +86,6 @@ carry_resumed exit (Some fact) =
     if is_itself 255 psw_place exit.psw.entry && is_compared_itself exit fact.compared then Some fact else None
 
 -- CELLS
-
--- a byte as a cell holds it: a word with the high byte 0
-abbrev pub word_of_byte : Byte → Word
-word_of_byte byte = record { set = pair_set byte.set (single 0); entry = byte.entry }
 
 abbrev pub cell_word_by : (places : ℕ → Byte) → Word → Option Entry → Word
 cell_word_by places exit None = exit

@@ -1,25 +1,14 @@
 //! Bytes as they go on.
 
 ghost use Rattle.std.specs.Prelude.{◌≡◌, ◌/◌, ◌%◌, ◌<◌};
-ghost use Rattle.value_set.specs.Summing.{single};
-ghost use Rattle.mcs51_state.specs.Known.{byte_of};
 ghost use Rattle.mcs51_resume.specs.Resume as the_resumed;
 
 use entry_value::{Byte, Cells, Entry};
 use irq_frames::is_unmasked;
 use mcs51_operands::read_byte;
 use mcs51_state::{Addresses, State};
+use mcs51_stores::one_byte;
 use value_set::Vs8;
-
-/// A byte that is one number.
-fn one(number: u8) -> Byte
-    ensures { result ≡ byte_of (single number) }
-{
-    Byte {
-        set: Vs8::one(number),
-        entry: None,
-    }
-}
 
 /// What a place held where an interrupt came at `pc`, and `at` was known.
 #[tactic(auto, unfolding(crate::specs::Resume::place_byte))]
@@ -31,9 +20,9 @@ pub(crate) fn place_byte<M: Cells>(framed: bool, at: &State<M>, pc: u16, place: 
     } else if place < 512 {
         read_byte(framed, at, &Addresses::InSfr((place - 256) as u8))
     } else if place == 512 {
-        one((pc % 256) as u8)
+        one_byte((pc % 256) as u8)
     } else {
-        one((pc / 256) as u8)
+        one_byte((pc / 256) as u8)
     }
 }
 

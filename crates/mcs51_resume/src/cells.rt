@@ -6,26 +6,12 @@ ghost use Rattle.mcs51_resume.specs.Resume as the_resumed;
 ghost use Rattle.mcs51_resume.specs.Resume.{resumed_cells};
 
 use crate::bytes::{masked_by, place_byte};
-use entry_value::{Byte, Cell, Cells, Word, bytes_stay_bytes};
+use entry_value::{Cell, Cells, Word};
 use irq_frames::{Resumes, cells_behind};
 use mcs51_state::State;
+use mcs51_stores::word_of;
 use no_memory::Memory;
 use std::alloc::Global;
-use value_bits::w16;
-use value_set::Vs8;
-
-/// A byte as a cell holds it.
-fn word_of(byte: &Byte) -> Word
-    ensures value { result ≡ the_resumed.word_of_byte byte.now }
-    ensures small { (n : ℕ) → Has 65536 result.set n → n < 256 }
-{
-    bytes_stay_bytes();
-    byte.set.form();
-    Word {
-        set: w16::pair(&byte.set, &Vs8::one(0)),
-        entry: byte.entry,
-    }
-}
 
 /// The word of a cell of the exit, as it goes on. It is a byte where that of the exit is one.
 fn resume_word<M: Cells>(framed: bool, at: &State<M>, pc: u16, exit: &Word) -> Word

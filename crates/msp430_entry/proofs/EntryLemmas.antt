@@ -26,7 +26,7 @@ use Rattle.msp430_chip.specs.Memory.{program_hit, with_stored}
 use Rattle.msp430_chip.specs.Outcome.{unless_hit}
 use Rattle.msp430_chip.specs.State.{register_of, IsChipState}
 use Rattle.msp430_state.specs.declared.status.Status.{Status}
-use Rattle.msp430_state.specs.Forms.{AreEvenWords, IsEvenWord, IsKnown, IsWord}
+use Rattle.msp430_state.specs.Forms.{AreEvenWords, IsEvenWord, IsFact, IsKnown, IsStatusRelation, IsWord}
 use Rattle.msp430_state.specs.Holding.{suspended_of, Covers, HoldsOf, HoldsOfParts, HoldsOfStatus}
 use Rattle.msp430_state.specs.Known.{Known, word_of}
 use Rattle.msp430_alu.specs.Formats.{IsUnder}
@@ -148,20 +148,11 @@ unfolding entered_known
 entered_form laws device framed a pc coming_so is form word listed =
     let words = (is_listed laws device framed a coming_so form listed).words in
     let stored = stored_form laws device framed a pc coming_so.sp is form word.0 words in
-    record {
-      sp = slot_words laws coming_so.sp 65532 words (omega arith) refl;
-      bits = refl;
-      status = (refl, omega arith, refl, omega arith);
-      count = stored.count;
-      registers = stored.registers;
-      fact = tt;
-      from = stored.from;
-      up_to = stored.up_to;
-      cells = stored.cells;
-      each_cell = stored.each_cell;
-      touched = stored.touched;
-      none_touched = stored.none_touched;
-    }
+    let sp = slot_words laws coming_so.sp 65532 words (omega arith) refl in
+    let bits : length (status_entered a.status).bits ≡ 9 = refl in
+    let status : IsStatusRelation true (status_entered a.status).entry = (refl, omega arith, refl, omega arith) in
+    let none : IsFact None = tt in
+    assumption (sp, bits, status, none, stored)
 
 -- THE HANDLER'S STATE
 

@@ -4,9 +4,4 @@ use Rattle.msp430_branch.proofs.laws.cuts_hold.Goals as goal
 pub returns : goal.returns
 returns c =
     let laws = c.known_laws.ensures in
-    record {
-      parts = cut_holds laws;
-      state = state_cut laws;
-      form = cut_in_form laws;
-      interrupts = cut_interrupts;
-    }
+    assumption (cut_holds laws, state_cut laws, cut_in_form laws, cut_interrupts)

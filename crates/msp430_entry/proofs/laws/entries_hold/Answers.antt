@@ -6,13 +6,4 @@ use Rattle.msp430_entry.proofs.laws.entries_hold.Goals as goal
 pub returns : goal.returns
 returns c =
     let laws = c.memory_laws.ensures in
-    record {
-      comes = comes;
-      covered = covered laws;
-      shown = shown laws;
-      hit = hit laws;
-      form = entered_form laws;
-      frame = frame_so laws;
-      handler = handler_even;
-      below = vector_below;
-    }
+    assumption (comes, covered laws, shown laws, hit laws, entered_form laws, frame_so laws, handler_even, vector_below)

@@ -4,8 +4,4 @@ use Rattle.msp430_resume.proofs.laws.resumptions_cover.Goals as goal
 pub returns : goal.returns
 returns c =
     let laws = c.memory_laws.ensures in
-    record {
-      covers = covers laws;
-      has = has_pointer;
-      form = in_form laws;
-    }
+    assumption (covers laws, has_pointer, in_form laws)

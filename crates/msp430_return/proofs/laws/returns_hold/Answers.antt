@@ -5,13 +5,4 @@ use Rattle.msp430_return.proofs.laws.returns_hold.Goals as goal
 pub returns : goal.returns
 returns c =
     let laws = c.memory_laws.ensures in
-    record {
-      done = λ device s outcome may. may.outcome_is;
-      left = return_law laws;
-      shown = return_shown laws;
-      form = return_form laws;
-      next = return_next laws;
-      even = return_even laws;
-      back = back_law laws;
-      base = back_base;
-    }
+    assumption (return_law laws, return_shown laws, return_form laws, return_next laws, return_even laws, back_law laws, back_base)
