@@ -2,14 +2,4 @@
 #![tactic(auto)]
 
 #[cfg(test)]
-mod memory;
-#[cfg(test)]
-mod pages;
-#[cfg(test)]
-mod relations;
-#[cfg(test)]
-mod resuming;
-#[cfg(test)]
-mod walks;
-#[cfg(test)]
-mod words;
+mod tests;

@@ -2,22 +2,4 @@
 #![tactic(auto)]
 
 #[cfg(test)]
-mod branches;
-#[cfg(test)]
-mod entries;
-#[cfg(test)]
-mod given;
-#[cfg(test)]
-mod mirrored;
-#[cfg(test)]
-mod operands;
-#[cfg(test)]
-mod results;
-#[cfg(test)]
-mod resuming;
-#[cfg(test)]
-mod returns;
-#[cfg(test)]
-mod status;
-#[cfg(test)]
-mod worked;
+mod tests;

@@ -2,20 +2,4 @@
 #![tactic(auto)]
 
 #[cfg(test)]
-mod analyses;
-#[cfg(test)]
-mod answers;
-#[cfg(test)]
-mod asserts;
-#[cfg(test)]
-mod calls;
-#[cfg(test)]
-mod checks;
-#[cfg(test)]
-mod mcs51;
-#[cfg(test)]
-mod mirror;
-#[cfg(test)]
-mod runs;
-#[cfg(test)]
-mod workers;
+mod tests;

@@ -1,6 +1,6 @@
 //! A list of calls on cells in one list and on cells in pages: each read gives the same.
 
-use crate::memory::{byte, numbers};
+use super::memory::{byte, numbers};
 use abs_memory::CellList;
 use abs_pages::CellPages;
 use entry_value::Cells;

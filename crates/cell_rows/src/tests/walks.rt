@@ -1,6 +1,6 @@
 //! A long row of calls beside a plain RAM: what is read holds of what stands there.
 
-use crate::memory::{byte, numbers};
+use super::memory::{byte, numbers};
 use abs_memory::CellList;
 use abs_pages::CellPages;
 use entry_value::Cells;

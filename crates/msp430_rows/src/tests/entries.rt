@@ -3,7 +3,7 @@
 ghost use Rattle.std.specs.Prelude.{◌≡◌, IfOk};
 ghost use Rattle.msp430_chip.specs.Memory.{HasRam};
 
-use crate::given::{device_with, plain, two};
+use super::given::{device_with, plain, two};
 use abs_memory::CellList;
 use call_context::{Frame, Item, Sequence, Set, Space};
 use entry_value::{Cells, Entry, Word};

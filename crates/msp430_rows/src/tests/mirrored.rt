@@ -3,7 +3,7 @@
 ghost use Rattle.std.specs.Prelude.{◌≡◌, ◌≤◌, IfOk};
 ghost use Rattle.msp430_chip.specs.Memory.{HasRam};
 
-use crate::given::{give_word, here, in_register, one, run, two};
+use super::given::{give_word, here, in_register, one, run, two};
 use abs_memory::CellList;
 use call_context::{Item, Sequence, Set, Space};
 use entry_value::Cells;

@@ -1,6 +1,6 @@
 //! Operands against rows worked by hand.
 
-use crate::given::{device, plain};
+use super::given::{device, plain};
 use abs_memory::CellList;
 use entry_value::Cells;
 use msp430_alu::{

@@ -2,7 +2,7 @@
 
 ghost use Rattle.msp430_results.specs.Results.{HasWidth};
 
-use crate::given::{self, plain, tri};
+use super::given::{self, plain, tri};
 use entry_value::{Entry, Word};
 use msp430_decode::{Operation, SingleOperation, Width};
 use msp430_results::{FlagBits, double_made, kept_word, single_made, twice_made};

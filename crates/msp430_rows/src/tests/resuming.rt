@@ -1,6 +1,6 @@
 //! Resumed states against rows worked by hand.
 
-use crate::given::plain;
+use super::given::plain;
 use abs_memory::CellList;
 use entry_value::{Entry, Word};
 use msp430_decode::Width;

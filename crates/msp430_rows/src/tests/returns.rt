@@ -1,6 +1,6 @@
 //! RETI over rows worked by hand from SLAU049, chapters 2 and 3.
 
-use crate::given::{bits, device, two};
+use super::given::{bits, device, two};
 use abs_memory::CellList;
 use call_context::{Frame, Item, Set, Space};
 use entry_value::{Cells, Entry, Word};

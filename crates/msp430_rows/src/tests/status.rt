@@ -1,6 +1,6 @@
 //! SR as a destination against rows worked by hand from SLAU049, chapter 3.
 
-use crate::given::{bits, device, give_word, here, in_register, plain, run, two};
+use super::given::{bits, device, give_word, here, in_register, plain, run, two};
 use abs_memory::CellList;
 use call_context::{Item, Set, Space};
 use entry_value::Entry;

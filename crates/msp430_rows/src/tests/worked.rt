@@ -3,7 +3,7 @@
 ghost use Rattle.std.specs.Prelude.{◌≤◌};
 ghost use Rattle.msp430_results.specs.Results.{HasWidth};
 
-use crate::given::{device, give_word, here, in_register, one, plain, run, two};
+use super::given::{device, give_word, here, in_register, one, plain, run, two};
 use abs_memory::CellList;
 use call_context::{Item, Set, Space};
 use entry_value::Cells;

@@ -1,6 +1,6 @@
 //! Whole analyses of the MSP430, each record by record against the manual.
 
-use crate::calls::{RESET, answers, begins, fronts_answer};
+use super::calls::{RESET, answers, begins, fronts_answer};
 use std::test::Fail;
 use vsa_top::Status;
 

@@ -1,6 +1,6 @@
 //! Rows of answers to the words, and to image texts.
 
-use crate::calls::{RESET, all_answer, answers, called, fronts_answer, joined};
+use super::calls::{RESET, all_answer, answers, called, fronts_answer, joined};
 use disassembly::disassembly_of;
 use image::Image;
 use std::process::Abort;

@@ -1,7 +1,7 @@
 //! Assertions over closed reports, whole calls over streams in memory.
 
-use crate::answers::EIGHT_BYTES;
-use crate::calls::{all_answer, answers, begins, ends_answer};
+use super::answers::EIGHT_BYTES;
+use super::calls::{all_answer, answers, begins, ends_answer};
 use std::test::Fail;
 use vsa_top::Status;
 

@@ -1,7 +1,7 @@
 //! Certificates behind image texts, whole calls over streams in memory.
 
-use crate::answers::{EIGHT_BYTES, REPORT};
-use crate::calls::{all_answer, answers};
+use super::answers::{EIGHT_BYTES, REPORT};
+use super::calls::{all_answer, answers};
 use std::alloc::{AllocError, Global};
 use std::process::Abort;
 use std::sync::Wait;

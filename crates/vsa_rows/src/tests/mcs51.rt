@@ -1,6 +1,6 @@
 //! The MCS-51's analyses, disassemblies and runs, whole calls over streams in memory.
 
-use crate::calls::{answers, fronts_answer};
+use super::calls::{answers, fronts_answer};
 use std::test::Fail;
 use vsa_top::Status;
 

@@ -1,7 +1,7 @@
 //! RAM that answers at a second range of addresses too, whole calls over streams in memory.
 
-use crate::answers::{EIGHT_BYTES, REPORT};
-use crate::calls::{RESET, all_answer, answer_to, answers, ends_answer, fronts_answer};
+use super::answers::{EIGHT_BYTES, REPORT};
+use super::calls::{RESET, all_answer, answer_to, answers, ends_answer, fronts_answer};
 use std::process::Abort;
 use std::str;
 use std::sync::Wait;

@@ -1,7 +1,7 @@
 //! Runs along scripts, whole calls over streams in memory.
 
-use crate::answers::EIGHT_BYTES;
-use crate::calls::{RESET, all_answer, answers, fronts_answer};
+use super::answers::EIGHT_BYTES;
+use super::calls::{RESET, all_answer, answers, fronts_answer};
 use std::test::Fail;
 use vsa_top::Status;
 

@@ -1,7 +1,7 @@
 //! Analyses by several workers: their reports, streams that fail, and that two of them work at once.
 
-use crate::analyses::LAMP;
-use crate::calls::{RESET, answer_to, called, joined};
+use super::analyses::LAMP;
+use super::calls::{RESET, answer_to, called, joined};
 use std::alloc::{AllocError, Global};
 use std::sync::atomic::AtomicU64;
 use std::sync::atomic::Ordering::SeqCst;

@@ -3,7 +3,7 @@ use Rattle.std.specs.Prelude.{Contains}
 use Rattle.entry_value.specs.declared.cells.Cell.{Cell as ACell}
 use Rattle.entry_value.specs.Cells.{CellMap}
 use Rattle.entry_value.specs.CellLists.{write_from}
-use Rattle.cell_rows.proofs.resuming.words_at.Goals as goal
+use Rattle.cell_rows.proofs.tests.resuming.words_at.Goals as goal
 
 pub loop-row-init : goal.loop-row-init
 loop-row-init g c = record {

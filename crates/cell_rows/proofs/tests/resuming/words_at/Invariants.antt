@@ -1,6 +1,6 @@
 use Rattle.std.specs.Prelude.{◌≡◌, Contains}
 use Rattle.entry_value.specs.declared.cells.Cell.{Cell as ACell}
-use Rattle.cell_rows.proofs.resuming.words_at.Given as goal
+use Rattle.cell_rows.proofs.tests.resuming.words_at.Given as goal
 
 abbrev pub invariant-loop-row : goal.invariant-loop-row
 invariant-loop-row g l = record {

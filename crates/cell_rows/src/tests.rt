@@ -1,0 +1,6 @@
+mod memory;
+mod pages;
+mod relations;
+mod resuming;
+mod walks;
+mod words;

@@ -1,0 +1,10 @@
+mod branches;
+mod entries;
+mod given;
+mod mirrored;
+mod operands;
+mod results;
+mod resuming;
+mod returns;
+mod status;
+mod worked;

@@ -1,0 +1,5 @@
+mod fields;
+mod mcs51;
+mod msp430;
+mod nodes;
+mod values;
