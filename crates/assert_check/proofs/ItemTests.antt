@@ -1,6 +1,6 @@
 -- Which of what an item shows breaks an assertion.
 use Rattle.std.proofs.Common.{◌≡◌, ℕ, List, [], ◌∷◌, Bool, true, false, refl, ap, sym, ◌∙◌, inl, inr}
-use Rattle.std.specs.Prelude.{◌⊎◌, ◌&&◌, ◌||◌, not, map}
+use Rattle.std.specs.Prelude.{◌⊎◌, ◌&&◌, ◌||◌, if◌then◌else◌, not, map}
 use Rattle.std.specs.List.{list_any}
 use Rattle.call_context.specs.declared.shown.Item.{Item}
 use Rattle.call_context.specs.declared.shown.Item.TheVariants as sets
@@ -10,7 +10,7 @@ use Rattle.chip_numbers.specs.Single.Single.{Access}
 use Rattle.chip_numbers.specs.Single.Single.{Stack as StackAt}
 use Rattle.chip_numbers.specs.declared.space.Space.{Space}
 use Rattle.assert_check.specs.declared.assertion.Assertion.TheVariants.{NoExec, NoRead, NoWrite, Stack}
-use Rattle.assert_check.specs.Assertions.{breaks, breaks_item, is_between, is_same, numbers_in, reaches}
+use Rattle.assert_check.specs.Assertions.{breaks, breaks_item, is_between, is_same, no_access, numbers_in, reaches}
 use Rattle.plain_lemmas.specs.AnyOf.{any_behind, any_map, any_never}
 
 or_nothing : (b : Bool) → b ≡ (b || false)
@@ -29,17 +29,16 @@ behind_two false b p xs = sym (any_never xs)
 pub runs : (lo hi pc : ℕ) (bytes : List ℕ) → is_between lo hi pc ≡ breaks_item (NoExec lo hi) (sets.Instr pc bytes)
 runs lo hi pc bytes = or_nothing (is_between lo hi pc)
 
-pub reads : (space its : Space) (lo hi pc size : ℕ) (write : Bool) (set : Set)
-    → (not write && is_same space its && list_any (reaches lo hi size) (numbers_in set)) ≡ breaks_item (NoRead space lo hi) (sets.Access pc its write size set)
-reads space its lo hi pc size write set =
-    behind_two (not write) (is_same space its) (reaches lo hi size) (numbers_in set)
-    ∙ tested (λ s. breaks (NoRead space lo hi) s) (Access pc its write size) (numbers_in set)
-
-pub writes : (space its : Space) (lo hi pc size : ℕ) (write : Bool) (set : Set)
-    → (write && is_same space its && list_any (reaches lo hi size) (numbers_in set)) ≡ breaks_item (NoWrite space lo hi) (sets.Access pc its write size set)
-writes space its lo hi pc size write set =
+-- an access, by whether it is one that the assertion bars
+pub accesses : (writes : Bool) (space its : Space) (lo hi pc size : ℕ) (write : Bool) (set : Set)
+    → ((if writes then write else not write) && is_same space its && list_any (reaches lo hi size) (numbers_in set))
+    ≡ breaks_item (no_access writes space lo hi) (sets.Access pc its write size set)
+accesses true space its lo hi pc size write set =
     behind_two write (is_same space its) (reaches lo hi size) (numbers_in set)
     ∙ tested (λ s. breaks (NoWrite space lo hi) s) (Access pc its write size) (numbers_in set)
+accesses false space its lo hi pc size write set =
+    behind_two (not write) (is_same space its) (reaches lo hi size) (numbers_in set)
+    ∙ tested (λ s. breaks (NoRead space lo hi) s) (Access pc its write size) (numbers_in set)
 
 pub stands : (from to lo hi pc : ℕ) (set : Set)
     → (is_between from to pc && list_any (λ v. not (is_between lo hi v)) (numbers_in set)) ≡ breaks_item (Stack from to lo hi) (sets.Stack pc set)
@@ -70,15 +69,14 @@ none_runs lo hi item (inl e) = rw e.2 refl
 none_runs lo hi item (inr (inl a)) = rw a.5 (never _ (Access a.0 a.1 a.2 a.3) (numbers_in a.4) (λ v. refl))
 none_runs lo hi item (inr (inr s)) = rw s.2 (never _ (StackAt s.0) (numbers_in s.1) (λ v. refl))
 
-pub none_reads : (space : Space) (lo hi : ℕ) (item : Item) → IsInstr item ⊎ (IsEdge item ⊎ IsStack item) → false ≡ breaks_item (NoRead space lo hi) item
-none_reads space lo hi item (inl i) = rw i.2 refl
-none_reads space lo hi item (inr (inl e)) = rw e.2 refl
-none_reads space lo hi item (inr (inr s)) = rw s.2 (never _ (StackAt s.0) (numbers_in s.1) (λ v. refl))
-
-pub none_writes : (space : Space) (lo hi : ℕ) (item : Item) → IsInstr item ⊎ (IsEdge item ⊎ IsStack item) → false ≡ breaks_item (NoWrite space lo hi) item
-none_writes space lo hi item (inl i) = rw i.2 refl
-none_writes space lo hi item (inr (inl e)) = rw e.2 refl
-none_writes space lo hi item (inr (inr s)) = rw s.2 (never _ (StackAt s.0) (numbers_in s.1) (λ v. refl))
+pub none_accesses : (writes : Bool) (space : Space) (lo hi : ℕ) (item : Item) → IsInstr item ⊎ (IsEdge item ⊎ IsStack item)
+    → false ≡ breaks_item (no_access writes space lo hi) item
+none_accesses true space lo hi item (inl i) = rw i.2 refl
+none_accesses true space lo hi item (inr (inl e)) = rw e.2 refl
+none_accesses true space lo hi item (inr (inr s)) = rw s.2 (never _ (StackAt s.0) (numbers_in s.1) (λ v. refl))
+none_accesses false space lo hi item (inl i) = rw i.2 refl
+none_accesses false space lo hi item (inr (inl e)) = rw e.2 refl
+none_accesses false space lo hi item (inr (inr s)) = rw s.2 (never _ (StackAt s.0) (numbers_in s.1) (λ v. refl))
 
 pub none_stands : (from to lo hi : ℕ) (item : Item) → IsInstr item ⊎ (IsEdge item ⊎ IsAccess item) → false ≡ breaks_item (Stack from to lo hi) item
 none_stands from to lo hi item (inl i) = rw i.2 refl

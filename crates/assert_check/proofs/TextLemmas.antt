@@ -64,6 +64,16 @@ pub last_cut : (spaces : List Space) (count : ℕ) (rest : List ℕ) → cut_at 
 last_cut spaces count [] e = refl
 last_cut spaces count (b ∷ rest) e = ap (assertions_behind spaces count) (uncut_behind (b ∷ rest) [] e)
 
+-- what the rest of a text gives, by its next line, and by its last one
+module _ (spaces : List Space) (list : List (ℕ × Assertion)) (count : ℕ) (rest : List ℕ) (whole : Result (List (ℕ × Assertion)) ℕ)
+    (is : with_front list (assertions_behind spaces count (lines_of rest)) ≡ whole) where
+  pub by_next : (line behind : List ℕ) → cut_at 10 rest ≡ Some (line, behind)
+      → with_front list (assertions_behind spaces count (without_return line ∷ lines_of behind)) ≡ whole
+  by_next line behind e = ap (λ lines. with_front list (assertions_behind spaces count lines)) (sym (cut_line rest line behind e)) ∙ is
+
+  pub by_last : cut_at 10 rest ≡ None → with_front list (assertions_behind spaces count (without_return rest ∷ [])) ≡ whole
+  by_last e = ap (with_front list) (sym (last_cut spaces count rest e)) ∙ is
+
 -- one more assertion
 onto_front : (list : List (ℕ × Assertion)) (number : ℕ) (assertion : Assertion) (others : Result (List (ℕ × Assertion)) ℕ)
     → with_front list (onto number (Some assertion) others) ≡ with_front (list ++ (number, assertion) ∷ []) others

@@ -43,6 +43,11 @@ breaks (NoWrite space lo hi) (Access pc its write size address) = write && is_sa
 breaks (Stack from to lo hi) (StackAt pc sp) = is_between from to pc && not (is_between lo hi sp)
 breaks assertion other = false
 
+-- that no byte of the range is written, or read
+abbrev pub no_access : (write : Bool) → Space → (lo hi : ℕ) → Assertion
+no_access true space lo hi = NoWrite space lo hi
+no_access false space lo hi = NoRead space lo hi
+
 -- AN ITEM
 
 abbrev pub numbers_in : Set → List ℕ

@@ -1,13 +1,13 @@
 -- The text of assertions. Its lines are cut as those of an image text are. A line is blank, or it is of one of the forms
 --     noexec LO-HI · noread SPACE LO-HI · nowrite SPACE LO-HI · stack FROM-TO LO-HI
 -- with numbers of four hexadecimal digits in either case, where no range ends before it begins.
-use Rattle.std.specs.Prelude.{ℕ, suc, ◌+◌, ◌*◌, nat_le, nat_eq, if◌then◌else◌, Option, None, Some, Result, Ok, Err, option_and_then, option_map, List, [], ◌∷◌, ◌++◌, codes, find, ◌≡◌}
+use Rattle.std.specs.Prelude.{ℕ, suc, nat_le, nat_eq, if◌then◌else◌, Option, None, Some, Result, Ok, Err, option_and_then, option_map, List, [], ◌∷◌, ◌++◌, codes, find, ◌≡◌}
 use Rattle.std.specs.Option.{option_map_or}
 use Rattle.std.specs.Cmp.Lexicographic.{pointwise}
-use Rattle.hex.specs.Hex.{hex_digit_value}
 use Rattle.chip_law.specs.Line.{space_text}
 use Rattle.chip_numbers.specs.declared.space.Space.{Space}
 use Rattle.ihex_read.specs.Lines.{lines_of}
+use Rattle.ihex_read.specs.Word.{word_of_digits}
 use Rattle.text_fields.specs.Fields.{behind, cut_at}
 use Rattle.assert_check.specs.declared.assertion.Assertion.{Assertion}
 use Rattle.assert_check.specs.declared.assertion.Assertion.TheVariants.{NoExec, NoRead, NoWrite, Stack}
@@ -16,16 +16,6 @@ use Rattle.assert_check.specs.declared.lines.AssertError.TheVariants.{Syntax, Me
 
 -- A LINE
 
--- the number of four digits, the highest first, where each has a value
-abbrev pub number_from : (a b c d : Option ℕ) → Option ℕ
-number_from (Some a) (Some b) (Some c) (Some d) = Some (a * 4096 + b * 256 + c * 16 + d)
-number_from a b c d = None
-
-abbrev pub number_of : List ℕ → Option ℕ
-number_of (a ∷ b ∷ c ∷ d ∷ []) =
-    number_from (hex_digit_value a) (hex_digit_value b) (hex_digit_value c) (hex_digit_value d)
-number_of digits = None
-
 -- the numbers of a range, where it doesn't end before it begins
 abbrev pub range_from : (lo hi : Option ℕ) → Option (ℕ × ℕ)
 range_from (Some lo) (Some hi) = if nat_le lo hi then Some (lo, hi) else None
@@ -33,7 +23,7 @@ range_from lo hi = None
 
 -- two numbers with a hyphen between
 abbrev pub range_of : List ℕ → Option (ℕ × ℕ)
-range_of text = option_and_then (λ parts. range_from (number_of parts.0) (number_of parts.1)) (cut_at 45 text)
+range_of text = option_and_then (λ parts. range_from (word_of_digits parts.0) (word_of_digits parts.1)) (cut_at 45 text)
 
 abbrev pub no_exec : List ℕ → Option Assertion
 no_exec text = option_map (λ range. NoExec range.0 range.1) (range_of text)

@@ -1,7 +1,7 @@
 //! Which items break an assertion.
 
-ghost use Rattle.std.specs.Prelude.{◌≡◌};
-ghost use Rattle.assert_check.specs.Assertions.{breaks_item, is_same};
+ghost use Rattle.std.specs.Prelude.{◌≡◌, if◌then◌else◌, not};
+ghost use Rattle.assert_check.specs.Assertions.{breaks_item, is_same, no_access};
 ghost use Rattle.assert_check.specs.declared.assertion.Assertion.TheVariants as asserted;
 
 use crate::assertion::Assertion;
@@ -26,25 +26,16 @@ fn runs_in(item: &Item, lo: u16, hi: u16) -> bool
     }
 }
 
-/// Whether a byte of the range is read.
-fn reads_in(item: &Item, space: Space, lo: u16, hi: u16) -> bool
-    ensures { result ≡ breaks_item (asserted.NoRead space lo hi) item.now }
+/// Whether an access is one that is asked for: a write, or a read.
+fn is_asked(write: bool, asked: bool) -> bool
+    ensures { result ≡ (if asked then write else not write) }
 {
-    match item {
-        Item::Access {
-            space: its,
-            write,
-            size,
-            at,
-            ..
-        } => !*write && is_same(space, *its) && reaches(at, *size, lo, hi),
-        Item::Instr { .. } | Item::Edge { .. } | Item::Stack { .. } => false,
-    }
+    if asked { write } else { !write }
 }
 
-/// Whether a byte of the range is written.
-fn writes_in(item: &Item, space: Space, lo: u16, hi: u16) -> bool
-    ensures { result ≡ breaks_item (asserted.NoWrite space lo hi) item.now }
+/// Whether a byte of the range is written, or read.
+fn accesses_in(item: &Item, writes: bool, space: Space, lo: u16, hi: u16) -> bool
+    ensures { result ≡ breaks_item (no_access writes space lo hi) item.now }
 {
     match item {
         Item::Access {
@@ -53,7 +44,7 @@ fn writes_in(item: &Item, space: Space, lo: u16, hi: u16) -> bool
             size,
             at,
             ..
-        } => *write && is_same(space, *its) && reaches(at, *size, lo, hi),
+        } => is_asked(*write, writes) && is_same(space, *its) && reaches(at, *size, lo, hi),
         Item::Instr { .. } | Item::Edge { .. } | Item::Stack { .. } => false,
     }
 }
@@ -74,8 +65,8 @@ pub fn breaks(assertion: Assertion, item: &Item) -> bool
 {
     match assertion {
         Assertion::NoExec { lo, hi } => runs_in(item, lo, hi),
-        Assertion::NoRead { space, lo, hi } => reads_in(item, space, lo, hi),
-        Assertion::NoWrite { space, lo, hi } => writes_in(item, space, lo, hi),
+        Assertion::NoRead { space, lo, hi } => accesses_in(item, false, space, lo, hi),
+        Assertion::NoWrite { space, lo, hi } => accesses_in(item, true, space, lo, hi),
         Assertion::Stack { from, to, lo, hi } => stands_outside(item, from, to, lo, hi),
     }
 }

@@ -7,7 +7,7 @@ use crate::assertion::Assertion;
 use crate::parsing::assertion_of;
 use chip_numbers::Space;
 use ihex_read::without_return;
-use std::alloc::{AllocError, AllocFailed, Global};
+use std::alloc::Global;
 use text_fields::cut;
 use thiserror::Error;
 
@@ -22,26 +22,6 @@ pub enum AssertError {
     Syntax { line: u32 },
     #[error("out of memory")]
     Memory,
-}
-
-impl From<AllocError> for AssertError {
-    ghost use Rattle.assert_check.specs.declared.lines.AssertError.TheVariants.{Memory};
-
-    ghost from_gives = { λ _ e. e ≡ Memory };
-
-    fn from(_error: AllocError) -> AssertError {
-        AssertError::Memory
-    }
-}
-
-impl<T: Drop> From<AllocFailed<T>> for AssertError {
-    ghost use Rattle.assert_check.specs.declared.lines.AssertError.TheVariants.{Memory};
-
-    ghost from_gives = { λ _ e. e ≡ Memory };
-
-    fn from(_error: AllocFailed<T>) -> AssertError {
-        AssertError::Memory
-    }
 }
 
 /// Takes the next line behind so many lines, and adds its assertion, if it has one.
@@ -61,10 +41,10 @@ fn push_line(
         return Ok(());
     }
     match assertion_of(spaces, line) {
-        Some(assertion) => {
-            list.push((count + 1, assertion))?;
-            Ok(())
-        }
+        Some(assertion) => match list.push((count + 1, assertion)) {
+            Ok(()) => Ok(()),
+            Err(_) => Err(AssertError::Memory),
+        },
         None => Err(AssertError::Syntax { line: count + 1 }),
     }
 }

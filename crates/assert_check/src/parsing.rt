@@ -1,48 +1,21 @@
 //! The assertion of a line.
 
-ghost use Rattle.std.specs.Prelude.{◌≡◌, ◌<◌, IfSome};
+ghost use Rattle.std.specs.Prelude.{◌≡◌};
 ghost use Rattle.std.specs.List.{Contains};
-ghost use Rattle.hex.specs.Hex.{hex_digit_value};
 ghost use Rattle.assert_check.specs.Lines as lines;
 
 use crate::assertion::Assertion;
 use chip_law::space_name;
 use chip_numbers::Space;
+use ihex_read::word_of_digits;
 use text_fields::{behind, cut};
-
-/// The value of a hexadecimal digit in either case.
-fn digit_of(byte: u8) -> Option<u16>
-    ensures value { result ≡ hex_digit_value byte }
-    ensures below { IfSome result (λ digit. digit < 16) }
-{
-    match byte {
-        b'0'..=b'9' => Some((byte - b'0') as u16),
-        b'A'..=b'F' => Some((byte - b'A') as u16 + 10),
-        b'a'..=b'f' => Some((byte - b'a') as u16 + 10),
-        _ => None,
-    }
-}
-
-/// The number of four digits.
-fn number_of(digits: &[u8]) -> Option<u16>
-    ensures { result ≡ lines.number_of digits.now }
-{
-    match digits {
-        [a, b, c, d] => {
-            let (a, b) = (digit_of(*a)?, digit_of(*b)?);
-            let (c, d) = (digit_of(*c)?, digit_of(*d)?);
-            Some(a * 4096 + b * 256 + c * 16 + d)
-        }
-        _ => None,
-    }
-}
 
 /// The range `LO-HI`.
 fn range_of(text: &[u8]) -> Option<(u16, u16)>
     ensures { result ≡ lines.range_of text.now }
 {
     let (first, last) = cut(text, b'-')?;
-    let (lo, hi) = (number_of(first)?, number_of(last)?);
+    let (lo, hi) = (word_of_digits(first)?, word_of_digits(last)?);
     if lo <= hi { Some((lo, hi)) } else { None }
 }
 
