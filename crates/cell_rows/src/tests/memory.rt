@@ -12,7 +12,7 @@ use std::test::Fail;
 use value_set::Vs16;
 
 /// A word that is one number.
-fn number(v: u16) -> Word {
+pub(crate) fn number(v: u16) -> Word {
     Word {
         set: Vs16::one(v),
         entry: None,
@@ -26,6 +26,20 @@ pub(crate) fn byte(v: u8) -> Word
     Word {
         set: Vs16::one(v as u16),
         entry: None,
+    }
+}
+
+/// A byte that is one number, AND 0Fh of what the byte at 30h held.
+pub(crate) fn masked(v: u8) -> Word
+    ensures { (n : ℕ) → Has 65536 result.set n → n < 256 }
+{
+    Word {
+        set: Vs16::one(v as u16),
+        entry: Some(Entry {
+            place: 0x30,
+            and: 0x0F,
+            or: 0,
+        }),
     }
 }
 

@@ -18,7 +18,7 @@ const OUTSIDE: u16 = 0x100;
 
 /// A call, and what is written by it or, before a join or a widening, into a copy of the cells.
 #[derive(Clone, Copy)]
-enum Call {
+pub(crate) enum Call {
     /// At the first place.
     Write,
     /// At one of the two places.
@@ -33,7 +33,7 @@ enum Call {
 }
 
 /// The call, 1 or 2 bytes, two addresses, and the number that is written.
-type Row = (Call, u8, u16, u16, u16);
+pub(crate) type Row = (Call, u8, u16, u16, u16);
 
 const ROWS: [Row; 200] = [
     (Call::Write, 2, 0x21E, 0x203, 0x516B),
@@ -282,7 +282,7 @@ fn written<C: Cells>(alloc: Global, cells: &C, row: &Row) -> Result<C, Fail> {
 }
 
 /// One call.
-fn step<C: Cells>(alloc: Global, cells: &mut C, row: &Row) -> Result<(), Fail> {
+pub(crate) fn step<C: Cells>(alloc: Global, cells: &mut C, row: &Row) -> Result<(), Fail> {
     match row.0 {
         Call::Write => write(cells, row)?,
         Call::WriteAny => write_any(cells, row)?,

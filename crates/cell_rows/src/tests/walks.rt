@@ -1,34 +1,18 @@
 //! A long row of calls beside a plain RAM: what is read holds of what stands there.
 
-use super::memory::{byte, numbers};
+use super::pages::{Call, Row, step};
 use abs_memory::CellList;
 use abs_pages::CellPages;
 use entry_value::Cells;
 use std::alloc::Global;
 use std::process::Abort;
 use std::test::Fail;
-use value_set::Vs16;
 
 /// The address of the first byte of the plain RAM, which begins in front of the cells' RAM and ends behind it.
 const BASE: u16 = 0x1F8;
 
 /// How many places there are, with room for a word at each.
 const PLACES: u16 = 46;
-
-/// A call, and what is written by it or, before a join or a widening, into a copy of the cells.
-#[derive(Clone, Copy)]
-enum Call {
-    /// At the first place.
-    Write,
-    /// At one of the two places: a byte at the first, a word at the second.
-    WriteAny,
-    /// With cells that got a write at the first place.
-    Join,
-    Widen,
-}
-
-/// The call, 1 or 2 bytes, two addresses, and the number that is written.
-type Row = (Call, u8, u16, u16, u16);
 
 const ROWS: [Row; 120] = [
     (Call::WriteAny, 2, 0x1FC, 0x20A, 0xB473),
@@ -176,55 +160,16 @@ fn standing(ram: &[u8], place: u16, size: u8) -> u16 {
     low + high * 256
 }
 
-/// Writes a byte or a word at one place. A word may be its half too.
-fn write<C: Cells>(cells: &mut C, ram: &mut [u8], row: &Row) -> Result<(), Fail> {
-    let (_, size, place, _, v) = *row;
-    if size == 1 {
-        cells.write_one(place, 1, byte((v % 256) as u8))?;
-        put(ram, place, 1, v % 256);
-    } else {
-        cells.write_one(place, 2, numbers([v, v / 2].as_slice())?)?;
-        put(ram, place, 2, v);
-    }
-    Ok(())
-}
-
-/// Writes a byte at the first or a word at the second of two places.
-fn write_any<C: Cells>(cells: &mut C, ram: &mut [u8], row: &Row) -> Result<(), Fail> {
-    let (_, size, place, second, v) = *row;
-    let at = Vs16::gather([place, second].as_slice()).ok_or("two addresses")?;
-    if size == 1 {
-        cells.write_any(&at, 1, byte((v % 256) as u8))?;
-        put(ram, place, 1, v % 256);
-    } else {
-        cells.write_any(&at, 2, numbers([v].as_slice())?)?;
-        put(ram, second, 2, v);
-    }
-    Ok(())
-}
-
-/// Cells that got a write.
-fn written<C: Cells>(alloc: Global, cells: &C, ram: &mut [u8], row: &Row) -> Result<C, Fail> {
-    let mut others: C = cells.copy(alloc)?;
-    write(&mut others, ram, row)?;
-    Ok(others)
-}
-
-/// One call.
-fn step<C: Cells>(alloc: Global, cells: &mut C, ram: &mut [u8], row: &Row) -> Result<(), Fail> {
-    match row.0 {
-        Call::Write => write(cells, ram, row)?,
-        Call::WriteAny => write_any(cells, ram, row)?,
-        Call::Join => {
-            let others = written(alloc, cells, ram, row)?;
-            *cells = cells.join(alloc, &others)?;
-        }
-        Call::Widen => {
-            let others = written(alloc, cells, ram, row)?;
-            *cells = cells.widen(alloc, &others, [0, 1, 0x100, 0x1000].as_slice())?;
+/// Writes into the plain RAM what a call may have written: a byte at the first place, or a word at the second one of two.
+fn put_row(ram: &mut [u8], row: &Row) {
+    let (call, size, place, second, v) = *row;
+    match call {
+        Call::Keep => {}
+        Call::WriteAny if size == 2 => put(ram, second, 2, v),
+        Call::Write | Call::WriteAny | Call::Join | Call::Widen | Call::Forget => {
+            put(ram, place, size, v)
         }
     }
-    Ok(())
 }
 
 /// Whether what is read at each place holds of what stands there.
@@ -250,7 +195,8 @@ fn walk<C: Cells>(rt: &impl Abort, alloc: Global) -> Result<(), Fail> {
     let mut cells = C::empty(alloc, 0x200, 0x21F)?;
     let mut telling = 0u32;
     for row in &ROWS {
-        step(alloc, &mut cells, &mut ram, row)?;
+        step(alloc, &mut cells, row)?;
+        put_row(&mut ram, row);
         assert!(rt; holds(&cells, &ram), "{telling}");
         if cells.next(0x208).is_some() {
             telling = telling.wrapping_add(1);
