@@ -1,6 +1,7 @@
 //! The lines of a report, each by its letter.
 
-ghost use Rattle.std.specs.Prelude.{◌≡◌, IfSome, IfOk};
+ghost use Rattle.std.specs.Prelude.{◌≡◌, ◌++◌, IfSome, IfOk, codes};
+ghost use Rattle.hex_digits.specs.Digits.{hex};
 ghost use Rattle.report_lines.specs.Text as lines;
 
 use crate::digits::{bytes_of, cut};
@@ -115,6 +116,14 @@ impl<'a> Line<'a> {
     }
 }
 
+/// The address that a line is of, and what stands behind it.
+fn located(rest: &[u8]) -> Option<(u16, &[u8])>
+    ensures { IfSome result (λ found. hex 4 found.0 ++ codes " " ++ found.1.now ≡ rest.now) }
+{
+    let (pc, behind) = cut(rest, b' ')?;
+    Some((word(pc)?, behind))
+}
+
 fn edge_of(rest: &[u8]) -> Option<Edge>
     ensures { IfSome result (λ edge. lines.edge_text edge ≡ rest.now) }
 {
@@ -128,13 +137,13 @@ fn edge_of(rest: &[u8]) -> Option<Edge>
 fn instr_of(rest: &[u8]) -> Option<Instr<'_>>
     ensures { IfSome result (λ instr. lines.instr_text instr ≡ rest.now) }
 {
-    let (pc, rest) = cut(rest, b' ')?;
+    let (pc, rest) = located(rest)?;
     let (bytes, text) = cut(rest, b' ')?;
     if text.is_empty() {
         return None;
     }
     Some(Instr {
-        pc: word(pc)?,
+        pc,
         bytes,
         len: bytes_of(bytes)?,
         text,
@@ -181,7 +190,7 @@ fn fits(space: Space, set: &Set<'_>) -> bool {
 fn access_of(rest: &[u8]) -> Option<Access<'_>>
     ensures { IfSome result (λ access. lines.access_text access ≡ rest.now) }
 {
-    let (pc, rest) = cut(rest, b' ')?;
+    let (pc, rest) = located(rest)?;
     let (space, rest) = cut(rest, b' ')?;
     let (sort, set) = cut(rest, b' ')?;
     let space = space_of(space)?;
@@ -190,7 +199,7 @@ fn access_of(rest: &[u8]) -> Option<Access<'_>>
         return None;
     }
     Some(Access {
-        pc: word(pc)?,
+        pc,
         space,
         kind: kind_of(sort)?,
         at,
@@ -235,9 +244,9 @@ fn cause_of(rest: &[u8]) -> Option<Cause<'_>>
 fn open_of(rest: &[u8]) -> Option<Open<'_>>
     ensures { IfSome result (λ site. lines.open_text site ≡ rest.now) }
 {
-    let (pc, rest) = cut(rest, b' ')?;
+    let (pc, rest) = located(rest)?;
     Some(Open {
-        pc: word(pc)?,
+        pc,
         cause: cause_of(rest)?,
     })
 }
@@ -245,9 +254,9 @@ fn open_of(rest: &[u8]) -> Option<Open<'_>>
 fn stack_of(rest: &[u8]) -> Option<Stack<'_>>
     ensures { IfSome result (λ stack. lines.stack_text stack ≡ rest.now) }
 {
-    let (pc, set) = cut(rest, b' ')?;
+    let (pc, set) = located(rest)?;
     Some(Stack {
-        pc: word(pc)?,
+        pc,
         at: Set::read(set)?,
     })
 }
