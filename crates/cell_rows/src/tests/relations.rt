@@ -1,6 +1,6 @@
 //! Cells before and behind the walk.
 
-use crate::memory::{masked, number};
+use super::memory::{masked, number};
 use abs_memory::CellList;
 use entry_value::Cells;
 use irq_frames::unrelated;
