@@ -1,5 +1,7 @@
 //! Whole calls, over streams in memory.
 
+ghost use Rattle.std.specs.Prelude.{◌<◌};
+
 use std::alloc::{AllocError, Global};
 use std::process::Abort;
 use std::sync::Wait;
