@@ -2,4 +2,20 @@
 #![tactic(auto)]
 
 #[cfg(test)]
-mod tests;
+mod analyses;
+#[cfg(test)]
+mod answers;
+#[cfg(test)]
+mod asserts;
+#[cfg(test)]
+mod checks;
+#[cfg(test)]
+mod code;
+#[cfg(test)]
+mod mcs51;
+#[cfg(test)]
+mod mirror;
+#[cfg(test)]
+mod runs;
+#[cfg(test)]
+mod workers;

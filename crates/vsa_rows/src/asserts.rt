@@ -1,8 +1,10 @@
 //! Assertions over closed reports, whole calls over streams in memory.
 
-use super::answers::EIGHT_BYTES;
-use super::calls::{all_answer, answers, begins, ends_answer};
+use crate::answers::{EIGHT_BYTES, answers, begins};
+use std::process::Abort;
+use std::sync::Wait;
 use std::test::Fail;
+use std::thread::Threads;
 use vsa_top::Status;
 
 /// An interrupt at F006h whose handler wakes its caller.
@@ -12,20 +14,38 @@ const WAKING: &str =
 /// Two bytes of the 8051's RAM and one of its registers: MOV 30h,#1, MOV P1,30h, and a jump to itself.
 const PORT: &str = ":0800000075300185309080FE8F\n:00000001FF\n";
 
+/// What is answered to assertions behind an image text.
+fn asserts<R: Abort + Threads + Wait + AllocGlobal + Sync>(
+    rt: &R,
+    words: &str,
+    image: &str,
+    lines: &str,
+    status: Status,
+    text: &str,
+) -> Result<(), Fail> {
+    let input = format!(in rt.alloc(); "{image}{lines}")?;
+    answers(rt, words, input.as_str(), status, text)
+}
+
 const THREE: &str = "nowrite mem 0200-027B\nnoexec F010-FFFF\nstack F004-FFFF 027C-0280\n";
 
 #[test]
 fn row_three_hold(rt: HostRuntime) -> Result<(), Fail> {
-    let words = "assert msp430";
-    answers(&rt, words, &[WAKING, THREE], Status::Done, "HOLDS\n")?;
-    let four = [WAKING, THREE, "nowrite mem 027C-027D\n"];
-    let broken = "FAILS 4 M F006 mem w2 027C\n";
-    answers(&rt, words, &four, Status::Broken, broken)
+    asserts(&rt, "assert msp430", WAKING, THREE, Status::Done, "HOLDS\n")?;
+    let four = format!(in rt.alloc(); "{THREE}nowrite mem 027C-027D\n")?;
+    asserts(
+        &rt,
+        "assert msp430",
+        WAKING,
+        four.as_str(),
+        Status::Broken,
+        "FAILS 4 M F006 mem w2 027C\n",
+    )
 }
 
 #[test]
 fn row_a_whole_stack(rt: HostRuntime) -> Result<(), Fail> {
-    let rows = [
+    for (lines, status, text) in [
         (
             "stack F000-FFFF 0200-0A00",
             Status::Broken,
@@ -43,22 +63,31 @@ fn row_a_whole_stack(rt: HostRuntime) -> Result<(), Fail> {
             Status::BadCert,
             "NO 2 Syntax\n",
         ),
-    ];
-    ends_answer(&rt, "assert msp430", WAKING, &rows)
+    ] {
+        asserts(&rt, "assert msp430", WAKING, lines, status, text)?;
+    }
+    Ok(())
 }
 
 #[test]
 fn options_of_an_analysis(rt: HostRuntime) -> Result<(), Fail> {
-    let words = "assert msp430 --ram 0200-03FF --calls 8 --targets 256 --workers 2";
-    let input = [EIGHT_BYTES, "stack F004-F004 0280-0280\n"];
-    answers(&rt, words, &input, Status::Done, "HOLDS\n")?;
-    let lines = [
+    asserts(
+        &rt,
+        "assert msp430 --ram 0200-03FF --calls 8 --targets 256 --workers 2",
+        EIGHT_BYTES,
+        "stack F004-F004 0280-0280\n",
+        Status::Done,
+        "HOLDS\n",
+    )?;
+    for words in [
         "assert msp430 --steps 5",
         "assert msp430 --number 5",
         "assert mcs51 --ram 0200-03FF",
         "assert",
-    ];
-    all_answer(&rt, &lines, &[EIGHT_BYTES], Status::Usage, "USAGE\n")
+    ] {
+        answers(&rt, words, EIGHT_BYTES, Status::Usage, "USAGE\n")?;
+    }
+    Ok(())
 }
 
 #[test]
@@ -67,21 +96,36 @@ fn open_reports_are_printed(rt: HostRuntime) -> Result<(), Fail> {
     let image = ":02F00000073CCB\n:02FFFE0000F011\n:00000001FF\n";
     let report =
         "OPEN\nE F000 F010\nI F000 073C JMP F010h\nO F010 Fetch\nS F000 0000/2/8000\nS F010 0000/2/8000\nT none 2\n";
-    // a line of no form goes before the report, and a faulty line of the image before the assertions
-    let rows = [
-        ("noexec 0000-0001\n", Status::Open, report),
-        ("xyz", Status::BadCert, "NO 1 Syntax\n"),
-    ];
-    ends_answer(&rt, "assert msp430", image, &rows)?;
-    let faulty = [":0G\nxyz\n"];
-    let fault = "BAD 1 BadDigit\n";
-    answers(&rt, "assert msp430", &faulty, Status::BadImage, fault)
+    asserts(
+        &rt,
+        "assert msp430",
+        image,
+        "noexec 0000-0001\n",
+        Status::Open,
+        report,
+    )?;
+    // a faulty line goes before the assertions, and a line of no form before the report
+    answers(
+        &rt,
+        "assert msp430",
+        ":0G\nxyz\n",
+        Status::BadImage,
+        "BAD 1 BadDigit\n",
+    )?;
+    asserts(
+        &rt,
+        "assert msp430",
+        image,
+        "xyz",
+        Status::BadCert,
+        "NO 1 Syntax\n",
+    )
 }
 
 #[test]
 fn spaces_of_the_8051(rt: HostRuntime) -> Result<(), Fail> {
-    begins(&rt, "analyse mcs51", &[PORT], Status::Done, "CLOSED\n")?;
-    let rows = [
+    begins(&rt, "analyse mcs51", PORT, Status::Done, "CLOSED\n")?;
+    for (lines, status, text) in [
         (
             "nowrite ram 0000-002F\nnowrite ram 0031-00FF\nnoread sfr 0000-00FF\nnowrite xram 0000-FFFF\nstack 0000-FFFF 0007-0007\n",
             Status::Done,
@@ -93,6 +137,8 @@ fn spaces_of_the_8051(rt: HostRuntime) -> Result<(), Fail> {
             "FAILS 1 M 0003 sfr w1 90\nFAILS 2 M 0003 ram r1 30\nFAILS 4 M 0000 ram w1 30\n",
         ),
         ("nowrite mem 0000-0010", Status::BadCert, "NO 1 Syntax\n"),
-    ];
-    ends_answer(&rt, "assert mcs51", PORT, &rows)
+    ] {
+        asserts(&rt, "assert mcs51", PORT, lines, status, text)?;
+    }
+    Ok(())
 }

@@ -1,8 +1,33 @@
 //! Whole analyses of the MSP430, each record by record against the manual.
 
-use super::calls::{RESET, answers, begins, fronts_answer};
+use crate::answers::{answers, begins};
+use std::process::Abort;
+use std::sync::Wait;
 use std::test::Fail;
+use std::thread::Threads;
 use vsa_top::Status;
+
+/// A program of some records with the reset vector F000h gets this report by these words.
+fn is_analysed_by<R: Abort + Threads + Wait + AllocGlobal + Sync>(
+    rt: &R,
+    words: &str,
+    records: &str,
+    status: Status,
+    report: &str,
+) -> Result<(), Fail> {
+    let input = format!(in rt.alloc(); "{records}\n:02FFFE0000F011\n:00000001FF\n")?;
+    answers(rt, words, input.as_str(), status, report)
+}
+
+/// The same by the usual words.
+fn is_analysed<R: Abort + Threads + Wait + AllocGlobal + Sync>(
+    rt: &R,
+    records: &str,
+    status: Status,
+    report: &str,
+) -> Result<(), Fail> {
+    is_analysed_by(rt, "analyse msp430", records, status, report)
+}
 
 /// A jump through a table, by a number below 4.
 const JUMP_TABLE: &str =
@@ -18,7 +43,7 @@ const TWO_RETURNS: &str =
     "CLOSED\nE F000 F004\nE F004 F00E\nE F008 F00E\nE F00C F00C\nE F00E F008\nE F00E F00C\nI F000 31408002 MOV #0280h,SP\nI F004 B0120EF0 CALL #F00Eh\nI F008 B0120EF0 CALL #F00Eh\nI F00C FF3F JMP F00Ch\nI F00E 3041 MOV @SP+,PC\nM F004 mem w2 027E\nM F008 mem w2 027E\nM F00E mem r2 027E\nS F000 0000/2/8000\nS F004 0280\nS F008 0280\nS F00C 0280\nS F00E 027E\nT 027E 1\n";
 
 /// A lamp and a timer.
-pub(crate) const LAMP: &str =
+const LAMP: &str =
     ":10F0000031408002B240805A2001D2D32200B24067\n:10F010001000620132D23A4005001A83FE23FB3F02\n:0CF020000A121A43C2EA21003A41001310\n:02FFF20020F0FD";
 
 /// The first lines of its report: its edges and its instructions.
@@ -30,13 +55,13 @@ fn row_of_a_lamp(rt: HostRuntime) -> Result<(), Fail> {
     let rest =
         "M F004 mem w2 0120\nM F00A mem r1 0022\nM F00A mem w1 0022\nM F00E mem w2 0162\nM F016 mem w2 027C\nM F016 mem w2 027E\nM F01A mem w2 027C\nM F01A mem w2 027E\nM F01C mem w2 027C\nM F01C mem w2 027E\nM F01E mem w2 027C\nM F01E mem w2 027E\nM F020 mem w2 027A\nM F024 mem r1 0021\nM F024 mem w1 0021\nM F028 mem r2 027A\nM F02A mem r2 027C\nM F02A mem r2 027E\nS F000 0000/2/8000\nS F004 0280\nS F00A 0280\nS F00E 0280\nS F014 0280\nS F016 0280\nS F01A 0280\nS F01C 0280\nS F01E 0280\nS F020 027C\nS F022 027A\nS F024 027A\nS F028 027A\nS F02A 027C\nT 027A 1\n";
     let report = format!(in rt.alloc(); "{LAMP_EDGES}{rest}")?;
-    let input = [LAMP, RESET];
-    answers(&rt, "analyse msp430", &input, Status::Done, report.as_str())
+    is_analysed(&rt, LAMP, Status::Done, report.as_str())
 }
 
 /// Several workers, a hundred times each. The order of joins is free with them: edges and instructions are the same.
 #[test]
 fn rows_by_workers(rt: HostRuntime) -> Result<(), Fail> {
+    let input = format!(in rt.alloc(); "{LAMP}\n:02FFFE0000F011\n:00000001FF\n")?;
     for words in [
         "analyse msp430 --workers 1",
         "analyse msp430 --workers 2",
@@ -45,7 +70,7 @@ fn rows_by_workers(rt: HostRuntime) -> Result<(), Fail> {
         "analyse msp430 --workers 16",
     ] {
         for _ in 0..100 {
-            begins(&rt, words, &[LAMP, RESET], Status::Done, LAMP_EDGES)?;
+            begins(&rt, words, input.as_str(), Status::Done, LAMP_EDGES)?;
         }
     }
     Ok(())
@@ -79,7 +104,10 @@ fn rows_closed(rt: HostRuntime) -> Result<(), Fail> {
             "CLOSED\nE F000 F004\nE F004 F008\nE F008 F00C\nE F00C F00E\nE F00E F012\nE F012 F008\nE F012 F014\nE F014 F014\nI F000 3140000A MOV #0A00h,SP\nI F004 35400002 MOV #0200h,R5\nI F008 85430000 MOV #0,0000h(R5)\nI F00C 2553 ADD #2,R5\nI F00E 35904002 CMP #0240h,R5\nI F012 FA23 JNE F008h\nI F014 FF3F JMP F014h\nM F008 mem w2 0200/2/20\nS F000 0000/2/8000\nS F004 0A00\nS F008 0A00\nS F00C 0A00\nS F00E 0A00\nS F012 0A00\nS F014 0A00\nT 0A00 1\n",
         ),
     ];
-    fronts_answer(&rt, "analyse msp430", RESET, Status::Done, &rows)
+    for (records, report) in rows {
+        is_analysed(&rt, records, Status::Done, report)?;
+    }
+    Ok(())
 }
 
 #[test]
@@ -108,7 +136,7 @@ fn rows_within_limits(rt: HostRuntime) -> Result<(), Fail> {
         ),
     ];
     for (words, records, status, report) in rows {
-        answers(&rt, words, &[records, RESET], status, report)?;
+        is_analysed_by(&rt, words, records, status, report)?;
     }
     Ok(())
 }
@@ -142,7 +170,10 @@ fn rows_with_interrupts(rt: HostRuntime) -> Result<(), Fail> {
             "CLOSED\nE F000 F004\nE F004 F006\nE F006 F006\nE F006 F008\nE F008 F00E\nE F00E F010\nE F010 F008\nE F010 F010\nI F000 31408002 MOV #0280h,SP\nI F004 32D2 BIS #8,SR\nI F006 FF3F JMP F006h\nI F008 B14010F00200 MOV #F010h,0002h(SP)\nI F00E 0013 RETI\nI F010 FF3F JMP F010h\nM F006 mem w2 027C\nM F006 mem w2 027E\nM F008 mem w2 027E\nM F00E mem r2 027C\nM F00E mem r2 027E\nM F010 mem w2 027C\nM F010 mem w2 027E\nS F000 0000/2/8000\nS F004 0280\nS F006 0280\nS F008 027C\nS F00E 027C\nS F010 0280\nT 027C 1\n",
         ),
     ];
-    fronts_answer(&rt, "analyse msp430", RESET, Status::Done, &rows)
+    for (records, report) in rows {
+        is_analysed(&rt, records, Status::Done, report)?;
+    }
+    Ok(())
 }
 
 #[test]
@@ -169,5 +200,8 @@ fn rows_left_open(rt: HostRuntime) -> Result<(), Fail> {
             "OPEN\nE F000 F004\nE F004 F004\nI F000 31408002 MOV #0280h,SP\nI F004 B01204F0 CALL #F004h\nM F004 mem w2 0000/2/8000\nM F004 mem w2 0274\nM F004 mem w2 0276\nM F004 mem w2 0278\nM F004 mem w2 027A\nM F004 mem w2 027C\nM F004 mem w2 027E\nO F004 Store 0000/2/8000\nS F000 0000/2/8000\nS F004 0000/2/8000\nS F004 0276\nS F004 0278\nS F004 027A\nS F004 027C\nS F004 027E\nS F004 0280\nT 0276 2\n",
         ),
     ];
-    fronts_answer(&rt, "analyse msp430", RESET, Status::Open, &rows)
+    for (records, report) in rows {
+        is_analysed(&rt, records, Status::Open, report)?;
+    }
+    Ok(())
 }

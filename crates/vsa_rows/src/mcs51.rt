@@ -1,15 +1,28 @@
 //! The MCS-51's analyses, disassemblies and runs, whole calls over streams in memory.
 
-use super::calls::{answers, fronts_answer};
+use crate::answers::answers;
+use std::process::Abort;
+use std::sync::Wait;
 use std::test::Fail;
+use std::thread::Threads;
 use vsa_top::Status;
 
-/// What stands behind the records of an image.
-const END: &str = "\n:00000001FF\n";
+/// The answer to the image of some records, with a script behind it.
+fn answers_image<R: Abort + Threads + Wait + AllocGlobal + Sync>(
+    rt: &R,
+    words: &str,
+    records: &str,
+    script: &str,
+    status: Status,
+    text: &str,
+) -> Result<(), Fail> {
+    let input = format!(in rt.alloc(); "{records}\n:00000001FF\n{script}")?;
+    answers(rt, words, input.as_str(), status, text)
+}
 
 #[test]
 fn rows_of_a_disassembly(rt: HostRuntime) -> Result<(), Fail> {
-    let rows = [
+    for (records, lines) in [
         // the excluded opcode, and an instruction behind it
         (":01000000A55A", "0000 A5 ?\n"),
         (":02000000A50059", "0000 A5 ?\n0001 00 NOP\n"),
@@ -26,8 +39,10 @@ fn rows_of_a_disassembly(rt: HostRuntime) -> Result<(), Fail> {
             "0000 12 ?\n0001 34 ?\nFFFF 021234 LJMP 1234h\n",
         ),
         ("", ""),
-    ];
-    fronts_answer(&rt, "disasm mcs51", END, Status::Done, &rows)
+    ] {
+        answers_image(&rt, "disasm mcs51", records, "", Status::Done, lines)?;
+    }
+    Ok(())
 }
 
 const TWO_STEPS: &str =
@@ -35,14 +50,14 @@ const TWO_STEPS: &str =
 
 #[test]
 fn rows_of_a_port(rt: HostRuntime) -> Result<(), Fail> {
-    let record = ":04000000E58080FE19";
+    let records = ":04000000E58080FE19";
     for (words, script, status, text) in [
         ("run mcs51 --steps 2", "5A", Status::Done, TWO_STEPS),
         ("run mcs51", "", Status::NeedChoice, "NEED 1\n"),
         ("run mcs51", "5A\nx\n", Status::BadCert, "NO 2 Syntax\n"),
         ("run mcs51 --steps 0", "", Status::Done, "END 0\n"),
     ] {
-        answers(&rt, words, &[record, END, script], status, text)?;
+        answers_image(&rt, words, records, script, status, text)?;
     }
     Ok(())
 }
@@ -53,8 +68,14 @@ const FOUR_STEPS: &str =
 #[test]
 fn row_of_the_spaces(rt: HostRuntime) -> Result<(), Fail> {
     // The choices are the high byte of the last address, and what stands there.
-    let input = [":0600000075305AF093E296", END, "12\n34\n"];
-    answers(&rt, "run mcs51 --steps 4", &input, Status::Done, FOUR_STEPS)
+    answers_image(
+        &rt,
+        "run mcs51 --steps 4",
+        ":0600000075305AF093E296",
+        "12\n34\n",
+        Status::Done,
+        FOUR_STEPS,
+    )
 }
 
 #[test]
@@ -66,7 +87,7 @@ fn rows_of_an_empty_image(rt: HostRuntime) -> Result<(), Fail> {
         ("disasm mcs51", "", Status::BadImage, "BAD 1 NoEnd\n"),
         ("analyse mcs51", "", Status::BadImage, "BAD 1 NoEnd\n"),
     ] {
-        answers(&rt, words, &[input], status, text)?;
+        answers(&rt, words, input, status, text)?;
     }
     Ok(())
 }
@@ -102,7 +123,7 @@ fn rows_of_analyses(rt: HostRuntime) -> Result<(), Fail> {
         ("", Status::Open, NO_INSTRUCTION),
         (JUMP_TABLE, Status::Done, FOUR_TARGETS),
     ] {
-        answers(&rt, "analyse mcs51", &[records, END], status, report)?;
+        answers_image(&rt, "analyse mcs51", records, "", status, report)?;
     }
     Ok(())
 }
@@ -110,6 +131,12 @@ fn rows_of_analyses(rt: HostRuntime) -> Result<(), Fail> {
 #[test]
 fn row_of_two_priorities(rt: HostRuntime) -> Result<(), Fail> {
     let report = format!(in rt.alloc(); "{EDGES}{INSTRUCTIONS}{ACCESSES}")?;
-    let input = [PRIORITIES, END];
-    answers(&rt, "analyse mcs51", &input, Status::Done, report.as_str())
+    answers_image(
+        &rt,
+        "analyse mcs51",
+        PRIORITIES,
+        "",
+        Status::Done,
+        report.as_str(),
+    )
 }

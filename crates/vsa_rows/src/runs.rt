@@ -1,24 +1,45 @@
 //! Runs along scripts, whole calls over streams in memory.
 
-use super::answers::EIGHT_BYTES;
-use super::calls::{RESET, all_answer, answers, fronts_answer};
+use crate::answers::{EIGHT_BYTES, answers};
+use std::process::Abort;
+use std::sync::Wait;
 use std::test::Fail;
+use std::thread::Threads;
 use vsa_top::Status;
+
+/// A program's run along a script: its records stand in front of the reset vector F000h.
+fn runs<R: Abort + Threads + Wait + AllocGlobal + Sync>(
+    rt: &R,
+    line: &str,
+    records: &str,
+    script: &str,
+    status: Status,
+    text: &str,
+) -> Result<(), Fail> {
+    let input = format!(in rt.alloc(); "{records}\n:02FFFE0000F011\n:00000001FF\n{script}")?;
+    answers(rt, line, input.as_str(), status, text)
+}
 
 const TWO_STEPS: &str =
     "S F000 0000\nI F000 31408002 MOV #0280h,SP\nE F000 F004\nS F004 0280\nI F004 FF3F JMP F004h\nE F004 F004\nEND 2\n";
 
 #[test]
 fn row_eight_bytes_run(rt: HostRuntime) -> Result<(), Fail> {
-    let lines = [
+    for words in [
         "run msp430 --steps 2",
         "run msp430 --steps 0000002",
         "run msp430 --steps 2 --ram 0200-09FF",
         "run msp430 --ram 0200-09FF --steps 2",
-    ];
-    all_answer(&rt, &lines, &[EIGHT_BYTES], Status::Done, TWO_STEPS)?;
-    let (words, end) = ("run msp430 --steps 0", "END 0\n");
-    answers(&rt, words, &[EIGHT_BYTES], Status::Done, end)
+    ] {
+        answers(&rt, words, EIGHT_BYTES, Status::Done, TWO_STEPS)?;
+    }
+    answers(
+        &rt,
+        "run msp430 --steps 0",
+        EIGHT_BYTES,
+        Status::Done,
+        "END 0\n",
+    )
 }
 
 const FIRST_STEP: &str = "S F000 0000\nI F000 31408002 MOV #0280h,SP\nE F000 F004\n";
@@ -32,19 +53,24 @@ fn row_of_a_loop(rt: HostRuntime) -> Result<(), Fail> {
         text.push_str(LOOP_STEP)?;
     }
     text.push_str("END 300\n")?;
-    let words = "run msp430 --steps 300";
-    answers(&rt, words, &[EIGHT_BYTES], Status::Done, text.as_str())
+    answers(
+        &rt,
+        "run msp430 --steps 300",
+        EIGHT_BYTES,
+        Status::Done,
+        text.as_str(),
+    )
 }
 
 #[test]
 fn row_a_line_refused(rt: HostRuntime) -> Result<(), Fail> {
+    let eight = ":06F0000031408002FF3FD9";
     for (script, answer) in [
         ("xyz", "NO 1 Syntax\n"),
         ("xyz\n", "NO 1 Syntax\n"),
         ("1\n\n12345\nxyz\n", "NO 3 Syntax\n"),
     ] {
-        let input = [EIGHT_BYTES, script];
-        answers(&rt, "run msp430", &input, Status::BadCert, answer)?;
+        runs(&rt, "run msp430", eight, script, Status::BadCert, answer)?;
     }
     Ok(())
 }
@@ -58,19 +84,31 @@ const JUMP_TABLE_RUN: &str =
 #[test]
 fn jump_table_run(rt: HostRuntime) -> Result<(), Fail> {
     for script in ["", "2", "2\n", "\n\r\n"] {
-        let input = [JUMP_TABLE, RESET, script];
-        answers(&rt, "run msp430", &input, Status::NeedChoice, "NEED 1\n")?;
+        runs(
+            &rt,
+            "run msp430",
+            JUMP_TABLE,
+            script,
+            Status::NeedChoice,
+            "NEED 1\n",
+        )?;
     }
     for script in ["2\n0\n", "2\n0", "2\r\n\r\n0\r\n7\n", "0102\nff00\n"] {
-        let (words, input) = ("run msp430 --steps 5", [JUMP_TABLE, RESET, script]);
-        answers(&rt, words, &input, Status::Done, JUMP_TABLE_RUN)?;
+        runs(
+            &rt,
+            "run msp430 --steps 5",
+            JUMP_TABLE,
+            script,
+            Status::Done,
+            JUMP_TABLE_RUN,
+        )?;
     }
     Ok(())
 }
 
 #[test]
 fn rows_out_of_the_model(rt: HostRuntime) -> Result<(), Fail> {
-    let rows = [
+    for (record, text) in [
         // a store to the reset vector
         (":06F000009243FFFFFF3FF9", "WILD 1 F000\n"),
         // a jump to where nothing stands
@@ -78,8 +116,10 @@ fn rows_out_of_the_model(rt: HostRuntime) -> Result<(), Fail> {
             ":02F00000073CCB",
             "S F000 0000\nI F000 073C JMP F010h\nE F000 F010\nWILD 2 F010\n",
         ),
-    ];
-    fronts_answer(&rt, "run msp430 --steps 3", RESET, Status::Wild, &rows)
+    ] {
+        runs(&rt, "run msp430 --steps 3", record, "", Status::Wild, text)?;
+    }
+    Ok(())
 }
 
 const WAKING_HANDLER_RUN: &str =
@@ -89,20 +129,29 @@ const WAKING_HANDLER_RUN: &str =
 fn waking_handler_run(rt: HostRuntime) -> Result<(), Fail> {
     let records = ":10F000003140800232D2FF3FB1C0F0000000001357\n:02FFF20008F015";
     // the bits of SR that nothing holds, the interrupt, and these bits again as they are pushed
-    let input = [records, RESET, "0\n1\n7F\n"];
-    for (words, status, end) in [
-        ("run msp430 --steps 5", Status::Done, "END 5\n"),
-        ("run msp430", Status::NeedChoice, "NEED 6\n"),
-    ] {
-        let text = format!(in rt.alloc(); "{WAKING_HANDLER_RUN}{end}")?;
-        answers(&rt, words, &input, status, text.as_str())?;
-    }
-    Ok(())
+    let text = format!(in rt.alloc(); "{WAKING_HANDLER_RUN}END 5\n")?;
+    runs(
+        &rt,
+        "run msp430 --steps 5",
+        records,
+        "0\n1\n7F\n",
+        Status::Done,
+        text.as_str(),
+    )?;
+    let text = format!(in rt.alloc(); "{WAKING_HANDLER_RUN}NEED 6\n")?;
+    runs(
+        &rt,
+        "run msp430",
+        records,
+        "0\n1\n7F\n",
+        Status::NeedChoice,
+        text.as_str(),
+    )
 }
 
 #[test]
 fn rows_of_a_faulty_image(rt: HostRuntime) -> Result<(), Fail> {
-    let rows = [
+    for (input, text) in [
         ("", "BAD 1 NoEnd\n"),
         (":06F0000031408002FF3FD9\n", "BAD 2 NoEnd\n"),
         (":00000001FF\nxyz\n", "BAD 1 NoReset\n"),
@@ -110,13 +159,15 @@ fn rows_of_a_faulty_image(rt: HostRuntime) -> Result<(), Fail> {
             ":02FFFE0000F011\nF000\n:00000001FF\nxyz\n",
             "BAD 2 NoColon\n",
         ),
-    ];
-    fronts_answer(&rt, "run msp430", "", Status::BadImage, &rows)
+    ] {
+        answers(&rt, "run msp430", input, Status::BadImage, text)?;
+    }
+    Ok(())
 }
 
 #[test]
 fn rows_of_words_of_runs(rt: HostRuntime) -> Result<(), Fail> {
-    let lines = [
+    for words in [
         "analyse msp430 --steps 5",
         "disasm msp430 --steps 5",
         "run mcs51 --ram 0200-09FF",
@@ -129,6 +180,8 @@ fn rows_of_words_of_runs(rt: HostRuntime) -> Result<(), Fail> {
         "run msp430 --steps 1 --steps 1",
         "run msp430 --ram 0200-09FF --steps 1 --ram 0200-09FF",
         "run msp430 --step 1",
-    ];
-    all_answer(&rt, &lines, &[EIGHT_BYTES], Status::Usage, "USAGE\n")
+    ] {
+        answers(&rt, words, EIGHT_BYTES, Status::Usage, "USAGE\n")?;
+    }
+    Ok(())
 }

@@ -1,20 +1,32 @@
 //! RAM that answers at a second range of addresses too, whole calls over streams in memory.
 
-use super::answers::{EIGHT_BYTES, REPORT};
-use super::calls::{RESET, all_answer, answer_to, answers, ends_answer, fronts_answer};
+use crate::answers::{EIGHT_BYTES, answers, words_of};
 use std::process::Abort;
 use std::str;
 use std::sync::Wait;
 use std::test::Fail;
 use std::thread::Threads;
-use vsa_top::Status;
+use vsa_io::{CleanSink, CleanSource};
+use vsa_top::{NoGate, Status, vsa};
+
+/// What comes of records in front of the reset vector F000h, and of a second text behind them.
+fn comes<R: Abort + Threads + Wait + AllocGlobal + Sync>(
+    rt: &R,
+    line: &str,
+    records: &str,
+    second: &str,
+    status: Status,
+    text: &str,
+) -> Result<(), Fail> {
+    let input = format!(in rt.alloc(); "{records}\n:02FFFE0000F011\n:00000001FF\n{second}")?;
+    answers(rt, line, input.as_str(), status, text)
+}
 
 /// A store to 0200h, a read of 1100h into the stack pointer, and a jump to itself.
 const STORE_AND_READ: &str = ":0CF00000B2403412000211420011FF3F28";
 
 #[test]
 fn rows_of_a_store_and_a_read(rt: HostRuntime) -> Result<(), Fail> {
-    let input = [STORE_AND_READ, RESET];
     let front =
         "CLOSED\nE F000 F006\nE F006 F00A\nE F00A F00A\nI F000 B24034120002 MOV #1234h,&0200h\nI F006 11420011 MOV &1100h,SP\nI F00A FF3F JMP F00Ah\n";
     for (words, rest) in [
@@ -28,11 +40,24 @@ fn rows_of_a_store_and_a_read(rt: HostRuntime) -> Result<(), Fail> {
         ),
     ] {
         let report = format!(in rt.alloc(); "{front}{rest}")?;
-        answers(&rt, words, &input, Status::Done, report.as_str())?;
+        comes(
+            &rt,
+            words,
+            STORE_AND_READ,
+            "",
+            Status::Done,
+            report.as_str(),
+        )?;
     }
     // RAM is 0200-09FF where the words don't say it, and no mirror has one of its addresses
-    let words = "analyse msp430 --mirror 0200-09FF";
-    answers(&rt, words, &input, Status::Usage, "USAGE\n")
+    comes(
+        &rt,
+        "analyse msp430 --mirror 0200-09FF",
+        STORE_AND_READ,
+        "",
+        Status::Usage,
+        "USAGE\n",
+    )
 }
 
 const WITH_A_MIRROR: &str = " --ram 1100-18FF --mirror 0200-09FF";
@@ -47,15 +72,13 @@ const WAKING_REPORT: &str =
 #[test]
 fn row_of_a_stack_in_the_mirror(rt: HostRuntime) -> Result<(), Fail> {
     let words = format!(in rt.alloc(); "analyse msp430{WITH_A_MIRROR}")?;
-    let input = [WAKING, RESET];
-    answers(&rt, words.as_str(), &input, Status::Done, WAKING_REPORT)
+    comes(&rt, words.as_str(), WAKING, "", Status::Done, WAKING_REPORT)
 }
 
 #[test]
 fn rows_of_assertions(rt: HostRuntime) -> Result<(), Fail> {
     let words = format!(in rt.alloc(); "assert msp430{WITH_A_MIRROR}")?;
-    let image = format!(in rt.alloc(); "{WAKING}{RESET}")?;
-    let rows = [
+    for (lines, status, text) in [
         (
             "nowrite mem 0200-09FF\nnoread mem 0200-09FF\nstack F004-FFFF 027C-0280\n",
             Status::Done,
@@ -66,8 +89,10 @@ fn rows_of_assertions(rt: HostRuntime) -> Result<(), Fail> {
             Status::Broken,
             "FAILS 2 M F006 mem w2 117C\n",
         ),
-    ];
-    ends_answer(&rt, words.as_str(), image.as_str(), &rows)
+    ] {
+        comes(&rt, words.as_str(), WAKING, lines, status, text)?;
+    }
+    Ok(())
 }
 
 /// A byte to 0240h and one to 1141h, and a word read from 1140h and from 0240h.
@@ -78,8 +103,7 @@ fn row_of_a_run(rt: HostRuntime) -> Result<(), Fail> {
     let words = format!(in rt.alloc(); "run msp430 --steps 4{WITH_A_MIRROR}")?;
     let trace =
         "S F000 0000\nI F000 F24034004002 MOV.B #0034h,&0240h\nM F000 mem w1 1140\nE F000 F006\nS F006 0000\nI F006 F24012004111 MOV.B #0012h,&1141h\nM F006 mem w1 1141\nE F006 F00C\nS F00C 0000\nI F00C 14424011 MOV &1140h,R4\nM F00C mem r2 1140\nE F00C F010\nS F010 0000\nI F010 15424002 MOV &0240h,R5\nM F010 mem r2 1140\nE F010 F014\nEND 4\n";
-    let input = [TWO_BYTES, RESET];
-    answers(&rt, words.as_str(), &input, Status::Done, trace)
+    comes(&rt, words.as_str(), TWO_BYTES, "", Status::Done, trace)
 }
 
 /// The lines of a report that begin with E or M.
@@ -87,8 +111,22 @@ fn edges_and_accesses<R: Abort + Threads + Wait + AllocGlobal + Sync>(
     rt: &R,
     records: &str,
 ) -> Result<String, Fail> {
-    let words = "analyse msp430 --ram 0200-09FF --mirror 1100-18FF";
-    let (outcome, sink) = answer_to(rt, words, &[records, RESET], 4096)?;
+    let input = format!(in rt.alloc(); "{records}\n:02FFFE0000F011\n:00000001FF\n")?;
+    let words = words_of(
+        rt.alloc(),
+        "analyse msp430 --ram 0200-09FF --mirror 1100-18FF",
+    )?;
+    let bytes = Vec::from_slice(rt.alloc(), input.as_str().as_bytes())?;
+    let mut source = CleanSource::new(bytes, 4096);
+    let mut sink = CleanSink::with_room(rt.alloc(), 4096, 4096)?;
+    let outcome = vsa(
+        rt,
+        rt.alloc(),
+        words.as_slice(),
+        &mut source,
+        &mut sink,
+        &NoGate,
+    );
     assert_eq!(rt; outcome.status, Status::Done);
     let mut lines = String::new(rt.alloc());
     for line in str::from_utf8(sink.bytes())?.lines() {
@@ -117,27 +155,43 @@ fn rows_of_moved_accesses(rt: HostRuntime) -> Result<(), Fail> {
 
 #[test]
 fn rows_of_bytes_in_the_mirror(rt: HostRuntime) -> Result<(), Fail> {
-    let words = "disasm msp430 --mirror 0A00-0BFF";
-    let rows = [
+    for (record, text) in [
         (":010A0000AA4B", "BAD 1 Misplaced\n"),
         (":010BFF00AA4B", "BAD 1 Misplaced\n"),
         (":0109FF00AA4D", "BAD 1 Misplaced\n"),
-    ];
-    fronts_answer(&rt, words, RESET, Status::BadImage, &rows)?;
-    let listed = "0C00 AA ?\nFFFE 00F0 AND PC,PC\n";
-    answers(&rt, words, &[":010C0000AA49", RESET], Status::Done, listed)
+    ] {
+        comes(
+            &rt,
+            "disasm msp430 --mirror 0A00-0BFF",
+            record,
+            "",
+            Status::BadImage,
+            text,
+        )?;
+    }
+    comes(
+        &rt,
+        "disasm msp430 --mirror 0A00-0BFF",
+        ":010C0000AA49",
+        "",
+        Status::Done,
+        "0C00 AA ?\nFFFE 00F0 AND PC,PC\n",
+    )
 }
 
 #[test]
 fn rows_of_words(rt: HostRuntime) -> Result<(), Fail> {
-    let taken = [
+    let report =
+        "CLOSED\nE F000 F004\nE F004 F004\nI F000 31408002 MOV #0280h,SP\nI F004 FF3F JMP F004h\nS F000 0000/2/8000\nS F004 0280\nT 0280 1\n";
+    for words in [
         "analyse msp430 --mirror 0A00-11FF",
         "--mirror=0a00-0A01 analyse msp430",
         "analyse msp430 --ram 1100-18FF --mirror 0200-09FF",
         "analyse msp430 --mirror 0200-09FF --ram 0A00-11FF",
-    ];
-    all_answer(&rt, &taken, &[EIGHT_BYTES], Status::Done, REPORT)?;
-    let refused = [
+    ] {
+        answers(&rt, words, EIGHT_BYTES, Status::Done, report)?;
+    }
+    for words in [
         // an address of RAM
         "analyse msp430 --mirror 0200-0201",
         "analyse msp430 --mirror 09FE-0A01",
@@ -162,6 +216,8 @@ fn rows_of_words(rt: HostRuntime) -> Result<(), Fail> {
         "assert mcs51 --mirror 0A00-0BFF",
         "gen msp430 --number 1 --mirror 0A00-0BFF",
         "gen mcs51 --number 1 --mirror 0A00-0BFF",
-    ];
-    all_answer(&rt, &refused, &[EIGHT_BYTES], Status::Usage, "USAGE\n")
+    ] {
+        answers(&rt, words, EIGHT_BYTES, Status::Usage, "USAGE\n")?;
+    }
+    Ok(())
 }

@@ -1,7 +1,6 @@
 //! Certificates behind image texts, whole calls over streams in memory.
 
-use super::answers::{EIGHT_BYTES, REPORT};
-use super::calls::{all_answer, answers};
+use crate::answers::{EIGHT_BYTES, REPORT, answers};
 use std::alloc::{AllocError, Global};
 use std::process::Abort;
 use std::sync::Wait;
@@ -50,11 +49,16 @@ fn line_of(alloc: Global, fields: Fields<'_>) -> Result<String, AllocError> {
     )
 }
 
-/// The first line of a certificate.
-const HEAD: &str = "CERT 1\n";
-
-/// Its last one.
-const END: &str = "END\n";
+/// What is answered to a certificate of the eight bytes with these lines.
+fn checks<R: Abort + Threads + Wait + AllocGlobal + Sync>(
+    rt: &R,
+    lines: &str,
+    status: Status,
+    text: &str,
+) -> Result<(), Fail> {
+    let input = format!(in rt.alloc(); "{EIGHT_BYTES}CERT 1\n{lines}")?;
+    answers(rt, "check msp430", input.as_str(), status, text)
+}
 
 /// What is answered to the certificate of two locations.
 fn checks_two<R: Abort + Threads + Wait + AllocGlobal + Sync>(
@@ -66,8 +70,8 @@ fn checks_two<R: Abort + Threads + Wait + AllocGlobal + Sync>(
 ) -> Result<(), Fail> {
     let first = line_of(rt.alloc(), first)?;
     let second = line_of(rt.alloc(), second)?;
-    let input = [EIGHT_BYTES, HEAD, first.as_str(), second.as_str(), END];
-    answers(rt, "check msp430", &input, status, text)
+    let lines = format!(in rt.alloc(); "{first}{second}END\n")?;
+    checks(rt, lines.as_str(), status, text)
 }
 
 /// The report where the loop's stack pointer is one of two.
@@ -89,12 +93,13 @@ fn certificates_are_printed(rt: HostRuntime) -> Result<(), Fail> {
     let start = line_of(rt.alloc(), START)?;
     let looping = line_of(rt.alloc(), LOOP)?;
     let text = format!(in rt.alloc(); "{REPORT}CERT 1\n{start}{looping}END\n")?;
-    let certified = [
+    for words in [
         "analyse msp430 --cert",
         "analyse --cert msp430 --workers=4 --calls 0",
-    ];
-    all_answer(&rt, &certified, &[EIGHT_BYTES], Status::Done, text.as_str())?;
-    let refused = [
+    ] {
+        answers(&rt, words, EIGHT_BYTES, Status::Done, text.as_str())?;
+    }
+    for words in [
         "assert msp430 --cert",
         "check msp430 --cert",
         "disasm msp430 --cert",
@@ -102,8 +107,10 @@ fn certificates_are_printed(rt: HostRuntime) -> Result<(), Fail> {
         "gen msp430 --number 3 --cert",
         "analyse msp430 --cert --cert",
         "analyse msp430 --cert=true",
-    ];
-    all_answer(&rt, &refused, &[EIGHT_BYTES], Status::Usage, "USAGE\n")
+    ] {
+        answers(&rt, words, EIGHT_BYTES, Status::Usage, "USAGE\n")?;
+    }
+    Ok(())
 }
 
 #[test]
@@ -121,11 +128,16 @@ fn lines_in_another_order(rt: HostRuntime) -> Result<(), Fail> {
         (start, looping, "END\r\n", "NO 4 Syntax\n"),
         ("", "", "END\n", "NO 0 NoStart\n"),
     ] {
-        let input = [EIGHT_BYTES, HEAD, first, second, end];
-        answers(&rt, "check msp430", &input, Status::BadCert, text)?;
+        let lines = format!(in rt.alloc(); "{first}{second}{end}")?;
+        checks(&rt, lines.as_str(), Status::BadCert, text)?;
     }
-    let none = "NO 1 Syntax\n";
-    answers(&rt, "check msp430", &[EIGHT_BYTES], Status::BadCert, none)
+    answers(
+        &rt,
+        "check msp430",
+        EIGHT_BYTES,
+        Status::BadCert,
+        "NO 1 Syntax\n",
+    )
 }
 
 #[test]
@@ -201,10 +213,10 @@ fn certificates_of_the_8051(rt: HostRuntime) -> Result<(), Fail> {
         ),
         ("", Status::BadCert, "NO 2 HasOpen 0000 Fetch\n"),
     ] {
-        let line =
-            "N 0000::base SP=07 A=00 B=00 DPL=00 DPH=00 IE=00,40 IP=00,40,80,C0 PSW=000000xx LV=1 K=- F=- M=- T=-\n";
-        let input = [record, "\n:00000001FF\n", HEAD, line, END];
-        answers(&rt, "check mcs51", &input, status, text)?;
+        let input = format!(in rt.alloc();
+            "{record}\n:00000001FF\nCERT 1\nN 0000::base SP=07 A=00 B=00 DPL=00 DPH=00 IE=00,40 IP=00,40,80,C0 PSW=000000xx LV=1 K=- F=- M=- T=-\nEND\n"
+        )?;
+        answers(&rt, "check mcs51", input.as_str(), status, text)?;
     }
     Ok(())
 }
@@ -213,20 +225,36 @@ fn certificates_of_the_8051(rt: HostRuntime) -> Result<(), Fail> {
 fn words_of_a_check(rt: HostRuntime) -> Result<(), Fail> {
     let start = line_of(rt.alloc(), START)?;
     let looping = line_of(rt.alloc(), LOOP)?;
-    let input = [EIGHT_BYTES, HEAD, start.as_str(), looping.as_str(), END];
-    let words = "check msp430 --ram 0200-03FF --calls 8 --targets 256";
-    answers(&rt, words, &input, Status::Done, REPORT)?;
-    let refused = [
+    let input = format!(in rt.alloc(); "{EIGHT_BYTES}CERT 1\n{start}{looping}END\n")?;
+    answers(
+        &rt,
+        "check msp430 --ram 0200-03FF --calls 8 --targets 256",
+        input.as_str(),
+        Status::Done,
+        REPORT,
+    )?;
+    for words in [
         "check msp430 --workers 1",
         "check msp430 --steps 5",
         "check msp430 --number 5",
         "check mcs51 --ram 0200-03FF",
         "check",
-    ];
-    all_answer(&rt, &refused, &input, Status::Usage, "USAGE\n")?;
+    ] {
+        answers(&rt, words, input.as_str(), Status::Usage, "USAGE\n")?;
+    }
     // a faulty line goes before the certificate
-    let (faulty, fault) = ([":0G\nxyz\n"], "BAD 1 BadDigit\n");
-    answers(&rt, "check msp430", &faulty, Status::BadImage, fault)?;
-    let trailing = "BAD 4 Trailing\n";
-    answers(&rt, "analyse msp430", &input, Status::BadImage, trailing)
+    answers(
+        &rt,
+        "check msp430",
+        ":0G\nxyz\n",
+        Status::BadImage,
+        "BAD 1 BadDigit\n",
+    )?;
+    answers(
+        &rt,
+        "analyse msp430",
+        input.as_str(),
+        Status::BadImage,
+        "BAD 4 Trailing\n",
+    )
 }

@@ -1,14 +1,76 @@
-//! Rows of answers to the words, and to image texts.
+//! Whole calls, over streams in memory.
 
-use super::calls::{RESET, all_answer, answers, called, fronts_answer, joined};
+use crate::code::EvenCode;
 use disassembly::disassembly_of;
 use image::Image;
+use std::alloc::{AllocError, Global};
 use std::process::Abort;
 use std::sync::Wait;
 use std::test::Fail;
 use std::thread::Threads;
 use vsa_io::{CleanSink, CleanSource, MemSource};
-use vsa_top::{Msp430Code, NoGate, Status};
+use vsa_top::{NoGate, Status, vsa};
+
+/// The words of a command line.
+pub(crate) fn words_of(alloc: Global, line: &str) -> Result<Vec<String>, AllocError> {
+    let mut words = Vec::new(alloc);
+    for word in line.split_whitespace() {
+        words.push(String::from_str(alloc, word)?)?;
+    }
+    Ok(words)
+}
+
+/// A call answers this status and this text, in pieces of one byte too.
+pub(crate) fn answers<R: Abort + Threads + Wait + AllocGlobal + Sync>(
+    rt: &R,
+    line: &str,
+    input: &str,
+    status: Status,
+    text: &str,
+) -> Result<(), Fail> {
+    for piece in [1, 4096] {
+        let words = words_of(rt.alloc(), line)?;
+        let bytes = Vec::from_slice(rt.alloc(), input.as_bytes())?;
+        let mut source = CleanSource::new(bytes, piece);
+        let mut sink = CleanSink::with_room(rt.alloc(), piece, 16384)?;
+        let outcome = vsa(
+            rt,
+            rt.alloc(),
+            words.as_slice(),
+            &mut source,
+            &mut sink,
+            &NoGate,
+        );
+        assert_eq!(rt; outcome.status, status, "{line}");
+        assert_eq!(rt; sink.bytes(), text.as_bytes(), "{line}");
+    }
+    Ok(())
+}
+
+/// A call answers this status and a text that begins so.
+pub(crate) fn begins<R: Abort + Threads + Wait + AllocGlobal + Sync>(
+    rt: &R,
+    line: &str,
+    input: &str,
+    status: Status,
+    front: &str,
+) -> Result<(), Fail> {
+    let words = words_of(rt.alloc(), line)?;
+    let bytes = Vec::from_slice(rt.alloc(), input.as_bytes())?;
+    let mut source = CleanSource::new(bytes, 4096);
+    let mut sink = CleanSink::with_room(rt.alloc(), 4096, 4096)?;
+    let outcome = vsa(
+        rt,
+        rt.alloc(),
+        words.as_slice(),
+        &mut source,
+        &mut sink,
+        &NoGate,
+    );
+    assert_eq!(rt; outcome.status, status, "{line}");
+    assert!(rt; sink.bytes().starts_with(front.as_bytes()), "{line}");
+    Ok(())
+}
 
 pub(crate) const EIGHT_BYTES: &str = ":06F0000031408002FF3FD9\n:02FFFE0000F011\n:00000001FF\n";
 
@@ -17,19 +79,30 @@ pub(crate) const REPORT: &str =
 
 #[test]
 fn row_eight_bytes(rt: HostRuntime) -> Result<(), Fail> {
-    answers(&rt, "analyse msp430", &[EIGHT_BYTES], Status::Done, REPORT)
+    answers(&rt, "analyse msp430", EIGHT_BYTES, Status::Done, REPORT)
 }
 
 const DISASSEMBLY: &str = "F000 31408002 MOV #0280h,SP\nF004 FF3F JMP F004h\nFFFE 00F0 AND PC,PC\n";
 
 #[test]
 fn row_of_a_disassembly(rt: HostRuntime) -> Result<(), Fail> {
+    answers(&rt, "disasm msp430", EIGHT_BYTES, Status::Done, DISASSEMBLY)
+}
+
+/// The disassembly of a record's bytes in front of the reset vector.
+fn is_disassembled<R: Abort + Threads + Wait + AllocGlobal + Sync>(
+    rt: &R,
+    record: &str,
+    lines: &str,
+) -> Result<(), Fail> {
+    let input = format!(in rt.alloc(); "{record}\n:02FFFE0000F011\n:00000001FF\n")?;
+    let text = format!(in rt.alloc(); "{lines}FFFE 00F0 AND PC,PC\n")?;
     answers(
-        &rt,
+        rt,
         "disasm msp430",
-        &[EIGHT_BYTES],
+        input.as_str(),
         Status::Done,
-        DISASSEMBLY,
+        text.as_str(),
     )
 }
 
@@ -52,10 +125,7 @@ fn rows_of_disassembly(rt: HostRuntime) -> Result<(), Fail> {
             "F000 B24034120002 MOV #1234h,&0200h\n",
         ),
     ] {
-        // the reset vector's word is listed too
-        let text = format!(in rt.alloc(); "{lines}FFFE 00F0 AND PC,PC\n")?;
-        let input = [record, RESET];
-        answers(&rt, "disasm msp430", &input, Status::Done, text.as_str())?;
+        is_disassembled(&rt, record, lines)?;
     }
     Ok(())
 }
@@ -63,14 +133,13 @@ fn rows_of_disassembly(rt: HostRuntime) -> Result<(), Fail> {
 #[test]
 fn rows_of_the_last_word(rt: HostRuntime) -> Result<(), Fail> {
     let input = ":02FFFE00314090\n:00000001FF\n";
-    let listed = "FFFE 3140 ?\n";
-    answers(&rt, "disasm msp430", &[input], Status::Done, listed)?;
+    answers(&rt, "disasm msp430", input, Status::Done, "FFFE 3140 ?\n")?;
     // An extension word at 0000h: what was told there stays, and belongs to the last instruction too.
     let mut bytes = vec![in rt.alloc(); Some(0x34), Some(0x12)]?;
     bytes.resize(65534, None)?;
     bytes.push(Some(0x31))?;
     bytes.push(Some(0x40))?;
-    let lines = disassembly_of::<Msp430Code>(rt.alloc(), &Image::new(bytes))?;
+    let lines = disassembly_of::<EvenCode>(rt.alloc(), &Image::new(bytes))?;
     let text = "0000 3412 PUSH @R4+\nFFFE 31403412 MOV #1234h,SP\n";
     assert_eq!(rt; lines.as_slice(), text.as_bytes());
     Ok(())
@@ -81,14 +150,23 @@ fn rows_of_a_disassembly_that_fails(rt: HostRuntime) -> Result<(), Fail> {
     answers(
         &rt,
         "disasm msp430",
-        &[":00000001FF\n"],
+        ":00000001FF\n",
         Status::BadImage,
         "BAD 1 NoReset\n",
     )?;
     // A sink that is full behind ten bytes.
-    let mut source = CleanSource::new(joined(rt.alloc(), &[EIGHT_BYTES])?, 4096);
+    let words = words_of(rt.alloc(), "disasm msp430")?;
+    let bytes = Vec::from_slice(rt.alloc(), EIGHT_BYTES.as_bytes())?;
+    let mut source = CleanSource::new(bytes, 4096);
     let mut sink = CleanSink::with_room(rt.alloc(), 4096, 10)?;
-    let outcome = called(&rt, "disasm msp430", &mut source, &mut sink, &NoGate)?;
+    let outcome = vsa(
+        &rt,
+        rt.alloc(),
+        words.as_slice(),
+        &mut source,
+        &mut sink,
+        &NoGate,
+    );
     assert_eq!(rt; outcome.status, Status::WriteFault);
     assert_eq!(rt; sink.bytes(), b"F000 31408".as_slice());
     assert_eq!(rt; outcome.journal.len(), 0);
@@ -100,42 +178,45 @@ fn row_of_a_copy(rt: HostRuntime) -> Result<(), Fail> {
     let input = ":08F00000344013000144FF3FFE\n:02FFFE0000F011\n:00000001FF\n";
     let report =
         "CLOSED\nE F000 F004\nE F004 F006\nE F006 F006\nI F000 34401300 MOV #0013h,R4\nI F004 0144 MOV R4,SP\nI F006 FF3F JMP F006h\nS F000 0000/2/8000\nS F004 0000/2/8000\nS F006 0012\nT 0012 2\n";
-    answers(&rt, "analyse msp430", &[input], Status::Done, report)
+    answers(&rt, "analyse msp430", input, Status::Done, report)
 }
 
 #[test]
 fn rows_open(rt: HostRuntime) -> Result<(), Fail> {
     let rows = [
         (
-            ":02F00000073CCB",
+            ":02F00000073CCB\n:02FFFE0000F011\n:00000001FF\n",
             "OPEN\nE F000 F010\nI F000 073C JMP F010h\nO F010 Fetch\nS F000 0000/2/8000\nS F010 0000/2/8000\nT none 2\n",
         ),
         (
-            ":02F000000343C8",
+            ":02F000000343C8\n:02FFFE0000F011\n:00000001FF\n",
             "OPEN\nE F000 F002\nI F000 0343 MOV #0,R3\nO F002 Fetch\nS F000 0000/2/8000\nS F002 0000/2/8000\nT none 2\n",
         ),
         // an excluded word
         (
-            ":02F0000000000E",
+            ":02F0000000000E\n:02FFFE0000F011\n:00000001FF\n",
             "OPEN\nO F000 Fetch\nS F000 0000/2/8000\nT none 1\n",
         ),
         // RETI with an unknown stack pointer
         (
-            ":02F000000013FB",
+            ":02F000000013FB\n:02FFFE0000F011\n:00000001FF\n",
             "OPEN\nI F000 0013 RETI\nM F000 mem r2 0000/2/8000\nO F000 Targets 0000/2/8000\nS F000 0000/2/8000\nT none 1\n",
         ),
         // MOV #0280h,PC
         (
-            ":04F00000304080021A",
+            ":04F00000304080021A\n:02FFFE0000F011\n:00000001FF\n",
             "OPEN\nE F000 0280\nI F000 30408002 MOV #0280h,PC\nO 0280 Fetch\nS 0280 0000/2/8000\nS F000 0000/2/8000\nT none 2\n",
         ),
         // MOV #1234h,R4 without its extension word
         (
-            ":02F0000034409A",
+            ":02F0000034409A\n:02FFFE0000F011\n:00000001FF\n",
             "OPEN\nO F000 Fetch\nS F000 0000/2/8000\nT none 1\n",
         ),
     ];
-    fronts_answer(&rt, "analyse msp430", RESET, Status::Open, &rows)
+    for (input, report) in rows {
+        answers(&rt, "analyse msp430", input, Status::Open, report)?;
+    }
+    Ok(())
 }
 
 #[test]
@@ -144,7 +225,7 @@ fn row_of_an_unknown_stack(rt: HostRuntime) -> Result<(), Fail> {
     let input = ":04F000000144FF3F89\n:02FFFE0000F011\n:00000001FF\n";
     let report =
         "CLOSED\nE F000 F002\nE F002 F002\nI F000 0144 MOV R4,SP\nI F002 FF3F JMP F002h\nS F000 0000/2/8000\nS F002 0000/2/8000\nT none 2\n";
-    answers(&rt, "analyse msp430", &[input], Status::Done, report)
+    answers(&rt, "analyse msp430", input, Status::Done, report)
 }
 
 #[test]
@@ -157,14 +238,14 @@ fn rows_accepted(rt: HostRuntime) -> Result<(), Fail> {
         // behind an extended linear address of 0 and a start linear address
         ":020000040000FA\n:0400000500000000F7\n:06F0000031408002FF3FD9\n:02FFFE0000F011\n:00000001FF\n",
     ] {
-        answers(&rt, "analyse msp430", &[input], Status::Done, REPORT)?;
+        answers(&rt, "analyse msp430", input, Status::Done, REPORT)?;
     }
     Ok(())
 }
 
 #[test]
 fn rows_of_the_first_fault(rt: HostRuntime) -> Result<(), Fail> {
-    let rows = [
+    for (input, line) in [
         ("", "BAD 1 NoEnd\n"),
         (":00000001FF\n", "BAD 1 NoReset\n"),
         (":06F00000314080", "BAD 1 BadLength\n"),
@@ -187,8 +268,22 @@ fn rows_of_the_first_fault(rt: HostRuntime) -> Result<(), Fail> {
             ":06F0000031408002FF3FD9\n:02FFFE0000F011\n:00000001FF\nx\n",
             "BAD 4 Trailing\n",
         ),
-    ];
-    fronts_answer(&rt, "analyse msp430", "", Status::BadImage, &rows)
+    ] {
+        answers(&rt, "analyse msp430", input, Status::BadImage, line)?;
+    }
+    Ok(())
+}
+
+/// The answer to the eight bytes behind a line.
+fn answers_behind<R: Abort + Threads + Wait + AllocGlobal + Sync>(
+    rt: &R,
+    words: &str,
+    first: &str,
+    status: Status,
+    text: &str,
+) -> Result<(), Fail> {
+    let input = format!(in rt.alloc(); "{first}\n{EIGHT_BYTES}")?;
+    answers(rt, words, input.as_str(), status, text)
 }
 
 #[test]
@@ -201,8 +296,7 @@ fn rows_of_a_first_line(rt: HostRuntime) -> Result<(), Fail> {
         (":02FFFF00000000", "BAD 1 OutOfRange\n"),
         (":0109FF0000F7", "BAD 1 Misplaced\n"),
     ] {
-        let input = [first, "\n", EIGHT_BYTES];
-        answers(&rt, "analyse msp430", &input, Status::BadImage, line)?;
+        answers_behind(&rt, "analyse msp430", first, Status::BadImage, line)?;
     }
     Ok(())
 }
@@ -210,9 +304,9 @@ fn rows_of_a_first_line(rt: HostRuntime) -> Result<(), Fail> {
 #[test]
 fn rows_of_a_range(rt: HostRuntime) -> Result<(), Fail> {
     // A byte at 0A00h is behind RAM, but where that goes to 0BFFh.
-    let input = [":010A000000F5\n", EIGHT_BYTES];
-    let free = [
-        "analyse msp430",
+    let at_0a00 = ":010A000000F5";
+    answers_behind(&rt, "analyse msp430", at_0a00, Status::Done, REPORT)?;
+    for words in [
         "analyse msp430 --ram 0200-09FF",
         "analyse msp430 --ram 0200-09ff",
         "analyse msp430 --ram 0C00-0CFF",
@@ -223,22 +317,25 @@ fn rows_of_a_range(rt: HostRuntime) -> Result<(), Fail> {
         "analyse msp430 --targets=01 --calls=0000008",
         "analyse msp430 --workers 1",
         "analyse msp430 --workers=16",
-    ];
-    all_answer(&rt, &free, &input, Status::Done, REPORT)?;
-    let taken = [
+    ] {
+        answers_behind(&rt, words, at_0a00, Status::Done, REPORT)?;
+    }
+    for words in [
         "analyse msp430 --ram 0200-0BFF",
         "disasm msp430 --ram 0200-0bff",
-    ];
-    let refusal = "BAD 1 Misplaced\n";
-    all_answer(&rt, &taken, &input, Status::BadImage, refusal)?;
-    let listed = ["disasm msp430", "disasm msp430 --ram 0C00-0CFF"];
+    ] {
+        answers_behind(&rt, words, at_0a00, Status::BadImage, "BAD 1 Misplaced\n")?;
+    }
     let lines = format!(in rt.alloc(); "0A00 00 ?\n{DISASSEMBLY}")?;
-    all_answer(&rt, &listed, &input, Status::Done, lines.as_str())
+    for words in ["disasm msp430", "disasm msp430 --ram 0C00-0CFF"] {
+        answers_behind(&rt, words, at_0a00, Status::Done, lines.as_str())?;
+    }
+    Ok(())
 }
 
 #[test]
 fn rows_of_other_words(rt: HostRuntime) -> Result<(), Fail> {
-    let lines = [
+    for words in [
         "",
         "analyse",
         "disasm",
@@ -302,8 +399,10 @@ fn rows_of_other_words(rt: HostRuntime) -> Result<(), Fail> {
         "gen msp430 --number 1 --number 1",
         "gen msp430 --number 1 --ram 0200-09FF",
         "gen msp430 --number 1 --steps 1",
-    ];
-    all_answer(&rt, &lines, &[EIGHT_BYTES], Status::Usage, "USAGE\n")
+    ] {
+        answers(&rt, words, EIGHT_BYTES, Status::Usage, "USAGE\n")?;
+    }
+    Ok(())
 }
 
 #[test]
@@ -332,7 +431,7 @@ fn rows_of_made_programs(rt: HostRuntime) -> Result<(), Fail> {
             "GEN mcs51 2000\nCLOSED\nE 10003\nI 10003\nM 12001\nO 0\nS 10003\nT 62 0\n",
         ),
     ] {
-        answers(&rt, words, &[], Status::Done, summary)?;
+        answers(&rt, words, "", Status::Done, summary)?;
     }
     Ok(())
 }
@@ -345,11 +444,19 @@ fn answers_feeds<R: Abort + Threads + Wait + AllocGlobal + Sync>(
     status: Status,
     text: &str,
 ) -> Result<(), Fail> {
-    let mut bytes = joined(rt.alloc(), &[first])?;
+    let words = words_of(rt.alloc(), "analyse msp430")?;
+    let mut bytes = Vec::from_slice(rt.alloc(), first.as_bytes())?;
     bytes.resize(count, b'\n')?;
     let mut source = CleanSource::new(bytes, 4096);
     let mut sink = CleanSink::with_room(rt.alloc(), 4096, 4096)?;
-    let outcome = called(rt, "analyse msp430", &mut source, &mut sink, &NoGate)?;
+    let outcome = vsa(
+        rt,
+        rt.alloc(),
+        words.as_slice(),
+        &mut source,
+        &mut sink,
+        &NoGate,
+    );
     assert_eq!(rt; outcome.status, status);
     assert_eq!(rt; sink.bytes(), text.as_bytes());
     Ok(())
@@ -375,11 +482,19 @@ fn rows_of_faults(rt: HostRuntime) -> Result<(), Fail> {
         (2, Status::ReadFault, ""),
         (4, Status::Done, REPORT),
     ] {
-        let bytes = joined(rt.alloc(), &[EIGHT_BYTES])?;
+        let words = words_of(rt.alloc(), "analyse msp430")?;
+        let bytes = Vec::from_slice(rt.alloc(), EIGHT_BYTES.as_bytes())?;
         let calls = vec![in rt.alloc(); failing]?;
         let mut source = MemSource::new(bytes, 40, calls);
         let mut sink = CleanSink::with_room(rt.alloc(), 4096, 4096)?;
-        let outcome = called(&rt, "analyse msp430", &mut source, &mut sink, &NoGate)?;
+        let outcome = vsa(
+            &rt,
+            rt.alloc(),
+            words.as_slice(),
+            &mut source,
+            &mut sink,
+            &NoGate,
+        );
         assert_eq!(rt; outcome.status, status, "call {failing}");
         assert_eq!(rt; sink.bytes(), text.as_bytes(), "call {failing}");
     }

@@ -1,9 +1,0 @@
-mod analyses;
-mod answers;
-mod asserts;
-mod calls;
-mod checks;
-mod mcs51;
-mod mirror;
-mod runs;
-mod workers;
