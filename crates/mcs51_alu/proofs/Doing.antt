@@ -17,10 +17,10 @@ use Rattle.mcs51_chip.specs.Registers.{with_accumulator}
 use Rattle.mcs51_chip.specs.Step.{effect_of, reading}
 use Rattle.mcs51_state.specs.Known.{Known}
 use Rattle.mcs51_state.specs.Under.{IsUnder}
-use Rattle.mcs51_operands.specs.Operands.{addresses_of}
-use Rattle.mcs51_operands.specs.Showing.{address_accesses}
-use Rattle.mcs51_operands.specs.Doing.{DoesSo, LeadsSo}
-use Rattle.mcs51_operands.specs.Accesses.{read_items}
+use Rattle.mcs51_state.specs.Operands.{addresses_of}
+use Rattle.mcs51_state.specs.Showing.{address_accesses}
+use Rattle.mcs51_state.specs.Doing.{DoesSo, LeadsSo}
+use Rattle.mcs51_state.specs.Accesses.{read_items}
 use Rattle.mcs51_alu.specs.Accumulator.{accumulated_known, changed_known, changes_carry, counted, immediate, loaded, sets_carry, source_items}
 use Rattle.mcs51_results.specs.InstructionLaws.{InstructionLaws}
 use Rattle.mcs51_alu.proofs.Changes.{change_so, changed_writes}

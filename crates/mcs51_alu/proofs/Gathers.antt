@@ -13,7 +13,7 @@ use Rattle.mcs51_state.specs.declared.fact.LinearFact.{LinearFact}
 use Rattle.mcs51_state.specs.Forms.{IsKnown, IsLinear}
 use Rattle.mcs51_state.specs.Known.{Known}
 use Rattle.mcs51_state.specs.Under.{IsUnder}
-use Rattle.mcs51_operands.specs.Reading.{ram_values, read_byte}
+use Rattle.mcs51_state.specs.Reading.{ram_values, read_byte}
 use Rattle.mcs51_alu.specs.LinearFacts.{linear_value, linear_values}
 use Rattle.mcs51_results.specs.InstructionLaws.{InstructionLaws}
 

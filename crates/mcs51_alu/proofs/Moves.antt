@@ -15,8 +15,8 @@ use Rattle.mcs51_state.specs.Holding.{HoldsOfLinear}
 use Rattle.mcs51_state.specs.Known.{Known, byte_of}
 use Rattle.mcs51_state.specs.Places.{suspended_of}
 use Rattle.mcs51_state.specs.Under.{IsUnder}
-use Rattle.mcs51_operands.specs.Operands.{addresses_of}
-use Rattle.mcs51_operands.specs.Reading.{read_byte}
+use Rattle.mcs51_state.specs.Operands.{addresses_of}
+use Rattle.mcs51_state.specs.Reading.{read_byte}
 use Rattle.mcs51_results.specs.Results.{decreased, increased}
 use Rattle.mcs51_alu.specs.Accumulator.{counted, immediate, loaded}
 use Rattle.mcs51_alu.specs.LinearFacts.{loaded_fact, only_address, whole}

@@ -22,8 +22,8 @@ use Rattle.mcs51_state.specs.Holding.{HoldsOfLinear}
 use Rattle.mcs51_state.specs.Known.{Known}
 use Rattle.mcs51_state.specs.Places.{suspended_of}
 use Rattle.mcs51_state.specs.Under.{IsUnder}
-use Rattle.mcs51_operands.specs.Operands.{addresses_of}
-use Rattle.mcs51_operands.specs.Reading.{read_byte}
+use Rattle.mcs51_state.specs.Operands.{addresses_of}
+use Rattle.mcs51_state.specs.Reading.{read_byte}
 use Rattle.mcs51_results.specs.declared.made.Made.{Made}
 use Rattle.mcs51_results.specs.Holding.{AreOperands, HoldsOfMade, IsMade, IsOperand}
 use Rattle.mcs51_results.specs.Results.{accumulated_made, twice_made}

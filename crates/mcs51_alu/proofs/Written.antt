@@ -20,7 +20,7 @@ use Rattle.mcs51_state.specs.Places.{suspended_of}
 use Rattle.mcs51_state.specs.Under.{IsUnder}
 use Rattle.mcs51_results.specs.declared.made.Made.{Made}
 use Rattle.mcs51_results.specs.Holding.{HoldsOfMade, IsMade, StandsMade}
-use Rattle.mcs51_stores.specs.Writing.{is_accumulator}
+use Rattle.mcs51_state.specs.Writing.{is_accumulator}
 use Rattle.mcs51_alu.specs.Accumulator.{carry_left, with_byte, with_made}
 use Rattle.mcs51_results.specs.InstructionLaws.{InstructionLaws}
 

@@ -18,14 +18,14 @@ use Rattle.mcs51_chip.specs.Memory.{address_of}
 use Rattle.mcs51_state.specs.declared.fact.CarryFact.{CarryFact}
 use Rattle.mcs51_state.specs.declared.fact.LinearFact.{LinearFact}
 use Rattle.mcs51_state.specs.Known.{Known, byte_of}
-use Rattle.mcs51_operands.specs.Operands.{addresses_of}
-use Rattle.mcs51_operands.specs.Reading.{read_byte}
-use Rattle.mcs51_operands.specs.Accesses.{read_items}
+use Rattle.mcs51_state.specs.Operands.{addresses_of}
+use Rattle.mcs51_state.specs.Reading.{read_byte}
+use Rattle.mcs51_state.specs.Accesses.{read_items}
 use Rattle.mcs51_results.specs.declared.made.Made.{Made}
 use Rattle.mcs51_results.specs.declared.made.Operand.{Operand}
 use Rattle.mcs51_results.specs.declared.made.Operand.TheVariants.{Constant, Among}
 use Rattle.mcs51_results.specs.Results.{accumulated_made, changed_made, decreased, increased, twice_made}
-use Rattle.mcs51_stores.specs.Writing.{carry_unless, is_accumulator}
+use Rattle.mcs51_state.specs.Writing.{carry_unless, is_accumulator}
 use Rattle.mcs51_alu.specs.LinearFacts.{added_fact, gathered_by, loaded_fact}
 
 -- WHAT IS LEFT OF FACTS

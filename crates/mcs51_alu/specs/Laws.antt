@@ -17,8 +17,8 @@ use Rattle.mcs51_chip.specs.Step.{effect_of}
 use Rattle.mcs51_state.specs.Forms.{IsKnown}
 use Rattle.mcs51_state.specs.Known.{Known}
 use Rattle.mcs51_state.specs.Under.{IsUnder}
-use Rattle.mcs51_operands.specs.Doing.{DoesSo}
-use Rattle.mcs51_operands.specs.Accesses.{read_items}
+use Rattle.mcs51_state.specs.Doing.{DoesSo}
+use Rattle.mcs51_state.specs.Accesses.{read_items}
 use Rattle.mcs51_alu.specs.Accumulator as accumulator
 use Rattle.mcs51_alu.specs.Accumulator.{MayBe, accumulated_known, changed_known, counted, loaded, source_items}
 

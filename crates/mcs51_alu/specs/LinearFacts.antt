@@ -14,8 +14,8 @@ use Rattle.mcs51_state.specs.declared.addresses.Addresses.{Addresses}
 use Rattle.mcs51_state.specs.declared.addresses.Addresses.TheVariants.{InRam, InSfr}
 use Rattle.mcs51_state.specs.declared.fact.LinearFact.{LinearFact}
 use Rattle.mcs51_state.specs.Known.{Known, byte_of}
-use Rattle.mcs51_operands.specs.Operands.{addresses_of}
-use Rattle.mcs51_operands.specs.Reading.{ram_values}
+use Rattle.mcs51_state.specs.Operands.{addresses_of}
+use Rattle.mcs51_state.specs.Reading.{ram_values}
 
 -- THE BYTE
 

@@ -7,11 +7,10 @@ use crate::linear::{added_fact, gathered_by, loaded_fact};
 use call_context::{Item, Sequence};
 use entry_value::{Byte, Cells};
 use mcs51_decode::{AccumulatorOperation, Memory, Operation, Source};
-use mcs51_operands::{addresses_of, read_byte, show_read};
 use mcs51_results::{
     Made, Operand, accumulated_made, changed_made, decreased, increased, twice_made,
 };
-use mcs51_state::{CarryFact, Compared, LinearFact, State};
+use mcs51_state::{CarryFact, Compared, LinearFact, State, addresses_of, read_byte, show_read};
 use value_set::Vs8;
 
 /// What is left of the fact of CY behind a write of the accumulator.

@@ -7,8 +7,7 @@ ghost use Rattle.mcs51_alu.specs.LinearFacts as linear;
 use arrayvec::ArrayVec;
 use entry_value::{Byte, Cells};
 use mcs51_decode::{Operation, Source};
-use mcs51_operands::{addresses_of, ram_values};
-use mcs51_state::{Addresses, LinearFact, State};
+use mcs51_state::{Addresses, LinearFact, State, addresses_of, ram_values};
 use value_set::{Vs8, sets_have_members};
 
 /// The only number of a set, if it has one alone.

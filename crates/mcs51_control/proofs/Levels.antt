@@ -9,7 +9,7 @@ use Rattle.mcs51_state.specs.Forms.{AreLevels, IsKnown}
 use Rattle.mcs51_state.specs.Known.{Known}
 use Rattle.mcs51_state.specs.Levels.{may_serve}
 use Rattle.mcs51_state.specs.Under.{IsUnder}
-use Rattle.mcs51_stores.specs.FactsStay.{facts_stay}
+use Rattle.mcs51_state.specs.FactsStay.{facts_stay}
 use Rattle.mcs51_control.specs.Returning.{level_left}
 
 -- IN SERVICE

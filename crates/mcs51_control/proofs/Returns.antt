@@ -9,7 +9,7 @@ use Rattle.mcs51_chip.specs.Step.{returned}
 use Rattle.mcs51_state.specs.Forms.{IsKnown}
 use Rattle.mcs51_state.specs.Known.{Known}
 use Rattle.mcs51_state.specs.Under.{IsUnder}
-use Rattle.mcs51_stores.specs.Stack.{byte_popped, stack_top}
+use Rattle.mcs51_state.specs.Stack.{byte_popped, stack_top}
 use Rattle.mcs51_results.specs.InstructionLaws.{InstructionLaws}
 use Rattle.mcs51_control.specs.Returning.{below_top, high_byte, interrupt_returned, low_byte, return_targets, returned_known}
 use Rattle.mcs51_control.proofs.Levels.{ended_form, ended_under}

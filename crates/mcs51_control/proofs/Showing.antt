@@ -12,9 +12,9 @@ use Rattle.mcs51_state.specs.declared.addresses.Addresses.TheVariants.{InRam}
 use Rattle.mcs51_state.specs.Known.{Known}
 use Rattle.mcs51_state.specs.Standing.{AreAddresses, MayStandAt}
 use Rattle.mcs51_state.specs.Under.{IsUnder}
-use Rattle.mcs51_operands.specs.Showing.{AreShown, access_of}
-use Rattle.mcs51_stores.specs.Stack.{raised, stack_top}
-use Rattle.mcs51_stores.specs.ValueFacts.{raised_has, raised_normal}
+use Rattle.mcs51_state.specs.Showing.{AreShown, access_of}
+use Rattle.mcs51_state.specs.Stack.{raised, stack_top}
+use Rattle.mcs51_state.specs.ValueFacts.{raised_has, raised_normal}
 use Rattle.mcs51_results.specs.InstructionLaws.{InstructionLaws}
 use Rattle.mcs51_control.specs.Returning.{below_top, call_accesses, return_accesses}
 use Rattle.mcs51_control.proofs.Tops.{below_form, below_stands}

@@ -11,8 +11,8 @@ use Rattle.mcs51_state.specs.Known.{Known}
 use Rattle.mcs51_state.specs.Places.{suspended_of}
 use Rattle.mcs51_state.specs.Standing.{AreAddresses, MayStandAt}
 use Rattle.mcs51_state.specs.Under.{IsUnder}
-use Rattle.mcs51_stores.specs.Stack.{byte_popped, stack_top}
-use Rattle.mcs51_stores.specs.ValueFacts.{lowered_normal}
+use Rattle.mcs51_state.specs.Stack.{byte_popped, stack_top}
+use Rattle.mcs51_state.specs.ValueFacts.{lowered_normal}
 use Rattle.mcs51_results.specs.InstructionLaws.{InstructionLaws}
 use Rattle.mcs51_control.specs.Returning.{below_top, high_byte, low_byte}
 

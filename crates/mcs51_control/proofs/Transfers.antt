@@ -17,10 +17,10 @@ use Rattle.mcs51_chip.specs.Registers.{data_pointer}
 use Rattle.mcs51_chip.specs.Step.{called, effect_of, going_to, returned}
 use Rattle.mcs51_state.specs.Known.{Known}
 use Rattle.mcs51_state.specs.Under.{IsUnder}
-use Rattle.mcs51_operands.specs.Operands.{jump_targets}
-use Rattle.mcs51_operands.specs.Showing.{AreShown}
-use Rattle.mcs51_operands.specs.Doing.{LandsSo}
-use Rattle.mcs51_stores.specs.Stack.{address_pushed}
+use Rattle.mcs51_state.specs.Operands.{jump_targets}
+use Rattle.mcs51_state.specs.Showing.{AreShown}
+use Rattle.mcs51_state.specs.Doing.{LandsSo}
+use Rattle.mcs51_state.specs.Stack.{address_pushed}
 use Rattle.mcs51_results.specs.InstructionLaws.{InstructionLaws}
 use Rattle.mcs51_control.specs.Returning.{call_accesses, interrupt_returned, return_accesses, return_targets, returned_known}
 use Rattle.mcs51_control.proofs.Levels.{ended_pc}

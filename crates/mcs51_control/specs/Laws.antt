@@ -16,10 +16,10 @@ use Rattle.mcs51_state.specs.Forms.{IsKnown}
 use Rattle.mcs51_state.specs.Holding.{GoesOn, StandsIn}
 use Rattle.mcs51_state.specs.Known.{Known, is_interrupt}
 use Rattle.mcs51_state.specs.Under.{IsUnder}
-use Rattle.mcs51_operands.specs.Operands.{jump_targets}
-use Rattle.mcs51_operands.specs.Showing.{AreShown}
-use Rattle.mcs51_operands.specs.Doing.{LandsSo}
-use Rattle.mcs51_stores.specs.Stack.{address_pushed}
+use Rattle.mcs51_state.specs.Operands.{jump_targets}
+use Rattle.mcs51_state.specs.Showing.{AreShown}
+use Rattle.mcs51_state.specs.Doing.{LandsSo}
+use Rattle.mcs51_state.specs.Stack.{address_pushed}
 use Rattle.mcs51_control.specs.Returning.{call_accesses, goes_back, interrupt_returned, return_accesses, return_targets, returned_known}
 
 -- The state that RET, or RETI, leaves stands under what is said, at one of the targets, and its reads are shown. Where RETI

@@ -14,9 +14,9 @@ use Rattle.mcs51_state.specs.declared.addresses.Addresses.{Addresses}
 use Rattle.mcs51_state.specs.declared.addresses.Addresses.TheVariants.{InRam}
 use Rattle.mcs51_state.specs.declared.levels.Levels.{Levels}
 use Rattle.mcs51_state.specs.Known.{Known}
-use Rattle.mcs51_operands.specs.Reading.{read_byte}
-use Rattle.mcs51_operands.specs.Showing.{access_of}
-use Rattle.mcs51_stores.specs.Stack.{byte_popped, raised, stack_top}
+use Rattle.mcs51_state.specs.Reading.{read_byte}
+use Rattle.mcs51_state.specs.Showing.{access_of}
+use Rattle.mcs51_state.specs.Stack.{byte_popped, raised, stack_top}
 
 -- RETURNS
 

@@ -4,7 +4,7 @@
 //!   and RETI ends a level. [`goes_back`]: whether RETI goes back to the state that the frame's interrupt suspended.
 //! - [`show_call`] and [`show_return`]: the accesses to show.
 //!
-//! Each is exact by a formula of `specs/Returning.antt`. What a call leaves is a push of `mcs51_stores`. The laws are functions
+//! Each is exact by a formula of `specs/Returning.antt`. What a call leaves is a push of `mcs51_state`. The laws are functions
 //! that do nothing: [`returns_hold`], and [`transfers_do`], that each instruction does what is said of it.
 #![tactic(auto)]
 

@@ -5,9 +5,7 @@ ghost use Rattle.mcs51_control.specs.Returning as returning;
 
 use call_context::{Frame, Item, Sequence};
 use entry_value::{Byte, Cells, Entry};
-use mcs51_operands::{access, read_byte};
-use mcs51_state::{Addresses, Levels, State};
-use mcs51_stores::{pop_byte, stack_top};
+use mcs51_state::{Addresses, Levels, State, access, pop_byte, read_byte, stack_top};
 use no_memory::Memory;
 use value_bits::w16;
 use value_set::{Vs8, Vs16};

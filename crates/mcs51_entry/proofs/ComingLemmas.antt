@@ -21,7 +21,7 @@ use Rattle.mcs51_state.specs.Forms.{IsEntrySp, IsFrame, IsKnown}
 use Rattle.mcs51_state.specs.Holding.{CameAt}
 use Rattle.mcs51_state.specs.Known.{Known}
 use Rattle.mcs51_state.specs.Under.{IsUnder}
-use Rattle.mcs51_operands.specs.Reading.{read_bit}
+use Rattle.mcs51_state.specs.Reading.{read_bit}
 use Rattle.mcs51_entry.specs.declared.coming.Coming.{Coming}
 use Rattle.mcs51_entry.specs.Coming.{ComesSo, comings_at, comings_of, frame_of_coming, level_comings, level_in, may_be, may_enable, may_have, may_level, source_comings}
 use Rattle.mcs51_results.specs.InstructionLaws.{InstructionLaws}

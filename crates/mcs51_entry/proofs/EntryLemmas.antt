@@ -26,9 +26,9 @@ use Rattle.mcs51_state.specs.Holding.{Covers, HoldsOf, HoldsOfCarry, HoldsOfLine
 use Rattle.mcs51_state.specs.Known.{Known}
 use Rattle.mcs51_state.specs.Levels.{may_serve}
 use Rattle.mcs51_state.specs.Under.{IsUnder}
-use Rattle.mcs51_operands.specs.Showing.{AreShown, access_of}
-use Rattle.mcs51_stores.specs.Following.{IsValue}
-use Rattle.mcs51_stores.specs.Stack.{pair_pushed, raised}
+use Rattle.mcs51_state.specs.Showing.{AreShown, access_of}
+use Rattle.mcs51_state.specs.Following.{IsValue}
+use Rattle.mcs51_state.specs.Stack.{pair_pushed, raised}
 use Rattle.mcs51_entry.specs.declared.coming.Coming.{Coming}
 use Rattle.mcs51_entry.specs.Coming.{ComesSo, comings_of, frame_of_coming}
 use Rattle.mcs51_entry.specs.Entering.{counter_pushed, entered_known, entry_accesses, handed, levels_at, related}

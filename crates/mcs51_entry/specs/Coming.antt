@@ -15,7 +15,7 @@ use Rattle.mcs51_chip.specs.Interrupts.{coming, is_high}
 use Rattle.mcs51_state.specs.declared.addresses.Addresses.TheVariants.{InSfr}
 use Rattle.mcs51_state.specs.Holding.{CameAt}
 use Rattle.mcs51_state.specs.Known.{Known}
-use Rattle.mcs51_operands.specs.Reading.{read_bit}
+use Rattle.mcs51_state.specs.Reading.{read_bit}
 use Rattle.mcs51_entry.specs.declared.coming.Coming.{Coming}
 
 -- WHICH MAY COME

@@ -13,8 +13,8 @@ use Rattle.mcs51_state.specs.declared.addresses.Addresses.TheVariants.{InRam}
 use Rattle.mcs51_state.specs.declared.levels.Levels.{Levels}
 use Rattle.mcs51_state.specs.Known.{Known}
 use Rattle.mcs51_state.specs.Places.{ie_place, ip_place, psw_place}
-use Rattle.mcs51_operands.specs.Showing.{access_of}
-use Rattle.mcs51_stores.specs.Stack.{pair_pushed, raised}
+use Rattle.mcs51_state.specs.Showing.{access_of}
+use Rattle.mcs51_state.specs.Stack.{pair_pushed, raised}
 use Rattle.mcs51_entry.specs.declared.coming.Coming.{Coming}
 
 -- the relation of a place to itself when the interrupt came

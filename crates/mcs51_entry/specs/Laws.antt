@@ -9,7 +9,7 @@ use Rattle.mcs51_state.specs.Forms.{IsFrame, IsKnown}
 use Rattle.mcs51_state.specs.Holding.{Covers}
 use Rattle.mcs51_state.specs.Known.{Known}
 use Rattle.mcs51_state.specs.Under.{IsUnder}
-use Rattle.mcs51_operands.specs.Showing.{AreShown}
+use Rattle.mcs51_state.specs.Showing.{AreShown}
 use Rattle.mcs51_entry.specs.declared.coming.Coming.{Coming}
 use Rattle.mcs51_entry.specs.Coming.{ComesSo, comings_of, frame_of_coming}
 use Rattle.mcs51_entry.specs.Entering.{entered_known, entry_accesses}

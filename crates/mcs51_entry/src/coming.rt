@@ -8,8 +8,7 @@ ghost use Rattle.mcs51_entry.specs.Coming as entry;
 
 use call_context::{Frame, Sequence};
 use entry_value::Cells;
-use mcs51_operands::read_bit;
-use mcs51_state::{Addresses, State};
+use mcs51_state::{Addresses, State, read_bit};
 use no_memory::Memory;
 use std::alloc::Global;
 use value_bits::Tri;

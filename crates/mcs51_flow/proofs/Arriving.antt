@@ -12,11 +12,11 @@ use Rattle.mcs51_chip.specs.Step.{Effect}
 use Rattle.mcs51_state.specs.Forms.{IsKnown}
 use Rattle.mcs51_state.specs.Holding.{HoldsOf}
 use Rattle.mcs51_state.specs.Known.{Known, known_joined, known_within}
-use Rattle.mcs51_operands.specs.Doing.{Goes as GoesOneWay}
-use Rattle.mcs51_operands.specs.Doing.Goes.{GoesOn, Jumps}
-use Rattle.mcs51_running.specs.declared.ran.Way.{Way}
-use Rattle.mcs51_running.specs.declared.ran.Way.TheVariants.{Lands, Goes}
-use Rattle.mcs51_running.specs.Doing.{IsWay}
+use Rattle.mcs51_state.specs.Doing.{Goes as GoesOneWay}
+use Rattle.mcs51_state.specs.Doing.Goes.{GoesOn, Jumps}
+use Rattle.mcs51_flow.specs.declared.ran.Way.{Way}
+use Rattle.mcs51_flow.specs.declared.ran.Way.TheVariants.{Lands, Goes}
+use Rattle.mcs51_flow.specs.Doing.{IsWay}
 use Rattle.unit_ways.specs.Ways.{ways_of}
 use Rattle.mcs51_flow.specs.Chip.{LeadsTo}
 use Rattle.mcs51_flow.specs.Going.{onward_by}

@@ -32,14 +32,14 @@ use Rattle.mcs51_chip.specs.Step.{Effect, Outcome, accessed, called, entered as 
 use Rattle.mcs51_state.specs.Holding.{Covers, HoldsOf, StandsIn}
 use Rattle.mcs51_state.specs.Known.{Known, is_interrupt, known_joined}
 use Rattle.mcs51_state.specs.Under.{IsUnder}
-use Rattle.mcs51_operands.specs.Showing.{AreShown}
+use Rattle.mcs51_state.specs.Showing.{AreShown}
 use Rattle.mcs51_entry.specs.declared.coming.Coming.{Coming}
 use Rattle.mcs51_entry.specs.Coming.{ComesSo}
 use Rattle.mcs51_entry.specs.Entering.{entry_accesses, entry_edge}
-use Rattle.mcs51_running.specs.declared.ran.Way.{Way}
-use Rattle.mcs51_running.specs.declared.ran.Way.TheVariants as way
-use Rattle.mcs51_running.specs.Doing.{IsWay, IsWaySo, RunsSo}
-use Rattle.mcs51_running.specs.Running.{Ran, ran_of}
+use Rattle.mcs51_flow.specs.declared.ran.Way.{Way}
+use Rattle.mcs51_flow.specs.declared.ran.Way.TheVariants as way
+use Rattle.mcs51_flow.specs.Doing.{IsWay, IsWaySo, RunsSo}
+use Rattle.mcs51_flow.specs.Running.{Ran, ran_of}
 use Rattle.plain_lemmas.specs.Members.{from_map, in_first, in_one}
 use Rattle.mcs51_flow.specs.declared.setting.Setting.{Setting}
 use Rattle.mcs51_flow.specs.Chip.{IsSetting, entry_items, mcs51_analysis, mcs51_flow}

@@ -27,7 +27,7 @@ use Rattle.mcs51_state.specs.Holding.{Covers, HoldsOf, StandsIn}
 use Rattle.mcs51_state.specs.Known.{Known, is_interrupt, known_joined, known_widened, top_known}
 use Rattle.mcs51_state.specs.Under.{IsUnder}
 use Rattle.mcs51_resume.specs.Resume.{resumed_known}
-use Rattle.mcs51_running.specs.Running.{ran_of}
+use Rattle.mcs51_flow.specs.Running.{ran_of}
 use Rattle.mcs51_flow.specs.declared.setting.Setting.{Setting}
 use Rattle.mcs51_flow.specs.Chip.{IsSetting, mcs51_analysis, mcs51_flow}
 use Rattle.mcs51_flow.specs.Going.{leaves_frame}

@@ -8,3 +8,5 @@ pub mod Returning
 pub mod StackLemmas
 pub mod Stepping
 pub mod Texts
+pub mod RanForms
+pub mod Instructions

@@ -28,14 +28,14 @@ use Rattle.mcs51_state.specs.Holding.{CameAt, Covers, GoesOn, HoldsOf, HoldsOfPa
 use Rattle.mcs51_state.specs.Known.{Known, first_known, is_interrupt, known_joined, known_widened, known_within, top_known}
 use Rattle.value_set.specs.Laws.{AreMarks}
 use Rattle.mcs51_state.specs.Under.{IsUnder}
-use Rattle.mcs51_operands.specs.Showing.{AreShown}
+use Rattle.mcs51_state.specs.Showing.{AreShown}
 use Rattle.mcs51_entry.specs.declared.coming.Coming.{Coming}
 use Rattle.mcs51_entry.specs.Coming.{ComesSo, comings_of, frame_of_coming}
 use Rattle.mcs51_entry.specs.Entering.{entered_known, entry_accesses}
 use Rattle.mcs51_control.specs.Returning.{goes_back}
 use Rattle.mcs51_resume.specs.Resume.{resumed_known}
-use Rattle.mcs51_running.specs.Doing.{IsWay, RunsSo}
-use Rattle.mcs51_running.specs.Running.{ran_of}
+use Rattle.mcs51_flow.specs.Doing.{IsWay, RunsSo}
+use Rattle.mcs51_flow.specs.Running.{ran_of}
 
 -- sets
 pub record Sets : Type 0 where

@@ -14,11 +14,11 @@ use Rattle.mcs51_state.specs.Holding.{GoesOn, HoldsOf, StandsIn}
 use Rattle.mcs51_state.specs.Known.{Known, is_interrupt}
 use Rattle.mcs51_state.specs.Under.{IsUnder}
 use Rattle.mcs51_control.specs.Returning.{goes_back, interrupt_returned, return_targets}
-use Rattle.mcs51_operands.specs.Doing.{LandsSo}
-use Rattle.mcs51_running.specs.declared.ran.Way.{Way}
-use Rattle.mcs51_running.specs.declared.ran.Way.TheVariants.{Lands, Goes}
-use Rattle.mcs51_running.specs.Doing.{IsWaySo, RunsSo}
-use Rattle.mcs51_running.specs.Running.{behind_of, items_of, ran_from, ran_of, targets_of}
+use Rattle.mcs51_state.specs.Doing.{LandsSo}
+use Rattle.mcs51_flow.specs.declared.ran.Way.{Way}
+use Rattle.mcs51_flow.specs.declared.ran.Way.TheVariants.{Lands, Goes}
+use Rattle.mcs51_flow.specs.Doing.{IsWaySo, RunsSo}
+use Rattle.mcs51_flow.specs.Running.{behind_of, items_of, ran_from, ran_of, targets_of}
 use Rattle.mcs51_flow.specs.Going.{leaves_frame}
 use Rattle.mcs51_flow.proofs.Premises.{Laws}
 

@@ -24,11 +24,11 @@ use Rattle.mcs51_decode.specs.Targets.{following}
 use Rattle.mcs51_state.specs.declared.addresses.Addresses.{Addresses}
 use Rattle.mcs51_state.specs.declared.addresses.Addresses.TheVariants.{InRam, InSfr}
 use Rattle.mcs51_state.specs.Known.{Known, is_interrupt, known_joined}
-use Rattle.mcs51_operands.specs.Accesses.{read_at, read_items, update_items, write_at, write_items}
-use Rattle.mcs51_operands.specs.Showing.{access_of, address_accesses, pointer_accesses}
+use Rattle.mcs51_state.specs.Accesses.{read_at, read_items, update_items, write_at, write_items}
+use Rattle.mcs51_state.specs.Showing.{access_of, address_accesses, pointer_accesses}
 use Rattle.mcs51_jumps.specs.Jumps.{bit_items, clearing_items}
 use Rattle.mcs51_control.specs.Returning.{below_top}
-use Rattle.mcs51_running.specs.Running.{Ran, items_of, ran_from, ran_of}
+use Rattle.mcs51_flow.specs.Running.{Ran, items_of, ran_from, ran_of}
 use Rattle.mcs51_flow.specs.declared.setting.Setting.{Setting}
 use Rattle.mcs51_flow.specs.Chip.{mcs51_analysis, mcs51_flow}
 

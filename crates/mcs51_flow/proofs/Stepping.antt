@@ -28,8 +28,8 @@ use Rattle.mcs51_state.specs.Known.{Known, is_interrupt, known_joined}
 use Rattle.mcs51_state.specs.Under.{IsFramed, IsUnder}
 use Rattle.mcs51_entry.specs.declared.coming.Coming.{Coming}
 use Rattle.mcs51_entry.specs.Coming.{ComesSo}
-use Rattle.mcs51_running.specs.Doing.{RunsSo}
-use Rattle.mcs51_running.specs.Running.{ran_of}
+use Rattle.mcs51_flow.specs.Doing.{RunsSo}
+use Rattle.mcs51_flow.specs.Running.{ran_of}
 use Rattle.mcs51_flow.specs.declared.setting.Setting.{Setting}
 use Rattle.mcs51_flow.specs.Chip.{mcs51_analysis, mcs51_flow}
 use Rattle.mcs51_flow.specs.Going.{leaves_frame}

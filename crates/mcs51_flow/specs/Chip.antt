@@ -28,9 +28,9 @@ use Rattle.mcs51_entry.specs.declared.coming.Coming.{Coming}
 use Rattle.mcs51_entry.specs.Coming.{comings_of, frame_of_coming}
 use Rattle.mcs51_entry.specs.Entering.{entered_known, entry_accesses, entry_edge}
 use Rattle.mcs51_resume.specs.Resume.{resumed_known}
-use Rattle.mcs51_running.specs.declared.ran.Way.{Way}
-use Rattle.mcs51_running.specs.declared.ran.Way.TheVariants.{Lands, Goes}
-use Rattle.mcs51_running.specs.Running.{Ran, ran_of}
+use Rattle.mcs51_flow.specs.declared.ran.Way.{Way}
+use Rattle.mcs51_flow.specs.declared.ran.Way.TheVariants.{Lands, Goes}
+use Rattle.mcs51_flow.specs.Running.{Ran, ran_of}
 use Rattle.mcs51_flow.specs.declared.setting.Setting.{Setting}
 use Rattle.mcs51_flow.specs.Going.{leaves_frame, onward_by}
 use Rattle.mcs51_flow.specs.Labels.{effect_on_calls}

@@ -8,8 +8,8 @@ use Rattle.mcs51_decode.specs.declared.instr.Instr.{Instr}
 use Rattle.mcs51_decode.specs.declared.instr.Instr.TheVariants.{ReturnFromInterrupt}
 use Rattle.mcs51_state.specs.Known.{Known, is_interrupt}
 use Rattle.mcs51_control.specs.Returning.{goes_back}
-use Rattle.mcs51_running.specs.declared.ran.Way.{Way}
-use Rattle.mcs51_running.specs.declared.ran.Way.TheVariants.{Lands, Goes}
+use Rattle.mcs51_flow.specs.declared.ran.Way.{Way}
+use Rattle.mcs51_flow.specs.declared.ran.Way.TheVariants.{Lands, Goes}
 
 -- RETI that goes back to where the interrupt of its frame came
 abbrev pub leaves_frame : Frame → Known → Instr → Bool

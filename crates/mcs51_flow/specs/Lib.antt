@@ -5,3 +5,6 @@ pub mod Chip
 pub mod Machine
 pub mod Marks
 pub mod Texts
+pub mod Running
+pub mod Doing
+pub mod InstrPremises

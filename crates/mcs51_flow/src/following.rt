@@ -8,6 +8,8 @@ ghost use Rattle.mcs51_state.specs.Known.{is_interrupt as the_interrupt, known_j
 use crate::chip::Mcs51Chip;
 use crate::kept::{Abs, Kept};
 use crate::labels::effect_on_calls;
+use crate::ran::{Ran, Way};
+use crate::running::run;
 use call_context::{Frame, InstrBytes, Item, Sequence, Set};
 use chip_flow::{CallEffect, Flow, Followed, Onward, add_handler};
 use chip_law::Work;
@@ -15,7 +17,6 @@ use mcs51_control::goes_back;
 use mcs51_decode::{Instr, encode};
 use mcs51_entry::{Coming, add_entry_items, comings, entered, entries_hold, frame_of, handler_of};
 use mcs51_resume::resume;
-use mcs51_running::{Ran, Way, run};
 use no_memory::Memory;
 use std::alloc::Global;
 use unit_ways::are_too_many;

@@ -6,7 +6,7 @@ use Rattle.mcs51_chip.specs.NumberFacts.{target_below}
 use Rattle.mcs51_chip.specs.Step.{branched, going_to}
 use Rattle.mcs51_state.specs.Known.{Known}
 use Rattle.mcs51_state.specs.Under.{IsUnder}
-use Rattle.mcs51_operands.specs.Doing.{Goes, GoesOn, Jumps}
+use Rattle.mcs51_state.specs.Doing.{Goes, GoesOn, Jumps}
 use Rattle.mcs51_jumps.specs.Premises.{Premises}
 
 -- the program counter doesn't count

@@ -20,13 +20,13 @@ use Rattle.mcs51_chip.specs.Step.{branched, cleared, effect_of, jumping_on_bit}
 use Rattle.mcs51_state.specs.Forms.{IsKnown}
 use Rattle.mcs51_state.specs.Known.{Known}
 use Rattle.mcs51_state.specs.Under.{IsUnder}
-use Rattle.mcs51_operands.specs.Operands.{bit_addresses}
-use Rattle.mcs51_operands.specs.Showing.{AreShown}
-use Rattle.mcs51_operands.specs.Giving.{of_one}
-use Rattle.mcs51_operands.specs.Doing.{GoesSo}
-use Rattle.mcs51_operands.specs.Accesses.{write_at}
+use Rattle.mcs51_state.specs.Operands.{bit_addresses}
+use Rattle.mcs51_state.specs.Showing.{AreShown}
+use Rattle.mcs51_state.specs.Giving.{of_one}
+use Rattle.mcs51_state.specs.Doing.{GoesSo}
+use Rattle.mcs51_state.specs.Accesses.{write_at}
 use Rattle.mcs51_jumps.specs.Jumps.{AreWays, bit_items, clearing_items, read_of, ways_on_bit, where_bit, where_cleared}
-use Rattle.mcs51_bits.specs.Bits.{bit_changed}
+use Rattle.mcs51_jumps.specs.Bits.{bit_changed}
 use Rattle.mcs51_jumps.specs.Premises.{Premises}
 use Rattle.mcs51_jumps.proofs.Branching.{goes, goes_on, jumps}
 use Rattle.mcs51_jumps.proofs.Numbers.{bit_place, bit_small, bit_so, clear_bit, place_small, set_bit}

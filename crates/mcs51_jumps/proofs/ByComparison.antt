@@ -21,15 +21,15 @@ use Rattle.mcs51_state.specs.declared.fact.Compared.TheVariants.{Accumulator}
 use Rattle.mcs51_state.specs.Forms.{IsCarry, IsKnown}
 use Rattle.mcs51_state.specs.Known.{Known}
 use Rattle.mcs51_state.specs.Under.{IsUnder}
-use Rattle.mcs51_operands.specs.Operands.{direct_addresses, working_addresses}
-use Rattle.mcs51_operands.specs.Reading.{read_byte}
-use Rattle.mcs51_operands.specs.Showing.{pointer_accesses}
+use Rattle.mcs51_state.specs.Operands.{direct_addresses, working_addresses}
+use Rattle.mcs51_state.specs.Reading.{read_byte}
+use Rattle.mcs51_state.specs.Showing.{pointer_accesses}
 use Rattle.mcs51_branch.specs.declared.operand.Operand.{Operand}
 use Rattle.mcs51_branch.specs.declared.operand.Operand.TheVariants.{One}
 use Rattle.mcs51_branch.specs.Jumps.{IsNumberOf, IsOperand, compared_with, comparison_cut, is_less, with_carry_written}
-use Rattle.mcs51_operands.specs.Giving.{of_one}
-use Rattle.mcs51_operands.specs.Doing.{Goes, GoesSo}
-use Rattle.mcs51_operands.specs.Accesses.{read_at, read_items}
+use Rattle.mcs51_state.specs.Giving.{of_one}
+use Rattle.mcs51_state.specs.Doing.{Goes, GoesSo}
+use Rattle.mcs51_state.specs.Accesses.{read_at, read_items}
 use Rattle.mcs51_jumps.specs.Jumps.{AreWays, comparison_items, operand_at, ways_by_comparison, working_set}
 use Rattle.mcs51_jumps.specs.Premises.{Premises}
 use Rattle.mcs51_jumps.proofs.Branching.{goes}

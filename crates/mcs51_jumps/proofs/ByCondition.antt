@@ -10,7 +10,7 @@ use Rattle.mcs51_state.specs.Forms.{IsKnown}
 use Rattle.mcs51_state.specs.Known.{Known}
 use Rattle.mcs51_state.specs.Under.{IsUnder}
 use Rattle.mcs51_branch.specs.Jumps.{condition_cut}
-use Rattle.mcs51_operands.specs.Doing.{GoesSo}
+use Rattle.mcs51_state.specs.Doing.{GoesSo}
 use Rattle.mcs51_jumps.specs.Jumps.{AreWays, ways_on_condition}
 use Rattle.mcs51_jumps.specs.Premises.{Premises}
 use Rattle.mcs51_jumps.proofs.Branching.{goes}

@@ -21,13 +21,13 @@ use Rattle.mcs51_state.specs.Forms.{IsKnown}
 use Rattle.mcs51_state.specs.Known.{Known, byte_of}
 use Rattle.mcs51_state.specs.Standing.{AreAddresses, MayStandAt}
 use Rattle.mcs51_state.specs.Under.{IsUnder}
-use Rattle.mcs51_operands.specs.Operands.{addresses_of}
-use Rattle.mcs51_operands.specs.Reading.{read_byte}
-use Rattle.mcs51_stores.specs.ValueFacts.{plain_value}
+use Rattle.mcs51_state.specs.Operands.{addresses_of}
+use Rattle.mcs51_state.specs.Reading.{read_byte}
+use Rattle.mcs51_state.specs.ValueFacts.{plain_value}
 use Rattle.mcs51_branch.specs.Jumps.{lowered_cut}
-use Rattle.mcs51_operands.specs.Giving.{of_one}
-use Rattle.mcs51_operands.specs.Doing.{GoesSo}
-use Rattle.mcs51_operands.specs.Accesses.{update_at}
+use Rattle.mcs51_state.specs.Giving.{of_one}
+use Rattle.mcs51_state.specs.Doing.{GoesSo}
+use Rattle.mcs51_state.specs.Accesses.{update_at}
 use Rattle.mcs51_jumps.specs.Jumps.{AreWays, counted, counter_items, lowered_at, set_written, ways_by_counter}
 use Rattle.mcs51_jumps.specs.Premises.{Premises}
 use Rattle.mcs51_jumps.proofs.Branching.{goes}

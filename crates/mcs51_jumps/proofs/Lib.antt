@@ -5,3 +5,5 @@ pub mod ByBit
 pub mod Operands
 pub mod ByComparison
 pub mod ByCounter
+pub mod Carries
+pub mod ChangedBits

@@ -18,7 +18,7 @@ use Rattle.mcs51_state.specs.declared.addresses.Addresses.TheVariants.{InRam}
 use Rattle.mcs51_state.specs.Forms.{IsKnown}
 use Rattle.mcs51_state.specs.Known.{Known}
 use Rattle.mcs51_state.specs.Under.{IsUnder}
-use Rattle.mcs51_operands.specs.Reading.{ram_values, read_byte}
+use Rattle.mcs51_state.specs.Reading.{ram_values, read_byte}
 use Rattle.mcs51_branch.specs.Jumps.{IsNumberOf, IsOperand}
 use Rattle.mcs51_jumps.specs.Jumps.{operand_among, operand_at, working_set}
 use Rattle.mcs51_jumps.specs.Premises.{Premises}

@@ -22,15 +22,15 @@ use Rattle.mcs51_state.specs.declared.addresses.Addresses.{Addresses}
 use Rattle.mcs51_state.specs.declared.fact.Compared.TheVariants.{Accumulator, Ram}
 use Rattle.mcs51_state.specs.Forms.{IsKnown}
 use Rattle.mcs51_state.specs.Known.{Known, byte_of}
-use Rattle.mcs51_operands.specs.Operands.{addresses_of, bit_addresses, direct_addresses, pointed_addresses, register_addresses}
-use Rattle.mcs51_operands.specs.Reading.{ram_values, read_byte}
-use Rattle.mcs51_stores.specs.Writing.{byte_written}
-use Rattle.mcs51_bits.specs.Bits.{bit_changed}
+use Rattle.mcs51_state.specs.Operands.{addresses_of, bit_addresses, direct_addresses, pointed_addresses, register_addresses}
+use Rattle.mcs51_state.specs.Reading.{ram_values, read_byte}
+use Rattle.mcs51_state.specs.Writing.{byte_written}
+use Rattle.mcs51_jumps.specs.Bits.{bit_changed}
 use Rattle.mcs51_branch.specs.declared.operand.Operand.{Operand}
 use Rattle.mcs51_branch.specs.declared.operand.Operand.TheVariants.{One, Several}
 use Rattle.mcs51_branch.specs.Jumps.{compared_with, comparison_cut, condition_cut, lowered_cut}
 use Rattle.mcs51_branch.specs.Testing.{bit_tested}
-use Rattle.mcs51_operands.specs.Accesses.{read_at, read_items, update_at, update_items}
+use Rattle.mcs51_state.specs.Accesses.{read_at, read_items, update_at, update_items}
 
 -- what is known behind the jump where it isn't taken, and where it is; none where that can't be
 pub record Ways : Type 0 where

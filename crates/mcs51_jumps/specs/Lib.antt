@@ -1,3 +1,5 @@
 pub mod Jumps
-pub mod Laws
+pub mod JumpLaws
 pub mod Premises
+pub mod Bits
+pub mod BitLaws

@@ -1,11 +1,25 @@
-//! What holds of both ways of jumps.
+//! What holds of instructions on CY and on bits, and of both ways of jumps.
 
+ghost use Rattle.mcs51_jumps.specs.BitLaws.{BitsDo, BitsKeepForm};
 ghost use Rattle.mcs51_jumps.specs.Premises.{Premises};
-ghost use Rattle.mcs51_jumps.specs.Laws.{JumpsDo, JumpsKeepForm};
+ghost use Rattle.mcs51_jumps.specs.JumpLaws.{JumpsDo, JumpsKeepForm};
 
-use mcs51_bits::{bits_do, bits_keep_form};
 use mcs51_branch::branch_laws;
 use mcs51_results::instruction_laws;
+
+/// An instruction on CY or on a bit does what is said, whatever number the chip reads.
+pub fn bits_do()
+    ensures { BitsDo }
+{
+    instruction_laws();
+}
+
+/// What is said behind an instruction on CY or on a bit is in form.
+pub fn bits_keep_form()
+    ensures { BitsKeepForm }
+{
+    instruction_laws();
+}
 
 /// The laws of cuts, operands, bits, writes and formats that those below rest on.
 fn premises_hold()

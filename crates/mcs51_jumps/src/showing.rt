@@ -7,8 +7,7 @@ use crate::ways::counted;
 use call_context::{Item, Sequence};
 use entry_value::Cells;
 use mcs51_decode::{BitTest, Comparison, Counter};
-use mcs51_operands::{access, bit_addresses, show_read, show_update, show_update_at};
-use mcs51_state::State;
+use mcs51_state::{State, access, bit_addresses, show_read, show_update, show_update_at};
 use no_memory::Memory;
 
 /// Adds the read of JB and JNB. Behind an error the items are of no use.

@@ -7,11 +7,10 @@ ghost use Rattle.mcs51_jumps.specs.Jumps as jumps;
 use entry_value::{Byte, Cells};
 use mcs51_branch::{Operand, compare_with, cut_by_comparison, cut_by_condition, lowered};
 use mcs51_decode::{Comparison, Condition, Counter, Working, number_of_register};
-use mcs51_operands::{
-    addresses_of, direct_addresses, pointed_addresses, ram_values, read_byte, register_addresses,
+use mcs51_state::{
+    Addresses, Compared, State, addresses_of, direct_addresses, pointed_addresses, ram_values,
+    read_byte, register_addresses, write_byte,
 };
-use mcs51_state::{Addresses, Compared, State};
-use mcs51_stores::write_byte;
 use no_memory::Memory;
 use std::alloc::Global;
 use std::marker::Model;

@@ -9,7 +9,7 @@ use hex_digits::bytes;
 use image::Image;
 use mcs51_control::goes_back;
 use mcs51_decode::{Instr, decode};
-use mcs51_running::{Ran, Way, run};
+use mcs51_flow::{Ran, Way, run};
 use mcs51_state::State;
 use no_memory::Memory;
 use std::alloc::Global;

@@ -24,15 +24,15 @@ use Rattle.mcs51_chip.specs.Step.{accessed, effect_of, reading_code}
 use Rattle.mcs51_state.specs.Forms.{IsKnown}
 use Rattle.mcs51_state.specs.Known.{Known, any_byte, byte_of}
 use Rattle.mcs51_state.specs.Under.{IsUnder}
-use Rattle.mcs51_operands.specs.Giving.{of_one}
-use Rattle.mcs51_operands.specs.Doing.{DoesSo, LeadsSo}
+use Rattle.mcs51_state.specs.Giving.{of_one}
+use Rattle.mcs51_state.specs.Doing.{DoesSo, LeadsSo}
 use Rattle.mcs51_memories.specs.Codes.{byte_set, code_addresses, code_items, code_loaded, code_set, code_values}
 use Rattle.mcs51_results.specs.InstructionLaws.{InstructionLaws}
-use Rattle.mcs51_operands.specs.ShowingFacts.{one_shown}
-use Rattle.mcs51_stores.specs.ValueFacts.{plain_value}
+use Rattle.mcs51_state.specs.ShowingFacts.{one_shown}
+use Rattle.mcs51_state.specs.ValueFacts.{plain_value}
 use Rattle.mcs51_state.specs.FormFacts.{byte_form}
-use Rattle.mcs51_operands.specs.Joined.{any_of}
-use Rattle.mcs51_operands.specs.JoinedFacts.{any_has, any_normal}
+use Rattle.mcs51_state.specs.Joined.{any_of}
+use Rattle.mcs51_state.specs.JoinedFacts.{any_has, any_normal}
 
 -- ONE ADDRESS
 

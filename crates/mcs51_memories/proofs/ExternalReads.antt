@@ -19,11 +19,11 @@ use Rattle.mcs51_chip.specs.Step.{Effect, accessed, effect_of, external_reads, r
 use Rattle.mcs51_state.specs.Forms.{IsKnown}
 use Rattle.mcs51_state.specs.Known.{Known, any_byte, byte_of}
 use Rattle.mcs51_state.specs.Under.{IsUnder}
-use Rattle.mcs51_operands.specs.Operands.{pointed_addresses}
-use Rattle.mcs51_operands.specs.Showing.{AreShown}
-use Rattle.mcs51_operands.specs.Giving.{of_one}
-use Rattle.mcs51_operands.specs.Doing.{DoesSo, LeadsSo}
-use Rattle.mcs51_operands.specs.ShowingFacts.{one_shown}
+use Rattle.mcs51_state.specs.Operands.{pointed_addresses}
+use Rattle.mcs51_state.specs.Showing.{AreShown}
+use Rattle.mcs51_state.specs.Giving.{of_one}
+use Rattle.mcs51_state.specs.Doing.{DoesSo, LeadsSo}
+use Rattle.mcs51_state.specs.ShowingFacts.{one_shown}
 use Rattle.mcs51_memories.specs.Externals.{external_addresses, external_items, external_loaded, register_items}
 use Rattle.mcs51_results.specs.InstructionLaws.{InstructionLaws}
 use Rattle.mcs51_memories.proofs.Values.{any_is, any_value}

@@ -21,9 +21,9 @@ use Rattle.mcs51_results.specs.declared.made.MadePair.{MadePair}
 use Rattle.mcs51_results.specs.Holding.{HoldsOfPair, IsPair, StandsPair}
 use Rattle.mcs51_results.specs.HoldingFacts.{status_of_known}
 use Rattle.mcs51_results.specs.Results.{divided_made, multiplied_made, pointer_increased}
-use Rattle.mcs51_stores.specs.ValueFacts.{plain_value}
-use Rattle.mcs51_operands.specs.Doing.{DoesSo}
-use Rattle.mcs51_operands.specs.ShowingFacts.{none_shown}
+use Rattle.mcs51_state.specs.ValueFacts.{plain_value}
+use Rattle.mcs51_state.specs.Doing.{DoesSo}
+use Rattle.mcs51_state.specs.ShowingFacts.{none_shown}
 use Rattle.mcs51_memories.specs.Pairs.{divided_known, multiplied_known, pointer_loaded, pointer_raised, with_pair}
 use Rattle.mcs51_results.specs.InstructionLaws.{InstructionLaws}
 

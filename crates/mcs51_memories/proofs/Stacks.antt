@@ -16,15 +16,15 @@ use Rattle.mcs51_state.specs.FormFacts.{byte_form}
 use Rattle.mcs51_state.specs.Forms.{IsByte, IsKnown}
 use Rattle.mcs51_state.specs.Known.{Known, byte_of}
 use Rattle.mcs51_state.specs.Under.{IsUnder}
-use Rattle.mcs51_operands.specs.Operands.{direct_addresses}
-use Rattle.mcs51_operands.specs.Reading.{read_byte}
-use Rattle.mcs51_operands.specs.Showing.{AreShown}
-use Rattle.mcs51_stores.specs.Following.{IsValue}
-use Rattle.mcs51_stores.specs.Stack.{byte_popped, lowered, raised, stack_top}
-use Rattle.mcs51_stores.specs.ValueFacts.{lowered_has, lowered_normal, plain_value, raised_has, raised_normal}
-use Rattle.mcs51_operands.specs.Giving.{of_one}
-use Rattle.mcs51_operands.specs.Doing.{DoesSo, LeadsSo}
-use Rattle.mcs51_operands.specs.Accesses.{read_at, write_at}
+use Rattle.mcs51_state.specs.Operands.{direct_addresses}
+use Rattle.mcs51_state.specs.Reading.{read_byte}
+use Rattle.mcs51_state.specs.Showing.{AreShown}
+use Rattle.mcs51_state.specs.Following.{IsValue}
+use Rattle.mcs51_state.specs.Stack.{byte_popped, lowered, raised, stack_top}
+use Rattle.mcs51_state.specs.ValueFacts.{lowered_has, lowered_normal, plain_value, raised_has, raised_normal}
+use Rattle.mcs51_state.specs.Giving.{of_one}
+use Rattle.mcs51_state.specs.Doing.{DoesSo, LeadsSo}
+use Rattle.mcs51_state.specs.Accesses.{read_at, write_at}
 use Rattle.mcs51_results.specs.InstructionLaws.{InstructionLaws}
 use Rattle.mcs51_memories.specs.Stacking.{is_stack_pointer, next_top, or_lowered, pop_items, popped_byte, popped_known, push_items, pushed_byte, pushed_known, top_byte}
 use Rattle.mcs51_memories.proofs.Values.{read_value}

@@ -9,9 +9,9 @@ use Rattle.mcs51_state.specs.Forms.{IsByte}
 use Rattle.mcs51_state.specs.Known.{Known, any_byte, byte_of}
 use Rattle.mcs51_state.specs.Standing.{AreAddresses, MayStandAt}
 use Rattle.mcs51_state.specs.Under.{IsUnder}
-use Rattle.mcs51_operands.specs.Reading.{read_byte}
-use Rattle.mcs51_stores.specs.Following.{IsValue}
-use Rattle.mcs51_stores.specs.ValueFacts.{plain_value}
+use Rattle.mcs51_state.specs.Reading.{read_byte}
+use Rattle.mcs51_state.specs.Following.{IsValue}
+use Rattle.mcs51_state.specs.ValueFacts.{plain_value}
 use Rattle.mcs51_results.specs.InstructionLaws.{InstructionLaws}
 
 pub any_is : (laws : InstructionLaws) (framed : Bool) → IsByte framed (byte_of any_byte)

@@ -13,9 +13,9 @@ use Rattle.value_set.specs.Summing.{add, single}
 use Rattle.mcs51_decode.specs.declared.instr.CodeBase.{CodeBase}
 use Rattle.mcs51_decode.specs.declared.instr.CodeBase.TheVariants.{ProgramCounter, DataPointer}
 use Rattle.mcs51_state.specs.Known.{Known, any_byte, byte_of}
-use Rattle.mcs51_operands.specs.Joined.{any_of}
-use Rattle.mcs51_operands.specs.Operands.{jump_targets}
-use Rattle.mcs51_stores.specs.Writing.{accumulator_written}
+use Rattle.mcs51_state.specs.Joined.{any_of}
+use Rattle.mcs51_state.specs.Operands.{jump_targets}
+use Rattle.mcs51_state.specs.Writing.{accumulator_written}
 
 -- BYTES OF THE PROGRAM
 

@@ -11,9 +11,9 @@ use Rattle.mcs51_decode.specs.declared.instr.External.{External}
 use Rattle.mcs51_decode.specs.declared.instr.External.TheVariants.{DataPointer, Indirect}
 use Rattle.mcs51_decode.specs.declared.instr.Working.TheVariants.{Indirect as At}
 use Rattle.mcs51_state.specs.Known.{Known, any_byte, byte_of}
-use Rattle.mcs51_operands.specs.Operands.{pointed_addresses}
-use Rattle.mcs51_operands.specs.Showing.{pointer_accesses}
-use Rattle.mcs51_stores.specs.Writing.{accumulator_written}
+use Rattle.mcs51_state.specs.Operands.{pointed_addresses}
+use Rattle.mcs51_state.specs.Showing.{pointer_accesses}
+use Rattle.mcs51_state.specs.Writing.{accumulator_written}
 
 -- by @Ri the high byte is any
 abbrev pub external_addresses : External → Known → Form

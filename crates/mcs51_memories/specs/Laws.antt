@@ -10,7 +10,7 @@ use Rattle.mcs51_chip.specs.Step.{effect_of}
 use Rattle.mcs51_state.specs.Forms.{IsKnown}
 use Rattle.mcs51_state.specs.Known.{Known}
 use Rattle.mcs51_state.specs.Under.{IsUnder}
-use Rattle.mcs51_operands.specs.Doing.{DoesSo}
+use Rattle.mcs51_state.specs.Doing.{DoesSo}
 use Rattle.mcs51_memories.specs.Codes.{code_items, code_loaded}
 use Rattle.mcs51_memories.specs.Externals.{external_items, external_loaded}
 use Rattle.mcs51_memories.specs.Pairs.{divided_known, multiplied_known, pointer_loaded, pointer_raised}

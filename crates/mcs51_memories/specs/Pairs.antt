@@ -5,7 +5,7 @@ use Rattle.value_set.specs.Summing.{single}
 use Rattle.mcs51_state.specs.Known.{Known, byte_of}
 use Rattle.mcs51_results.specs.declared.made.MadePair.{MadePair}
 use Rattle.mcs51_results.specs.Results.{divided_made, multiplied_made, pointer_increased}
-use Rattle.mcs51_stores.specs.Writing.{accumulator_written, data_pointer_written, status_written}
+use Rattle.mcs51_state.specs.Writing.{accumulator_written, data_pointer_written, status_written}
 
 -- DPTR
 

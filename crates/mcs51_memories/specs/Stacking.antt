@@ -9,11 +9,11 @@ use Rattle.value_set.specs.Joining.{join}
 use Rattle.mcs51_state.specs.declared.addresses.Addresses.{Addresses}
 use Rattle.mcs51_state.specs.declared.addresses.Addresses.TheVariants.{InRam}
 use Rattle.mcs51_state.specs.Known.{Known, byte_of}
-use Rattle.mcs51_operands.specs.Operands.{direct_addresses}
-use Rattle.mcs51_operands.specs.Reading.{read_byte}
-use Rattle.mcs51_stores.specs.Stack.{byte_popped, byte_pushed, lowered, raised, stack_top}
-use Rattle.mcs51_stores.specs.Writing.{byte_written}
-use Rattle.mcs51_operands.specs.Accesses.{read_at, write_at}
+use Rattle.mcs51_state.specs.Operands.{direct_addresses}
+use Rattle.mcs51_state.specs.Reading.{read_byte}
+use Rattle.mcs51_state.specs.Stack.{byte_popped, byte_pushed, lowered, raised, stack_top}
+use Rattle.mcs51_state.specs.Writing.{byte_written}
+use Rattle.mcs51_state.specs.Accesses.{read_at, write_at}
 
 abbrev pub is_stack_pointer : (direct : ℕ) → Bool
 is_stack_pointer direct = direct == 0x81

@@ -2,16 +2,14 @@
 
 ghost use Rattle.std.specs.Prelude.{◌≡◌, ◌++◌, OnOk, drop, length};
 ghost use Rattle.value_set.specs.Form.{members};
-ghost use Rattle.mcs51_operands.specs.Joined.{all_joined};
+ghost use Rattle.mcs51_state.specs.Joined.{all_joined};
 ghost use Rattle.mcs51_memories.specs.Codes as codes;
 
 use call_context::{Item, Sequence, Set, Space};
 use entry_value::{Byte, Cells};
 use image::Image;
 use mcs51_decode::CodeBase;
-use mcs51_operands::jump_targets;
-use mcs51_state::State;
-use mcs51_stores::set_accumulator;
+use mcs51_state::{State, jump_targets, set_accumulator};
 use no_memory::Memory;
 use value_bits::w16;
 use value_set::{Vs8, Vs16};
@@ -39,7 +37,7 @@ fn joined(image: &Image, at: &Vs16, count: u32, first: Vs8) -> Vs8
 }
 
 /// What a byte of the program may be at one of some addresses.
-#[tactic(auto, unfolding(crate::specs::Codes::code_values), using(mcs51_operands::specs::JoinedFacts::any_is))]
+#[tactic(auto, unfolding(crate::specs::Codes::code_values), using(mcs51_state::specs::JoinedFacts::any_is))]
 fn code_values(image: &Image, at: &Vs16) -> Vs8
     ensures { result ≡ codes.code_values image.now at.now }
 {

@@ -5,8 +5,7 @@ ghost use Rattle.mcs51_memories.specs.Pairs as pairs;
 
 use entry_value::Cells;
 use mcs51_results::{MadePair, divided_made, multiplied_made, pointer_increased};
-use mcs51_state::State;
-use mcs51_stores::{one_byte, set_accumulator, set_data_pointer, set_status};
+use mcs51_state::{State, one_byte, set_accumulator, set_data_pointer, set_status};
 
 /// MOV of a number to DPTR.
 #[tactic(auto, unfolding(crate::specs::Pairs::pointer_loaded))]

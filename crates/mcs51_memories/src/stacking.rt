@@ -6,9 +6,10 @@ ghost use Rattle.mcs51_memories.specs.Stacking as stacking;
 
 use call_context::{Item, Sequence};
 use entry_value::{Byte, Cells};
-use mcs51_operands::{access, direct_addresses, read_byte};
-use mcs51_state::{Addresses, State};
-use mcs51_stores::{pop_byte, push_byte, stack_top, write_byte};
+use mcs51_state::{
+    Addresses, State, access, direct_addresses, pop_byte, push_byte, read_byte, stack_top,
+    write_byte,
+};
 use no_memory::Memory;
 use value_set::Vs8;
 

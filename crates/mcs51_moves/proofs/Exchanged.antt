@@ -20,12 +20,12 @@ use Rattle.mcs51_state.specs.FormFacts.{byte_form}
 use Rattle.mcs51_state.specs.Forms.{IsKnown}
 use Rattle.mcs51_state.specs.Known.{Known, byte_of}
 use Rattle.mcs51_state.specs.Under.{IsUnder}
-use Rattle.mcs51_operands.specs.Operands.{addresses_of}
-use Rattle.mcs51_operands.specs.Showing.{address_accesses}
-use Rattle.mcs51_stores.specs.Following.{IsValue}
-use Rattle.mcs51_stores.specs.ValueFacts.{plain_value}
-use Rattle.mcs51_operands.specs.Doing.{DoesSo}
-use Rattle.mcs51_operands.specs.Accesses.{update_items}
+use Rattle.mcs51_state.specs.Operands.{addresses_of}
+use Rattle.mcs51_state.specs.Showing.{address_accesses}
+use Rattle.mcs51_state.specs.Following.{IsValue}
+use Rattle.mcs51_state.specs.ValueFacts.{plain_value}
+use Rattle.mcs51_state.specs.Doing.{DoesSo}
+use Rattle.mcs51_state.specs.Accesses.{update_items}
 use Rattle.mcs51_moves.specs.Moves.{byte_at, digit_exchanged, digits_joined, exchanged, pointed}
 use Rattle.mcs51_results.specs.InstructionLaws.{InstructionLaws}
 use Rattle.mcs51_moves.proofs.Written.{accumulator_value, both_form, both_lead, memory_placed, read_value}

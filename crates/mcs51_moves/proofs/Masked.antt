@@ -19,17 +19,17 @@ use Rattle.mcs51_state.specs.Forms.{IsKnown}
 use Rattle.mcs51_state.specs.Known.{Known}
 use Rattle.mcs51_state.specs.Places.{suspended_of}
 use Rattle.mcs51_state.specs.Under.{IsUnder}
-use Rattle.mcs51_operands.specs.Operands.{direct_addresses}
-use Rattle.mcs51_operands.specs.Reading.{read_byte}
+use Rattle.mcs51_state.specs.Operands.{direct_addresses}
+use Rattle.mcs51_state.specs.Reading.{read_byte}
 use Rattle.mcs51_results.specs.declared.made.Operand.{Operand}
 use Rattle.mcs51_results.specs.Holding.{AreOperands, IsOperand}
 use Rattle.mcs51_results.specs.HoldingFacts.{status_of_known}
 use Rattle.mcs51_results.specs.Results.{masked_made}
 use Rattle.mcs51_results.specs.StatusBytes.{masked_status}
-use Rattle.mcs51_stores.specs.Following.{IsValue}
-use Rattle.mcs51_stores.specs.Writing.{byte_written, status_written}
-use Rattle.mcs51_operands.specs.Doing.{DoesSo, LeadsSo}
-use Rattle.mcs51_operands.specs.Accesses.{update_at}
+use Rattle.mcs51_state.specs.Following.{IsValue}
+use Rattle.mcs51_state.specs.Writing.{byte_written, status_written}
+use Rattle.mcs51_state.specs.Doing.{DoesSo, LeadsSo}
+use Rattle.mcs51_state.specs.Accesses.{update_at}
 use Rattle.mcs51_moves.specs.Moves.{direct_made, direct_masked, mask_operand}
 use Rattle.mcs51_results.specs.InstructionLaws.{InstructionLaws}
 use Rattle.mcs51_moves.proofs.Written.{direct_placed, read_value, value_small, written_leads}

@@ -18,13 +18,13 @@ use Rattle.mcs51_state.specs.Forms.{IsByte, IsKnown}
 use Rattle.mcs51_state.specs.Known.{Known, byte_of}
 use Rattle.mcs51_state.specs.Places.{suspended_of}
 use Rattle.mcs51_state.specs.Under.{IsUnder}
-use Rattle.mcs51_operands.specs.Operands.{addresses_of, direct_addresses, working_addresses}
-use Rattle.mcs51_operands.specs.Reading.{read_byte}
-use Rattle.mcs51_operands.specs.Showing.{address_accesses, pointer_accesses}
+use Rattle.mcs51_state.specs.Operands.{addresses_of, direct_addresses, working_addresses}
+use Rattle.mcs51_state.specs.Reading.{read_byte}
+use Rattle.mcs51_state.specs.Showing.{address_accesses, pointer_accesses}
 use Rattle.mcs51_results.specs.Results.{decreased, increased}
-use Rattle.mcs51_stores.specs.Following.{IsValue}
-use Rattle.mcs51_operands.specs.Doing.{DoesSo}
-use Rattle.mcs51_operands.specs.Accesses.{update_items, write_items}
+use Rattle.mcs51_state.specs.Following.{IsValue}
+use Rattle.mcs51_state.specs.Doing.{DoesSo}
+use Rattle.mcs51_state.specs.Accesses.{update_items, write_items}
 use Rattle.mcs51_moves.specs.Moves.{byte_at, decremented, from_direct_items, immediate_moved, incremented, moved_from_direct, moved_to_direct, stored, to_direct_items}
 use Rattle.mcs51_results.specs.InstructionLaws.{InstructionLaws}
 use Rattle.mcs51_moves.proofs.Written.{accumulator_value, change_does, direct_placed, memory_form, memory_placed, number_value, read_value, write_does, written_leads}

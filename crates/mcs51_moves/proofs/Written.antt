@@ -16,14 +16,14 @@ use Rattle.mcs51_state.specs.Forms.{IsByte, IsKnown}
 use Rattle.mcs51_state.specs.Known.{Known, byte_of}
 use Rattle.mcs51_state.specs.Standing.{AreAddresses, MayStandAt}
 use Rattle.mcs51_state.specs.Under.{IsUnder}
-use Rattle.mcs51_operands.specs.Operands.{addresses_of, direct_addresses}
-use Rattle.mcs51_operands.specs.Accesses.{update_items, write_items}
-use Rattle.mcs51_operands.specs.Doing.{DoesSo, LeadsSo}
-use Rattle.mcs51_operands.specs.Reading.{read_byte}
-use Rattle.mcs51_operands.specs.Showing.{address_accesses}
-use Rattle.mcs51_stores.specs.Following.{IsValue}
-use Rattle.mcs51_stores.specs.ValueFacts.{plain_value}
-use Rattle.mcs51_stores.specs.Writing.{accumulator_written, byte_written}
+use Rattle.mcs51_state.specs.Operands.{addresses_of, direct_addresses}
+use Rattle.mcs51_state.specs.Accesses.{update_items, write_items}
+use Rattle.mcs51_state.specs.Doing.{DoesSo, LeadsSo}
+use Rattle.mcs51_state.specs.Reading.{read_byte}
+use Rattle.mcs51_state.specs.Showing.{address_accesses}
+use Rattle.mcs51_state.specs.Following.{IsValue}
+use Rattle.mcs51_state.specs.ValueFacts.{plain_value}
+use Rattle.mcs51_state.specs.Writing.{accumulator_written, byte_written}
 use Rattle.mcs51_results.specs.InstructionLaws.{InstructionLaws}
 
 -- OPERANDS

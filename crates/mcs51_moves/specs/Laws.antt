@@ -14,9 +14,9 @@ use Rattle.mcs51_chip.specs.Step.{effect_of}
 use Rattle.mcs51_state.specs.Forms.{IsKnown}
 use Rattle.mcs51_state.specs.Known.{Known}
 use Rattle.mcs51_state.specs.Under.{IsUnder}
-use Rattle.mcs51_operands.specs.Operands.{direct_addresses}
-use Rattle.mcs51_operands.specs.Doing.{DoesSo}
-use Rattle.mcs51_operands.specs.Accesses.{update_at, update_items, write_items}
+use Rattle.mcs51_state.specs.Operands.{direct_addresses}
+use Rattle.mcs51_state.specs.Doing.{DoesSo}
+use Rattle.mcs51_state.specs.Accesses.{update_at, update_items, write_items}
 use Rattle.mcs51_moves.specs.Moves.{decremented, digit_exchanged, direct_masked, exchanged, from_direct_items, immediate_moved, incremented, moved_from_direct, moved_to_direct, pointed, stored, to_direct_items}
 
 -- The instruction of the chip does what is said of it, whatever number it reads: its accesses are shown, it goes on behind

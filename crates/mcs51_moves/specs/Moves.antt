@@ -17,15 +17,15 @@ use Rattle.mcs51_decode.specs.declared.instr.Pointer.{Pointer}
 use Rattle.mcs51_decode.specs.declared.instr.Working.{Working}
 use Rattle.mcs51_decode.specs.declared.instr.Working.TheVariants.{Indirect}
 use Rattle.mcs51_state.specs.Known.{Known, byte_of}
-use Rattle.mcs51_operands.specs.Operands.{addresses_of, direct_addresses, working_addresses}
-use Rattle.mcs51_operands.specs.Reading.{read_byte}
-use Rattle.mcs51_operands.specs.Showing.{address_accesses, pointer_accesses}
+use Rattle.mcs51_state.specs.Operands.{addresses_of, direct_addresses, working_addresses}
+use Rattle.mcs51_state.specs.Reading.{read_byte}
+use Rattle.mcs51_state.specs.Showing.{address_accesses, pointer_accesses}
 use Rattle.mcs51_results.specs.declared.made.Operand.{Operand}
 use Rattle.mcs51_results.specs.declared.made.Operand.TheVariants.{Constant, Among}
 use Rattle.mcs51_results.specs.Results.{decreased, increased, masked_made}
 use Rattle.mcs51_results.specs.StatusBytes.{masked_status}
-use Rattle.mcs51_stores.specs.Writing.{accumulator_written, byte_written, status_written}
-use Rattle.mcs51_operands.specs.Accesses.{read_at, write_at}
+use Rattle.mcs51_state.specs.Writing.{accumulator_written, byte_written, status_written}
+use Rattle.mcs51_state.specs.Accesses.{read_at, write_at}
 
 -- the byte of an operand, and a byte that is written there
 abbrev pub byte_at : (framed : Bool) → Memory → Known → Byte

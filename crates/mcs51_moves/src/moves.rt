@@ -6,10 +6,11 @@ ghost use Rattle.mcs51_moves.specs.Moves as moves;
 
 use entry_value::{Byte, Cells};
 use mcs51_decode::{Logic, Mask, Pointer, Working};
-use mcs51_operands::{addresses_of, direct_addresses, read_byte, working_addresses};
 use mcs51_results::{Operand, decreased, increased, masked_made, masked_status};
-use mcs51_state::State;
-use mcs51_stores::{set_accumulator, set_status, write_byte};
+use mcs51_state::{
+    State, addresses_of, direct_addresses, read_byte, set_accumulator, set_status,
+    working_addresses, write_byte,
+};
 use no_memory::Memory;
 use value_bits::w8;
 use value_set::Vs8;

@@ -6,8 +6,7 @@ ghost use Rattle.mcs51_moves.specs.Moves as moves;
 use call_context::{Item, Sequence};
 use entry_value::Cells;
 use mcs51_decode::Working;
-use mcs51_operands::{access, direct_addresses, show_pointer, show_read, working_addresses};
-use mcs51_state::State;
+use mcs51_state::{State, access, direct_addresses, show_pointer, show_read, working_addresses};
 use no_memory::Memory;
 
 /// Adds the accesses of MOV to a direct byte. Behind an error the items are of no use.

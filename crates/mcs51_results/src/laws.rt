@@ -5,8 +5,7 @@ ghost use Rattle.mcs51_results.specs.Laws.{AccumulationsHold, BitChangesHold, Ch
 
 use irq_frames::known_laws;
 use mcs51_chip::formats_lead;
-use mcs51_operands::operand_laws;
-use mcs51_stores::store_laws;
+use mcs51_state::{operand_laws, store_laws};
 
 /// The operations on the accumulator and PSW: where what is known holds of a state, what is known behind the operation holds
 /// of the state that the chip comes to. The form is kept.

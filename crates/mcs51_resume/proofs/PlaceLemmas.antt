@@ -19,7 +19,7 @@ use Rattle.mcs51_state.specs.FormFacts.{byte_form}
 use Rattle.mcs51_state.specs.Known.{Known, byte_of}
 use Rattle.mcs51_state.specs.Places.{ie_place, ip_place, is_place, sfr_of, suspended_of}
 use Rattle.mcs51_state.specs.Under.{IsUnder}
-use Rattle.mcs51_operands.specs.Reading.{read_byte, register_byte}
+use Rattle.mcs51_state.specs.Reading.{read_byte, register_byte}
 use Rattle.mcs51_results.specs.InstructionLaws.{InstructionLaws}
 use Rattle.mcs51_resume.specs.Resume.{place_byte}
 use Rattle.mcs51_resume.proofs.Masks.{AreFormed, Tells}

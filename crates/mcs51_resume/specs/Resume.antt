@@ -20,8 +20,8 @@ use Rattle.mcs51_state.specs.declared.fact.LinearFact.{LinearFact}
 use Rattle.mcs51_state.specs.declared.status.Status.{Status}
 use Rattle.mcs51_state.specs.Known.{Known, byte_of}
 use Rattle.mcs51_state.specs.Places.{psw_place}
-use Rattle.mcs51_operands.specs.Reading.{read_byte}
-use Rattle.mcs51_stores.specs.Writing.{word_of_byte}
+use Rattle.mcs51_state.specs.Reading.{read_byte}
+use Rattle.mcs51_state.specs.Writing.{word_of_byte}
 
 -- THE PLACES OF THE SUSPENDED STATE
 

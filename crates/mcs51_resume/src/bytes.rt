@@ -5,9 +5,7 @@ ghost use Rattle.mcs51_resume.specs.Resume as the_resumed;
 
 use entry_value::{Byte, Cells, Entry};
 use irq_frames::is_unmasked;
-use mcs51_operands::read_byte;
-use mcs51_state::{Addresses, State};
-use mcs51_stores::one_byte;
+use mcs51_state::{Addresses, State, one_byte, read_byte};
 use value_set::Vs8;
 
 /// What a place held where an interrupt came at `pc`, and `at` was known.

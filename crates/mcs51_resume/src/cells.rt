@@ -8,8 +8,7 @@ ghost use Rattle.mcs51_resume.specs.Resume.{resumed_cells};
 use crate::bytes::{masked_by, place_byte};
 use entry_value::{Cell, Cells, Word};
 use irq_frames::{Resumes, cells_behind};
-use mcs51_state::State;
-use mcs51_stores::word_of;
+use mcs51_state::{State, word_of};
 use no_memory::Memory;
 use std::alloc::Global;
 

@@ -1,10 +1,9 @@
 //! States.
 
-ghost use Rattle.std.specs.Prelude.{◌≡◌, ◌≤◌, ◌<◌, ◌∷◌, ℕ, All, [], IfOk, length};
-ghost use Rattle.value_set.specs.Form.{gather};
-ghost use Rattle.value_set.specs.Summing.{single};
+ghost use Rattle.std.specs.Prelude.{◌≡◌, ◌<◌, ◌∷◌, ℕ, All, [], IfOk};
 ghost use Rattle.mcs51_state.specs.Known as known;
 
+use crate::bytes::{one_byte, one_of, unknown};
 use crate::fact::{
     CarryFact, LinearFact, common_carry, common_linear, is_carry_within, is_linear_within,
 };
@@ -51,37 +50,6 @@ impl<M: Cells> Model for State<M> {
     ghost view = { λ s. record { sp = s.sp; a = s.a; b = s.b; dpl = s.dpl; dph = s.dph; ie = s.ie; ip = s.ip; psw = s.psw; levels = s.levels; linear_fact = s.linear_fact; carry_fact = s.carry_fact; cells = M.map s.cells; touched = s.touched } };
 }
 
-/// A byte that is one number.
-fn one(number: u8) -> Byte
-    ensures { result ≡ known.byte_of (single number) }
-{
-    Byte {
-        set: Vs8::one(number),
-        entry: None,
-    }
-}
-
-/// A byte that is one of some numbers.
-fn one_of(numbers: &[u8]) -> Byte
-    requires { 1 ≤ length numbers.now }
-    ensures { result ≡ known.byte_of (gather 256 numbers.now) }
-{
-    match Vs8::gather(numbers) {
-        Some(set) => Byte { set, entry: None },
-        None => unreachable!(),
-    }
-}
-
-/// A byte of which nothing is known.
-fn unknown() -> Byte
-    ensures { result ≡ known.byte_of known.any_byte }
-{
-    Byte {
-        set: Vs8::any(),
-        entry: None,
-    }
-}
-
 /// All RAM in an interrupt's frame, else nothing.
 #[tactic(auto, unfolding(irq_frames::specs::Ranges::with_range))]
 fn all_touched(alloc: Global, frame: &Frame) -> Result<Ranges, Memory>
@@ -112,10 +80,10 @@ impl<M: Cells> State<M> {
     {
         Ok(State {
             sp: Vs8::one(7),
-            a: one(0),
-            b: one(0),
-            dpl: one(0),
-            dph: one(0),
+            a: one_byte(0),
+            b: one_byte(0),
+            dpl: one_byte(0),
+            dph: one_byte(0),
             ie: one_of(&[0, 0x40]),
             ip: one_of(&[0, 0x40, 0x80, 0xC0]),
             psw: Status::of(Tri::Zero),

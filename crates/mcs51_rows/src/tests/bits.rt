@@ -1,8 +1,8 @@
 //! CY behind operations with a bit.
 
 use abs_memory::CellList;
-use mcs51_bits::join_carry;
 use mcs51_decode::CarryByBit;
+use mcs51_jumps::join_carry;
 use mcs51_state::State;
 use std::alloc::Global;
 use std::test::Fail;

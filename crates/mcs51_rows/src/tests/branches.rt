@@ -6,8 +6,7 @@ use mcs51_branch::{Operand, cut_by_bit, cut_by_comparison, cut_by_condition, low
 use mcs51_chip::Address;
 use mcs51_decode::{Condition, Memory};
 use mcs51_moves::move_to_direct;
-use mcs51_state::{Addresses, CarryFact, Compared, State};
-use mcs51_stores::write_byte;
+use mcs51_state::{Addresses, CarryFact, Compared, State, write_byte};
 use std::alloc::Global;
 use std::test::Fail;
 use value_bits::{Tri, w16};

@@ -2,9 +2,7 @@
 
 use abs_memory::CellList;
 use mcs51_control::{return_from, return_targets};
-use mcs51_operands::jump_targets;
-use mcs51_state::State;
-use mcs51_stores::push_address;
+use mcs51_state::{State, jump_targets, push_address};
 use std::test::Fail;
 use value_set::{Vs8, Vs16};
 

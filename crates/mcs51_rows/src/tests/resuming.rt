@@ -3,8 +3,7 @@
 use abs_memory::CellList;
 use entry_value::{Byte, Cells, Entry, Word};
 use mcs51_resume::resume;
-use mcs51_state::{Addresses, State};
-use mcs51_stores::write_byte;
+use mcs51_state::{Addresses, State, write_byte};
 use std::alloc::Global;
 use std::test::Fail;
 use value_set::{Vs8, Vs16};

@@ -2,10 +2,9 @@
 
 use abs_memory::CellList;
 use entry_value::{Byte, Cells};
-use mcs51_state::{Addresses, State};
-use mcs51_stores::{
-    pop_byte, push_address, set_accumulator, set_carry, set_data_pointer, set_flags, stack_top,
-    write_byte,
+use mcs51_state::{
+    Addresses, State, pop_byte, push_address, set_accumulator, set_carry, set_data_pointer,
+    set_flags, stack_top, write_byte,
 };
 use std::alloc::Global;
 use std::test::Fail;

@@ -1,8 +1,8 @@
 use Rattle.std.proofs.Common.{◌≡◌, ◌+◌, ◌∙◌, ap, sym, drop, get_or, arith}
 use Rattle.value_set.specs.Form.{members}
 use Rattle.value_set.specs.Joining.{join}
-use Rattle.mcs51_operands.specs.Joined.{all_joined}
-use Rattle.mcs51_operands.specs.JoinedFacts.{joined_end, joined_more}
+use Rattle.mcs51_state.specs.Joined.{all_joined}
+use Rattle.mcs51_state.specs.JoinedFacts.{joined_end, joined_more}
 use Rattle.mcs51_memories.specs.Codes.{code_set}
 use Rattle.mcs51_memories.proofs.code.joined.Goals as goal
 

@@ -1,6 +1,6 @@
 use Rattle.std.proofs.Common.{◌≡◌, drop}
 use Rattle.value_set.specs.Form.{members}
-use Rattle.mcs51_operands.specs.Joined.{all_joined}
+use Rattle.mcs51_state.specs.Joined.{all_joined}
 use Rattle.mcs51_memories.specs.Codes.{code_set}
 use Rattle.mcs51_memories.proofs.code.joined.Given as goal
 

@@ -1,4 +1,0 @@
-use Rattle.mcs51_operands.proofs.laws.operand_laws.Goals as goal
-
-pub returns : goal.returns
-returns c = assumption c

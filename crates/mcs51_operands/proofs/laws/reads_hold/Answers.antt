@@ -1,9 +1,0 @@
-use Rattle.mcs51_operands.proofs.Bits.{carry_is}
-use Rattle.mcs51_operands.proofs.Forms.{bit_is, byte_form, byte_is}
-use Rattle.mcs51_operands.proofs.Registers.{status_held}
-use Rattle.mcs51_operands.proofs.laws.reads_hold.Goals as goal
-
-pub returns : goal.returns
-returns c =
-    let laws = c.known_laws.ensures in
-    assumption (byte_is laws, byte_form laws, bit_is laws, carry_is, status_held laws)

@@ -1,5 +1,0 @@
-mod Bits
-mod Cells
-mod Forms
-mod Parts
-mod Touching

@@ -1,5 +1,0 @@
-use Rattle.value_set.specs.Form.{members}
-use Rattle.mcs51_stores.proofs.ram.is_in.Goals as goal
-
-pub returns : goal.returns
-returns c = c.set_laws.ensures.asked (members 256 c.args.at.now) c.args.address c.has.result c.has.ensures

@@ -1,6 +1,0 @@
-pub mod FactsStay
-pub mod Following
-pub mod Laws
-pub mod Stack
-pub mod ValueFacts
-pub mod Writing
