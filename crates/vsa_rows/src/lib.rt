@@ -1,21 +1,11 @@
-//! Rows of whole answers: words, an image, and the text and the status that come of them.
+//! Whole calls of which a row of `answer_rows` can't tell.
 #![tactic(auto)]
 
 #[cfg(test)]
-mod analyses;
-#[cfg(test)]
-mod answers;
-#[cfg(test)]
-mod asserts;
-#[cfg(test)]
-mod checks;
-#[cfg(test)]
-mod code;
-#[cfg(test)]
-mod mcs51;
+mod calls;
 #[cfg(test)]
 mod mirror;
 #[cfg(test)]
-mod runs;
+mod turn;
 #[cfg(test)]
 mod workers;
