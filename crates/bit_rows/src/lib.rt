@@ -1,11 +1,7 @@
-//! Rows of known bits and of operations on them, and every call on bytes against plain loops.
+//! Rows of sets and of their known bits, of the manuals and worked by hand from their rules.
 #![tactic(auto)]
 
 #[cfg(test)]
-mod brute;
+mod bits;
 #[cfg(test)]
-mod plain;
-#[cfg(test)]
-mod samples;
-#[cfg(test)]
-mod tests;
+mod sets;
