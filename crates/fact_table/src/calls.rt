@@ -8,6 +8,7 @@ ghost use Rattle.round_core.specs.Machine.{Out};
 ghost use Rattle.round_core.specs.declared.event.Event.TheVariants.{Post, GiveBack};
 ghost use Rattle.turn_table.specs.Named.{name_of};
 
+use crate::door::Door;
 use crate::exchange::{Exchanged, Last, exchange_on, look_ahead, post_one};
 use crate::facts::{Seat, Turns};
 use chip_law::Chip;
@@ -74,6 +75,7 @@ pub fn exchange_at<R: Wait, C: Chip>(
     rt: &R,
     alloc: Global,
     turns: &Turns<C>,
+    door: &Door,
     chip: &C,
     seat: &mut Seat<C>,
     done: Vec<Done<C>>,
@@ -102,6 +104,7 @@ pub fn exchange_at<R: Wait, C: Chip>(
     // Others wait no longer while states are compared and joined, and memory is taken.
     let ahead = look_ahead(alloc, chip, done.as_slice());
     let next = Spent::with_room(alloc);
+    let inside = door.enter();
     let mut turn = turns.turn(rt, seat);
     let book = &mut *turn.value.book;
     book.journal();
@@ -109,6 +112,7 @@ pub fn exchange_at<R: Wait, C: Chip>(
     let exchanged = exchange_on(book, chip, number, done, ahead, tickets, want, share);
     let spent = book.exchange_spent(next);
     turns.pass(seat, turn);
+    drop(inside);
     // Others wait no longer while it is freed.
     drop(spent);
     exchanged

@@ -12,6 +12,7 @@ ghost use Rattle.turn_table.specs.Named.{name_of};
 ghost use Rattle.turn_table.specs.Shown.{IsOwn, first_seat, seat_split, new_seat, seats_joined, seats_known};
 
 use crate::calls::{claim_at, exchange_at, give_back_at, post_at};
+use crate::door::Door;
 use crate::exchange::Exchanged;
 use crate::facts::{Facts, Seat, Turns};
 use chip_law::Chip;
@@ -25,6 +26,7 @@ use turn_table::TurnTable;
 #[derive(Drop)]
 pub struct FactTable<C: Chip> {
     turns: Turns<C>,
+    door: Door,
 }
 
 impl<C: Chip> FactTable<C> {
@@ -39,7 +41,8 @@ impl<C: Chip> FactTable<C> {
             return Err(Memory);
         };
         let (turns, seat) = TurnTable::new(alloc, Facts { book }, seats)?;
-        Ok((FactTable { turns }, seat))
+        let door = Door::new();
+        Ok((FactTable { turns, door }, seat))
     }
 
     /// The lock around the book, which threads share: they call [`claim_at`], [`post_at`], [`exchange_at`] and
@@ -102,7 +105,17 @@ impl<C: Chip> FactTable<C> {
         requires works { AllByRecursion (IsWorked (C.analysis (C.base chip.now))) done.items }
         ensures { Exchanges C.analysis seat.old done.items want share result seat.new }
     {
-        exchange_at(rt, alloc, &self.turns, chip, seat, done, want, share)
+        exchange_at(
+            rt,
+            alloc,
+            &self.turns,
+            &self.door,
+            chip,
+            seat,
+            done,
+            want,
+            share,
+        )
     }
 
     /// Gives a unit back, as [`give_back_at`] does.
@@ -146,7 +159,7 @@ impl<C: Chip> FactTable<C> {
         ensures base { Some result.base ≡ seat.base }
         ensures events { (n : ℕ) → events_of seat_of n result.journal ≡ events_under n (seats_known seat) }
     {
-        let FactTable { turns } = self;
+        let FactTable { turns, door: _ } = self;
         let Facts { book } = turns.close(seat);
         Box::into_inner(book)
     }

@@ -1,15 +1,16 @@
 //! How a worker that leaves units calls another one for them.
 
 use crossbeam_utils::sync::{EventCount, Key};
+use fact_table::Door;
 use std::hint;
 use std::sync::atomic::AtomicU64;
 use std::sync::atomic::Ordering::SeqCst;
 
-/// How often a worker that has no unit looks for a call before it sleeps: for some tenths of a millisecond. To wake who sleeps takes
-/// the system as long as some units take, and who was woken comes later still.
+/// How often a worker that has no unit looks for a call before it sleeps: for a twentieth of a millisecond or some tenths, as the
+/// processor is. To wake who sleeps takes the system as long as some units take, and who was woken comes later still.
 const LOOKS: u32 = 4_000;
 
-/// A call that one worker takes, and the bell at which workers sleep.
+/// What workers share beside the book: a call that one of them takes, the bell at which they sleep, and the door before turns.
 #[derive(Drop)]
 pub(crate) struct Calls {
     /// 1 where a call wasn't taken yet.
@@ -17,6 +18,7 @@ pub(crate) struct Calls {
     /// How many workers look for one.
     looking: AtomicU64,
     bell: EventCount,
+    pub(crate) door: Door,
 }
 
 impl Calls {
@@ -25,6 +27,7 @@ impl Calls {
             open: AtomicU64::new(0),
             looking: AtomicU64::new(0),
             bell: EventCount::new(),
+            door: Door::new(),
         }
     }
 

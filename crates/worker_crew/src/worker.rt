@@ -9,7 +9,7 @@ ghost use Rattle.worker_crew.specs.Turns.{GoesOn, IsReady, Serves, Works, units_
 
 use crate::calls::Calls;
 use chip_law::Chip;
-use fact_table::{Exchanged, Last, Seat, Turns, exchange_at, give_back_at};
+use fact_table::{Door, Exchanged, Last, Seat, Turns, exchange_at, give_back_at};
 use no_memory::Memory;
 use round_core::{Done, Ticket};
 use std::alloc::Global;
@@ -176,6 +176,7 @@ fn go_on<R: Wait, C: Chip, G: Gate>(
     rt: &R,
     alloc: Global,
     turns: &Turns<C>,
+    door: &Door,
     chip: &C,
     gate: &G,
     seat: &mut Seat<C>,
@@ -191,7 +192,7 @@ fn go_on<R: Wait, C: Chip, G: Gate>(
 {
     let done = work_all(rt, alloc, turns, chip, gate, seat, tickets)?;
     let works = done.len();
-    let exchanged = exchange_at(rt, alloc, turns, chip, seat, done, wanted(), SHARE);
+    let exchanged = exchange_at(rt, alloc, turns, door, chip, seat, done, wanted(), SHARE);
     let Exchanged {
         unposted,
         tickets,
@@ -232,7 +233,7 @@ fn turn<R: Wait, C: Chip, G: Gate>(
     let watch = (idle && !*sleepy).then(|| calls.watch());
     let sleep = (idle && *sleepy).then(|| calls.announce());
     *sleepy = false;
-    let (next, last, left) = go_on(rt, alloc, turns, chip, gate, seat, tickets)?;
+    let (next, last, left) = go_on(rt, alloc, turns, &calls.door, chip, gate, seat, tickets)?;
     if next.is_empty() && matches!(last, Last::Idle) {
         if let Some(watch) = watch {
             *sleepy = !watch.was_called();
