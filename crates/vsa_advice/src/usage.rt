@@ -31,8 +31,8 @@ Options, each at most once, as --name value or --name=value, and --cert alone:
                   longer than RAM. Default: nowhere
   --calls N       for analyse, assert and check: how many call sites a location remembers, 0 to 8. Default: 6
   --targets N     for analyse, assert and check: how many targets of one instruction are followed, 1 to 256. Default: 64
-  --workers N     for analyse and assert: how many workers share it, 1 to 16. Default: 1. Four take half to two thirds of one's
-                  time where one takes a tenth of a second or more and the program goes several ways; else more gain little
+  --workers N     for analyse and assert: how many workers share it, 1 to 16. Default: 1. Four take some half of one's time where
+                  a large program goes several ways; else more gain little
   --cert          for analyse: a certificate is printed behind the report, the table that check reads
   --steps N       for run: the greatest number of steps, 0 to 1000000. Default: 100
   --number N      for gen, which needs it: the number of functions, 1 to 2000
