@@ -4,4 +4,6 @@
 #[cfg(test)]
 mod bits;
 #[cfg(test)]
+mod given;
+#[cfg(test)]
 mod sets;

@@ -1,32 +1,26 @@
-//! Rows that reports print, and the calls of sets of words.
+//! Rows of sets that reports print, and the calls of sets of words.
 
+use crate::given::{are_equal, list8, list16, run8, run16};
 use std::test::Fail;
 use value_set::{Form, Operation, Vs8, Vs16};
 
-fn run8(base: u8, stride: u8, count: u32) -> Result<Vs8, Fail> {
-    Ok(Vs8::run(base, stride, count).ok_or("a run of bytes")?)
-}
-
-fn run16(base: u16, stride: u16, count: u32) -> Result<Vs16, Fail> {
-    Ok(Vs16::run(base, stride, count).ok_or("a run of words")?)
-}
-
 #[test]
 fn joins_and_sums(rt: HostRuntime) -> Result<(), Fail> {
-    assert_eq!(rt;
-        run8(0x00, 4, 0x20)?.join(&Vs8::one(0x02)),
-        run8(0x00, 2, 0x3F)?
+    let (low, round) = (run8(0x00, 1, 0x20)?, run8(0xF0, 1, 0x20)?);
+    let sixteen = Vs8::one(0x10);
+    are_equal(
+        &rt,
+        &[
+            (
+                run8(0x00, 4, 0x20)?.join(&Vs8::one(0x02)),
+                run8(0x00, 2, 0x3F)?,
+            ),
+            (round.add(&sixteen), low),
+            (low.sub(&sixteen), round),
+            (low.twice(), run8(0x00, 2, 0x20)?),
+            (run8(0x00, 4, 0x40)?.twice(), run8(0x00, 8, 0x20)?),
+        ],
     );
-    assert_eq!(rt;
-        run8(0xF0, 1, 0x20)?.add(&Vs8::one(0x10)),
-        run8(0x00, 1, 0x20)?
-    );
-    assert_eq!(rt;
-        run8(0x00, 1, 0x20)?.sub(&Vs8::one(0x10)),
-        run8(0xF0, 1, 0x20)?
-    );
-    assert_eq!(rt; run8(0x00, 1, 0x20)?.twice(), run8(0x00, 2, 0x20)?);
-    assert_eq!(rt; run8(0x00, 4, 0x40)?.twice(), run8(0x00, 8, 0x20)?);
     Ok(())
 }
 
@@ -34,67 +28,103 @@ fn joins_and_sums(rt: HostRuntime) -> Result<(), Fail> {
 fn widens_to_marks(rt: HostRuntime) -> Result<(), Fail> {
     let held = run8(0x00, 1, 0x20)?;
     let new = Vs8::one(0x20);
-    assert_eq!(rt;
-        held.widen(&new, [0x00, 0x01, 0x40].as_slice()),
-        run8(0x00, 1, 0x40)?
+    are_equal(
+        &rt,
+        &[
+            (held.widen(&new, &[0x00, 0x01, 0x40]), run8(0x00, 1, 0x40)?),
+            (held.widen(&new, &[]), Vs8::any()),
+            (held.widen(&Vs8::one(0x1F), &[]), held),
+        ],
     );
-    assert_eq!(rt; held.widen(&new, [].as_slice()), Vs8::any());
-    assert_eq!(rt; held.widen(&Vs8::one(0x1F), [].as_slice()), held);
     Ok(())
 }
 
 #[test]
 fn a_run_past_the_turn(rt: HostRuntime) -> Result<(), Fail> {
     let run = run8(0xF0, 1, 0x20)?;
-    assert!(rt; run.has(0x05));
-    assert!(rt; !run.has(0x10));
-    assert!(rt; run.within(&run8(0xE0, 1, 0x40)?));
-    let low = Vs8::gather([0, 1, 2, 3, 4, 5, 6, 7].as_slice());
-    assert_eq!(rt; run.cut(0, 8), low);
-    assert_eq!(rt; run.cut(0x10, 0xE0), None);
-    assert!(rt; !run8(0x00, 2, 0x3F)?.within(&run8(0x00, 4, 0x20)?));
+    let even = run8(0x00, 2, 0x3F)?;
+    are_equal(
+        &rt,
+        &[
+            (run.has(0x05), true),
+            (run.has(0x10), false),
+            (run.within(&run8(0xE0, 1, 0x40)?), true),
+            (even.within(&run8(0x00, 4, 0x20)?), false),
+        ],
+    );
+    let low = Vs8::gather(&[0, 1, 2, 3, 4, 5, 6, 7]);
+    are_equal(&rt, &[(run.cut(0, 8), low), (run.cut(0x10, 0xE0), None)]);
     Ok(())
 }
 
 #[test]
 fn no_such_sets(rt: HostRuntime) {
-    assert_eq!(rt; Vs8::gather([].as_slice()), None);
-    assert_eq!(rt; Vs16::gather([].as_slice()), None);
-    for (stride, count) in [(1, 0), (1, 257), (0, 2), (16, 17), (255, 3)] {
-        assert_eq!(rt; Vs8::run(0, stride, count), None, "{stride} {count}");
-    }
-    for (stride, count) in [(1, 0), (1, 65537), (0, 2), (4096, 17)] {
-        assert_eq!(rt; Vs16::run(0, stride, count), None, "{stride} {count}");
-    }
+    are_equal(
+        &rt,
+        &[
+            (Vs8::gather(&[]), None),
+            (Vs8::run(0, 1, 0), None),
+            (Vs8::run(0, 1, 257), None),
+            (Vs8::run(0, 0, 2), None),
+            (Vs8::run(0, 16, 17), None),
+            (Vs8::run(0, 255, 3), None),
+        ],
+    );
+    are_equal(
+        &rt,
+        &[
+            (Vs16::gather(&[]), None),
+            (Vs16::run(0, 1, 0), None),
+            (Vs16::run(0, 1, 65537), None),
+            (Vs16::run(0, 0, 2), None),
+            (Vs16::run(0, 4096, 17), None),
+        ],
+    );
 }
 
 #[test]
 fn long_lists(rt: HostRuntime) -> Result<(), Fail> {
     let mut list = [0x1000; 300];
-    assert_eq!(rt; Vs16::gather(list.as_slice()), Some(Vs16::one(0x1000)));
+    let same = Vs16::gather(list.as_slice());
     for i in 0..300u16 {
         list[i as usize] = 0x2000 - 8 * i;
     }
-    assert_eq!(rt; Vs16::gather(list.as_slice()), Some(run16(0x16A8, 8, 300)?));
+    are_equal(
+        &rt,
+        &[
+            (same, Some(Vs16::one(0x1000))),
+            (Vs16::gather(list.as_slice()), Some(run16(0x16A8, 8, 300)?)),
+        ],
+    );
     Ok(())
 }
 
 /// Lists below 100h are the same as bytes and as words. A run past the turn is gathered anew.
 #[test]
 fn bytes_and_words(rt: HostRuntime) -> Result<(), Fail> {
-    let bytes = Vs8::gather([0x02, 0x80, 0xFF].as_slice()).ok_or("bytes")?;
-    let words = Vs16::gather([0x02, 0x80, 0xFF].as_slice()).ok_or("words")?;
-    assert_eq!(rt; Vs16::from_bytes(&bytes), words);
-    assert_eq!(rt; words.as_bytes(), Some(bytes));
-    assert_eq!(rt; Vs16::one(0x0100).as_bytes(), None);
-    assert_eq!(rt; run16(0x0000, 1, 0x20)?.as_bytes(), None);
-    assert_eq!(rt;
-        Vs16::from_bytes(&run8(0x10, 2, 0x20)?),
-        run16(0x0010, 2, 0x20)?
+    let bytes = list8(&[0x02, 0x80, 0xFF])?;
+    let words = list16(&[0x02, 0x80, 0xFF])?;
+    are_equal(
+        &rt,
+        &[
+            (Vs16::from_bytes(&bytes), words),
+            (
+                Vs16::from_bytes(&run8(0x10, 2, 0x20)?),
+                run16(0x0010, 2, 0x20)?,
+            ),
+            (
+                Vs16::from_bytes(&run8(0xF8, 1, 0x18)?),
+                run16(0x0000, 1, 0x100)?,
+            ),
+        ],
     );
-    assert_eq!(rt;
-        Vs16::from_bytes(&run8(0xF8, 1, 0x18)?),
-        run16(0x0000, 1, 0x100)?
+    are_equal(
+        &rt,
+        &[
+            (words.as_bytes(), Some(bytes)),
+            (Vs16::one(0x0100).as_bytes(), None),
+            (run16(0x0000, 1, 0x20)?.as_bytes(), None),
+        ],
     );
     Ok(())
 }
@@ -118,30 +148,49 @@ impl Operation for First {
 
 #[test]
 fn words(rt: HostRuntime) -> Result<(), Fail> {
-    let list = Vs16::gather([0x0400, 0x0200, 0x0400].as_slice()).ok_or("a list")?;
+    let list = list16(&[0x0400, 0x0200, 0x0400])?;
     let all = run16(0x0000, 2, 0x8000)?;
-    assert_eq!(rt; list.count(), 2);
+    are_equal(
+        &rt,
+        &[
+            (list.count(), 2),
+            (list.join(&Vs16::one(0x0300)).count(), 3),
+            (Vs16::any().count(), 65536),
+        ],
+    );
+    are_equal(
+        &rt,
+        &[
+            (list.within(&all), true),
+            (all.has(0xFFFE), true),
+            (all.has(0xFFFF), false),
+        ],
+    );
+    are_equal(
+        &rt,
+        &[
+            (all.add(&list), all),
+            (all.sub(&list), all),
+            (list.twice(), list16(&[0x0400, 0x0800])?),
+            (
+                Vs16::one(0).widen(&Vs16::one(2), &[0, 0x40]),
+                run16(0x0000, 2, 0x20)?,
+            ),
+        ],
+    );
+    are_equal(&rt, &[(all.cut(0x0201, 2), Some(Vs16::one(0x0202)))]);
+    Ok(())
+}
+
+/// The least member, and the run of a form.
+#[test]
+fn forms(rt: HostRuntime) -> Result<(), Fail> {
+    let list = list16(&[0x0400, 0x0200])?;
     let place = 0;
     if place < list.count() {
         assert_eq!(rt; list.nth(place), 0x0200);
     }
-    assert!(rt; list.within(&all));
-    assert!(rt; all.has(0xFFFE));
-    assert!(rt; !all.has(0xFFFF));
-    assert_eq!(rt; list.join(&Vs16::one(0x0300)).count(), 3);
-    assert_eq!(rt; all.add(&list), all);
-    assert_eq!(rt; all.sub(&list), all);
-    assert_eq!(rt;
-        list.twice(),
-        Vs16::gather([0x0400, 0x0800].as_slice()).ok_or("twice")?
-    );
-    assert_eq!(rt; all.cut(0x0201, 2), Some(Vs16::one(0x0202)));
-    assert_eq!(rt;
-        Vs16::one(0).widen(&Vs16::one(2), [0, 0x40].as_slice()),
-        run16(0x0000, 2, 0x20)?
-    );
-    assert_eq!(rt; Vs16::any().count(), 65536);
-    match all.form() {
+    match run16(0x0000, 2, 0x8000)?.form() {
         Form::Run(run) => assert_eq!(rt; (run.base, run.stride, run.count), (0, 2, 0x8000)),
         Form::Values(_) => assert!(rt; false),
     }
