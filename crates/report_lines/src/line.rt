@@ -10,14 +10,14 @@ use crate::set::{Set, Width};
 use hex_digits::word;
 
 /// Control can go from one address to the other.
-#[derive(Clone, Copy, Debug, PartialEq, Eq)]
+#[derive(Clone, Copy)]
 pub struct Edge {
     pub from: u16,
     pub to: u16,
 }
 
 /// The instruction of these bytes can run there.
-#[derive(Clone, Copy, Debug, PartialEq, Eq)]
+#[derive(Clone, Copy)]
 pub struct Instr<'a> {
     pub pc: u16,
     /// Its bytes, two digits each.
@@ -28,7 +28,7 @@ pub struct Instr<'a> {
 }
 
 /// Where an access goes.
-#[derive(Clone, Copy, Debug, PartialEq, Eq)]
+#[derive(Clone, Copy, PartialEq, Eq)]
 pub enum Space {
     Mem,
     Ram,
@@ -38,7 +38,7 @@ pub enum Space {
 }
 
 /// Whether an access reads or writes, and how many bytes.
-#[derive(Clone, Copy, Debug, PartialEq, Eq)]
+#[derive(Clone, Copy, PartialEq, Eq)]
 pub enum Kind {
     ReadOne,
     ReadTwo,
@@ -57,7 +57,7 @@ impl Kind {
 }
 
 /// The instruction there may read or write at each of these addresses.
-#[derive(Clone, Copy, Debug, PartialEq, Eq)]
+#[derive(Clone, Copy)]
 pub struct Access<'a> {
     pub pc: u16,
     pub space: Space,
@@ -66,7 +66,7 @@ pub struct Access<'a> {
 }
 
 /// Why the analysis stops.
-#[derive(Clone, Copy, Debug, PartialEq, Eq)]
+#[derive(Clone, Copy, PartialEq, Eq)]
 pub enum Cause<'a> {
     Fetch,
     Targets(Set<'a>),
@@ -74,21 +74,21 @@ pub enum Cause<'a> {
 }
 
 /// The analysis stops there.
-#[derive(Clone, Copy, Debug, PartialEq, Eq)]
+#[derive(Clone, Copy)]
 pub struct Open<'a> {
     pub pc: u16,
     pub cause: Cause<'a>,
 }
 
 /// The stack pointer has one of these values there.
-#[derive(Clone, Copy, Debug, PartialEq, Eq)]
+#[derive(Clone, Copy)]
 pub struct Stack<'a> {
     pub pc: u16,
     pub at: Set<'a>,
 }
 
 /// A line behind the first and in front of the summary.
-#[derive(Clone, Copy, Debug, PartialEq, Eq)]
+#[derive(Clone, Copy)]
 pub enum Line<'a> {
     Edge(Edge),
     Instr(Instr<'a>),

@@ -6,7 +6,7 @@ use crate::digits::{count, cut};
 use hex_digits::{byte, word};
 
 /// How many digits the numbers of a set have.
-#[derive(Clone, Copy, Debug, PartialEq, Eq)]
+#[derive(Clone, Copy, PartialEq, Eq)]
 pub enum Width {
     /// Two digits.
     Byte,
@@ -15,7 +15,7 @@ pub enum Width {
 }
 
 /// How a set is written.
-#[derive(Clone, Copy, Debug, PartialEq, Eq)]
+#[derive(Clone, Copy, PartialEq, Eq)]
 pub enum Form {
     /// Every number.
     Every,
@@ -26,7 +26,7 @@ pub enum Form {
 }
 
 /// A set, with the text that it is written by.
-#[derive(Clone, Copy, Debug, PartialEq, Eq)]
+#[derive(Clone, Copy, PartialEq, Eq)]
 pub struct Set<'a> {
     pub text: &'a [u8],
     pub form: Form,
