@@ -10,14 +10,14 @@ use crate::set::{Set, Width};
 use hex_digits::word;
 
 /// Control can go from one address to the other.
-#[derive(Clone, Copy, Debug, PartialEq, Eq)]
+#[derive(Clone, Copy)]
 pub struct Edge {
     pub from: u16,
     pub to: u16,
 }
 
 /// The instruction of these bytes can run there.
-#[derive(Clone, Copy, Debug, PartialEq, Eq)]
+#[derive(Clone, Copy)]
 pub struct Instr<'a> {
     pub pc: u16,
     /// Its bytes, two digits each.
@@ -28,7 +28,7 @@ pub struct Instr<'a> {
 }
 
 /// Where an access goes.
-#[derive(Clone, Copy, Debug, PartialEq, Eq)]
+#[derive(Clone, Copy, PartialEq, Eq)]
 pub enum Space {
     Mem,
     Ram,
@@ -38,7 +38,7 @@ pub enum Space {
 }
 
 /// Whether an access reads or writes, and how many bytes.
-#[derive(Clone, Copy, Debug, PartialEq, Eq)]
+#[derive(Clone, Copy, PartialEq, Eq)]
 pub enum Kind {
     ReadOne,
     ReadTwo,
@@ -57,7 +57,7 @@ impl Kind {
 }
 
 /// The instruction there may read or write at each of these addresses.
-#[derive(Clone, Copy, Debug, PartialEq, Eq)]
+#[derive(Clone, Copy)]
 pub struct Access<'a> {
     pub pc: u16,
     pub space: Space,
@@ -66,7 +66,7 @@ pub struct Access<'a> {
 }
 
 /// Why the analysis stops.
-#[derive(Clone, Copy, Debug, PartialEq, Eq)]
+#[derive(Clone, Copy, PartialEq, Eq)]
 pub enum Cause<'a> {
     Fetch,
     Targets(Set<'a>),
@@ -74,21 +74,21 @@ pub enum Cause<'a> {
 }
 
 /// The analysis stops there.
-#[derive(Clone, Copy, Debug, PartialEq, Eq)]
+#[derive(Clone, Copy)]
 pub struct Open<'a> {
     pub pc: u16,
     pub cause: Cause<'a>,
 }
 
 /// The stack pointer has one of these values there.
-#[derive(Clone, Copy, Debug, PartialEq, Eq)]
+#[derive(Clone, Copy)]
 pub struct Stack<'a> {
     pub pc: u16,
     pub at: Set<'a>,
 }
 
 /// A line behind the first and in front of the summary.
-#[derive(Clone, Copy, Debug, PartialEq, Eq)]
+#[derive(Clone, Copy)]
 pub enum Line<'a> {
     Edge(Edge),
     Instr(Instr<'a>),
@@ -102,15 +102,30 @@ impl<'a> Line<'a> {
     pub fn read(text: &'a [u8]) -> Result<Line<'a>, Why>
         ensures { IfOk result (λ line. lines.line_text line ≡ text.now) }
     {
-        let Some((letter, rest)) = cut(text, b' ') else {
+        let [letter, b' ', rest @ ..] = text else {
             return Err(Why::NoLetter);
         };
         match letter {
-            b"E" => Ok(Line::Edge(edge_of(rest).ok_or(Why::Edge)?)),
-            b"I" => Ok(Line::Instr(instr_of(rest).ok_or(Why::Instr)?)),
-            b"M" => Ok(Line::Access(access_of(rest).ok_or(Why::Access)?)),
-            b"O" => Ok(Line::Open(open_of(rest).ok_or(Why::Open)?)),
-            b"S" => Ok(Line::Stack(stack_of(rest).ok_or(Why::Stack)?)),
+            b'E' => match edge_of(rest) {
+                Some(edge) => Ok(Line::Edge(edge)),
+                None => Err(Why::Edge),
+            },
+            b'I' => match instr_of(rest) {
+                Some(instr) => Ok(Line::Instr(instr)),
+                None => Err(Why::Instr),
+            },
+            b'M' => match access_of(rest) {
+                Some(access) => Ok(Line::Access(access)),
+                None => Err(Why::Access),
+            },
+            b'O' => match open_of(rest) {
+                Some(open) => Ok(Line::Open(open)),
+                None => Err(Why::Open),
+            },
+            b'S' => match stack_of(rest) {
+                Some(stack) => Ok(Line::Stack(stack)),
+                None => Err(Why::Stack),
+            },
             _ => Err(Why::NoLetter),
         }
     }
@@ -137,17 +152,20 @@ fn edge_of(rest: &[u8]) -> Option<Edge>
 fn instr_of(rest: &[u8]) -> Option<Instr<'_>>
     ensures { IfSome result (λ instr. lines.instr_text instr ≡ rest.now) }
 {
-    let (pc, rest) = located(rest)?;
-    let (bytes, text) = cut(rest, b' ')?;
-    if text.is_empty() {
-        return None;
+    if let Some((pc, rest)) = located(rest)
+        && let Some((bytes, text)) = cut(rest, b' ')
+        && let Some(len) = bytes_of(bytes)
+        && !text.is_empty()
+    {
+        Some(Instr {
+            pc,
+            bytes,
+            len,
+            text,
+        })
+    } else {
+        None
     }
-    Some(Instr {
-        pc,
-        bytes,
-        len: bytes_of(bytes)?,
-        text,
-    })
 }
 
 fn space_of(word: &[u8]) -> Option<Space>
@@ -190,20 +208,23 @@ fn fits(space: Space, set: &Set<'_>) -> bool {
 fn access_of(rest: &[u8]) -> Option<Access<'_>>
     ensures { IfSome result (λ access. lines.access_text access ≡ rest.now) }
 {
-    let (pc, rest) = located(rest)?;
-    let (space, rest) = cut(rest, b' ')?;
-    let (sort, set) = cut(rest, b' ')?;
-    let space = space_of(space)?;
-    let at = Set::read(set)?;
-    if !fits(space, &at) {
-        return None;
+    if let Some((pc, rest)) = located(rest)
+        && let Some((space, rest)) = cut(rest, b' ')
+        && let Some((kind, set)) = cut(rest, b' ')
+        && let Some(space) = space_of(space)
+        && let Some(kind) = kind_of(kind)
+        && let Some(at) = Set::read(set)
+        && fits(space, &at)
+    {
+        Some(Access {
+            pc,
+            space,
+            kind,
+            at,
+        })
+    } else {
+        None
     }
-    Some(Access {
-        pc,
-        space,
-        kind: kind_of(sort)?,
-        at,
-    })
 }
 
 /// The set of addresses of an open site.
@@ -223,13 +244,14 @@ fn set_cause_of(rest: &[u8]) -> Option<Cause<'_>>
     ensures { IfSome result (λ cause. lines.cause_text cause ≡ rest.now) }
 {
     let (word, set) = cut(rest, b' ')?;
+    let set = addresses(set)?;
     if word == b"Targets".as_slice() {
-        return Some(Cause::Targets(addresses(set)?));
+        Some(Cause::Targets(set))
+    } else if word == b"Store".as_slice() {
+        Some(Cause::Store(set))
+    } else {
+        None
     }
-    if word == b"Store".as_slice() {
-        return Some(Cause::Store(addresses(set)?));
-    }
-    None
 }
 
 fn cause_of(rest: &[u8]) -> Option<Cause<'_>>

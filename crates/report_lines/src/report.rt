@@ -6,8 +6,7 @@ ghost use Rattle.report_lines.specs.Text.{front_text, report_text, verdict_text}
 use crate::digits::{cut, decimal};
 use crate::line::Line;
 use crate::refusal::{ReadError, Refusal, Why};
-use crate::set::{Set, Width};
-use hex_digits::{byte, word};
+use crate::set::{Set, Width, number};
 use std::alloc::Global;
 
 /// The T line: the extreme of the stack pointers, if there is one, and how many S lines say nothing of them.
@@ -81,7 +80,10 @@ impl<'a> Report<'a> {
 
     /// Whether stack pointers may have this width.
     fn takes(&self, width: Option<Width>) -> bool {
-        width.is_none() || self.width.is_none() || self.width == width
+        match (self.width, width) {
+            (Some(own), Some(other)) => own == other,
+            _ => true,
+        }
     }
 
     /// Keeps what later lines are compared with.
@@ -105,10 +107,10 @@ impl<'a> Report<'a> {
     {
         let line = match Line::read(text) {
             Ok(line) => line,
-            Err(why) => return refused(number, why),
+            Err(why) => return Err(refused(number, why)),
         };
         if let Some(why) = self.wrong_with(&line, text) {
-            return refused(number, why);
+            return Err(refused(number, why));
         }
         self.keep(&line, text);
         self.lines.push(line)?;
@@ -148,13 +150,13 @@ impl<'a> Report<'a> {
         ensures behind { OnOk result (behind.now ≡ []) }
     {
         let Some(summary) = summary_of(text) else {
-            return refused(number, Why::Summary);
+            return Err(refused(number, Why::Summary));
         };
         if summary != self.own_summary() {
-            return refused(number, Why::OtherSummary);
+            return Err(refused(number, Why::OtherSummary));
         }
         if !behind.is_empty() {
-            return refused(number.saturating_add(1), Why::BehindSummary);
+            return Err(refused(number.saturating_add(1), Why::BehindSummary));
         }
         self.summary = summary;
         self.summary_text = text;
@@ -162,23 +164,21 @@ impl<'a> Report<'a> {
     }
 }
 
-/// The value of a summary: none, or a number of two or four digits.
-fn extreme_of(text: &[u8]) -> Option<Option<u16>> {
-    if text == b"none".as_slice() {
-        return Some(None);
-    }
-    match byte(text) {
-        Some(value) => Some(Some(value)),
-        None => Some(Some(word(text)?)),
-    }
-}
-
+/// The summary of a text: none or a number of two or four digits, and a decimal number.
 fn summary_of(text: &[u8]) -> Option<Summary> {
     let (value, whole) = cut(text, b' ')?;
-    Some(Summary {
-        extreme: extreme_of(value)?,
-        whole: decimal(whole)?,
-    })
+    let whole = decimal(whole)?;
+    match number(value) {
+        Some((value, _)) => Some(Summary {
+            extreme: Some(value),
+            whole,
+        }),
+        None if value == b"none".as_slice() => Some(Summary {
+            extreme: None,
+            whole,
+        }),
+        None => None,
+    }
 }
 
 /// Whether each byte of a line is a printable ASCII character.
@@ -208,16 +208,12 @@ fn summary_text(line: &[u8]) -> Option<&[u8]>
 }
 
 /// The refusal of a line.
-fn refused<T>(line: usize, why: Why) -> Result<T, ReadError>
-    ensures { OnOk result ⊥ }
-{
-    Err(ReadError::Refused(Refusal { line, why }))
+fn refused(line: usize, why: Why) -> ReadError {
+    ReadError::Refused(Refusal { line, why })
 }
 
 /// The refusal of a text without a line feed behind so many lines.
-fn cut_off<T>(lines: usize, rest: &[u8]) -> Result<T, ReadError>
-    ensures { OnOk result ⊥ }
-{
+fn cut_off(lines: usize, rest: &[u8]) -> ReadError {
     let why = if rest.is_empty() {
         Why::NoSummary
     } else {
@@ -231,20 +227,20 @@ pub fn read(alloc: Global, text: &[u8]) -> Result<Report<'_>, ReadError>
     ensures { IfOk result (λ report. text.now ≡ report_text report.closed report.lines.items report.summary_text.now) }
 {
     if text.is_empty() {
-        return refused(1, Why::Empty);
+        return Err(refused(1, Why::Empty));
     }
     let Some((first, mut rest)) = cut(text, b'\n') else {
-        return refused(1, Why::NoLineFeed);
+        return Err(refused(1, Why::NoLineFeed));
     };
     let Some(closed) = verdict_of(first) else {
-        return refused(1, Why::NoVerdict);
+        return Err(refused(1, Why::NoVerdict));
     };
     let mut report = Report::new(alloc, closed);
     let mut number = 1usize;
     while let Some((line, behind)) = cut(rest, b'\n') {
         number = number.saturating_add(1);
         if !is_printable(line) {
-            return refused(number, Why::NotText);
+            return Err(refused(number, Why::NotText));
         }
         if let Some(summary) = summary_text(line) {
             report.end(number, summary, behind)?;
@@ -253,5 +249,5 @@ pub fn read(alloc: Global, text: &[u8]) -> Result<Report<'_>, ReadError>
         report.take(number, line)?;
         rest = behind;
     }
-    cut_off(number, rest)
+    Err(cut_off(number, rest))
 }

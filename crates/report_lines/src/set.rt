@@ -6,7 +6,7 @@ use crate::digits::{count, cut};
 use hex_digits::{byte, word};
 
 /// How many digits the numbers of a set have.
-#[derive(Clone, Copy, Debug, PartialEq, Eq)]
+#[derive(Clone, Copy, PartialEq, Eq)]
 pub enum Width {
     /// Two digits.
     Byte,
@@ -15,7 +15,7 @@ pub enum Width {
 }
 
 /// How a set is written.
-#[derive(Clone, Copy, Debug, PartialEq, Eq)]
+#[derive(Clone, Copy, PartialEq, Eq)]
 pub enum Form {
     /// Every number.
     Every,
@@ -26,7 +26,7 @@ pub enum Form {
 }
 
 /// A set, with the text that it is written by.
-#[derive(Clone, Copy, Debug, PartialEq, Eq)]
+#[derive(Clone, Copy, PartialEq, Eq)]
 pub struct Set<'a> {
     pub text: &'a [u8],
     pub form: Form,
@@ -58,15 +58,12 @@ impl<'a> Set<'a> {
 
     /// Whether a set of stack pointers says nothing of them.
     pub fn is_whole(&self) -> bool {
-        match self.text {
-            b"*" | b"0000/2/8000" => true,
-            _ => false,
-        }
+        self.text == b"*".as_slice() || self.text == b"0000/2/8000".as_slice()
     }
 }
 
 /// One number, with its width.
-fn number(text: &[u8]) -> Option<(u16, Width)> {
+pub(crate) fn number(text: &[u8]) -> Option<(u16, Width)> {
     match byte(text) {
         Some(value) => Some((value, Width::Byte)),
         None => Some((word(text)?, Width::Word)),
@@ -105,22 +102,27 @@ fn list(text: &[u8]) -> Option<Set<'_>>
 fn run<'a>(text: &'a [u8], base: &[u8], rest: &[u8]) -> Option<Set<'a>>
     ensures { IfSome result (λ set. set.text.now ≡ text.now) }
 {
-    let (stride, many) = cut(rest, b'/')?;
-    let (base, width) = number(base)?;
-    let stride = u16::try_from(count(stride)?).ok()?;
-    let many = count(many)?;
-    let (least, greatest) = extremes(base, stride, many, width)?;
-    Some(Set {
-        text,
-        form: Form::Run {
-            base,
-            stride,
-            count: many,
-        },
-        width: Some(width),
-        least,
-        greatest,
-    })
+    if let Some((stride, many)) = cut(rest, b'/')
+        && let Some((base, width)) = number(base)
+        && let Some(stride) = count(stride)
+        && let Ok(stride) = u16::try_from(stride)
+        && let Some(count) = count(many)
+        && let Some((least, greatest)) = extremes(base, stride, count, width)
+    {
+        Some(Set {
+            text,
+            form: Form::Run {
+                base,
+                stride,
+                count,
+            },
+            width: Some(width),
+            least,
+            greatest,
+        })
+    } else {
+        None
+    }
 }
 
 /// The least and the greatest number of a run, which may pass the greatest number of its width and go on at the least.
@@ -138,12 +140,13 @@ fn extremes(base: u16, stride: u16, count: u32, width: Width) -> Option<(u16, u1
         return None;
     }
     let last = base.wrapping_add(reach);
-    if last < end {
-        return Some((u16::try_from(base).ok()?, u16::try_from(last).ok()?));
-    }
-    // The last number in front of the turn, and the first behind it.
-    let steps = end.wrapping_sub(1).wrapping_sub(base) / stride;
-    let greatest = base.wrapping_add(steps.wrapping_mul(stride));
-    let least = greatest.wrapping_add(stride).wrapping_sub(end);
+    let (least, greatest) = if last < end {
+        (base, last)
+    } else {
+        // The last number in front of the turn, and the first behind it.
+        let steps = end.wrapping_sub(1).wrapping_sub(base) / stride;
+        let greatest = base.wrapping_add(steps.wrapping_mul(stride));
+        (greatest.wrapping_add(stride).wrapping_sub(end), greatest)
+    };
     Some((u16::try_from(least).ok()?, u16::try_from(greatest).ok()?))
 }
