@@ -1,6 +1,6 @@
 //! What lines say, and whether a row holds.
 
-use crate::streams::{ROOM, Way};
+use crate::streams::{ROOM, Way, piece_of};
 use std::alloc::{AllocError, Global};
 use std::sync::Wait;
 use std::thread::Threads;
@@ -134,15 +134,20 @@ impl Rows {
     fn source(&self, alloc: Global, piece: usize) -> Result<MemSource, AllocError> {
         let bytes = Vec::from_slice(alloc, self.input.as_bytes())?;
         Ok(match &self.source {
-            Some(way) => MemSource::new(bytes, way.piece, way.failing.clone()?),
-            None => MemSource::new(bytes, piece, Vec::new(alloc)),
+            Some(way) => MemSource::new(bytes, piece_of(way.piece), way.failing.clone()?),
+            None => MemSource::new(bytes, piece_of(piece), Vec::new(alloc)),
         })
     }
 
     fn sink(&self, alloc: Global, piece: usize) -> Result<MemSink, AllocError> {
         let made = match &self.sink {
-            Some(way) => MemSink::with_room(alloc, way.piece, way.room, way.failing.clone()?),
-            None => MemSink::with_room(alloc, piece, ROOM, Vec::new(alloc)),
+            Some(way) => MemSink::with_room(
+                alloc,
+                piece_of(way.piece),
+                way.room,
+                way.failing.clone()?,
+            ),
+            None => MemSink::with_room(alloc, piece_of(piece), ROOM, Vec::new(alloc)),
         };
         match made {
             Ok(sink) => Ok(sink),
