@@ -20,15 +20,6 @@ struct Counter {
     tops: Cell<u32>,
 }
 
-fn fresh_counter() -> Counter {
-    Counter {
-        joins: Cell::new(0),
-        to_marks: Cell::new(0),
-        to_classes: Cell::new(0),
-        tops: Cell::new(0),
-    }
-}
-
 fn one_more(count: &Cell<u32>) {
     count.set(count.get().wrapping_add(1));
 }
@@ -321,7 +312,12 @@ fn run_for<C: Chip>(alloc: Global, chip: &C, most: u64) -> Result<Book<C>, Memor
 
 #[test]
 fn counts_to_the_top(rt: HostRuntime) -> Result<(), Fail> {
-    let chip = fresh_counter();
+    let chip = Counter {
+        joins: Cell::new(0),
+        to_marks: Cell::new(0),
+        to_classes: Cell::new(0),
+        tops: Cell::new(0),
+    };
     let book = run_for(rt.alloc(), &chip, 1_000)?;
     assert!(rt; book.finished());
     assert_eq!(rt; book.journal().len(), 128);
@@ -352,41 +348,6 @@ fn a_long_chain_ends(rt: HostRuntime) -> Result<(), Fail> {
     assert_eq!(rt; nodes.len(), 20_000);
     assert_eq!(rt; works.len(), 20_000);
     assert_eq!(rt; journal.len(), 40_000);
-    Ok(())
-}
-
-/// The same, but what works make of nodes is worked out before they are posted.
-fn run_ahead<C: Chip>(alloc: Global, chip: &C, most: u64) -> Result<Book<C>, Memory> {
-    let mut book = Book::open(alloc, chip)?;
-    for _ in 0..most {
-        match book.claim_to_look_ahead(chip, 0)? {
-            Claimed::Ticket(ticket) => {
-                let work = chip.work(alloc, ticket.unit(), ticket.at(), ticket.exit())?;
-                let done = Done { ticket, work };
-                let ahead = done.look_ahead(alloc, chip);
-                if let Err((memory, _)) = book.post_ahead(chip, done, ahead) {
-                    return Err(memory);
-                }
-            }
-            Claimed::Idle | Claimed::Finished => return Ok(book),
-        }
-    }
-    Ok(book)
-}
-
-/// As many calls make the same book: what was looked ahead is taken, and not worked out again.
-#[test]
-fn looking_ahead_makes_the_same_book(rt: HostRuntime) -> Result<(), Fail> {
-    let chip = fresh_counter();
-    let ahead = fresh_counter();
-    let book = run_for(rt.alloc(), &chip, 1_000)?;
-    let looked = run_ahead(rt.alloc(), &ahead, 1_000)?;
-    assert_eq!(rt; looked.journal(), book.journal());
-    assert_eq!(rt; looked.nodes(), book.nodes());
-    assert_eq!(rt; ahead.joins.get(), chip.joins.get());
-    assert_eq!(rt; ahead.to_marks.get(), chip.to_marks.get());
-    assert_eq!(rt; ahead.to_classes.get(), chip.to_classes.get());
-    assert_eq!(rt; ahead.tops.get(), chip.tops.get());
     Ok(())
 }
 
