@@ -4,7 +4,7 @@
 use Rattle.std.specs.Prelude.{ℕ, suc, nat_le, nat_eq, if◌then◌else◌, Option, None, Some, Result, Ok, Err, option_and_then, option_map, List, [], ◌∷◌, ◌++◌, codes, find, ◌≡◌}
 use Rattle.std.specs.Option.{option_map_or}
 use Rattle.std.specs.Cmp.Lexicographic.{pointwise}
-use Rattle.chip_law.specs.Line.{space_text}
+use Rattle.item_lines.specs.Line.{space_text}
 use Rattle.chip_numbers.specs.declared.space.Space.{Space}
 use Rattle.ihex_read.specs.Lines.{lines_of}
 use Rattle.ihex_read.specs.Word.{word_of_digits}

@@ -4,7 +4,7 @@ ghost use Rattle.std.specs.Prelude.{◌≡◌, [], filter, fold, flat_map, IfOk}
 ghost use Rattle.std.specs.Cmp.Lexicographic.{slice_cmp};
 ghost use Rattle.std.specs.Map.{values_of};
 ghost use Rattle.std.specs.Ordering.{is_lt, nat_cmp};
-ghost use Rattle.chip_law.specs.Line.{item_line_of};
+ghost use Rattle.item_lines.specs.Line.{item_line_of};
 ghost use Rattle.assert_check.specs.Assertions.{breaks_item, broken_of, least_of, lesser};
 ghost use Rattle.assert_check.specs.Holding.{Holds};
 
@@ -12,8 +12,9 @@ use crate::assertion::Assertion;
 use crate::breaking::breaks;
 use crate::laws::unbroken_lists_hold;
 use call_context::{Item, Unit};
-use chip_law::{InstrText, LawfulChip, Work, item_line};
+use chip_law::{LawfulChip, Work};
 use closing_law::ClosedBook;
+use item_lines::{InstrText, item_line};
 use no_memory::Memory;
 use std::alloc::Global;
 

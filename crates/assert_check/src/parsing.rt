@@ -5,9 +5,9 @@ ghost use Rattle.std.specs.List.{Contains};
 ghost use Rattle.assert_check.specs.Lines as lines;
 
 use crate::assertion::Assertion;
-use chip_law::space_name;
 use chip_numbers::Space;
 use ihex_read::word_of_digits;
+use item_lines::space_name;
 use text_fields::{behind, cut};
 
 /// The range `LO-HI`.

@@ -17,7 +17,7 @@ use Rattle.chip_law.specs.Analysis.{Analysis, AreFormed}
 use Rattle.chip_law.specs.Table.{IsClosedTable, IsFormedTable, IsUnitOver}
 use Rattle.closing_law.specs.ClosedBook.{IsClosedBook, IsUnitWithWork, table_in}
 use Rattle.round_core.specs.Same.{same_frame, same_node, same_unit}
-use Rattle.state_text.specs.declared.text.Outside.{Outside}
+use Rattle.node_fields.specs.declared.outside.Outside.{Outside}
 use Rattle.state_text.specs.Texts.{StateTexts}
 use Rattle.cert_check.proofs.TableLemmas.{flips_from}
 use Rattle.cert_check.specs.declared.refusal.Refusal.TheVariants.{NotIn}

@@ -11,10 +11,10 @@ use Rattle.call_context.specs.declared.node.Unit.TheVariants.{One, Back}
 use Rattle.call_context.specs.declared.shown.Cause.{Cause}
 use Rattle.chip_law.specs.declared.chip.Work.{Work}
 use Rattle.chip_law.specs.Analysis.{Analysis}
-use Rattle.chip_law.specs.Line.{open_line_of}
+use Rattle.item_lines.specs.Line.{open_line_of}
 use Rattle.closing_law.specs.ClosedBook.{table_in}
 use Rattle.round_core.specs.Same.{same_frame}
-use Rattle.state_text.specs.declared.text.Outside.{Outside}
+use Rattle.node_fields.specs.declared.outside.Outside.{Outside}
 use Rattle.cert_text.specs.Certificate.{is_below}
 use Rattle.cert_check.specs.declared.refusal.Refusal.{Refusal}
 use Rattle.cert_check.specs.declared.refusal.Refusal.TheVariants.{Unknown, NoStart, NotIn, HasOpen}

@@ -1,7 +1,7 @@
 //! The walk over a table.
 
 ghost use Rattle.std.specs.Prelude.{◌≡◌, ◌+◌, ◌<◌, ◌^◌, ◌++◌, ◌∷◌, [], None, Some, if◌then◌else◌, flat_map, map, option_copied, length, IfOk, IfErr, OnOk};
-ghost use Rattle.chip_law.specs.Line.{open_line_of};
+ghost use Rattle.item_lines.specs.Line.{open_line_of};
 ghost use Rattle.closing_law.specs.ClosedBook.{table_in};
 ghost use Rattle.cert_text.specs.Certificate.{is_below};
 ghost use Rattle.cert_check.specs.Exits.{returned};
@@ -14,8 +14,9 @@ use crate::refusal::{CheckError, Refusal};
 use crate::table::Table;
 use call_context::{Cause, Frame, Node, Unit};
 use cert_text::Cert;
-use chip_law::{Work, open_line};
+use chip_law::Work;
 use closing_law::ClosedBook;
+use item_lines::open_line;
 use no_memory::Memory;
 use state_text::LawfulText;
 use std::alloc::Global;

@@ -17,7 +17,7 @@ use Rattle.chip_law.specs.Laws.{Cover}
 use Rattle.chip_law.specs.Machine.{Machine}
 use Rattle.chip_law.specs.declared.chip.Work.{Work}
 use Rattle.text_fields.specs.Numbers.{hex_number}
-use Rattle.state_text.specs.declared.text.Outside.{Outside}
+use Rattle.node_fields.specs.declared.outside.Outside.{Outside}
 use Rattle.state_text.specs.Texts.{StateTexts}
 
 -- locations without calls, in the base frame or in one of an interrupt that was entered at no known stack pointer

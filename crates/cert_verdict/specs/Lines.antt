@@ -3,9 +3,9 @@ use Rattle.std.specs.Prelude.{ℕ, List, [], ◌∷◌, ◌++◌, codes}
 use Rattle.std.specs.Fmt.{decimal}
 use Rattle.call_context.specs.declared.node.Node.{Node}
 use Rattle.call_context.specs.declared.shown.Cause.{Cause}
-use Rattle.chip_law.specs.Line.{open_line_of}
+use Rattle.item_lines.specs.Line.{open_line_of}
 use Rattle.node_fields.specs.Nodes.{node_field}
-use Rattle.state_text.specs.declared.text.Outside.{Outside}
+use Rattle.node_fields.specs.declared.outside.Outside.{Outside}
 use Rattle.cert_text.specs.declared.fault.LineFault.{LineFault}
 use Rattle.cert_text.specs.declared.fault.LineFault.TheVariants.{Syntax, Order}
 use Rattle.cert_check.specs.declared.refusal.Refusal.{Refusal}

@@ -6,7 +6,7 @@ ghost use Rattle.cert_verdict.specs.Lines as lines;
 use call_context::{Cause, Node};
 use cert_check::Refusal;
 use cert_text::LineFault;
-use chip_law::open_line;
+use item_lines::open_line;
 use no_memory::Memory;
 use node_fields::push_node;
 use state_text::Outside;

@@ -8,7 +8,7 @@ ghost use Rattle.cert_verdict.specs.Verdict.{IsVerdict};
 use crate::lines::{fault_line, refusal_line};
 use cert_check::{CheckError, check};
 use cert_text::{Cert, MOST_BYTES, ReadError, Reader};
-use chip_law::ChipText;
+use item_lines::InstrText;
 use no_memory::Memory;
 use report_text::closed_report_of;
 use state_text::LawfulText;
@@ -39,7 +39,7 @@ fn read<C: LawfulText>(alloc: Global, chip: &C, text: &[u8]) -> Result<Cert<C>, 
 }
 
 /// The verdict on a table that a text denotes.
-fn judged<C: LawfulText + ChipText>(
+fn judged<C: LawfulText + InstrText>(
     alloc: Global,
     chip: &C,
     cert: Cert<C>,
@@ -67,7 +67,7 @@ fn judged<C: LawfulText + ChipText>(
 }
 
 /// What is told of a text as a certificate of a chip's program.
-pub fn verdict_on<C: LawfulText + ChipText>(
+pub fn verdict_on<C: LawfulText + InstrText>(
     alloc: Global,
     chip: &C,
     text: &[u8],

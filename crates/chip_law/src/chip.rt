@@ -6,7 +6,6 @@ ghost use Rattle.chip_law.specs.Machine.{Machine};
 ghost use Rattle.std.specs.Option.{option_copied};
 ghost use Rattle.std.specs.Prelude.{IfOk, ◌≡◌, ℕ, List};
 
-use arrayvec::ArrayString;
 use call_context::{Cause, Frame, Item, Node, Sequence, Unit};
 use no_memory::Memory;
 use std::alloc::Global;
@@ -110,16 +109,3 @@ pub trait LawfulChip: Chip {
     fn alike_laws()
         ensures { (a b : Self.Base) → alike a b → AreAlike (Self.analysis a) (Self.analysis b) };
 }
-
-/// The texts of a chip's instructions.
-pub trait InstrText {
-    /// The text of the instruction of these bytes at an address.
-    ghost text_of: { Self → ℕ → List ℕ → List ℕ };
-
-    /// The text of the instruction of these bytes at an address, at most 40 characters.
-    fn instr_text(&self, pc: u16, bytes: &[u8]) -> ArrayString<40>
-        ensures { result.bytes ≡ text_of self.now pc bytes.now };
-}
-
-/// A chip whose instructions have a text.
-pub trait ChipText: Chip + InstrText {}

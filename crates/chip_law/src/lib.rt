@@ -1,8 +1,6 @@
-//! What an analysis asks of a chip, and the lines of a report.
+//! What an analysis asks of a chip: machines and their runs, analyses, and the laws that tie them.
 #![tactic(auto)]
 
 mod chip;
-mod line;
 
-pub use chip::{Chip, ChipText, InstrText, LawfulChip, Work};
-pub use line::{item_line, open_line, put_item, put_open, space_name};
+pub use chip::{Chip, LawfulChip, Work};

@@ -9,8 +9,8 @@ use Rattle.value_set.specs.Joining.{is_within}
 use Rattle.value_text.specs.Memories.{memory_outside}
 use Rattle.value_text.specs.Sets.{set_field}
 use Rattle.value_text.specs.Words.{byte_text}
-use Rattle.state_text.specs.declared.text.Outside.{Outside}
-use Rattle.state_text.specs.Outside.{FindsNone, or_else, or_else_finds, told, unless, unless_finds}
+use Rattle.node_fields.specs.declared.outside.Outside.{Outside}
+use Rattle.node_fields.specs.Outside.{FindsNone, or_else, or_else_finds, told, unless, unless_finds}
 use Rattle.mcs51_state.specs.Known.{Known, known_within, registers_within}
 use Rattle.mcs51_state.specs.Facts.{is_fact_within, is_same_carry, is_same_linear}
 use Rattle.mcs51_state.specs.Levels.{levels_within}

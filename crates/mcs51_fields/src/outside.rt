@@ -9,7 +9,7 @@ use crate::places::Remembered;
 use entry_value::Cells;
 use mcs51_state::{State, is_carry_within, is_linear_within};
 use no_memory::Memory;
-use state_text::{Outside, told};
+use node_fields::{Outside, told};
 use std::alloc::Global;
 use value_text::memory_outside;
 

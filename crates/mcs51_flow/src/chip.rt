@@ -16,8 +16,9 @@ use analysis_limits::Limits;
 use arrayvec::ArrayString;
 use call_context::{Node, Unit};
 use chip_flow::{frame_of, start_node, work};
-use chip_law::{Chip, ChipText, InstrText, Work};
+use chip_law::{Chip, Work};
 use image::Image;
+use item_lines::InstrText;
 use mcs51_decode::{Instr, decode};
 use mcs51_state::State;
 use no_memory::Memory;
@@ -157,5 +158,3 @@ impl InstrText for Mcs51Chip {
         Mcs51Text.instr_text(pc, bytes)
     }
 }
-
-impl ChipText for Mcs51Chip {}

@@ -4,7 +4,7 @@ ghost use Rattle.std.specs.Prelude.{◌≡◌};
 ghost use Rattle.mcs51_flow.specs.Standing.{instr_text as the_text};
 
 use arrayvec::ArrayString;
-use chip_law::InstrText;
+use item_lines::InstrText;
 use mcs51_decode::from_bytes;
 use mcs51_text::text;
 

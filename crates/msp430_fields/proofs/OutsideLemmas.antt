@@ -5,7 +5,7 @@ use Rattle.entry_value.specs.declared.word.Word.{Word}
 use Rattle.entry_value.specs.Words.{word_within}
 use Rattle.value_text.specs.Words.{word_text}
 use Rattle.msp430_fields.specs.Places.{place_field}
-use Rattle.state_text.specs.Outside.{or_else, told, unless}
+use Rattle.node_fields.specs.Outside.{or_else, told, unless}
 use Rattle.msp430_fields.specs.Outside.{registers_outside}
 
 module _ (rows : List (ℕ × List ℕ)) (new held : List Word) (i : ℕ) (row : ℕ × List ℕ) (n h : Word) where

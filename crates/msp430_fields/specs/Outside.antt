@@ -12,8 +12,8 @@ use Rattle.value_set.specs.Joining.{is_within}
 use Rattle.value_text.specs.Bits.{bit_field}
 use Rattle.value_text.specs.Memories.{memory_outside}
 use Rattle.value_text.specs.Words.{word_text}
-use Rattle.state_text.specs.declared.text.Outside.{Outside}
-use Rattle.state_text.specs.Outside.{FindsNone, or_else, or_else_finds, told, unless, unless_finds}
+use Rattle.node_fields.specs.declared.outside.Outside.{Outside}
+use Rattle.node_fields.specs.Outside.{FindsNone, or_else, or_else_finds, told, unless, unless_finds}
 use Rattle.msp430_state.specs.Forms.{IsKnown}
 use Rattle.msp430_state.specs.Known.{Known, known_within}
 use Rattle.msp430_state.specs.Facts.{is_fact_within}

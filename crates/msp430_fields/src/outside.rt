@@ -11,7 +11,7 @@ use entry_value::{Cells, Word};
 use known_parts::is_bit_within;
 use msp430_state::{State, is_fact_within};
 use no_memory::Memory;
-use state_text::{Outside, told};
+use node_fields::{Outside, told};
 use std::alloc::Global;
 use value_text::memory_outside;
 

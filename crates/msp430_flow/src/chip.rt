@@ -18,8 +18,9 @@ use analysis_limits::Limits;
 use arrayvec::ArrayString;
 use call_context::{Node, Unit};
 use chip_flow::{frame_of, start_node, work};
-use chip_law::{Chip, ChipText, InstrText, Work};
+use chip_law::{Chip, Work};
 use image::{Image, RamRange};
+use item_lines::InstrText;
 use msp430_chip::Device;
 use msp430_decode::{Instr, decode};
 use msp430_state::State;
@@ -200,5 +201,3 @@ impl InstrText for Msp430Chip {
         Msp430Text.instr_text(pc, bytes)
     }
 }
-
-impl ChipText for Msp430Chip {}

@@ -1,3 +1,4 @@
 pub mod Decimals
 pub mod Nodes
+pub mod Outside
 pub mod Tests

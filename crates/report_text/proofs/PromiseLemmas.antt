@@ -11,9 +11,9 @@ use Rattle.call_context.specs.declared.shown.Cause.{Cause}
 use Rattle.chip_law.specs.Analysis.{Analysis}
 use Rattle.chip_law.specs.declared.chip.Work.{Work}
 use Rattle.chip_law.specs.Laws.{Cover}
-use Rattle.chip_law.specs.Line.{item_line_of, open_line_of}
+use Rattle.item_lines.specs.Line.{item_line_of, open_line_of}
 use Rattle.chip_law.specs.Machine.{Machine}
-use Rattle.chip_law.specs.Shown.{HasLine}
+use Rattle.item_lines.specs.Shown.{HasLine}
 use Rattle.chip_law.specs.Table.{IsUnitOver}
 use Rattle.closing_law.specs.ClosedBook.{IsClosedBook, table_in}
 use Rattle.closing_law.specs.Covered.{NoneIsOpen, AreCovering, CoversRuns, IsBroken}

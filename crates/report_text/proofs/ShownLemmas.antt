@@ -9,8 +9,8 @@ use Rattle.std.specs.declared.cmp.Ordering.TheVariants.{Less, Equal, Greater}
 use Rattle.std.proofs.lemmas.List.Elements.{Contains-append_left}
 use Rattle.std.proofs.lemmas.Map.Lookups.{exact_bytes}
 use Rattle.call_context.specs.declared.shown.Item.{Item}
-use Rattle.chip_law.specs.Line.{item_line_of, open_line_of}
-use Rattle.chip_law.specs.Shown.{EndsLine, HasLine}
+use Rattle.item_lines.specs.Line.{item_line_of, open_line_of}
+use Rattle.item_lines.specs.Shown.{EndsLine, HasLine}
 use Rattle.chip_law.specs.declared.chip.Work.{Work}
 use Rattle.report_text.specs.declared.deepest.Deepest.{Deepest}
 use Rattle.report_text.specs.Deepest.{deepest_of}

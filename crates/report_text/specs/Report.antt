@@ -13,7 +13,7 @@ use Rattle.call_context.specs.declared.shown.Cause.{Cause}
 use Rattle.call_context.specs.declared.shown.Item.{Item}
 use Rattle.chip_law.specs.Analysis.{Analysis}
 use Rattle.chip_law.specs.declared.chip.Work.{Work}
-use Rattle.chip_law.specs.Line.{item_line_of, open_line_of}
+use Rattle.item_lines.specs.Line.{item_line_of, open_line_of}
 use Rattle.round_core.specs.Kept.{live_works}
 use Rattle.round_core.specs.declared.event.Event.{Event}
 use Rattle.round_core.specs.Machine.{BookState, IsFinished, replay}

@@ -8,8 +8,9 @@ ghost use Rattle.round_core.specs.Machine.{replay};
 ghost use Rattle.vsa_io.specs.Stream.{AppendsPrefix, HasRisen, appended};
 
 use crate::report::{closed_report_of, report_of};
-use chip_law::{ChipText, LawfulChip};
+use chip_law::{Chip, LawfulChip};
 use closing_law::ClosedBook;
+use item_lines::InstrText;
 use round_core::Book;
 use std::alloc::Global;
 use vsa_io::{PrintError, Sink, write_all};
@@ -29,7 +30,7 @@ fn put_text<K: Sink>(sink: &mut K, text: &[u8]) -> Result<(), PrintError>
 }
 
 /// Writes the report of a book.
-pub fn print_book<C: ChipText, K: Sink>(
+pub fn print_book<C: Chip + InstrText, K: Sink>(
     alloc: Global,
     chip: &C,
     book: &Book<C>,
@@ -48,7 +49,7 @@ pub fn print_book<C: ChipText, K: Sink>(
 }
 
 /// Writes the report of a closed book. It says CLOSED, covers every run of the chip, and shows the book's table.
-pub fn print_closed<C: ChipText + LawfulChip, K: Sink>(
+pub fn print_closed<C: LawfulChip + InstrText, K: Sink>(
     alloc: Global,
     chip: &C,
     book: &ClosedBook<C>,

@@ -12,13 +12,14 @@ ghost use Rattle.std.specs.Cmp.Lexicographic.{slice_cmp};
 ghost use Rattle.std.specs.List.{flat_map};
 ghost use Rattle.std.specs.Map.{values_of};
 ghost use Rattle.std.specs.Ordering.{nat_cmp};
-ghost use Rattle.chip_law.specs.Line.{item_line_of, open_line_of};
+ghost use Rattle.item_lines.specs.Line.{item_line_of, open_line_of};
 
 use crate::deepest::{Deepest, deepest_of};
 use call_context::{Cause, Item, Unit};
-use chip_law::{ChipText, LawfulChip, Work, item_line, open_line};
+use chip_law::{Chip, LawfulChip, Work};
 use closing_law::ClosedBook;
 use hex_digits::{hex_byte, hex_word};
+use item_lines::{InstrText, item_line, open_line};
 use no_memory::Memory;
 use round_core::Book;
 use std::alloc::{AllocError, Global};
@@ -47,7 +48,7 @@ fn add_line(lines: &mut BTreeSet<Vec<u8>>, line: Vec<u8>) -> Result<(), AllocErr
 }
 
 /// Puts the lines of items into a set.
-fn add_items<C: ChipText>(
+fn add_items<C: Chip + InstrText>(
     alloc: Global,
     chip: &C,
     items: &[Item],
@@ -84,7 +85,7 @@ struct Told {
 }
 
 /// Adds what is told of a work, if its unit is one of the book.
-fn tell<C: ChipText>(
+fn tell<C: Chip + InstrText>(
     alloc: Global,
     chip: &C,
     work: &Work<C::Abs>,
@@ -106,7 +107,7 @@ fn tell<C: ChipText>(
 }
 
 /// What is told of the last works of a book's units.
-fn tell_all<C: ChipText>(alloc: Global, chip: &C, book: &Book<C>) -> Result<Told, Memory>
+fn tell_all<C: Chip + InstrText>(alloc: Global, chip: &C, book: &Book<C>) -> Result<Told, Memory>
     ensures lines { IfOk result (λ told. bytes_of told.lines.keys ≡ with_lines [] (flat_map (lines_of (C.text_of chip.now)) (live_works (replay (C.analysis book.now.base) book.now.journal)))) }
     ensures closed { IfOk result (λ told. told.is_closed ≡ are_closed (live_works (replay (C.analysis book.now.base) book.now.journal))) }
     ensures deepest { IfOk result (λ told. told.deepest ≡ the_deepest_of None (flat_map (λ work. work.items) (live_works (replay (C.analysis book.now.base) book.now.journal)))) }
@@ -124,7 +125,7 @@ fn tell_all<C: ChipText>(alloc: Global, chip: &C, book: &Book<C>) -> Result<Told
 }
 
 /// What is told of works, each of which is the last one of a unit.
-fn tell_each<C: ChipText>(
+fn tell_each<C: Chip + InstrText>(
     alloc: Global,
     chip: &C,
     works: &[(Unit, Work<C::Abs>)],
@@ -212,7 +213,11 @@ fn text_of(alloc: Global, told: &Told) -> Result<Vec<u8>, AllocError>
 }
 
 /// The report of the last works of a book's units. It is closed where the book is finished and none of its sites is open.
-pub fn report_of<C: ChipText>(alloc: Global, chip: &C, book: &Book<C>) -> Result<Report, Memory>
+pub fn report_of<C: Chip + InstrText>(
+    alloc: Global,
+    chip: &C,
+    book: &Book<C>,
+) -> Result<Report, Memory>
     ensures { IfOk result (λ report. IsReportOf (C.text_of chip.now) (replay (C.analysis book.now.base) book.now.journal) report.text.items report.is_closed) }
 {
     let mut told = tell_all(alloc, chip, book)?;
@@ -225,7 +230,7 @@ pub fn report_of<C: ChipText>(alloc: Global, chip: &C, book: &Book<C>) -> Result
 }
 
 /// The report of a closed book says CLOSED, covers every run of the chip, and shows the book's table.
-fn closed_report_covers<C: ChipText + LawfulChip>(chip: &C, book: &ClosedBook<C>)
+fn closed_report_covers<C: LawfulChip + InstrText>(chip: &C, book: &ClosedBook<C>)
     ensures covers { CoversEveryRun (C.machine book.now.base) (C.text_of chip.now)
         (closed_report (C.text_of chip.now) book.now.works) }
     ensures shows { ShowsTable (C.text_of chip.now) (C.analysis book.now.base)
@@ -236,7 +241,7 @@ fn closed_report_covers<C: ChipText + LawfulChip>(chip: &C, book: &ClosedBook<C>
 }
 
 /// The report of a closed book. It says CLOSED, covers every run of the chip, and shows the book's table.
-pub fn closed_report_of<C: ChipText + LawfulChip>(
+pub fn closed_report_of<C: LawfulChip + InstrText>(
     alloc: Global,
     chip: &C,
     book: &ClosedBook<C>,

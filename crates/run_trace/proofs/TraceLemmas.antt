@@ -4,7 +4,7 @@ use Rattle.std.specs.Prelude.{codes, map, IfOk}
 use Rattle.std.specs.List.{flat_map}
 use Rattle.chip_numbers.specs.Single.{Single}
 use Rattle.call_context.specs.declared.shown.Item.{Item}
-use Rattle.chip_law.specs.Line.{item_line_of}
+use Rattle.item_lines.specs.Line.{item_line_of}
 use Rattle.choosing.specs.Outcome.Outcome.{Next, Wild as Leaves}
 use Rattle.run_trace.specs.Runner.{Runner}
 use Rattle.run_trace.specs.Trace.{Ended, after, ended_by, end_line, met_lines, need_line, run_from, wild_line}

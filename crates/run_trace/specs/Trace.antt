@@ -4,7 +4,7 @@ use Rattle.std.specs.Fmt.{decimal}
 use Rattle.std.specs.List.{flat_map}
 use Rattle.chip_numbers.specs.Single.{Single}
 use Rattle.hex_digits.specs.Digits.{hex}
-use Rattle.chip_law.specs.Line.{item_line_of}
+use Rattle.item_lines.specs.Line.{item_line_of}
 use Rattle.choosing.specs.Outcome.{Outcome}
 use Rattle.choosing.specs.Outcome.Outcome.{Next, Wild as Leaves}
 use Rattle.run_trace.specs.Runner.{Runner}

@@ -3,15 +3,15 @@
 ghost use Rattle.std.specs.Prelude.{◌≡◌, ◌++◌, IfOk, OnOk, codes};
 ghost use Rattle.std.specs.Fmt.{decimal};
 ghost use Rattle.std.specs.List.{flat_map};
-ghost use Rattle.chip_law.specs.Line.{item_line_of};
+ghost use Rattle.item_lines.specs.Line.{item_line_of};
 ghost use Rattle.run_trace.specs.Trace.{end_line, need_line, run_of, wild_line};
 
 use crate::emulator::{Emulator, Ran};
 use call_context::Item;
-use chip_law::{InstrText, put_item};
 use choosing::Choices;
 use dense_text::{Text, TextBuilder};
 use hex_digits::hex_word;
+use item_lines::{InstrText, put_item};
 use no_memory::Memory;
 use std::alloc::{AllocError, Global};
 

@@ -4,7 +4,7 @@ use Rattle.call_context.specs.declared.node.Node.{Node}
 use Rattle.chip_law.specs.Analysis.{Analysis}
 use Rattle.text_fields.specs.Lines.{IsOneLine}
 use Rattle.node_fields.specs.Nodes.{IsNodeText}
-use Rattle.state_text.specs.declared.text.Outside.{Outside}
+use Rattle.node_fields.specs.declared.outside.Outside.{Outside}
 
 -- how many digits a stack pointer has, the text of a state, and which state of a node a text is
 pub record StateTexts (A : Type 0) : Type 0 where

@@ -2,12 +2,10 @@
 //!
 //! A chip with [`StateText`] writes and reads its states, and tells the first field of a state that isn't within that of
 //! another. With [`LawfulText`] this is proved to be exact (`specs/Texts.antt`): each state in form is read again, and no
-//! other text is read. [`told`] makes such a field of two values, and `specs/Outside.antt` says when there is none. Readers
-//! and checkers of certificates know of a chip's states no more than this.
+//! other text is read. Readers and checkers of certificates know of a chip's states no more than this.
 #![tactic(auto)]
 
-mod outside_field;
 mod text;
 
-pub use outside_field::{named_field, told};
-pub use text::{LawfulText, Outside, StateText};
+pub use node_fields::Outside;
+pub use text::{LawfulText, StateText};

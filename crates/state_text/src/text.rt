@@ -3,21 +3,11 @@
 ghost use Rattle.std.specs.Prelude.{◌≡◌, ◌≤◌, ◌++◌, IfOk, OnOk};
 ghost use Rattle.state_text.specs.Texts.{AreTexts, StateTexts};
 
-use call_context::{Node, Sequence};
+use call_context::Node;
 use chip_law::{Chip, LawfulChip};
 use no_memory::Memory;
+use node_fields::Outside;
 use std::alloc::Global;
-
-/// The first field of a state that isn't within that of another.
-#[derive(Drop)]
-pub struct Outside {
-    /// Its name, as `SP`.
-    pub field: Sequence<u8>,
-    /// What the state has there, as it is written.
-    pub posted: Sequence<u8>,
-    /// What the other one has there.
-    pub held: Sequence<u8>,
-}
 
 /// A chip whose states have a text: some fields with a space between each two.
 pub trait StateText: Chip {

@@ -3,7 +3,7 @@ use Rattle.std.proofs.Common.{◌≡◌, ℕ, true, false, Some, List, [], ◌�
 use Rattle.std.specs.Prelude.{codes}
 use Rattle.entry_value.specs.Cells.{are_within}
 use Rattle.irq_frames.specs.Ranges.{ranges_within}
-use Rattle.state_text.specs.declared.text.Outside.{Outside}
+use Rattle.node_fields.specs.declared.outside.Outside.{Outside}
 use Rattle.text_fields.specs.Spelling.{Spelling}
 use Rattle.value_text.specs.Memories.{Memory, memory_outside}
 use Rattle.value_text.specs.Ranges.{ranges_text}

@@ -5,8 +5,8 @@ use Rattle.std.proofs.lemmas.Bool.{true≢false, false≢true}
 use Rattle.entry_value.specs.declared.cells.Cell.{Cell}
 use Rattle.entry_value.specs.Cells.{CellMap, are_within}
 use Rattle.irq_frames.specs.Ranges.{AreRanges, ranges_within}
-use Rattle.state_text.specs.declared.text.Outside.{Outside}
-use Rattle.state_text.specs.Outside.{or_else, told, unless}
+use Rattle.node_fields.specs.declared.outside.Outside.{Outside}
+use Rattle.node_fields.specs.Outside.{or_else, told, unless}
 use Rattle.text_fields.specs.Spelling.{Spelling}
 use Rattle.text_fields.specs.Fields.{beside, named, passing, restated}
 use Rattle.text_fields.specs.Items.{IsItem, IsLine, beside_line, item_line, named_item, passing_item, restated_item}

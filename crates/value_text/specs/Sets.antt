@@ -5,7 +5,7 @@ use Rattle.std.proofs.Common.{refl, sym, ap, ◌∙◌, subst, inl, inr, arith, 
 use Rattle.std.proofs.lemmas.Bool.{and_parts, and_from, true≢false, leb-true, le-leb, eq-eqb, eqb-true}
 use Rattle.std.proofs.lemmas.List.{append-nil}
 use Rattle.hex_digits.specs.Digits.{hex, short_hex}
-use Rattle.chip_law.specs.Line.{comma_list, form_text}
+use Rattle.item_lines.specs.Line.{comma_list, form_text}
 use Rattle.value_set.specs.Form.{IsNormal, IsNormalRun}
 use Rattle.value_set.specs.declared.form.Progression.{Progression}
 use Rattle.value_set.specs.declared.form.Form.{Form}

@@ -13,7 +13,7 @@ use crate::words::Places;
 use entry_value::Cells;
 use irq_frames::Ranges;
 use no_memory::Memory;
-use state_text::{Outside, named_field};
+use node_fields::{Outside, named_field};
 use std::alloc::{AllocError, Global};
 use text_fields::{behind, cut};
 

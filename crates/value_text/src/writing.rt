@@ -1,7 +1,7 @@
 //! The texts of sets.
 
 ghost use Rattle.std.specs.Prelude.{◌≡◌, ◌<◌, ◌++◌, ◌^◌, OnOk};
-ghost use Rattle.chip_law.specs.Line.{comma_list, form_text};
+ghost use Rattle.item_lines.specs.Line.{comma_list, form_text};
 ghost use Rattle.value_set.specs.Form.{IsNormal};
 ghost use Rattle.text_fields.specs.Numbers.{IsWidth};
 ghost use Rattle.value_text.specs.Sets as fields;

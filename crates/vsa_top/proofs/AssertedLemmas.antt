@@ -11,7 +11,7 @@ use Rattle.assert_check.specs.declared.lines.AssertError.{AssertError}
 use Rattle.assert_check.specs.declared.lines.AssertError.TheVariants as assert_error
 use Rattle.call_context.specs.declared.node.Unit.{Unit as WorkUnit}
 use Rattle.chip_law.specs.Analysis.{Analysis}
-use Rattle.chip_law.specs.Line.{item_line_of}
+use Rattle.item_lines.specs.Line.{item_line_of}
 use Rattle.chip_law.specs.declared.chip.Work.{Work}
 use Rattle.chip_numbers.specs.declared.space.Space.{Space}
 use Rattle.report_text.specs.Report.{IsReportOf, are_closed, last_works, report_of}

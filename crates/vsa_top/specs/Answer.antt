@@ -27,7 +27,7 @@ use Rattle.state_text.specs.Texts.{StateTexts}
 use Rattle.mcs51_flow.specs.Texts.{mcs51_texts}
 use Rattle.msp430_flow.specs.Texts.{msp430_texts}
 use Rattle.assert_check.specs.declared.assertion.Assertion.{Assertion}
-use Rattle.chip_law.specs.Line.{item_line_of}
+use Rattle.item_lines.specs.Line.{item_line_of}
 use Rattle.vsa_top.specs.Asserted.{AreAsserted, IsUnread, broken_in, broken_text, spaces_of, status_of_broken}
 use Rattle.vsa_top.specs.Input.{InputGives, IsBad, IsTooLong, input_of}
 use Rattle.vsa_top.specs.Scripts.{IsRefused, IsScript, second_limit}

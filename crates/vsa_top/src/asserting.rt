@@ -5,7 +5,7 @@ ghost use Rattle.std.specs.Map.{values_of};
 ghost use Rattle.assert_check.specs.Assertions.{broken_of};
 ghost use Rattle.assert_check.specs.Holding.{Holds};
 ghost use Rattle.assert_check.specs.declared.assertion.Assertion.{Assertion as AnAssertion};
-ghost use Rattle.chip_law.specs.Line.{item_line_of};
+ghost use Rattle.item_lines.specs.Line.{item_line_of};
 ghost use Rattle.image.specs.Kept.{IsRamRange, IsReadUnder};
 ghost use Rattle.report_text.specs.Report.{are_closed, last_works};
 ghost use Rattle.round_core.specs.Machine.{replay, IsFinished, IsLegalJournal};
@@ -22,11 +22,12 @@ use crate::reply::{NoReply, Reply, book_of, no_line, text_reply};
 use crate::script::ScriptRefusal;
 use crate::second::assertions_in;
 use assert_check::{Assertion, Broken, decide, unbroken_lists_hold};
-use chip_law::{ChipText, InstrText, LawfulChip, put_item};
+use chip_law::LawfulChip;
 use chip_numbers::Space;
 use closing_law::{ClosedBook, closed_books_cover_runs, read_closed_with_journal};
 use dense_text::Text;
 use image::Image;
+use item_lines::{InstrText, put_item};
 use mcs51_flow::Mcs51Chip;
 use msp430_flow::Msp430Chip;
 use no_memory::Memory;
@@ -104,7 +105,7 @@ fn decision<C: LawfulChip + InstrText>(
 }
 
 /// What a book breaks, where it is closed, or its report.
-fn decided<C: ChipText + LawfulChip>(
+fn decided<C: LawfulChip + InstrText>(
     alloc: Global,
     chip: &C,
     book: Book<C>,
@@ -133,7 +134,7 @@ fn decided<C: ChipText + LawfulChip>(
 /// What a program breaks that so many workers analyse, or its report.
 fn chip_decision<
     R: Threads + Wait + Sync,
-    C: ChipText<Base: Send> + LawfulChip + Send + Sync,
+    C: LawfulChip<Base: Send> + InstrText + Send + Sync,
     G: Gate + Sync,
 >(
     rt: &R,

@@ -13,8 +13,8 @@ use crate::outcome::Status;
 use crate::reply::{NoReply, Reply, text_reply};
 use crate::second::{SecondError, second_in};
 use cert_verdict::verdict_on;
-use chip_law::ChipText;
 use image::Image;
+use item_lines::InstrText;
 use mcs51_flow::Mcs51Chip;
 use msp430_flow::Msp430Chip;
 use state_text::LawfulText;
@@ -35,7 +35,7 @@ fn status_of_verdict(is_closed: bool) -> Status
 }
 
 /// The verdict on what stands behind an image text, of which so much was read, as a certificate of a chip's program.
-fn verdict_reply<S: Source, C: LawfulText + ChipText>(
+fn verdict_reply<S: Source, C: LawfulText + InstrText>(
     alloc: Global,
     chip: &C,
     begun: &[u8],

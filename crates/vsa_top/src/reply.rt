@@ -18,12 +18,13 @@ use crate::outcome::Status;
 use crate::script::{ScriptRefusal, script_in};
 use crate::summary::summary_of;
 use cert_text::book_certificate;
-use chip_law::{Chip, ChipText, InstrText};
+use chip_law::Chip;
 use closing_law::books_are_bounded;
 use dense_text::Text;
 use disassembly::disassembly_of;
 use ihex_read::HexFault;
 use image::{ChipName, Image};
+use item_lines::InstrText;
 use mcs51_flow::{Mcs51Chip, Mcs51Text};
 use msp430_chip::Device;
 use msp430_flow::{Msp430Chip, Msp430Text};
@@ -170,7 +171,7 @@ fn push_certificate<C: LawfulText>(
 }
 
 /// The report of a book of so many workers, and its certificate where one is asked for.
-fn analysed<C: ChipText + LawfulText>(
+fn analysed<C: LawfulText + InstrText>(
     alloc: Global,
     chip: &C,
     book: Book<C>,
@@ -300,7 +301,7 @@ fn chip_run_reply<S: Source>(
 /// The report of a program that so many workers analyse, and its certificate where one is asked for.
 fn chip_reply<
     R: Threads + Wait + Sync,
-    C: ChipText<Base: Send> + LawfulText + Send + Sync,
+    C: LawfulText<Base: Send> + InstrText + Send + Sync,
     G: Gate + Sync,
 >(rt: &R, alloc: Global, chip: &C, workers: u32, cert: bool, gate: &G) -> Result<Reply, Memory>
     requires some { 1 ≤ workers }

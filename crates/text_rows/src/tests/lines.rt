@@ -4,7 +4,7 @@ ghost use Rattle.std.specs.Prelude.{[]};
 
 use arrayvec::ArrayString;
 use call_context::{Cause, Item, Set};
-use chip_law::{InstrText, item_line, put_open};
+use item_lines::{InstrText, item_line, put_open};
 use std::alloc::Global;
 use std::process::Abort;
 use std::test::Fail;

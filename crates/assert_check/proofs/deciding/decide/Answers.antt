@@ -1,7 +1,7 @@
 use Rattle.std.proofs.Common.{sym, ◌∙◌}
 use Rattle.std.specs.Map.{values_of}
 use Rattle.std.specs.Prelude.{flat_map}
-use Rattle.chip_law.specs.Line.{item_line_of}
+use Rattle.item_lines.specs.Line.{item_line_of}
 use Rattle.assert_check.proofs.LeastItems.{all_told, items_of}
 use Rattle.assert_check.proofs.deciding.decide.Goals as goal
 

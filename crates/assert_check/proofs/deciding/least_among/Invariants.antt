@@ -1,6 +1,6 @@
 use Rattle.std.proofs.Common.{◌≡◌, drop}
 use Rattle.std.specs.Prelude.{filter, fold}
-use Rattle.chip_law.specs.Line.{item_line_of}
+use Rattle.item_lines.specs.Line.{item_line_of}
 use Rattle.assert_check.specs.Assertions.{breaks_item, lesser}
 use Rattle.assert_check.proofs.deciding.least_among.Given as goal
 

@@ -1,7 +1,7 @@
 use Rattle.std.proofs.Common.{◌≡◌, drop}
 use Rattle.std.specs.Prelude.{filter, fold, flat_map}
 use Rattle.std.specs.Map.{values_of}
-use Rattle.chip_law.specs.Line.{item_line_of}
+use Rattle.item_lines.specs.Line.{item_line_of}
 use Rattle.assert_check.specs.Assertions.{breaks_item, least_of, lesser}
 use Rattle.assert_check.proofs.deciding.least_broken.Given as goal
 

@@ -1,6 +1,6 @@
 use Rattle.std.proofs.Common.{◌≡◌, drop}
 use Rattle.std.specs.Prelude.{map}
-use Rattle.chip_law.specs.Line.{open_line_of}
+use Rattle.item_lines.specs.Line.{open_line_of}
 use Rattle.report_text.specs.Report.{with_lines, bytes_of}
 use Rattle.report_text.proofs.report.add_opens.Given as goal
 

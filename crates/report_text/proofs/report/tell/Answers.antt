@@ -1,5 +1,5 @@
 use Rattle.std.specs.Prelude.{map}
-use Rattle.chip_law.specs.Line.{item_line_of, open_line_of}
+use Rattle.item_lines.specs.Line.{item_line_of, open_line_of}
 use Rattle.report_text.specs.Report.{bytes_of}
 use Rattle.report_text.proofs.ReportLemmas.{told_lines}
 use Rattle.report_text.proofs.report.tell.Goals as goal

@@ -1,6 +1,6 @@
 use Rattle.std.proofs.Common.{◌≡◌, ◌^◌, ◌++◌, OnOk, sym, ap, ◌∙◌, subst}
 use Rattle.std.proofs.lemmas.Bool.{ne_eqb}
-use Rattle.chip_law.specs.Line.{form_text}
+use Rattle.item_lines.specs.Line.{form_text}
 use Rattle.value_text.specs.Sets.{other_run_text}
 use Rattle.value_text.proofs.writing.push_form.Goals as goal
 

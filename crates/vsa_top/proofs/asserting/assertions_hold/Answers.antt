@@ -1,4 +1,4 @@
-use Rattle.chip_law.specs.Line.{item_line_of}
+use Rattle.item_lines.specs.Line.{item_line_of}
 use Rattle.report_text.specs.Report.{last_works}
 use Rattle.report_text.specs.ClosedWorks.{none_open}
 use Rattle.vsa_top.proofs.asserting.assertions_hold.Goals as goal

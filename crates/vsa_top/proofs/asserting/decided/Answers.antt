@@ -2,7 +2,7 @@ use Rattle.std.proofs.Common.{ℕ, refl, sym, ap, subst, ◌∙◌}
 use Rattle.std.specs.Prelude.{◌≡◌, IfOk, flat_map}
 use Rattle.std.specs.Map.{values_of}
 use Rattle.assert_check.specs.Assertions.{broken_of}
-use Rattle.chip_law.specs.Line.{item_line_of}
+use Rattle.item_lines.specs.Line.{item_line_of}
 use Rattle.closing_law.specs.ClosedBook.{Closed}
 use Rattle.vsa_top.specs.Answer.{IsAnalysis, IsDecided}
 use Rattle.vsa_top.specs.Asserted.{broken_text, status_of_broken}

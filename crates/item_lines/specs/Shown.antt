@@ -1,7 +1,7 @@
 -- When the bytes of a report show what a step did.
 use Rattle.std.specs.Prelude.{◌≡◌, ◌⊎◌, ℕ, List, [], ◌∷◌, ◌++◌}
 use Rattle.call_context.specs.declared.shown.Item.{Item}
-use Rattle.chip_law.specs.Line.{item_line_of}
+use Rattle.item_lines.specs.Line.{item_line_of}
 use Rattle.call_context.specs.Showing.{Shows}
 use Rattle.chip_numbers.specs.Single.{Single}
 

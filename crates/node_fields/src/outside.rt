@@ -1,13 +1,23 @@
 //! A field of a state that isn't within that of another.
 
 ghost use Rattle.std.specs.Prelude.{◌≡◌, IfOk};
-ghost use Rattle.state_text.specs.Outside as fields;
+ghost use Rattle.node_fields.specs.Outside as fields;
 
-use crate::text::Outside;
 use call_context::Sequence;
 use no_memory::Memory;
 use std::alloc::Global;
 use text_fields::Field;
+
+/// The first field of a state that isn't within that of another.
+#[derive(Drop)]
+pub struct Outside {
+    /// Its name, as `SP`.
+    pub field: Sequence<u8>,
+    /// What the state has there, as it is written.
+    pub posted: Sequence<u8>,
+    /// What the other one has there.
+    pub held: Sequence<u8>,
+}
 
 /// A field with this name and these texts.
 pub fn named_field(

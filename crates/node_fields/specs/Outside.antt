@@ -3,7 +3,7 @@ use Rattle.std.specs.Prelude.{◌≡◌, ℕ, ◌&&◌, if◌then◌else◌, Boo
 use Rattle.std.proofs.Common.{refl, sym}
 use Rattle.std.proofs.lemmas.Bool.{and_parts, and_from}
 use Rattle.std.proofs.lemmas.Option.{none-some}
-use Rattle.state_text.specs.declared.text.Outside.{Outside}
+use Rattle.node_fields.specs.declared.outside.Outside.{Outside}
 
 -- a field with both its texts
 abbrev pub told : {A : Type 0} → List ℕ → (A → List ℕ) → (new held : A) → Outside

@@ -2,9 +2,9 @@
 
 ghost use Rattle.std.specs.Prelude.{◌≡◌, ◌++◌, ◌∷◌, codes, IfOk, OnOk, OnErr};
 ghost use Rattle.hex_digits.specs.Digits.{hex, short_hex, hex_bytes};
-ghost use Rattle.chip_law.specs.Line.{word_set_text, byte_set_text, set_text, item_line_of, open_line_of, space_text, kind_text, comma_list};
+ghost use Rattle.item_lines.specs.Line.{word_set_text, byte_set_text, set_text, item_line_of, open_line_of, space_text, kind_text, comma_list};
 
-use crate::chip::InstrText;
+use crate::instr_text::InstrText;
 use call_context::{Cause, Item, Set, Space};
 use hex_digits::{hex_byte, hex_word, push_short_hex};
 use no_memory::Memory;
