@@ -2,7 +2,7 @@ use Rattle.std.proofs.Common.{◌≡◌, ◌∙◌, ◌<◌, Some, [], arith, ap
 use Rattle.std.proofs.lemmas.List.{get_or_default}
 use Rattle.entry_value.specs.Words.{word_within}
 use Rattle.value_text.specs.Words.{word_text}
-use Rattle.state_text.specs.Outside.{told}
+use Rattle.node_fields.specs.Outside.{told}
 use Rattle.msp430_fields.specs.Places.{place_field, register_rows}
 use Rattle.msp430_fields.proofs.OutsideLemmas.{registers_found, registers_go_on}
 use Rattle.msp430_fields.proofs.outside.registers_outside.Goals as goal
