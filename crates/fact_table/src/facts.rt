@@ -2,7 +2,7 @@
 
 use chip_law::Chip;
 use round_core::{Book, Event};
-use turn_table::{Journaled, TurnTable};
+use turn_table::Journaled;
 
 /// The book that the workers share, behind a pointer: a turn moves no more than that.
 #[derive(Drop)]
@@ -23,9 +23,6 @@ impl<C: Chip> Journaled for Facts<C> {
 
     ghost seat_of = { seat_of };
 }
-
-/// The lock around the book, which threads share.
-pub type Turns<C> = TurnTable<Facts<C>>;
 
 /// A seat at the book.
 pub type Seat<C> = turn_table::Seat<Facts<C>>;

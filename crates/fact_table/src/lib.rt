@@ -16,14 +16,11 @@
 //! it, whatever others do in between.
 #![tactic(auto)]
 
-mod calls;
 mod door;
 mod exchange;
 mod facts;
 mod table;
 
-pub use calls::{claim_at, exchange_at, give_back_at, post_at};
-pub use door::Door;
 pub use exchange::{Exchanged, Last};
-pub use facts::{Facts, Seat, Turns};
+pub use facts::{Facts, Seat};
 pub use table::FactTable;

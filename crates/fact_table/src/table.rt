@@ -1,23 +1,22 @@
 //! The shared book.
 
-ghost use Rattle.std.specs.Prelude.{◌≡◌, ◌+◌, ◌<◌, ◌≤◌, length, ℕ, false, [], Some, IfOk, OnOk, OnErr, IfErr};
+ghost use Rattle.std.specs.Prelude.{List, ◌∷◌, ◌≡◌, ◌+◌, ◌<◌, ◌≤◌, length, ℕ, false, [], Some, IfOk, OnOk, OnErr, IfErr};
 ghost use Rattle.std.specs.List.{AllByRecursion};
 ghost use Rattle.fact_table.specs.Exchange.{IsWorked, tickets_of};
 ghost use Rattle.fact_table.specs.Named.{table_of};
 ghost use Rattle.fact_table.specs.Seats.{AreOutTo, Claims, Ends, Exchanges, IsOutTo, Looks};
 ghost use Rattle.round_core.specs.Counts.{seat_of};
+ghost use Rattle.round_core.specs.Machine.{Out};
 ghost use Rattle.round_core.specs.declared.event.Event.TheVariants.{Post, GiveBack};
 ghost use Rattle.turn_table.specs.Events.{StartsWith, AllBelow, events_of, events_under};
-ghost use Rattle.turn_table.specs.Named.{name_of};
 ghost use Rattle.turn_table.specs.Shown.{IsOwn, first_seat, seat_split, new_seat, seats_joined, seats_known};
 
-use crate::calls::{claim_at, exchange_at, give_back_at, post_at};
 use crate::door::Door;
-use crate::exchange::Exchanged;
-use crate::facts::{Facts, Seat, Turns};
+use crate::exchange::{Exchanged, Last, exchange_on, look_ahead, post_one};
+use crate::facts::{Facts, Seat};
 use chip_law::Chip;
 use no_memory::Memory;
-use round_core::{Book, Claimed, Done, Ticket};
+use round_core::{Book, Claimed, Done, Spent, Ticket, outs_stay, outs_stay_beside};
 use std::alloc::Global;
 use std::sync::Wait;
 use turn_table::TurnTable;
@@ -25,7 +24,7 @@ use turn_table::TurnTable;
 /// A book that the workers of several threads share, each at a seat of its own.
 #[derive(Drop)]
 pub struct FactTable<C: Chip> {
-    turns: Turns<C>,
+    turns: TurnTable<Facts<C>>,
     door: Door,
 }
 
@@ -45,15 +44,7 @@ impl<C: Chip> FactTable<C> {
         Ok((FactTable { turns, door }, seat))
     }
 
-    /// The lock around the book, which threads share: they call [`claim_at`], [`post_at`], [`exchange_at`] and
-    /// [`give_back_at`] on it.
-    pub fn turns(&self) -> &Turns<C>
-        ensures { name_of result.now ≡ table_of self.now }
-    {
-        &self.turns
-    }
-
-    /// Claims a unit, as [`claim_at`] does.
+    /// Claims a unit for the seat. A refusal adds nothing.
     pub fn claim<R: Wait>(&self, rt: &R, chip: &C, seat: &mut Seat<C>) -> Result<Claimed<C>, Memory>
         requires table { seat.old.table ≡ table_of self.now }
         requires idle { seat.old.holds ≡ false }
@@ -61,10 +52,14 @@ impl<C: Chip> FactTable<C> {
         ensures answer { IfOk result (λ claimed. Claims C.analysis seat.old claimed seat.new) }
         ensures refused { OnErr result (Looks seat.old seat.new) }
     {
-        claim_at(rt, &self.turns, chip, seat)
+        let mut turn = self.turns.turn(rt, seat);
+        let book = &mut *turn.value.book;
+        let claimed = book.claim(chip, seat.number());
+        self.turns.pass(seat, turn);
+        claimed
     }
 
-    /// Posts the work of a ticket, as [`post_at`] does.
+    /// Posts the work of a ticket that is out to the seat. A refusal adds nothing, and hands the work back.
     pub fn post<R: Wait>(
         &self,
         rt: &R,
@@ -82,10 +77,22 @@ impl<C: Chip> FactTable<C> {
         ensures still_out { OnErr result (IsOutTo C.analysis seat.new done.ticket) }
         ensures handed_back { IfErr result (λ refused. refused.1 ≡ done) }
     {
-        post_at(rt, &self.turns, chip, seat, done)
+        outs_stay::<C>();
+        // What the seat's own events are, before the turn and in it, says that the ticket is out still.
+        seat.number();
+        let mut turn = self.turns.turn(rt, seat);
+        let book = &mut *turn.value.book;
+        book.journal();
+        let (posted, spent) = post_one(book, chip, done);
+        self.turns.pass(seat, turn);
+        // Others wait no longer while it is freed.
+        drop(spent);
+        posted
     }
 
-    /// Posts works and claims units in one turn, as [`exchange_at`] does.
+    /// Posts works whose tickets are out to the seat, in their order, and then claims up to `want` units for it, all in one turn. It
+    /// claims a second or later unit only where at least `share` units can be claimed. Where memory runs out at a post, that work
+    /// and those behind it are handed back, and nothing is claimed.
     pub fn exchange<R: Wait>(
         &self,
         rt: &R,
@@ -105,27 +112,50 @@ impl<C: Chip> FactTable<C> {
         requires works { AllByRecursion (IsWorked (C.analysis (C.base chip.now))) done.items }
         ensures { Exchanges C.analysis seat.old done.items want share result seat.new }
     {
-        exchange_at(
-            rt,
-            alloc,
-            &self.turns,
-            &self.door,
-            chip,
-            seat,
-            done,
-            want,
-            share,
-        )
+        outs_stay::<C>();
+        seat.number();
+        let Ok(tickets) = Vec::with_capacity(alloc, want as usize) else {
+            return Exchanged {
+                unposted: done,
+                tickets: Vec::new(alloc),
+                last: Last::Memory,
+                left: true,
+            };
+        };
+        // Others wait no longer while states are compared and joined, and memory is taken.
+        let ahead = look_ahead(alloc, chip, done.as_slice());
+        let next = Spent::with_room(alloc);
+        let inside = self.door.enter();
+        let mut turn = self.turns.turn(rt, seat);
+        let book = &mut *turn.value.book;
+        book.journal();
+        let number = seat.number();
+        let exchanged = exchange_on(book, chip, number, done, ahead, tickets, want, share);
+        let spent = book.exchange_spent(next);
+        self.turns.pass(seat, turn);
+        drop(inside);
+        // Others wait no longer while it is freed.
+        drop(spent);
+        exchanged
     }
 
-    /// Gives a unit back, as [`give_back_at`] does.
+    /// Gives the unit of a ticket back that is out to the seat. Its other tickets are still out.
     pub fn give_back<R: Wait>(&self, rt: &R, seat: &mut Seat<C>, ticket: Ticket<C>)
         requires table { seat.old.table ≡ table_of self.now }
         requires idle { seat.old.holds ≡ false }
         requires ticket { IsOutTo C.analysis seat.old ticket }
         ensures given_back { Ends C.analysis seat.old ticket (GiveBack ticket.seat ticket.unit) seat.new }
+        ensures others_out { (others : List (Out C.Abs)) → AreOutTo C.analysis seat.old (ticket ∷ others)
+            → AreOutTo C.analysis seat.new others }
     {
-        give_back_at(rt, &self.turns, seat, ticket);
+        outs_stay::<C>();
+        outs_stay_beside::<C>();
+        seat.number();
+        let mut turn = self.turns.turn(rt, seat);
+        let book = &mut *turn.value.book;
+        book.journal();
+        book.give_back(ticket);
+        self.turns.pass(seat, turn);
     }
 
     /// Gives the seat's greatest number to a new seat, which has seen as much.

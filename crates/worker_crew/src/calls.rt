@@ -1,7 +1,6 @@
 //! How a worker that leaves units calls another one for them.
 
 use crossbeam_utils::sync::{EventCount, Key};
-use fact_table::Door;
 use std::hint;
 use std::sync::atomic::AtomicU64;
 use std::sync::atomic::Ordering::SeqCst;
@@ -10,7 +9,7 @@ use std::sync::atomic::Ordering::SeqCst;
 /// processor is. To wake who sleeps takes the system as long as some units take, and who was woken comes later still.
 const LOOKS: u32 = 4_000;
 
-/// What workers share beside the book: a call that one of them takes, the bell at which they sleep, and the door before turns.
+/// What workers share beside the book: a call that one of them takes, and the bell at which they sleep.
 #[derive(Drop)]
 pub(crate) struct Calls {
     /// 1 where a call wasn't taken yet.
@@ -18,7 +17,6 @@ pub(crate) struct Calls {
     /// How many workers look for one.
     looking: AtomicU64,
     bell: EventCount,
-    pub(crate) door: Door,
 }
 
 impl Calls {
@@ -27,7 +25,6 @@ impl Calls {
             open: AtomicU64::new(0),
             looking: AtomicU64::new(0),
             bell: EventCount::new(),
-            door: Door::new(),
         }
     }
 

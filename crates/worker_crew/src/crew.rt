@@ -5,13 +5,13 @@ ghost use Rattle.round_core.specs.Counts.{seat_of};
 ghost use Rattle.round_core.specs.Machine.{replay, IsFinished, IsLegalJournal};
 ghost use Rattle.std.specs.Thread.{IsSend, IsSync};
 ghost use Rattle.turn_table.specs.Events.{AllBelow, events_of};
-ghost use Rattle.turn_table.specs.Named.{name_of};
+ghost use Rattle.fact_table.specs.Named.{table_of};
 ghost use Rattle.worker_crew.specs.Turns.{AreAnswered, IsReady, StaysAnswered, TakesIn, Works};
 
 use crate::calls::Calls;
 use crate::worker::work;
 use chip_law::Chip;
-use fact_table::{FactTable, Seat, Turns};
+use fact_table::{FactTable, Seat};
 use no_memory::Memory;
 use round_core::Book;
 use std::alloc::Global;
@@ -37,23 +37,23 @@ fn threads_for<R: Threads>(rt: &R, workers: u32) -> u32
 fn work_through<R: Wait, C: Chip, G: Gate>(
     rt: &R,
     alloc: Global,
-    turns: &Turns<C>,
+    table: &FactTable<C>,
     chip: &C,
     gate: &G,
     calls: &Calls,
     seat: Seat<C>,
     more: u32,
 ) -> Seat<C>
-    requires ready { IsReady (name_of turns.now) (C.base chip.now) seat }
+    requires ready { IsReady (table_of table.now) (C.base chip.now) seat }
     requires room { more ≤ seat.room }
     ensures takes_in { TakesIn seat result }
     ensures answered { StaysAnswered seat result }
 {
-    let mut seat = work(rt, alloc, turns, chip, gate, calls, seat);
+    let mut seat = work(rt, alloc, table, chip, gate, calls, seat);
     for _ in 0..more {
-        let other = turns.split(&mut seat);
-        let other = work(rt, alloc, turns, chip, gate, calls, other);
-        turns.join(&mut seat, other);
+        let other = table.split(&mut seat);
+        let other = work(rt, alloc, table, chip, gate, calls, other);
+        table.join(&mut seat, other);
     }
     seat
 }
@@ -64,7 +64,7 @@ fn work_through<R: Wait, C: Chip, G: Gate>(
 fn work_beside<R: Threads + Wait + Sync, C: Chip<Base: Send> + Send + Sync, G: Gate + Sync>(
     rt: &R,
     alloc: Global,
-    turns: &Turns<C>,
+    table: &FactTable<C>,
     chip: &C,
     gate: &G,
     calls: &Calls,
@@ -74,29 +74,29 @@ fn work_beside<R: Threads + Wait + Sync, C: Chip<Base: Send> + Send + Sync, G: G
 ) -> Seat<C>
     requires threads { IsSync R.row × IsSend C.row × IsSync C.row × IsSync G.row
         × IsSend C.Base.row × IsSend C.Abs.row }
-    requires ready { IsReady (name_of turns.now) (C.base chip.now) seat }
+    requires ready { IsReady (table_of table.now) (C.base chip.now) seat }
     requires room { helpers + more ≤ seat.room }
     ensures takes_in { TakesIn seat result }
     ensures answered { StaysAnswered seat result }
 {
     if helpers == 0 {
-        return work_through(rt, alloc, turns, chip, gate, calls, seat, more);
+        return work_through(rt, alloc, table, chip, gate, calls, seat, more);
     }
-    let helper = turns.split(&mut seat);
+    let helper = table.split(&mut seat);
     let help = move || -> Seat<C>
-        requires { IsReady (name_of turns.now) (C.base chip.now) helper }
+        requires { IsReady (table_of table.now) (C.base chip.now) helper }
         ensures { Works helper result }
-    { work(rt, alloc, turns, chip, gate, calls, helper) };
+    { work(rt, alloc, table, chip, gate, calls, helper) };
     let go_on = move || -> Seat<C>
         requires threads { IsSync R.row × IsSend C.row × IsSync C.row × IsSync G.row
             × IsSend C.Base.row × IsSend C.Abs.row }
-        requires ready { IsReady (name_of turns.now) (C.base chip.now) seat }
+        requires ready { IsReady (table_of table.now) (C.base chip.now) seat }
         requires room { (0 < helpers) × (helpers + more ≤ seat.room + 1) }
         ensures takes_in { TakesIn seat result }
         ensures answered { StaysAnswered seat result }
-    { work_beside(rt, alloc, turns, chip, gate, calls, seat, helpers - 1, more) };
+    { work_beside(rt, alloc, table, chip, gate, calls, seat, helpers - 1, more) };
     let (helper, mut seat) = join(rt, help, go_on);
-    turns.join(&mut seat, helper);
+    table.join(&mut seat, helper);
     seat
 }
 
@@ -124,7 +124,7 @@ pub fn fixpoint<R: Threads + Wait + Sync, C: Chip<Base: Send> + Send + Sync, G: 
     let seat = work_beside(
         rt,
         alloc,
-        table.turns(),
+        &table,
         chip,
         gate,
         &calls,

@@ -4,12 +4,12 @@ ghost use Rattle.std.specs.Prelude.{◌≡◌, ◌<◌, ◌≤◌, ◌++◌, ◌
 ghost use Rattle.std.specs.List.{AllByRecursion};
 ghost use Rattle.fact_table.specs.Exchange.{IsWorked, tickets_of};
 ghost use Rattle.fact_table.specs.Seats.{AreOutTo};
-ghost use Rattle.turn_table.specs.Named.{name_of};
+ghost use Rattle.fact_table.specs.Named.{table_of};
 ghost use Rattle.worker_crew.specs.Turns.{GoesOn, IsReady, Serves, Works, units_of};
 
 use crate::calls::Calls;
 use chip_law::Chip;
-use fact_table::{Door, Exchanged, Last, Seat, Turns, exchange_at, give_back_at};
+use fact_table::{Exchanged, FactTable, Last, Seat};
 use no_memory::Memory;
 use round_core::{Done, Ticket};
 use std::alloc::Global;
@@ -107,19 +107,19 @@ fn next_ticket<C: Chip>(done: &mut Vec<Done<C>>, tickets: &mut Vec<Ticket<C>>) -
 /// Gives the units of works and of tickets back.
 fn give_back_all<R: Wait, C: Chip>(
     rt: &R,
-    turns: &Turns<C>,
+    table: &FactTable<C>,
     seat: &mut Seat<C>,
     done: Vec<Done<C>>,
     tickets: Vec<Ticket<C>>,
 )
-    requires ready { (seat.old.table ≡ name_of turns.now) × (seat.old.holds ≡ false) }
+    requires ready { (seat.old.table ≡ table_of table.now) × (seat.old.holds ≡ false) }
     requires tickets { AreOutTo C.analysis seat.old (tickets_of done.items ++ tickets.items) }
     ensures { Serves (units_of (tickets_of done.items ++ tickets.items)) [] seat.old seat.new }
 {
     let mut done = done;
     let mut tickets = tickets;
     while let Some(ticket) = next_ticket(&mut done, &mut tickets) {
-        give_back_at(rt, turns, seat, ticket);
+        table.give_back(rt, seat, ticket);
     }
 }
 
@@ -127,13 +127,13 @@ fn give_back_all<R: Wait, C: Chip>(
 fn work_all<R: Wait, C: Chip, G: Gate>(
     rt: &R,
     alloc: Global,
-    turns: &Turns<C>,
+    table: &FactTable<C>,
     chip: &C,
     gate: &G,
     seat: &mut Seat<C>,
     tickets: Vec<Ticket<C>>,
 ) -> Result<Vec<Done<C>>, Memory>
-    requires ready { (seat.old.table ≡ name_of turns.now) × (seat.old.holds ≡ false) }
+    requires ready { (seat.old.table ≡ table_of table.now) × (seat.old.holds ≡ false) }
     requires tickets { AreOutTo C.analysis seat.old tickets.items }
     ensures seat { IfOk result (λ done. seat.new ≡ seat.old) }
     ensures done { IfOk result (λ done. tickets_of done.items ≡ tickets.items) }
@@ -145,7 +145,7 @@ fn work_all<R: Wait, C: Chip, G: Gate>(
     if left.is_empty() {
         return Ok(done);
     }
-    give_back_all(rt, turns, seat, done, left);
+    give_back_all(rt, table, seat, done, left);
     Err(Memory)
 }
 
@@ -175,14 +175,13 @@ fn is_finished(last: Last) -> bool
 fn go_on<R: Wait, C: Chip, G: Gate>(
     rt: &R,
     alloc: Global,
-    turns: &Turns<C>,
-    door: &Door,
+    table: &FactTable<C>,
     chip: &C,
     gate: &G,
     seat: &mut Seat<C>,
     tickets: Vec<Ticket<C>>,
 ) -> Result<(Vec<Ticket<C>>, Last, bool), Memory>
-    requires ready { IsReady (name_of turns.now) (C.base chip.now) seat.old }
+    requires ready { IsReady (table_of table.now) (C.base chip.now) seat.old }
     requires tickets { AreOutTo C.analysis seat.old tickets.items }
     requires few { length tickets.items ≤ 4 }
     ensures goes_on { IfOk result
@@ -190,9 +189,9 @@ fn go_on<R: Wait, C: Chip, G: Gate>(
     ensures finished { IfOk result (λ next. next.1 ≡ Last.Finished → next.0.items ≡ []) }
     ensures ended { OnErr result (Serves (units_of tickets.items) [] seat.old seat.new) }
 {
-    let done = work_all(rt, alloc, turns, chip, gate, seat, tickets)?;
+    let done = work_all(rt, alloc, table, chip, gate, seat, tickets)?;
     let works = done.len();
-    let exchanged = exchange_at(rt, alloc, turns, door, chip, seat, done, wanted(), SHARE);
+    let exchanged = table.exchange(rt, alloc, chip, seat, done, wanted(), SHARE);
     let Exchanged {
         unposted,
         tickets,
@@ -201,7 +200,7 @@ fn go_on<R: Wait, C: Chip, G: Gate>(
     } = exchanged;
     tell_posts(gate, seat.number(), works.saturating_sub(unposted.len()));
     if ran_out(last) {
-        give_back_all(rt, turns, seat, unposted, tickets);
+        give_back_all(rt, table, seat, unposted, tickets);
         return Err(Memory);
     }
     Ok((tickets, last, left))
@@ -212,7 +211,7 @@ fn go_on<R: Wait, C: Chip, G: Gate>(
 fn turn<R: Wait, C: Chip, G: Gate>(
     rt: &R,
     alloc: Global,
-    turns: &Turns<C>,
+    table: &FactTable<C>,
     chip: &C,
     gate: &G,
     calls: &Calls,
@@ -220,7 +219,7 @@ fn turn<R: Wait, C: Chip, G: Gate>(
     sleepy: &mut bool,
     tickets: Vec<Ticket<C>>,
 ) -> Result<(Vec<Ticket<C>>, bool), Memory>
-    requires ready { IsReady (name_of turns.now) (C.base chip.now) seat.old }
+    requires ready { IsReady (table_of table.now) (C.base chip.now) seat.old }
     requires tickets { AreOutTo C.analysis seat.old tickets.items }
     requires few { length tickets.items ≤ 4 }
     ensures goes_on { IfOk result
@@ -233,7 +232,7 @@ fn turn<R: Wait, C: Chip, G: Gate>(
     let watch = (idle && !*sleepy).then(|| calls.watch());
     let sleep = (idle && *sleepy).then(|| calls.announce());
     *sleepy = false;
-    let (next, last, left) = go_on(rt, alloc, turns, &calls.door, chip, gate, seat, tickets)?;
+    let (next, last, left) = go_on(rt, alloc, table, chip, gate, seat, tickets)?;
     if next.is_empty() && matches!(last, Last::Idle) {
         if let Some(watch) = watch {
             *sleepy = !watch.was_called();
@@ -257,13 +256,13 @@ fn turn<R: Wait, C: Chip, G: Gate>(
 pub(crate) fn work<R: Wait, C: Chip, G: Gate>(
     rt: &R,
     alloc: Global,
-    turns: &Turns<C>,
+    table: &FactTable<C>,
     chip: &C,
     gate: &G,
     calls: &Calls,
     mut seat: Seat<C>,
 ) -> Seat<C>
-    requires ready { IsReady (name_of turns.now) (C.base chip.now) seat }
+    requires ready { IsReady (table_of table.now) (C.base chip.now) seat }
     ensures { Works seat result }
 {
     let mut tickets = Vec::new(alloc);
@@ -272,7 +271,7 @@ pub(crate) fn work<R: Wait, C: Chip, G: Gate>(
         match turn(
             rt,
             alloc,
-            turns,
+            table,
             chip,
             gate,
             calls,

@@ -1,10 +1,8 @@
 use denote.Param.{param}
 use denote.Param.Send.{IsSend, IsSync, sendable}
 use Rattle.std.proofs.Crossing.{crosses}
-use Rattle.crossbeam_utils.proofs.sync.event_count.EventCount.TheSendSync.{the_sync as events_sync}
-use Rattle.fact_table.proofs.Sent.{facts_send}
+use Rattle.fact_table.proofs.Sent.{facts_send, shared_sync}
 use Rattle.turn_table.proofs.seat.Seat.TheSendSync.{the_send as seat_send}
-use Rattle.turn_table.proofs.table.TurnTable.TheSendSync.{the_sync as table_sync}
 use Rattle.worker_crew.proofs.calls.Calls.TheSendSync.{the_sync as calls_sync}
 use Rattle.worker_crew.proofs.crew.+crew.Lts-work_beside.{arg-2-1}
 use Rattle.worker_crew.proofs.crew.+crew.Given.{Over}
@@ -17,7 +15,7 @@ use Rattle.worker_crew.proofs.crew.+crew.Goals as goal
 -- what the helper's closure captures may go to another thread
 help_send : (g : Over) (κs : _) → IsSync (param 0 g.row.R) → IsSync (param 1 g.row.C) → IsSync (param 2 g.row.G) → IsSend (param 4 g.row.C-Abs)
     → IsSend (param 1 (arg-2-1 g.row.R g.row.C g.row.G g.row.C-Base g.row.C-Abs g.R.laws g.C.laws g.G.laws g.C.Base.laws g.C.Abs.laws g.R.Threads g.R.Threads-dict g.R.Wait g.R.Wait-dict g.C.Chip g.C.Chip-dict g.G.Gate g.G.Gate-dict g.C.Base.Destruct-dict g.C.Abs.Destruct-dict κs))
-help_send g κs r c gate a = search (sendable, crosses, calls_sync, events_sync, table_sync, facts_send, seat_send) depth 40
+help_send g κs r c gate a = search (sendable, crosses, calls_sync, shared_sync, facts_send, seat_send) depth 40
 
 pub join-helper-requires-send-F : goal.join-helper-requires-send-F
 join-helper-requires-send-F g t c κs within =

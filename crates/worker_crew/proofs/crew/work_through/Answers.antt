@@ -1,5 +1,5 @@
 use Rattle.std.proofs.Common.{◌≡◌, ◌-◌, ◌∙◌, ap, arith}
-use Rattle.turn_table.specs.Named.{name_of}
+use Rattle.fact_table.specs.Named.{table_of}
 use Rattle.worker_crew.proofs.Turns.{answered_more, ready_later, takes_in_more, works_answered, works_take_in}
 use Rattle.worker_crew.proofs.crew.work_through.Goals as goal
 
@@ -7,11 +7,11 @@ pub loop-init : goal.loop-init
 loop-init g c =
     let old = c.args.seat in
     let seat = c.work-seat.result in
-    let takes_in = works_take_in (name_of c.args.turns.now) (g.C.Chip.base c.args.chip.now) old seat c.requires.ready c.work-seat.ensures in
+    let takes_in = works_take_in (table_of c.args.table.now) (g.C.Chip.base c.args.chip.now) old seat c.requires.ready c.work-seat.ensures in
     let same : seat.room ≡ old.room = ap (λ s. s.room) c.work-seat.ensures.seat in
     let room = c.requires.room in
     record {
-      ready = ready_later (name_of c.args.turns.now) (g.C.Chip.base c.args.chip.now) old seat c.requires.ready takes_in;
+      ready = ready_later (table_of c.args.table.now) (g.C.Chip.base c.args.chip.now) old seat c.requires.ready takes_in;
       room = omega arith;
       takes_in = takes_in;
       answered = works_answered old seat c.work-seat.ensures;
@@ -36,7 +36,7 @@ loop-preserved g c =
     let room = c.loop.invariant.room in
     let below = c.loop-test.true in
     record {
-      ready = ready_later (name_of c.args.turns.now) (g.C.Chip.base c.args.chip.now) c.args.seat seat c.requires.ready takes_in;
+      ready = ready_later (table_of c.args.table.now) (g.C.Chip.base c.args.chip.now) c.args.seat seat c.requires.ready takes_in;
       room = omega arith;
       takes_in = takes_in;
       answered = λ known. answered_more was split new other seat c.split-other.ensures.seat c.split-other.ensures.new c.work-other.ensures

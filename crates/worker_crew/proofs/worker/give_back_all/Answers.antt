@@ -22,11 +22,11 @@ loop-ticket-preserved g c =
     let taken : before ≡ t ∷ rest = c.in-Some.ensures in
     let out : AreOutTo g.C.Chip.analysis c.loop-ticket.seat (t ∷ rest) = subst (λ ts. AreOutTo g.C.Chip.analysis c.loop-ticket.seat ts) taken was.out in
     let all = units_of (tickets_of c.args.done.items ++ c.args.tickets.items) in
-    let back = back_serves g.C.Chip.analysis c.loop-ticket.seat c.give_back_at.new.seat t (units_of rest) c.give_back_at.ensures.given_back in
+    let back = back_serves g.C.Chip.analysis c.loop-ticket.seat c.give_back.new.seat t (units_of rest) c.give_back.ensures.given_back in
     record {
       table = ap (λ s. s.table) back.seat ∙ was.table;
       idle = ap (λ s. s.holds) back.seat ∙ was.idle;
-      out = c.give_back_at.ensures.others_out rest out;
-      serves = serves_then all (units_of (t ∷ rest)) (units_of rest) c.args.seat.now c.loop-ticket.seat c.give_back_at.new.seat
+      out = c.give_back.ensures.others_out rest out;
+      serves = serves_then all (units_of (t ∷ rest)) (units_of rest) c.args.seat.now c.loop-ticket.seat c.give_back.new.seat
           (subst (λ ts. Serves all (units_of ts) c.args.seat.now c.loop-ticket.seat) taken was.serves) back;
     }

@@ -1,6 +1,6 @@
 use Rattle.std.proofs.Common.{◌≡◌, [], ap, arith, length, subst, sym}
 use Rattle.fact_table.specs.Seats.{AreOutTo}
-use Rattle.turn_table.specs.Named.{name_of}
+use Rattle.fact_table.specs.Named.{table_of}
 use Rattle.worker_crew.specs.Turns.{Serves, units_of}
 use Rattle.worker_crew.proofs.Turns.{no_tickets, ready_served, serves_not, serves_then}
 use Rattle.worker_crew.proofs.worker.work.Goals as goal
@@ -13,7 +13,7 @@ loop-init g c =
       ready = c.requires.ready;
       serves = subst (λ ts. Serves [] (units_of ts) c.args.seat c.args.seat) (sym none) (serves_not [] c.args.seat);
       out = subst (λ ts. AreOutTo g.C.Chip.analysis c.args.seat ts) (sym none)
-          (no_tickets g.C.Chip.analysis (name_of c.args.turns.now) (g.C.Chip.base c.args.chip.now) c.args.seat c.requires.ready);
+          (no_tickets g.C.Chip.analysis (table_of c.args.table.now) (g.C.Chip.base c.args.chip.now) c.args.seat c.requires.ready);
       few = omega arith;
     }
 
@@ -24,7 +24,7 @@ loop-preserved g c =
     let b = units_of c.in-Ok-default-false.next.items in
     let goes = c.in-Ok-default-false.ensures.goes_on in
     record {
-      ready = ready_served (name_of c.args.turns.now) (g.C.Chip.base c.args.chip.now) a b c.loop.seat c.turn.new.seat goes.serves was.ready;
+      ready = ready_served (table_of c.args.table.now) (g.C.Chip.base c.args.chip.now) a b c.loop.seat c.turn.new.seat goes.serves was.ready;
       serves = serves_then [] a b c.args.seat c.loop.seat c.turn.new.seat was.serves goes.serves;
       out = goes.out;
       few = goes.few;

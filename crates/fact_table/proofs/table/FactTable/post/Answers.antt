@@ -1,7 +1,7 @@
 use Rattle.std.proofs.Common.{ap, sym, ◌∙◌}
 use Rattle.fact_table.proofs.TurnLemmas.{grows_post, looks, pass_adds, IsTurn, begun_by, ends, still_out, out_at_turn, on_ok, on_err}
 use Rattle.round_core.specs.declared.event.Event.TheVariants.{Post}
-use Rattle.fact_table.proofs.calls.post_at.Goals as goal
+use Rattle.fact_table.proofs.table.FactTable.post.Goals as goal
 
 pub post_one-posted-requires-clause-out : goal.post_one-posted-requires-clause-out
 post_one-posted-requires-clause-out g c κs within =

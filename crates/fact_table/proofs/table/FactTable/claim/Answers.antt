@@ -1,7 +1,7 @@
 use Rattle.std.proofs.Common.{IfOk, ap, ◌∙◌, subst}
 use Rattle.fact_table.proofs.TurnLemmas.{grows_claimed, pass_adds, IsTurn, begun_by, claims_ok, looks, on_err}
 use Rattle.round_core.specs.Answers.{AnswersClaim}
-use Rattle.fact_table.proofs.calls.claim_at.Goals as goal
+use Rattle.fact_table.proofs.table.FactTable.claim.Goals as goal
 
 pub pass-requires-clause-adds : goal.pass-requires-clause-adds
 pass-requires-clause-adds g c =

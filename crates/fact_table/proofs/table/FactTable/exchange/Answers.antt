@@ -8,7 +8,7 @@ use Rattle.round_core.specs.Counts.{seat_of}
 use Rattle.round_core.specs.declared.event.Event.{Event}
 use Rattle.turn_table.specs.Events.{AllOf}
 use Rattle.turn_table.specs.Shown.{turn_ended}
-use Rattle.fact_table.proofs.calls.exchange_at.Goals as goal
+use Rattle.fact_table.proofs.table.FactTable.exchange.Goals as goal
 
 pub exchange_on-exchanged-requires-clause-out : goal.exchange_on-exchanged-requires-clause-out
 exchange_on-exchanged-requires-clause-out g c κs within =
